@@ -1,0 +1,34 @@
+-- Numbers that are read from text.
+use Rattle.std.specs.Prelude.{◌≡◌, ℕ, ◌<◌, ◌^◌, List, drop, ℤ, pos, neg_ℤ, Result, Ok, Err, if◌then◌else◌}
+use Rattle.std.specs.Str.Parse.{IsNumeral, digits_value, starts_with_minus}
+use Rattle.scut_base.specs.declared.number.NumberFault.{NumberFault}
+use Rattle.scut_base.specs.declared.number.NumberFault.TheVariants.{NotDigits, TooWide}
+
+-- one decimal digit or more, and nothing else
+abbrev pub IsNatural : List ℕ → Type 0
+IsNatural text = IsNumeral 10 text
+
+abbrev pub natural_value : List ℕ → ℕ
+natural_value text = digits_value 10 text
+
+-- the text after a minus, if it begins with one
+abbrev pub magnitude_text : List ℕ → List ℕ
+magnitude_text text = if starts_with_minus text then drop 1 text else text
+
+-- decimal digits, after one minus or none
+abbrev pub IsInteger : List ℕ → Type 0
+IsInteger text = IsNatural (magnitude_text text)
+
+abbrev pub integer_value : List ℕ → ℤ
+integer_value text = if starts_with_minus text then neg_ℤ (pos (natural_value (drop 1 text))) else pos (natural_value text)
+
+-- What is answered for a text: its value where it is a number that fits, and else which of the two it lacks.
+abbrev pub ReadsAs : {T : Type 0} → Result T NumberFault → Type 0 → Type 0 → T → Type 0
+ReadsAs (Ok x) IsNumber Fits value = IsNumber × Fits × (x ≡ value)
+ReadsAs (Err NotDigits) IsNumber Fits value = IsNumber → ⊥
+ReadsAs (Err TooWide) IsNumber Fits value = IsNumber × (Fits → ⊥)
+
+-- a running value: the number so far, or none where it has reached the limit
+abbrev pub Keeps : ℕ → Option ℕ → ℕ → Type 0
+Keeps limit None n = limit ≤ n
+Keeps limit (Some v) n = v ≡ n

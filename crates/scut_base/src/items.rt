@@ -1,0 +1,139 @@
+// A list that contracts see as its elements, whatever room it keeps.
+ghost use Rattle.std.specs.Prelude.{◌≡◌, ◌<◌, ◌≤◌, ◌++◌, [], ◌∷◌, ◌↔◌, length, IsTrue, OnOk, OnErr, MatchOption, slice_get};
+
+use crate::{Duplicate, NoMemory};
+use std::alloc::Global;
+use std::marker::Model;
+
+/// A list that grows at its end. It is made of a `Vec` and gives it back without taking memory.
+#[derive(Debug, Drop)]
+pub struct Items<T> {
+    items: Vec<T>,
+}
+
+impl<T> Model for Items<T> {
+    ghost use Rattle.std.specs.Prelude.{List};
+
+    ghost Value = { List T };
+
+    ghost view = { λ a. a.items.items };
+}
+
+impl<T> Items<T> {
+    /// The empty list. Takes no memory yet.
+    pub fn new(alloc: Global) -> Items<T>
+        ensures { result ≡ [] }
+    {
+        Items {
+            items: Vec::new(alloc),
+        }
+    }
+
+    /// The list of a `Vec`'s elements.
+    pub fn from_vec(items: Vec<T>) -> Items<T>
+        ensures { result ≡ items.items }
+    {
+        Items { items }
+    }
+
+    /// The `Vec` of the elements.
+    pub fn into_vec(self) -> Vec<T>
+        ensures { result.items ≡ self }
+    {
+        self.items
+    }
+
+    /// The elements in order.
+    pub fn as_slice(&self) -> &[T]
+        ensures { result.now ≡ self.now }
+    {
+        self.items.as_slice()
+    }
+
+    /// The number of elements.
+    pub fn len(&self) -> usize
+        ensures { result ≡ length self.now }
+    {
+        self.items.len()
+    }
+
+    /// Whether there are no elements.
+    pub fn is_empty(&self) -> bool
+        ensures { IsTrue result ↔ (self.now ≡ []) }
+    {
+        self.items.is_empty()
+    }
+
+    /// The element at a place, counted from 0; `None` past the end.
+    pub fn get(&self, at: usize) -> Option<&T>
+        ensures { MatchOption result (length self.now ≤ at) (λ x. slice_get self.now at ≡ Some x.now) }
+    {
+        self.items.get(at)
+    }
+
+    /// The element at a place below the length.
+    pub fn at(&self, at: usize) -> &T
+        requires { at < length self.now }
+        ensures { slice_get self.now at ≡ Some result.now }
+    {
+        &self.items[at]
+    }
+
+    /// Puts an element at the end, in constant time on average.
+    pub fn push(&mut self, item: T) -> Result<(), NoMemory>
+    where
+        T: Drop,
+        ensures ok { OnOk result (self.new ≡ self.old ++ item ∷ []) }
+        ensures err { OnErr result (self.new ≡ self.old) }
+    {
+        self.items.push(item)?;
+        Ok(())
+    }
+
+    /// Puts copies of these elements at the end.
+    pub fn extend_from_slice(&mut self, more: &[T]) -> Result<(), NoMemory>
+    where
+        T: Copy + Drop,
+        ensures ok { OnOk result (self.new ≡ self.old ++ more.now) }
+        ensures err { OnErr result (self.new ≡ self.old) }
+    {
+        self.items.reserve(more.len())?;
+        self.items.extend_from_slice(more)?;
+        Ok(())
+    }
+
+    /// Takes the last element off.
+    pub fn pop(&mut self) -> Option<T>
+        ensures { MatchOption result ((self.old ≡ []) × (self.new ≡ [])) (λ x. self.old ≡ self.new ++ x ∷ []) }
+    {
+        self.items.pop()
+    }
+}
+
+impl<T: Duplicate + Drop> Duplicate for Items<T> {
+    fn copy(&self, alloc: Global) -> Result<Items<T>, NoMemory> {
+        let mut items = Vec::with_capacity(alloc, self.items.len())?;
+        for item in self.items.iter() {
+            items.push(item.copy(alloc)?)?;
+        }
+        Ok(Items { items })
+    }
+}
+
+impl<T: PartialEq> PartialEq for Items<T> {
+    ghost use Rattle.std.specs.Cmp.Lexicographic.{pointwise, lists_per};
+
+    ghost eq = { pointwise T.eq };
+
+    ghost laws = { lists_per T.laws };
+
+    fn eq(&self, other: &Items<T>) -> bool {
+        self.items == other.items
+    }
+}
+
+impl<T: Eq> Eq for Items<T> {
+    ghost use Rattle.std.proofs.lemmas.Cmp.{lists_equiv};
+
+    ghost laws = { lists_equiv T.Eq.laws };
+}
