@@ -1,5 +1,5 @@
 -- Numbers that are read from text.
-use Rattle.std.specs.Prelude.{◌≡◌, ℕ, ◌<◌, ◌^◌, List, drop, ℤ, pos, neg_ℤ, Result, Ok, Err, if◌then◌else◌}
+use Rattle.std.specs.Prelude.{◌≡◌, ℕ, ◌<◌, ◌^◌, ◌≤◌, Bool, List, Option, None, Some, drop, ℤ, pos, neg_ℤ, Result, Ok, Err, if◌then◌else◌}
 use Rattle.std.specs.Str.Parse.{IsNumeral, digits_value, starts_with_minus}
 use Rattle.scut_base.specs.declared.number.NumberFault.{NumberFault}
 use Rattle.scut_base.specs.declared.number.NumberFault.TheVariants.{NotDigits, TooWide}
@@ -19,8 +19,12 @@ magnitude_text text = if starts_with_minus text then drop 1 text else text
 abbrev pub IsInteger : List ℕ → Type 0
 IsInteger text = IsNatural (magnitude_text text)
 
+-- the number of a sign and a magnitude
+abbrev pub signed_value : Bool → ℕ → ℤ
+signed_value negative n = if negative then neg_ℤ (pos n) else pos n
+
 abbrev pub integer_value : List ℕ → ℤ
-integer_value text = if starts_with_minus text then neg_ℤ (pos (natural_value (drop 1 text))) else pos (natural_value text)
+integer_value text = signed_value (starts_with_minus text) (natural_value (magnitude_text text))
 
 -- What is answered for a text: its value where it is a number that fits, and else which of the two it lacks.
 abbrev pub ReadsAs : {T : Type 0} → Result T NumberFault → Type 0 → Type 0 → T → Type 0

@@ -22,6 +22,6 @@ pub use items::Items;
 pub use literal::Lit;
 // pub use mem_shelf::MemShelf;
 pub use memory::{Duplicate, NoMemory};
-pub use number::{NumberFault, read_u64};
+pub use number::{NumberFault, read_i64, read_i128, read_u64};
 pub use partial::Partial;
 pub use shelf::{Shelf, ShelfCall, ShelfFault};
