@@ -1,13 +1,15 @@
-// A library with one function.
+//! Cost vectors, and the minimal ones of all that were inserted.
+//!
+//! Its public contract: after any list of inserts a `FrontSet` holds the vectors that no inserted
+//! vector dominates, each once, each with an assignment that was inserted with it. Here a vector
+//! weakly dominates another where each of its numbers is at most the other's. The text of a list of
+//! entries is defined here too, beside the vectors. It knows no instance and no senses.
 #![tactic(auto)]
 
-ghost use Rattle.std.specs.Prelude.{◌≡◌};
-ghost use Rattle.front_set.specs.Echo.{echo_of};
+mod cost_vec;
+mod entry;
+mod set;
 
-// The `ensures` clause is the contract: what `echo` returns is `echo_of` of its argument, a definition
-// in `specs/Echo.antt`, which a caller's clause can cite too.
-pub fn echo(x: usize) -> usize
-    ensures { result ≡ echo_of x }
-{
-    x
-}
+pub use cost_vec::CostVec;
+pub use entry::Entry;
+pub use set::{FrontSet, Inserted};

@@ -3,6 +3,7 @@ ghost use Rattle.std.specs.Prelude.{◌≡◌, ◌<◌, ◌≤◌, ◌++◌, [],
 
 use crate::{Duplicate, NoMemory};
 use std::alloc::Global;
+use std::cmp::Ordering;
 use std::marker::Model;
 
 /// A list that grows at its end. It is made of a `Vec` and gives it back without taking memory.
@@ -136,4 +137,32 @@ impl<T: Eq> Eq for Items<T> {
     ghost use Rattle.std.proofs.lemmas.Cmp.{lists_equiv};
 
     ghost laws = { lists_equiv T.Eq.laws };
+}
+
+impl<T: PartialOrd> PartialOrd for Items<T> {
+    ghost use Rattle.std.specs.Cmp.Lexicographic.{slice_partial_cmp, lists_po};
+
+    ghost partial_cmp = { slice_partial_cmp T.partial_cmp };
+
+    ghost laws = { lists_po T.PartialOrd.laws };
+
+    fn partial_cmp(&self, other: &Items<T>) -> Option<Ordering> {
+        self.items.partial_cmp(&other.items)
+    }
+}
+
+impl<T: Ord> Ord for Items<T> {
+    ghost use Rattle.std.specs.Cmp.Lexicographic.{slice_cmp, lists_total, lists_agrees, lists_ties};
+
+    ghost cmp = { slice_cmp T.cmp };
+
+    ghost total = { lists_total T.total };
+
+    ghost matches_partial_cmp = { lists_agrees T.matches_partial_cmp };
+
+    ghost matches_eq = { lists_ties T.cmp T.matches_eq };
+
+    fn cmp(&self, other: &Items<T>) -> Ordering {
+        self.items.cmp(&other.items)
+    }
 }

@@ -1,0 +1,125 @@
+// The set of the minimal pairs.
+ghost use Rattle.std.specs.Prelude.{◌≡◌, ◌↔◌, ◌++◌, ◌≤◌, ◌∷◌, [], ℕ, List, length, not, IfOk, OnOk, OnErr, vec_len, vec_capacity, Some, None, map};
+ghost use Rattle.std.specs.List.{filter, position_from};
+ghost use Rattle.std.specs.List.Sorted.{IsPermutation};
+ghost use Rattle.front_set.specs.declared.entry.Entry.{Entry};
+ghost use Rattle.front_set.specs.Vector.{is_below, AreRising};
+ghost use Rattle.front_set.specs.Front.{StandsFor, IsInserted, AreIncomparable, HaveLength, first_below, not_above, count_above, vectors_of};
+
+use crate::{CostVec, Entry};
+use scut_base::{Assignment, Duplicate, NoMemory};
+use std::alloc::Global;
+use std::marker::Model;
+
+/// Pairs of a cost vector and an assignment, none of whose vectors weakly dominates another.
+#[derive(Debug, Drop)]
+pub struct FrontSet {
+    entries: Vec<Entry>,
+}
+
+impl Model for FrontSet {
+    ghost use Rattle.std.specs.Prelude.{List};
+    ghost use Rattle.front_set.specs.declared.entry.Entry.{Entry};
+    ghost use Rattle.front_set.specs.Front.{AreIncomparable};
+
+    ghost Value = { List Entry };
+
+    ghost view = { λ s. s.entries.items };
+
+    ghost invariant = { λ s. AreIncomparable s.entries.items };
+}
+
+/// What an insertion did.
+#[derive(Clone, Copy, Debug, PartialEq, Eq)]
+pub enum Inserted {
+    /// Entry `by`, counted from 0, is the first that weakly dominates the vector. Nothing changed.
+    Covered { by: usize },
+    /// The pair was added, and the `removed` entries that its vector dominates are gone.
+    Added { removed: u64 },
+}
+
+impl FrontSet {
+    /// The set of no pairs. Takes no memory yet.
+    pub fn new(alloc: Global) -> FrontSet
+        ensures empty { result ≡ [] }
+        ensures stands { StandsFor result [] }
+    {
+        FrontSet {
+            entries: Vec::new(alloc),
+        }
+    }
+
+    /// The number of entries.
+    pub fn len(&self) -> usize
+        ensures { result ≡ length self.now }
+    {
+        self.entries.len()
+    }
+
+    /// The entries, in the order in which they were added.
+    pub fn entries(&self) -> &[Entry]
+        ensures entries { result.now ≡ self.now }
+        ensures incomparable { AreIncomparable self.now }
+    {
+        self.entries.as_slice()
+    }
+
+    /// Adds a pair, where no entry weakly dominates its vector, and drops the entries that the vector
+    /// dominates. Costs one pass over the entries. A pair that isn't added is given up.
+    pub fn insert(&mut self, vec: CostVec, model: Assignment) -> Result<Inserted, NoMemory>
+        requires { HaveLength (length vec) self.old }
+        ensures inserted { IfOk result (λ done. IsInserted self.old self.new (record { costs = vec; model = model }) done) }
+        ensures stands { OnOk result ((pairs : List Entry) → StandsFor self.old pairs → StandsFor self.new (pairs ++ record { costs = vec; model = model } ∷ [])) }
+        ensures err { OnErr result (self.new ≡ self.old) }
+    {
+        if let Some(by) = place_below(&self.entries, &vec) {
+            return Ok(Inserted::Covered { by });
+        }
+        self.entries.reserve(1)?;
+        let removed = drop_above(&mut self.entries, &vec);
+        self.entries.push(Entry { costs: vec, model })?;
+        Ok(Inserted::Added { removed })
+    }
+
+    /// Copies of the entries, in rising lexicographic order of their vectors.
+    pub fn sorted(&self, alloc: Global) -> Result<Vec<Entry>, NoMemory>
+        ensures same { IfOk result (λ v. IsPermutation self.now v.items) }
+        ensures rising { IfOk result (λ v. AreRising (vectors_of v.items)) }
+    {
+        let mut entries = copies(alloc, &self.entries)?;
+        entries.sort_by(|a, b| a.costs.cmp(&b.costs))?;
+        Ok(entries)
+    }
+}
+
+// The place of the first entry that weakly dominates the vector.
+fn place_below(entries: &[Entry], vec: &CostVec) -> Option<usize>
+    requires { HaveLength (length vec.now) entries.now }
+    ensures { result ≡ first_below entries.now vec.now }
+{
+    entries.iter().position(|entry| entry.costs.weakly_dominates(vec))
+}
+
+// Drops the entries that the vector weakly dominates, and answers their number.
+fn drop_above(entries: &mut Vec<Entry>, vec: &CostVec) -> u64
+    requires { HaveLength (length vec.now) entries.old.items }
+    ensures kept { entries.new.items ≡ not_above vec.now entries.old.items }
+    ensures removed { result ≡ count_above vec.now entries.old.items }
+    ensures len { vec_len entries.new ≤ vec_len entries.old }
+    ensures capacity { vec_capacity entries.new ≡ vec_capacity entries.old }
+{
+    let before = entries.len();
+    entries.retain(|entry| !vec.weakly_dominates(&entry.costs));
+    (before - entries.len()) as u64
+}
+
+// Copies of entries, in the same order.
+fn copies(alloc: Global, entries: &[Entry]) -> Result<Vec<Entry>, NoMemory>
+    ensures { IfOk result (λ v. v.items ≡ entries.now) }
+{
+    let mut all = Vec::with_capacity(alloc, entries.len())?;
+    for entry in entries {
+        all.push(entry.copy(alloc)?)?;
+    }
+    Ok(all)
+}
