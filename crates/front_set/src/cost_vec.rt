@@ -4,11 +4,10 @@ ghost use Rattle.front_set.specs.Vector.{is_below};
 
 use scut_base::{Duplicate, Items, NoMemory};
 use std::alloc::Global;
-use std::cmp::Ordering;
 use std::marker::Model;
 
 /// One number for each objective. Its order is lexicographic.
-#[derive(Debug, Drop)]
+#[derive(Debug, Drop, PartialEq, Eq, PartialOrd, Ord)]
 pub struct CostVec {
     values: Items<i64>,
 }
@@ -19,6 +18,8 @@ impl Model for CostVec {
     ghost Value = { List ℤ };
 
     ghost view = { λ c. c.values };
+
+    ghost inverse = { λ v. record { values = v } };
 }
 
 impl CostVec {
@@ -85,35 +86,5 @@ impl CostVec {
 impl Duplicate for CostVec {
     fn copy(&self, alloc: Global) -> Result<CostVec, NoMemory> {
         CostVec::from_slice(alloc, self.as_slice())
-    }
-}
-
-impl PartialEq for CostVec {
-    ghost use Rattle.std.specs.Ordering.{int_eq};
-    ghost use Rattle.std.specs.Cmp.Lexicographic.{pointwise};
-    ghost use Rattle.std.proofs.lemmas.Cmp.{lists_equiv, int_eq_equiv};
-
-    ghost eq = { pointwise int_eq };
-
-    fn eq(&self, other: &CostVec) -> bool {
-        self.values == other.values
-    }
-}
-
-impl Eq for CostVec {}
-
-impl PartialOrd for CostVec {
-    fn partial_cmp(&self, other: &CostVec) -> Option<Ordering> {
-        Some(self.cmp(other))
-    }
-}
-
-impl Ord for CostVec {
-    ghost use Rattle.front_set.specs.Vector.{vector_cmp};
-
-    ghost cmp = { vector_cmp };
-
-    fn cmp(&self, other: &CostVec) -> Ordering {
-        self.as_slice().cmp(other.as_slice())
     }
 }
