@@ -1,13 +1,21 @@
-// A library with one function.
+//! Instances: hard clauses and linear rows over 0-1 variables, and objectives that are minimised or
+//! maximised.
+//!
+//! Its public contract: `is_model` and `costs` are the definitions of a model and of its costs, and
+//! `listed` gives a set of pairs as a list shows them. The definition of the front stands here too.
+//! What a reader of instance files answers where it refuses one is shared by all readers. The crate
+//! reads no file and searches nothing.
 #![tactic(auto)]
 
-ghost use Rattle.std.specs.Prelude.{◌≡◌};
-ghost use Rattle.instance.specs.Echo.{echo_of};
+mod evaluate;
+mod fault;
+mod instance;
+// mod listed;
+mod objective;
+mod row;
 
-// The `ensures` clause is the contract: what `echo` returns is `echo_of` of its argument, a definition
-// in `specs/Echo.antt`, which a caller's clause can cite too.
-pub fn echo(x: usize) -> usize
-    ensures { result ≡ echo_of x }
-{
-    x
-}
+pub use fault::{BadKind, InstanceLimit, ReadFault};
+pub use instance::Instance;
+// pub use listed::listed;
+pub use objective::{Objective, Sense, Soft};
+pub use row::{Linear, Rel};

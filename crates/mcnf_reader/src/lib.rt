@@ -1,13 +1,10 @@
-// A library with one function.
+//! Reads an instance from a file of hard and soft clauses (MCNF).
+//!
+//! Its public contract: what `read` answers is the instance that the text spells, by a grammar that
+//! speaks of whole lines and words, and it refuses only what spells none.
 #![tactic(auto)]
 
-ghost use Rattle.std.specs.Prelude.{◌≡◌};
-ghost use Rattle.mcnf_reader.specs.Echo.{echo_of};
+mod reader;
+mod statement;
 
-// The `ensures` clause is the contract: what `echo` returns is `echo_of` of its argument, a definition
-// in `specs/Echo.antt`, which a caller's clause can cite too.
-pub fn echo(x: usize) -> usize
-    ensures { result ≡ echo_of x }
-{
-    x
-}
+pub use reader::read;

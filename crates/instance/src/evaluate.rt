@@ -1,0 +1,102 @@
+// Clauses, rows and objectives under an assignment.
+ghost use Rattle.std.specs.Prelude.{◌≡◌, ◌<◌, ◌≤◌, ◌^◌, length, unsigned_abs, All};
+ghost use Rattle.std.specs.List.{list_all};
+ghost use Rattle.instance.specs.Shape.{ClauseUpTo, TermsUpTo, IsRowWithin, IsObjectiveWithin, terms_magnitude, weights_sum};
+ghost use Rattle.instance.specs.Meaning.{clause_true, terms_value, row_holds, int_sum_by, soft_cost, objective_cost};
+
+use crate::{Linear, Objective, Rel, Soft};
+use scut_base::{Assignment, Items, Lit};
+
+/// Whether each of these clauses has a true literal.
+pub fn all_clauses_true(clauses: &[Items<Lit>], a: &Assignment) -> bool
+    requires { All (ClauseUpTo (length a.now)) clauses.now }
+    ensures { result ≡ list_all (clause_true a.now) clauses.now }
+{
+    for clause in clauses {
+        if !clause_true(clause.as_slice(), a) {
+            return false;
+        }
+    }
+    true
+}
+
+/// Whether each of these rows holds.
+pub fn all_rows_hold(rows: &[Linear], a: &Assignment) -> bool
+    requires { All (IsRowWithin (length a.now)) rows.now }
+    ensures { result ≡ list_all (row_holds a.now) rows.now }
+{
+    for row in rows {
+        if !row_holds(row, a) {
+            return false;
+        }
+    }
+    true
+}
+
+// Whether a literal of the clause is true.
+fn clause_true(clause: &[Lit], a: &Assignment) -> bool
+    requires { ClauseUpTo (length a.now) clause.now }
+    ensures { result ≡ clause_true a.now clause.now }
+{
+    for lit in clause {
+        if a.value(*lit) {
+            return true;
+        }
+    }
+    false
+}
+
+// Whether the row's sum stands to its bound as it should.
+fn row_holds(row: &Linear, a: &Assignment) -> bool
+    requires { IsRowWithin (length a.now) row.now }
+    ensures { result ≡ row_holds a.now row.now }
+{
+    let value = terms_value(row.terms.as_slice(), a);
+    match row.rel {
+        Rel::AtLeast => value >= row.bound,
+        Rel::AtMost => value <= row.bound,
+        Rel::Equal => value == row.bound,
+    }
+}
+
+// The sum of the coefficients of the true literals.
+fn terms_value(terms: &[(i64, Lit)], a: &Assignment) -> i64
+    requires variables { TermsUpTo (length a.now) terms.now }
+    requires magnitude { terms_magnitude terms.now < 2 ^ 63 }
+    ensures value { result ≡ terms_value a.now terms.now }
+    ensures bound { unsigned_abs result ≤ terms_magnitude terms.now }
+{
+    let mut sum = 0;
+    for (coefficient, lit) in terms {
+        if a.value(*lit) {
+            sum += *coefficient;
+        }
+    }
+    sum
+}
+
+// The sum of the weights of the false soft clauses.
+fn softs_cost(softs: &[Soft], a: &Assignment) -> i64
+    requires variables { All (λ s. ClauseUpTo (length a.now) s.lits) softs.now }
+    requires magnitude { weights_sum softs.now < 2 ^ 63 }
+    ensures value { result ≡ int_sum_by (soft_cost a.now) softs.now }
+    ensures bound { unsigned_abs result ≤ weights_sum softs.now }
+{
+    let mut sum = 0;
+    for soft in softs {
+        if !clause_true(soft.lits.as_slice(), a) {
+            sum += soft.weight as i64;
+        }
+    }
+    sum
+}
+
+/// The cost of the assignment in one objective.
+pub fn objective_cost(objective: &Objective, a: &Assignment) -> i64
+    requires { IsObjectiveWithin (length a.now) objective.now }
+    ensures { result ≡ objective_cost a.now objective.now }
+{
+    let softs = softs_cost(objective.softs.as_slice(), a);
+    let terms = terms_value(objective.terms.as_slice(), a);
+    softs + terms + objective.offset
+}

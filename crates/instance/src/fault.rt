@@ -1,0 +1,84 @@
+// What a reader of an instance answers where it refuses one.
+use scut_base::NoMemory;
+use std::alloc::{AllocError, AllocFailed};
+use thiserror::Error;
+
+/// A limit on instances.
+#[derive(Clone, Copy, Debug, PartialEq, Eq)]
+pub enum InstanceLimit {
+    /// The file has 2^32 bytes or more.
+    Bytes,
+    /// A variable is above 2^24, or above what a command takes.
+    Vars,
+    /// The magnitudes of an objective sum above 2^63 - 1.
+    Weights,
+    /// The magnitudes of a row and its bound sum above 2^63 - 1.
+    Row,
+    /// There are more than 64 objectives.
+    Objectives,
+}
+
+/// What is wrong at a place of an instance file.
+#[derive(Clone, Copy, Debug, PartialEq, Eq)]
+pub enum BadKind {
+    UnknownLine,
+    ObjectiveIndex,
+    WeightExpected,
+    LiteralExpected,
+    ZeroMissing,
+    TextAfterZero,
+    NumberTooWide,
+    TermExpected,
+    RelationExpected,
+    BoundExpected,
+    SemicolonMissing,
+    Product,
+    ObjectiveAfterConstraint,
+}
+
+/// Why an instance file was refused. Lines are counted from 1.
+#[derive(Clone, Copy, Debug, PartialEq, Eq, Error)]
+pub enum ReadFault {
+    /// The text isn't in the grammar.
+    #[error("the text is not in the grammar")]
+    Bad { line: u64, kind: BadKind },
+    /// The text passes a limit.
+    #[error("the instance is too large")]
+    Limit { line: u64, which: InstanceLimit },
+    /// Memory was refused.
+    #[error("memory was refused")]
+    NoMemory,
+}
+
+impl From<NoMemory> for ReadFault {
+    ghost use Rattle.std.specs.Prelude.{◌≡◌};
+    ghost use Rattle.instance.specs.declared.fault.ReadFault.TheVariants.{NoMemory};
+
+    ghost from_gives = { λ _ e. e ≡ NoMemory };
+
+    fn from(_: NoMemory) -> ReadFault {
+        ReadFault::NoMemory
+    }
+}
+
+impl From<AllocError> for ReadFault {
+    ghost use Rattle.std.specs.Prelude.{◌≡◌};
+    ghost use Rattle.instance.specs.declared.fault.ReadFault.TheVariants.{NoMemory};
+
+    ghost from_gives = { λ _ e. e ≡ NoMemory };
+
+    fn from(_: AllocError) -> ReadFault {
+        ReadFault::NoMemory
+    }
+}
+
+impl<T: Drop> From<AllocFailed<T>> for ReadFault {
+    ghost use Rattle.std.specs.Prelude.{◌≡◌};
+    ghost use Rattle.instance.specs.declared.fault.ReadFault.TheVariants.{NoMemory};
+
+    ghost from_gives = { λ _ e. e ≡ NoMemory };
+
+    fn from(_: AllocFailed<T>) -> ReadFault {
+        ReadFault::NoMemory
+    }
+}

@@ -1,0 +1,108 @@
+// An instance, within its limits.
+ghost use Rattle.std.specs.Prelude.{◌≡◌, ◌↔◌, ◌^◌, ◌<ℤ◌, neg_ℤ, pos, length, All, IsTrue, IfOk};
+
+use crate::{Linear, Objective, Sense};
+use crate::evaluate::{all_clauses_true, all_rows_hold, objective_cost};
+use front_set::CostVec;
+use scut_base::{Assignment, Duplicate, Items, Lit, NoMemory};
+use std::alloc::Global;
+use std::marker::Model;
+
+/// Hard clauses, hard linear rows and objectives over the variables 1 to `vars`.
+#[derive(Debug, Drop)]
+pub struct Instance {
+    pub vars: u64,
+    pub clauses: Items<Items<Lit>>,
+    pub linear: Items<Linear>,
+    pub objectives: Items<Objective>,
+}
+
+impl Model for Instance {
+    ghost use Rattle.instance.specs.Shape.{InstanceValue, IsWithinLimits};
+
+    ghost Value = { InstanceValue };
+
+    ghost view = { λ i. record { vars = i.vars; clauses = i.clauses; linear = i.linear; objectives = i.objectives } };
+
+    ghost invariant = { λ i. IsWithinLimits (record { vars = i.vars; clauses = i.clauses; linear = i.linear; objectives = i.objectives }) };
+}
+
+impl Instance {
+    ghost use Rattle.instance.specs.Shape.{InstanceValue, IsWithinLimits};
+    ghost use Rattle.instance.specs.Meaning.{IsModel, costs_of};
+    ghost use Rattle.instance.specs.ParetoFront.{problem_vector};
+
+    /// The instance of these parts, which are within the limits. Takes no memory.
+    pub fn new(
+        vars: u64,
+        clauses: Items<Items<Lit>>,
+        linear: Items<Linear>,
+        objectives: Items<Objective>,
+    ) -> Instance
+        requires { IsWithinLimits (record { vars = vars; clauses = clauses; linear = linear; objectives = objectives }) }
+        ensures { result ≡ record { vars = vars; clauses = clauses; linear = linear; objectives = objectives } }
+    {
+        Instance {
+            vars,
+            clauses,
+            linear,
+            objectives,
+        }
+    }
+
+    /// The number of variables.
+    pub fn vars(&self) -> u64
+        ensures value { result ≡ self.now.vars }
+        ensures limits { IsWithinLimits self.now }
+    {
+        self.vars
+    }
+
+    /// Whether every clause has a true literal and every row holds. Costs one pass over them at most.
+    pub fn is_model(&self, a: &Assignment) -> bool
+        requires { length a.now ≡ self.now.vars }
+        ensures { IsTrue result ↔ IsModel self.now a.now }
+    {
+        all_clauses_true(self.clauses.as_slice(), a) && all_rows_hold(self.linear.as_slice(), a)
+    }
+
+    /// One number for each objective: the weights of its false soft clauses, plus the coefficients of
+    /// its true terms, plus its offset. Costs one pass over them.
+    pub fn costs(&self, alloc: Global, a: &Assignment) -> Result<CostVec, NoMemory>
+        requires { length a.now ≡ self.now.vars }
+        ensures { IfOk result (λ c. c ≡ costs_of self.now a.now) }
+    {
+        let mut costs = Vec::with_capacity(alloc, self.objectives.len())?;
+        for objective in self.objectives.as_slice() {
+            costs.push(objective_cost(objective, a))?;
+        }
+        Ok(CostVec::from_items(Items::from_vec(costs)))
+    }
+
+    /// The vector with the sign changed of each number at a maximised objective. It is its own inverse.
+    pub fn problem_vector(&self, alloc: Global, u: &CostVec) -> Result<CostVec, NoMemory>
+        requires length { length u.now ≡ length self.now.objectives }
+        requires above { All (λ x. neg_ℤ (pos (2 ^ 63)) <ℤ x) u.now }
+        ensures { IfOk result (λ v. v ≡ problem_vector self.now u.now) }
+    {
+        let mut numbers = Vec::with_capacity(alloc, u.len())?;
+        for (number, objective) in u.as_slice().iter().zip(self.objectives.as_slice()) {
+            numbers.push(match objective.sense {
+                Sense::Min => *number,
+                Sense::Max => -*number,
+            })?;
+        }
+        Ok(CostVec::from_items(Items::from_vec(numbers)))
+    }
+}
+
+impl Duplicate for Instance {
+    fn copy(&self, alloc: Global) -> Result<Instance, NoMemory> {
+        Ok(Instance {
+            vars: self.vars,
+            clauses: self.clauses.copy(alloc)?,
+            linear: self.linear.copy(alloc)?,
+            objectives: self.objectives.copy(alloc)?,
+        })
+    }
+}
