@@ -1,11 +1,12 @@
 // Clauses, rows and objectives under an assignment.
-ghost use Rattle.std.specs.Prelude.{◌≡◌, ◌<◌, ◌≤◌, ◌^◌, length, unsigned_abs, All};
+ghost use Rattle.std.specs.Prelude.{◌≡◌, ◌<◌, ◌≤◌, ◌^◌, length, map, unsigned_abs, All, IfOk};
 ghost use Rattle.std.specs.List.{list_all};
 ghost use Rattle.instance.specs.Shape.{ClauseUpTo, TermsUpTo, IsRowWithin, IsObjectiveWithin, terms_magnitude, weights_sum};
-ghost use Rattle.instance.specs.Meaning.{clause_true, terms_value, row_holds, int_sum_by, soft_cost, objective_cost};
+ghost use Rattle.instance.specs.Meaning.{clause_true, term_value, terms_value, row_holds, int_sum_by, soft_cost, objective_cost};
 
 use crate::{Linear, Objective, Rel, Soft};
-use scut_base::{Assignment, Items, Lit};
+use scut_base::{Assignment, Items, Lit, NoMemory};
+use std::alloc::Global;
 
 /// Whether each of these clauses has a true literal.
 pub fn all_clauses_true(clauses: &[Items<Lit>], a: &Assignment) -> bool
@@ -67,10 +68,8 @@ fn terms_value(terms: &[(i64, Lit)], a: &Assignment) -> i64
     ensures bound { unsigned_abs result ≤ terms_magnitude terms.now }
 {
     let mut sum = 0;
-    for (coefficient, lit) in terms {
-        if a.value(*lit) {
-            sum += *coefficient;
-        }
+    for term in terms {
+        sum += term_value(term, a);
     }
     sum
 }
@@ -84,15 +83,52 @@ fn softs_cost(softs: &[Soft], a: &Assignment) -> i64
 {
     let mut sum = 0;
     for soft in softs {
-        if !clause_true(soft.lits.as_slice(), a) {
-            sum += soft.weight as i64;
-        }
+        sum += soft_cost(soft, a);
     }
     sum
 }
 
-/// The cost of the assignment in one objective.
-pub fn objective_cost(objective: &Objective, a: &Assignment) -> i64
+// The coefficient where the literal is true, and else 0.
+fn term_value(term: &(i64, Lit), a: &Assignment) -> i64
+    requires { term.now.1.var ≤ length a.now }
+    ensures value { result ≡ term_value a.now term.now }
+    ensures bound { unsigned_abs result ≤ unsigned_abs term.now.0 }
+{
+    if a.value(term.1) { term.0 } else { 0 }
+}
+
+// The weight where the clause is false, and else 0.
+fn soft_cost(soft: &Soft, a: &Assignment) -> i64
+    requires variables { ClauseUpTo (length a.now) soft.now.lits }
+    requires magnitude { soft.now.weight < 2 ^ 63 }
+    ensures value { result ≡ soft_cost a.now soft.now }
+    ensures bound { unsigned_abs result ≤ soft.now.weight }
+{
+    if clause_true(soft.lits.as_slice(), a) {
+        0
+    } else {
+        soft.weight as i64
+    }
+}
+
+/// The cost of the assignment in each of these objectives.
+pub fn objective_costs(
+    alloc: Global,
+    objectives: &[Objective],
+    a: &Assignment,
+) -> Result<Vec<i64>, NoMemory>
+    requires { All (IsObjectiveWithin (length a.now)) objectives.now }
+    ensures { IfOk result (λ costs. costs.items ≡ map (objective_cost a.now) objectives.now) }
+{
+    let mut costs = Vec::with_capacity(alloc, objectives.len())?;
+    for objective in objectives {
+        costs.push(objective_cost(objective, a))?;
+    }
+    Ok(costs)
+}
+
+// The cost of the assignment in one objective.
+fn objective_cost(objective: &Objective, a: &Assignment) -> i64
     requires { IsObjectiveWithin (length a.now) objective.now }
     ensures { result ≡ objective_cost a.now objective.now }
 {

@@ -1,8 +1,9 @@
 // An instance, within its limits.
 ghost use Rattle.std.specs.Prelude.{◌≡◌, ◌↔◌, ◌^◌, ◌<ℤ◌, neg_ℤ, pos, length, All, IsTrue, IfOk};
 
-use crate::{Linear, Objective, Sense};
-use crate::evaluate::{all_clauses_true, all_rows_hold, objective_cost};
+use crate::evaluate::{all_clauses_true, all_rows_hold, objective_costs};
+use crate::sense::problem_numbers;
+use crate::{Linear, Objective};
 use front_set::CostVec;
 use scut_base::{Assignment, Duplicate, Items, Lit, NoMemory};
 use std::alloc::Global;
@@ -72,10 +73,7 @@ impl Instance {
         requires { length a.now ≡ self.now.vars }
         ensures { IfOk result (λ c. c ≡ costs_of self.now a.now) }
     {
-        let mut costs = Vec::with_capacity(alloc, self.objectives.len())?;
-        for objective in self.objectives.as_slice() {
-            costs.push(objective_cost(objective, a))?;
-        }
+        let costs = objective_costs(alloc, self.objectives.as_slice(), a)?;
         Ok(CostVec::from_items(Items::from_vec(costs)))
     }
 
@@ -85,13 +83,7 @@ impl Instance {
         requires above { All (λ x. neg_ℤ (pos (2 ^ 63)) <ℤ x) u.now }
         ensures { IfOk result (λ v. v ≡ problem_vector self.now u.now) }
     {
-        let mut numbers = Vec::with_capacity(alloc, u.len())?;
-        for (number, objective) in u.as_slice().iter().zip(self.objectives.as_slice()) {
-            numbers.push(match objective.sense {
-                Sense::Min => *number,
-                Sense::Max => -*number,
-            })?;
-        }
+        let numbers = problem_numbers(alloc, self.objectives.as_slice(), u.as_slice())?;
         Ok(CostVec::from_items(Items::from_vec(numbers)))
     }
 }

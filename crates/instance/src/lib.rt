@@ -13,6 +13,7 @@ mod instance;
 // mod listed;
 mod objective;
 mod row;
+mod sense;
 
 pub use fault::{BadKind, InstanceLimit, ReadFault};
 pub use instance::Instance;
