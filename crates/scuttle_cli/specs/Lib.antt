@@ -1,0 +1,10 @@
+pub use Rattle.scut_base.specs.Files
+pub use Rattle.scut_base.specs.Faults
+pub use Rattle.front_set.specs.ListText
+pub use Rattle.instance.specs.Shape
+pub use Rattle.instance.specs.Meaning
+pub use Rattle.instance.specs.ParetoFront
+pub use Rattle.mcnf_reader.specs.Words
+pub use Rattle.mcnf_reader.specs.Grammar
+pub mod Command
+pub mod Outcome

@@ -1,0 +1,120 @@
+-- What a run leaves, by its status.
+use Rattle.std.specs.Prelude.{◌≡◌, ℕ, zero, ◌<◌, ◌≤◌, ◌^◌, ◌⊎◌, true, List, [], length, Option, Some, None}
+use Rattle.scut_base.specs.Files.{Files, content, with_file, IsTold, IsTouched, IsPrefixOf}
+use Rattle.scut_base.specs.Faults.{Faults, count, Rose}
+use Rattle.scut_base.specs.declared.shelf.ShelfCall.TheVariants.{Read, Begin, Append, Say}
+use Rattle.scut_base.specs.declared.shelf.ShelfFault.{ShelfFault}
+use Rattle.scut_base.specs.declared.shelf.ShelfFault.TheVariants.{Failed, NoMemory as ShelfNoMemory}
+use Rattle.front_set.specs.declared.entry.Entry.{Entry}
+use Rattle.front_set.specs.ListText.{list_text}
+use Rattle.instance.specs.declared.fault.InstanceLimit.{InstanceLimit}
+use Rattle.instance.specs.declared.fault.InstanceLimit.TheVariants.{Bytes, Vars}
+use Rattle.instance.specs.declared.fault.ReadFault.{ReadFault}
+use Rattle.instance.specs.declared.fault.ReadFault.TheVariants.{Bad, Limit, NoMemory as ReadNoMemory}
+use Rattle.instance.specs.Shape.{InstanceValue}
+use Rattle.instance.specs.ParetoFront.{IsFront}
+use Rattle.mcnf_reader.specs.Grammar.{Spells}
+use Rattle.scuttle_cli.specs.Command.{Request, FrontOf}
+use Rattle.scuttle_cli.specs.declared.status.Status.{Status}
+use Rattle.scuttle_cli.specs.declared.status.Status.TheVariants.{Complete, Usage, BadInput, TooLarge, NoMemory, ShelfFailed}
+
+abbrev pub status_number : Status → ℕ
+status_number (Complete size) = 0
+status_number Usage = 64
+status_number (BadInput line kind) = 65
+status_number (TooLarge line which) = 66
+status_number NoMemory = 71
+status_number ShelfFailed = 74
+
+abbrev pub status_of_shelf : ShelfFault → Status
+status_of_shelf Failed = ShelfFailed
+status_of_shelf ShelfNoMemory = NoMemory
+
+abbrev pub status_of_reading : ReadFault → Status
+status_of_reading (Bad line kind) = BadInput line kind
+status_of_reading (Limit line which) = TooLarge line which
+status_of_reading ReadNoMemory = NoMemory
+
+-- Usage comes exactly where P holds.
+abbrev pub IsUsageWhere : Status → Type 0 → Type 0
+IsUsageWhere Usage P = P
+IsUsageWhere (Complete size) P = P → ⊥
+IsUsageWhere (BadInput line kind) P = P → ⊥
+IsUsageWhere (TooLarge line which) P = P → ⊥
+IsUsageWhere NoMemory P = P → ⊥
+IsUsageWhere ShelfFailed P = P → ⊥
+
+-- The file holds an instance, and the entries are its front.
+pub record IsFrontOfFile (files : Option Files) (input : List ℕ) (entries : List Entry) : Type 0 where
+  pub text : List ℕ
+  pub instance : InstanceValue
+  pub there : content files input ≡ Some text
+  pub spelled : Spells text instance
+  pub front : IsFront instance entries
+
+-- The list of the front was written whole; no other file has changed.
+abbrev pub IsFrontWritten : Option Files → Option Files → List ℕ → List ℕ → ℕ → Type 0
+IsFrontWritten old new input list size = (entries : List Entry) × IsFrontOfFile old input entries × (length entries ≡ size) × (new ≡ with_file old list (list_text true entries))
+
+-- No file has changed, or the list file alone, which holds a prefix of the list of the front.
+abbrev pub IsFrontPartlyWritten : Option Files → Option Files → List ℕ → List ℕ → Type 0
+IsFrontPartlyWritten old new input list = IsTouched old new list (λ bytes. (entries : List Entry) × IsFrontOfFile old input entries × IsPrefixOf bytes (list_text true entries))
+
+-- what each status says of the files, where the shelf tells them
+abbrev pub LeavesFiles : Status → Option Files → Option Files → List ℕ → List ℕ → Type 0
+LeavesFiles (Complete size) old new input list = IsFrontWritten old new input list size
+LeavesFiles Usage old new input list = new ≡ old
+LeavesFiles (BadInput line kind) old new input list = new ≡ old
+LeavesFiles (TooLarge line which) old new input list = new ≡ old
+LeavesFiles NoMemory old new input list = IsFrontPartlyWritten old new input list
+LeavesFiles ShelfFailed old new input list = IsFrontPartlyWritten old new input list
+
+-- the text spells no instance
+abbrev pub SpellsNothing : List ℕ → Type 0
+SpellsNothing text = (i : InstanceValue) → Spells text i → ⊥
+
+-- the text is one that a reader takes, and spells no instance
+abbrev pub IsRefusedText : List ℕ → Type 0
+IsRefusedText text = (length text < 2 ^ 32) × SpellsNothing text
+
+-- the instance of a text has this many variables at the most, or more
+abbrev pub HasFewVariables : List ℕ → Type 0
+HasFewVariables text = (length text < 2 ^ 32) × (i : InstanceValue) × Spells text i × (i.vars ≤ 20)
+
+abbrev pub HasManyVariables : List ℕ → Type 0
+HasManyVariables text = (length text < 2 ^ 32) × (i : InstanceValue) × Spells text i × (20 < i.vars)
+
+-- What each status says of the instance file's text. No two of the causes hold of one text.
+abbrev pub IsCausedBy : Status → List ℕ → Type 0
+IsCausedBy (Complete size) text = HasFewVariables text
+IsCausedBy (BadInput line kind) text = IsRefusedText text
+IsCausedBy (TooLarge zero Bytes) text = 2 ^ 32 ≤ length text
+IsCausedBy (TooLarge zero Vars) text = HasManyVariables text
+IsCausedBy (TooLarge line which) text = IsRefusedText text
+IsCausedBy Usage text = Unit {0}
+IsCausedBy NoMemory text = Unit {0}
+IsCausedBy ShelfFailed text = Unit {0}
+
+-- a count of the calls that the command makes on its own files, or of what it says, rose
+abbrev pub OwnCountRose : Faults → Faults → List ℕ → List ℕ → Type 0
+OwnCountRose before now input list = Rose (count before Read input) (count now Read input) ⊎ Rose (count before Begin list) (count now Begin list) ⊎ Rose (count before Append list) (count now Append list) ⊎ Rose (count before Say []) (count now Say [])
+
+-- A fault of the shelf is answered only where an own count rose.
+abbrev pub HasOwnCause : Status → Faults → Faults → List ℕ → List ℕ → Type 0
+HasOwnCause ShelfFailed before now input list = OwnCountRose before now input list
+HasOwnCause status before now input list = Unit {0}
+
+-- ---- of the words of a command line
+
+-- the command's clauses, where the words ask for it; nothing has changed where they ask for nothing
+abbrev pub LeavesFilesOf : Option Request → Status → Option Files → Option Files → Type 0
+LeavesFilesOf None status old new = new ≡ old
+LeavesFilesOf (Some (FrontOf input list)) status old new = IsTold old → LeavesFiles status old new input list
+
+abbrev pub IsCausedByInput : Option Request → Status → Option Files → Type 0
+IsCausedByInput None status old = Unit {0}
+IsCausedByInput (Some (FrontOf input list)) status old = (text : List ℕ) → content old input ≡ Some text → IsCausedBy status text
+
+abbrev pub HasOwnCauseOf : Option Request → Status → Faults → Faults → Type 0
+HasOwnCauseOf None status before now = status ≡ Usage
+HasOwnCauseOf (Some (FrontOf input list)) status before now = HasOwnCause status before now input list

@@ -1,0 +1,7 @@
+//! The program: every best compromise of an instance.
+#![tactic(auto)]
+
+mod command;
+mod status;
+
+fn main() {}

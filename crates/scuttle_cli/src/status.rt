@@ -1,0 +1,79 @@
+// How a run ends.
+ghost use Rattle.std.specs.Prelude.{◌≡◌};
+ghost use Rattle.scuttle_cli.specs.Outcome.{status_number};
+
+use instance::{BadKind, InstanceLimit, ReadFault};
+use scut_base::{NoMemory, ShelfFault};
+
+/// How a run ends.
+#[derive(Clone, Copy, Debug, PartialEq, Eq)]
+pub enum Status {
+    /// The whole front was written; it has `size` vectors.
+    Complete { size: u64 },
+    /// The words are no command.
+    Usage,
+    /// The instance file isn't in its grammar.
+    BadInput { line: u64, kind: BadKind },
+    /// The instance passes a limit; line 0 stands for the whole file.
+    TooLarge { line: u64, which: InstanceLimit },
+    /// Memory was refused.
+    NoMemory,
+    /// A file or a stream failed.
+    ShelfFailed,
+}
+
+impl Status {
+    /// The number with which the program ends.
+    pub fn number(&self) -> u8
+        ensures { result ≡ status_number self.now }
+    {
+        match self {
+            Status::Complete { .. } => 0,
+            Status::Usage => 64,
+            Status::BadInput { .. } => 65,
+            Status::TooLarge { .. } => 66,
+            Status::NoMemory => 71,
+            Status::ShelfFailed => 74,
+        }
+    }
+}
+
+impl From<NoMemory> for Status {
+    ghost use Rattle.std.specs.Prelude.{◌≡◌};
+    ghost use Rattle.scuttle_cli.specs.declared.status.Status.TheVariants.{NoMemory};
+
+    ghost from_gives = { λ _ s. s ≡ NoMemory };
+
+    fn from(_: NoMemory) -> Status {
+        Status::NoMemory
+    }
+}
+
+impl From<ShelfFault> for Status {
+    ghost use Rattle.scuttle_cli.specs.Outcome.{status_of_shelf};
+    ghost use Rattle.std.specs.Prelude.{◌≡◌};
+
+    ghost from_gives = { λ fault s. s ≡ status_of_shelf fault };
+
+    fn from(fault: ShelfFault) -> Status {
+        match fault {
+            ShelfFault::Failed => Status::ShelfFailed,
+            ShelfFault::NoMemory => Status::NoMemory,
+        }
+    }
+}
+
+impl From<ReadFault> for Status {
+    ghost use Rattle.scuttle_cli.specs.Outcome.{status_of_reading};
+    ghost use Rattle.std.specs.Prelude.{◌≡◌};
+
+    ghost from_gives = { λ fault s. s ≡ status_of_reading fault };
+
+    fn from(fault: ReadFault) -> Status {
+        match fault {
+            ReadFault::Bad { line, kind } => Status::BadInput { line, kind },
+            ReadFault::Limit { line, which } => Status::TooLarge { line, which },
+            ReadFault::NoMemory => Status::NoMemory,
+        }
+    }
+}
