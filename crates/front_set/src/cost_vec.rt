@@ -81,6 +81,13 @@ impl CostVec {
         }
         true
     }
+
+    // The same for vectors of any lengths, as the tests of a whole list ask.
+    pub(crate) fn is_below(&self, other: &CostVec) -> bool
+        ensures { result ≡ is_below self.now other.now }
+    {
+        self.len() == other.len() && self.weakly_dominates(other)
+    }
 }
 
 impl Duplicate for CostVec {

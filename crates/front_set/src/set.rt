@@ -97,7 +97,7 @@ fn place_below(entries: &[Entry], vec: &CostVec) -> Option<usize>
     requires { HaveLength (length vec.now) entries.now }
     ensures { result ≡ first_below entries.now vec.now }
 {
-    entries.iter().position(|entry| entry.costs.weakly_dominates(vec))
+    entries.iter().position(|entry| entry.costs.is_below(vec))
 }
 
 // Drops the entries that the vector weakly dominates, and answers their number.
@@ -109,7 +109,7 @@ fn drop_above(entries: &mut Vec<Entry>, vec: &CostVec) -> u64
     ensures capacity { vec_capacity entries.new ≡ vec_capacity entries.old }
 {
     let before = entries.len();
-    entries.retain(|entry| !vec.weakly_dominates(&entry.costs));
+    entries.retain(|entry| !vec.is_below(&entry.costs));
     (before - entries.len()) as u64
 }
 
