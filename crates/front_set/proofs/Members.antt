@@ -1,5 +1,5 @@
 -- Members of a list under a map and a filter, and what a search for the first place says.
-use Rattle.std.proofs.Common.{◌≡◌, ◌⊎◌, inl, inr, ℕ, ◌+◌, ◌<◌, zero, suc, Bool, true, false, cond, not, List, [], ◌∷◌, ◌++◌, length, map, get_or, refl, sym, ap, subst, ◌∙◌, Option, None, Some, arith}
+use Rattle.std.proofs.Common.{◌≡◌, ◌⊎◌, inl, inr, ℕ, ◌+◌, zero, suc, Bool, true, false, cond, List, [], ◌∷◌, map, refl, sym, ap, subst, ◌∙◌, None, Some, arith}
 use Rattle.std.specs.List.{All, Contains, filter, position_from}
 use Rattle.std.proofs.lemmas.List.Elements.{All-nil, All-cons}
 

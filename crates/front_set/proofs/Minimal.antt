@@ -1,13 +1,13 @@
 -- A pair more: what a front holds stands for the minimal vectors of all pairs that were inserted.
-use Rattle.std.proofs.Common.{◌≡◌, ◌≢◌, ◌↔◌, ◌⊎◌, inl, inr, ℕ, ◌<◌, Bool, true, false, not, List, [], ◌∷◌, ◌++◌, length, map, get_or, refl, sym, subst, ◌∙◌, ap, ℤ, Option, None, Some, arith}
-use Rattle.std.specs.List.{All, AllPairs, Contains, filter}
+use Rattle.std.proofs.Common.{◌≡◌, ◌⊎◌, inl, inr, Bool, true, false, not, List, [], ◌∷◌, ◌++◌, length, get_or, refl, sym, subst, ◌∙◌, ℤ, arith}
+use Rattle.std.specs.List.{All, Contains}
 use Rattle.std.proofs.lemmas.Bool.{not-true, not_from_false, false≢true}
 use Rattle.std.proofs.lemmas.List.{map-append}
-use Rattle.std.proofs.lemmas.List.Elements.{All-nil, All-contains, All-filter, All-push, All-same, All-weaker, All-get_or, filter_passes, Contains-append_left, Contains-append_cases, Contains-push, Contains-push_cases}
+use Rattle.std.proofs.lemmas.List.Elements.{All-nil, All-contains, All-filter, All-push, All-same, All-weaker, All-get_or, filter_passes, Contains-append_left, Contains-push, Contains-push_cases}
 use Rattle.std.proofs.lemmas.List.Kept.{AllPairs-filter}
 use Rattle.std.proofs.lemmas.List.Quantifiers.{all_pairs_push}
 use Rattle.front_set.specs.declared.entry.Entry.{Entry}
-use Rattle.front_set.specs.Vector.{is_below, IsBelow, IsStrictlyBelow}
+use Rattle.front_set.specs.Vector.{is_below, IsBelow}
 use Rattle.front_set.specs.Front.{vectors_of, AreIncomparable, IsMinimalOf, StandsFor, IsInserted, HaveLength, not_above}
 use Rattle.front_set.specs.declared.set.Inserted.{Inserted}
 use Rattle.front_set.specs.declared.set.Inserted.TheVariants.{Covered, Added}
@@ -25,38 +25,48 @@ lowest [] u = (u, record { below = IsBelow-refl u; among = inl refl; least = λ 
 lowest (y ∷ us) u = by (is_below y u) refl (lowest us y) (lowest us u)
   where
     by : (b : Bool) → is_below y u ≡ b → ((c : List ℤ) × IsLowest us y c) → ((c : List ℤ) × IsLowest us u c) → (c : List ℤ) × IsLowest (y ∷ us) u c
-    by true e (c, under_y) under_u = (c, record {
-      below = IsBelow-trans c y u under_y.below e;
-      among = elim under_y.among [
-        | inl same ↦ inr (subst (λ (z : List ℤ). Contains (y ∷ us) z) (sym same) (Contains-head y us))
-        | inr later ↦ inr (Contains-cons y c us later)
-      ];
-      least = λ x in' b. elim (Contains-cons_cases y x us in') [
-        | inl same ↦ subst (λ (z : List ℤ). IsBelow c z) same under_y.below
-        | inr later ↦ under_y.least x later b
-      ];
-    })
-    by false e under_y (c, under_u) = (c, record {
-      below = under_u.below;
-      among = elim under_u.among [
-        | inl same ↦ inl same
-        | inr later ↦ inr (Contains-cons y c us later)
-      ];
-      least = λ x in' b. elim (Contains-cons_cases y x us in') [
-        | inl same ↦ (let reached : is_below y u ≡ true = IsBelow-trans y c u (subst (λ (z : List ℤ). IsBelow z c) (sym same) b) under_u.below in cc)
-        | inr later ↦ under_u.least x later b
-      ];
-    })
+    by true e (c, under_y) under_u = (
+      c,
+      record {
+        below = IsBelow-trans c y u under_y.below e;
+        among = elim under_y.among [
+          | inl same ↦ inr (subst (λ (z : List ℤ). Contains (y ∷ us) z) (sym same) (Contains-head y us))
+          | inr later ↦ inr (Contains-cons y c us later)
+        ];
+        least = λ x in' b. elim (Contains-cons_cases y x us in') [
+          | inl same ↦ subst (λ (z : List ℤ). IsBelow c z) same under_y.below
+          | inr later ↦ under_y.least x later b
+        ];
+      },
+    )
+    by false e under_y (c, under_u) = (
+      c,
+      record {
+        below = under_u.below;
+        among = elim under_u.among [
+          | inl same ↦ inl same
+          | inr later ↦ inr (Contains-cons y c us later)
+        ];
+        least = λ x in' b. elim (Contains-cons_cases y x us in') [
+          | inl same ↦ (let reached : is_below y u ≡ true = IsBelow-trans y c u (subst (λ (z : List ℤ). IsBelow z c) (sym same) b) under_u.below in cc)
+          | inr later ↦ under_u.least x later b
+        ];
+      },
+    )
 
 -- each pair has a minimal vector that is below its own
 minimal_below : (pairs : List Entry) (u : List ℤ) → Contains (vectors_of pairs) u → (c : List ℤ) × IsMinimalOf pairs c × IsBelow c u
-minimal_below pairs u has = (let found = lowest (vectors_of pairs) u in let c = found.0 in let low = found.1 in (c, record {
-  among = elim low.among [
-    | inl same ↦ subst (λ (z : List ℤ). Contains (vectors_of pairs) z) (sym same) has
-    | inr there ↦ there
-  ];
-  least = λ x in' strictly. strictly.1 (IsBelow-antisym x c strictly.0 (low.least x in' strictly.0));
-}, low.below))
+minimal_below pairs u has = (let found = lowest (vectors_of pairs) u in let c = found.0 in let low = found.1 in (
+  c,
+  record {
+    among = elim low.among [
+      | inl same ↦ subst (λ (z : List ℤ). Contains (vectors_of pairs) z) (sym same) has
+      | inr there ↦ there
+    ];
+    least = λ x in' strictly. strictly.1 (IsBelow-antisym x c strictly.0 (low.least x in' strictly.0));
+  },
+  low.below,
+))
 
 -- the vectors of the pairs, and of one more
 more_vectors : (pairs : List Entry) (p : Entry) → vectors_of (pairs ++ p ∷ []) ≡ vectors_of pairs ++ p.costs ∷ []
@@ -106,8 +116,8 @@ stands_for_covered entries pairs p e in' covers stands = record {
           least = λ u among strictly. elim (vector_cases pairs p u among) [
             | inl old ↦ minimal.least u old strictly
             | inr same ↦ (
-              let under : IsBelow p.costs v = subst (λ (z : List ℤ). IsBelow z v) (sym same) strictly.0 in
-              minimal.least e.costs (vector_of_pair entries pairs stands e in') (IsBelow-trans e.costs p.costs v covers under, λ is. strictly.1 (sym same ∙ IsBelow-antisym p.costs v under (subst (λ (z : List ℤ). IsBelow z p.costs) is covers))))
+                let under : IsBelow p.costs v = subst (λ (z : List ℤ). IsBelow z v) (sym same) strictly.0 in
+                minimal.least e.costs (vector_of_pair entries pairs stands e in') (IsBelow-trans e.costs p.costs v covers under, λ is. strictly.1 (sym same ∙ IsBelow-antisym p.costs v under (subst (λ (z : List ℤ). IsBelow z p.costs) is covers))))
           ];
         }
 
@@ -119,9 +129,9 @@ stands_for_covered entries pairs p e in' covers stands = record {
     is_held v minimal = elim (vector_cases pairs p v minimal.among) [
       | inl old ↦ (stands.minimal v).1 (still_minimal pairs p v old minimal)
       | inr same ↦ (
-        let under : IsBelow e.costs v = subst (λ (z : List ℤ). IsBelow e.costs z) same covers in
-        let is : e.costs ≡ v = equal v under minimal (is_below v e.costs) refl in
-        subst (λ (z : List ℤ). Contains (vectors_of entries) z) is (Contains-map (λ (f : Entry). f.costs) entries e in'))
+          let under : IsBelow e.costs v = subst (λ (z : List ℤ). IsBelow e.costs z) same covers in
+          let is : e.costs ≡ v = equal v under minimal (is_below v e.costs) refl in
+          subst (λ (z : List ℤ). Contains (vectors_of entries) z) is (Contains-map (λ (f : Entry). f.costs) entries e in'))
     ]
 
 -- a pair that no entry is below takes the place of the entries that it is below
@@ -135,9 +145,9 @@ incomparable_more entries p none once =
     all_pairs_push (λ (e f : Entry). (IsBelow e.costs f.costs → ⊥) × (IsBelow f.costs e.costs → ⊥)) (not_above p.costs entries) p
     (AllPairs-filter (λ (e f : Entry). (IsBelow e.costs f.costs → ⊥) × (IsBelow f.costs e.costs → ⊥)) (λ e. not (is_below p.costs e.costs)) entries once)
     (λ k d below. (
-      let out = All-get_or (λ (e : Entry). is_below e.costs p.costs ≡ false) (not_above p.costs entries) k d below (All-filter (λ (e : Entry). not (is_below p.costs e.costs)) (λ (e : Entry). is_below e.costs p.costs ≡ false) entries none) in
-      let pass = All-get_or (λ (e : Entry). not (is_below p.costs e.costs) ≡ true) (not_above p.costs entries) k d below (filter_passes (λ (e : Entry). not (is_below p.costs e.costs)) entries) in
-      (λ b. false≢true (sym out ∙ b), λ b. false≢true (sym (not-true (is_below p.costs (get_or (not_above p.costs entries) k d).costs) pass) ∙ b))))
+    let out = All-get_or (λ (e : Entry). is_below e.costs p.costs ≡ false) (not_above p.costs entries) k d below (All-filter (λ (e : Entry). not (is_below p.costs e.costs)) (λ (e : Entry). is_below e.costs p.costs ≡ false) entries none) in
+    let pass = All-get_or (λ (e : Entry). not (is_below p.costs e.costs) ≡ true) (not_above p.costs entries) k d below (filter_passes (λ (e : Entry). not (is_below p.costs e.costs)) entries) in
+    (λ b. false≢true (sym out ∙ b), λ b. false≢true (sym (not-true (is_below p.costs (get_or (not_above p.costs entries) k d).costs) pass) ∙ b))))
 
 pub stands_for_added : (entries pairs : List Entry) (p : Entry) → All (λ e. is_below e.costs p.costs ≡ false) entries → StandsFor entries pairs → StandsFor (not_above p.costs entries ++ p ∷ []) (pairs ++ p ∷ [])
 stands_for_added entries pairs p none stands = record {
@@ -183,9 +193,9 @@ stands_for_added entries pairs p none stands = record {
     is_minimal : (v : List ℤ) → Contains (vectors_of (not_above p.costs entries ++ p ∷ [])) v → IsMinimalOf (pairs ++ p ∷ []) v
     is_minimal v has = elim (vector_cases (not_above p.costs entries) p v has) [
       | inl old ↦ (
-        let found = Contains-from_map (λ (f : Entry). f.costs) (not_above p.costs entries) v old in
-        let kept = kept_vectors p.costs entries found.0 found.1 in
-        subst (λ (z : List ℤ). IsMinimalOf (pairs ++ p ∷ []) z) found.2 (kept_is_minimal found.0 kept.0 kept.1))
+          let found = Contains-from_map (λ (f : Entry). f.costs) (not_above p.costs entries) v old in
+          let kept = kept_vectors p.costs entries found.0 found.1 in
+          subst (λ (z : List ℤ). IsMinimalOf (pairs ++ p ∷ []) z) found.2 (kept_is_minimal found.0 kept.0 kept.1))
       | inr same ↦ subst (λ (z : List ℤ). IsMinimalOf (pairs ++ p ∷ []) z) same new_is_minimal
     ]
 
@@ -196,10 +206,10 @@ stands_for_added entries pairs p none stands = record {
     is_held : (v : List ℤ) → IsMinimalOf (pairs ++ p ∷ []) v → Contains (vectors_of (not_above p.costs entries ++ p ∷ [])) v
     is_held v minimal = elim (vector_cases pairs p v minimal.among) [
       | inl old ↦ (
-        let found = Contains-from_map (λ (f : Entry). f.costs) entries v ((stands.minimal v).1 (still_minimal pairs p v old minimal)) in
-        let above : is_below p.costs found.0.costs ≡ false = not_over found.0 found.1 (subst (λ (z : List ℤ). IsMinimalOf (pairs ++ p ∷ []) z) (sym found.2) minimal) (is_below p.costs found.0.costs) refl in
-        let kept = Contains-filter (λ (f : Entry). not (is_below p.costs f.costs)) entries found.0 found.1 (not_from_false (is_below p.costs found.0.costs) above) in
-        subst (λ (z : List ℤ). Contains (vectors_of (not_above p.costs entries ++ p ∷ [])) z) found.2 (old_vector (not_above p.costs entries) p found.0.costs (Contains-map (λ (f : Entry). f.costs) (not_above p.costs entries) found.0 kept)))
+          let found = Contains-from_map (λ (f : Entry). f.costs) entries v ((stands.minimal v).1 (still_minimal pairs p v old minimal)) in
+          let above : is_below p.costs found.0.costs ≡ false = not_over found.0 found.1 (subst (λ (z : List ℤ). IsMinimalOf (pairs ++ p ∷ []) z) (sym found.2) minimal) (is_below p.costs found.0.costs) refl in
+          let kept = Contains-filter (λ (f : Entry). not (is_below p.costs f.costs)) entries found.0 found.1 (not_from_false (is_below p.costs found.0.costs) above) in
+          subst (λ (z : List ℤ). Contains (vectors_of (not_above p.costs entries ++ p ∷ [])) z) found.2 (old_vector (not_above p.costs entries) p found.0.costs (Contains-map (λ (f : Entry). f.costs) (not_above p.costs entries) found.0 kept)))
       | inr same ↦ subst (λ (z : List ℤ). Contains (vectors_of (not_above p.costs entries ++ p ∷ [])) z) same (new_vector (not_above p.costs entries) p)
     ]
 

@@ -1,11 +1,11 @@
 -- A sorted list of incomparable entries rises strictly.
-use Rattle.std.proofs.Common.{◌≡◌, ◌≢◌, ◌⊎◌, inl, inr, ℕ, ◌+◌, ◌<◌, ◌≤◌, suc, Bool, true, false, List, [], ◌∷◌, length, get_or, refl, sym, ◌∙◌, subst, ap, ℤ, arith, add-one}
+use Rattle.std.proofs.Common.{◌≡◌, ◌≢◌, inl, inr, ℕ, ◌<◌, suc, false, List, [], ◌∷◌, length, get_or, refl, sym, ◌∙◌, subst, ap, ℤ, arith, add-one}
 use Rattle.std.specs.List.{AllPairs, swap}
 use Rattle.std.specs.List.Sorted.{IsPermutation, IsSortedBy}
 use Rattle.std.specs.Ordering.{is_lt, ordering_reverse}
 use Rattle.std.specs.declared.cmp.Ordering.{Ordering}
 use Rattle.std.specs.declared.cmp.Ordering.TheVariants.{Less, Equal, Greater}
-use Rattle.std.proofs.lemmas.Bool.{cases_lt, cases_eq, false≢true}
+use Rattle.std.proofs.lemmas.Bool.{cases_lt, cases_eq}
 use Rattle.std.proofs.lemmas.List.Edits.{swapped_from_swap, length-swap}
 use Rattle.std.proofs.lemmas.List.Sorted.{IsPermutation-keeps}
 use Rattle.front_set.specs.declared.entry.Entry.{Entry}
@@ -68,7 +68,8 @@ rising [] sorted once = tt
 rising (e ∷ []) sorted once = tt
 rising (e ∷ f ∷ rest) sorted once = (
   before e.costs f.costs (sorted 0 e (omega arith)) (once 0 1 e (omega arith) (omega arith)).0,
-  rising (f ∷ rest) (λ k d below. sorted (suc k) d (omega arith)) (λ i j d less below. once (suc i) (suc j) d (omega arith) (omega arith)))
+  rising (f ∷ rest) (λ k d below. sorted (suc k) d (omega arith)) (λ i j d less below. once (suc i) (suc j) d (omega arith) (omega arith)),
+)
 
 pub rising_from_sorted : (entries : List Entry) → IsSortedBy (λ e f. is_lt (vector_cmp e.costs f.costs)) entries → AreIncomparable entries → AreRising (vectors_of entries)
 rising_from_sorted entries sorted once = rising entries (λ k d below. rw (← add-one k) (sorted k d (omega arith) (omega arith))) once

@@ -114,7 +114,11 @@ mod tests {
             let left = CostVec::from_slice(rt.alloc(), &left)?;
             let right = CostVec::from_slice(rt.alloc(), &right)?;
             assert_eq!(rt; left.len(), right.len());
-            assert_eq!(rt; left.weakly_dominates(&right), want, "{left:?} and {right:?}");
+            assert_eq!(rt;
+                left.weakly_dominates(&right),
+                want,
+                "{left:?} and {right:?}"
+            );
         }
         Ok(())
     }

@@ -1,4 +1,4 @@
-use Rattle.std.proofs.Common.{◌≡◌, ◌≢◌, ◌∙◌, length, sym, arith}
+use Rattle.std.proofs.Common.{◌≢◌, ◌∙◌, length, sym, arith}
 use Rattle.std.proofs.lemmas.Bool.{ne_eqb}
 use Rattle.front_set.proofs.FrontLaws.{is_below-lengths}
 use Rattle.front_set.proofs.cost_vec.CostVec.is_below.Goals as goal

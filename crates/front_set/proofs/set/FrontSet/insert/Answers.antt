@@ -1,5 +1,4 @@
-use Rattle.std.proofs.Common.{◌≡◌, ◌++◌, ◌∷◌, [], List, None, Some, refl, rules, subst, sym}
-use Rattle.std.specs.List.{All}
+use Rattle.std.proofs.Common.{◌≡◌, ◌++◌, ◌∷◌, [], None, Some, refl, rules, subst, sym}
 use Rattle.front_set.specs.declared.entry.Entry.{Entry}
 use Rattle.front_set.specs.declared.set.Inserted.TheVariants.{Covered, Added}
 use Rattle.front_set.specs.Vector.{is_below}

@@ -1,10 +1,9 @@
-use Rattle.std.proofs.Common.{◌≡◌, rules}
+use Rattle.std.proofs.Common.{rules}
 use Rattle.std.specs.List.Sorted.{IsPermutation}
 use Rattle.std.specs.Ordering.{is_lt}
 use Rattle.std.proofs.lemmas.List.Sorted.{ranks_by, answers_always}
 use Rattle.front_set.specs.declared.entry.Entry.{Entry}
 use Rattle.front_set.specs.Vector.{vector_cmp}
-use Rattle.front_set.specs.Front.{AreIncomparable}
 use Rattle.front_set.proofs.FrontLaws.{vector_cmp_total}
 use Rattle.front_set.proofs.Rising.{incomparable_permuted, rising_from_sorted}
 use Rattle.front_set.proofs.set.FrontSet.sorted.Goals as goal
