@@ -1,5 +1,5 @@
 -- The minimal pairs of a list of pairs of a vector and an assignment.
-use Rattle.std.specs.Prelude.{◌≡◌, ◌↔◌, ℕ, ◌<◌, Bool, true, false, not, cond, List, [], ◌∷◌, ◌++◌, length, map, ℤ, All, Contains, Option, None, Some}
+use Rattle.std.specs.Prelude.{◌≡◌, ◌↔◌, ℕ, not, List, [], ◌∷◌, ◌++◌, length, map, ℤ, All, Contains, Option, None, Some}
 use Rattle.std.specs.List.{filter, AllPairs, position_from, count_by}
 use Rattle.front_set.specs.Vector.{is_below, IsBelow, IsStrictlyBelow}
 use Rattle.front_set.specs.declared.entry.Entry.{Entry}

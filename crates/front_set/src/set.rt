@@ -70,6 +70,7 @@ impl FrontSet {
         requires { HaveLength (length vec) self.old }
         ensures inserted { IfOk result (λ done. IsInserted self.old self.new (record { costs = vec; model = model }) done) }
         ensures stands { OnOk result ((pairs : List Entry) → StandsFor self.old pairs → StandsFor self.new (pairs ++ record { costs = vec; model = model } ∷ [])) }
+        ensures lengths { HaveLength (length vec) self.new }
         ensures err { OnErr result (self.new ≡ self.old) }
     {
         if let Some(by) = place_below(&self.entries, &vec) {
@@ -94,22 +95,20 @@ impl FrontSet {
 
 // The place of the first entry that weakly dominates the vector.
 fn place_below(entries: &[Entry], vec: &CostVec) -> Option<usize>
-    requires { HaveLength (length vec.now) entries.now }
     ensures { result ≡ first_below entries.now vec.now }
 {
-    entries.iter().position(|entry| entry.costs.weakly_dominates(vec))
+    entries.iter().position(|entry| entry.costs.is_below(vec))
 }
 
 // Drops the entries that the vector weakly dominates, and answers their number.
 fn drop_above(entries: &mut Vec<Entry>, vec: &CostVec) -> u64
-    requires { HaveLength (length vec.now) entries.old.items }
     ensures kept { entries.new.items ≡ not_above vec.now entries.old.items }
     ensures removed { result ≡ count_above vec.now entries.old.items }
     ensures len { vec_len entries.new ≤ vec_len entries.old }
     ensures capacity { vec_capacity entries.new ≡ vec_capacity entries.old }
 {
     let before = entries.len();
-    entries.retain(|entry| !vec.weakly_dominates(&entry.costs));
+    entries.retain(|entry| !vec.is_below(&entry.costs));
     (before - entries.len()) as u64
 }
 
@@ -122,4 +121,51 @@ fn copies(alloc: Global, entries: &[Entry]) -> Result<Vec<Entry>, NoMemory>
         all.push(entry.copy(alloc)?)?;
     }
     Ok(all)
+}
+
+#[cfg(test)]
+mod tests {
+    use super::*;
+    use std::test::Fail;
+
+    #[test]
+    fn insert_covers_adds_and_removes(rt: HostRuntime) -> Result<(), Fail> {
+        let rows = [
+            ([3, 5], Inserted::Added { removed: 0 }),
+            ([5, 3], Inserted::Added { removed: 0 }),
+            ([5, 3], Inserted::Covered { by: 1 }),
+            ([4, 5], Inserted::Covered { by: 0 }),
+            ([2, 4], Inserted::Added { removed: 1 }),
+            ([6, 6], Inserted::Covered { by: 0 }),
+            ([-1, -2], Inserted::Added { removed: 2 }),
+        ];
+        let mut set = FrontSet::new(rt.alloc());
+        for (costs, want) in rows {
+            let vec = CostVec::from_slice(rt.alloc(), &costs)?;
+            let model = Assignment::new(rt.alloc(), 1)?;
+            let done = set.insert(vec, model)?;
+            assert_eq!(rt; done, want, "{costs:?}");
+        }
+        assert_eq!(rt; set.len(), 1);
+        Ok(())
+    }
+
+    #[test]
+    fn sorted_rises(rt: HostRuntime) -> Result<(), Fail> {
+        let mut set = FrontSet::new(rt.alloc());
+        for (at, costs) in [[5, -1], [-5, 7], [3, 2], [3, 1]].into_iter().enumerate() {
+            let vec = CostVec::from_slice(rt.alloc(), &costs)?;
+            let model = Assignment::new(rt.alloc(), at as u64)?;
+            set.insert(vec, model)?;
+        }
+        let sorted = set.sorted(rt.alloc())?;
+        let want = [([-5, 7], 1), ([3, 1], 3), ([5, -1], 0)];
+        assert_eq!(rt; sorted.len(), want.len());
+        for (at, (costs, vars)) in want.iter().enumerate() {
+            let entry = &sorted[at];
+            assert_eq!(rt; entry.costs.as_slice(), costs.as_slice());
+            assert_eq!(rt; entry.model.len(), *vars);
+        }
+        Ok(())
+    }
 }
