@@ -1,5 +1,5 @@
 -- The minimal pairs of a list of pairs of a vector and an assignment.
-use Rattle.std.specs.Prelude.{◌≡◌, ◌↔◌, ℕ, not, List, [], ◌∷◌, ◌++◌, length, map, ℤ, All, Contains, Option, None, Some}
+use Rattle.std.specs.Prelude.{◌≡◌, ◌≢◌, ◌↔◌, ℕ, not, List, [], ◌∷◌, ◌++◌, length, map, ℤ, All, Contains, Option, None, Some}
 use Rattle.std.specs.List.{filter, AllPairs, position_from, count_by}
 use Rattle.front_set.specs.Vector.{is_below, IsBelow, IsStrictlyBelow}
 use Rattle.front_set.specs.declared.entry.Entry.{Entry}
@@ -13,6 +13,10 @@ vectors_of entries = map (λ e. e.costs) entries
 -- no entry's vector is below that of another
 abbrev pub AreIncomparable : List Entry → Type 0
 AreIncomparable entries = AllPairs (λ e f. (IsBelow e.costs f.costs → ⊥) × (IsBelow f.costs e.costs → ⊥)) entries
+
+-- no two entries have one vector
+abbrev pub AreDistinct : List Entry → Type 0
+AreDistinct entries = AllPairs (λ e f. e.costs ≢ f.costs) entries
 
 -- v is the vector of a pair, and that of no pair is strictly below it
 pub record IsMinimalOf (pairs : List Entry) (v : List ℤ) : Type 0 where

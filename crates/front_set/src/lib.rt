@@ -8,8 +8,10 @@
 
 mod cost_vec;
 mod entry;
+mod order;
 mod set;
 
 pub use cost_vec::CostVec;
 pub use entry::Entry;
+pub use order::sort_entries;
 pub use set::{FrontSet, Inserted};

@@ -6,7 +6,7 @@ ghost use Rattle.front_set.specs.declared.entry.Entry.{Entry};
 ghost use Rattle.front_set.specs.Vector.{is_below, AreRising};
 ghost use Rattle.front_set.specs.Front.{StandsFor, IsInserted, AreIncomparable, HaveLength, first_below, not_above, count_above, vectors_of};
 
-use crate::{CostVec, Entry};
+use crate::{CostVec, Entry, sort_entries};
 use scut_base::{Assignment, Duplicate, NoMemory};
 use std::alloc::Global;
 use std::marker::Model;
@@ -87,9 +87,7 @@ impl FrontSet {
         ensures same { IfOk result (λ v. IsPermutation self.now v.items) }
         ensures rising { IfOk result (λ v. AreRising (vectors_of v.items)) }
     {
-        let mut entries = copies(alloc, &self.entries)?;
-        entries.sort_by(|a, b| a.costs.cmp(&b.costs))?;
-        Ok(entries)
+        sort_entries(copies(alloc, &self.entries)?)
     }
 }
 

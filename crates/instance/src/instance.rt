@@ -31,7 +31,7 @@ impl Model for Instance {
 impl Instance {
     ghost use Rattle.instance.specs.Shape.{InstanceValue, IsWithinLimits};
     ghost use Rattle.instance.specs.Meaning.{IsModel, costs_of};
-    ghost use Rattle.instance.specs.ParetoFront.{problem_vector};
+    ghost use Rattle.instance.specs.ParetoFront.{problem_vector, IsProblemVector};
 
     /// The instance of these parts, which are within the limits. Takes no memory.
     pub fn new(
@@ -71,7 +71,8 @@ impl Instance {
     /// its true terms, plus its offset. Costs one pass over them.
     pub fn costs(&self, alloc: Global, a: &Assignment) -> Result<CostVec, NoMemory>
         requires { length a.now ≡ self.now.vars }
-        ensures { IfOk result (λ c. c ≡ costs_of self.now a.now) }
+        ensures costs { IfOk result (λ c. c ≡ costs_of self.now a.now) }
+        ensures bounds { IfOk result (λ c. IsProblemVector self.now c) }
     {
         let costs = objective_costs(alloc, self.objectives.as_slice(), a)?;
         Ok(CostVec::from_items(Items::from_vec(costs)))
@@ -79,8 +80,7 @@ impl Instance {
 
     /// The vector with the sign changed of each number at a maximised objective. It is its own inverse.
     pub fn problem_vector(&self, alloc: Global, u: &CostVec) -> Result<CostVec, NoMemory>
-        requires length { length u.now ≡ length self.now.objectives }
-        requires above { All (λ x. neg_ℤ (pos (2 ^ 63)) <ℤ x) u.now }
+        requires { IsProblemVector self.now u.now }
         ensures { IfOk result (λ v. v ≡ problem_vector self.now u.now) }
     {
         let numbers = problem_numbers(alloc, self.objectives.as_slice(), u.as_slice())?;

@@ -10,13 +10,13 @@
 mod evaluate;
 mod fault;
 mod instance;
-// mod listed;
+mod listing;
 mod objective;
 mod row;
 mod sense;
 
 pub use fault::{BadKind, InstanceLimit, ReadFault};
 pub use instance::Instance;
-// pub use listed::listed;
+pub use listing::listed;
 pub use objective::{Objective, Sense, Soft};
 pub use row::{Linear, Rel};
