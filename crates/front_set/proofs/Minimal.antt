@@ -55,7 +55,7 @@ lowest (y ∷ us) u = by (is_below y u) refl (lowest us y) (lowest us u)
     )
 
 -- each pair has a minimal vector that is below its own
-minimal_below : (pairs : List Entry) (u : List ℤ) → Contains (vectors_of pairs) u → (c : List ℤ) × IsMinimalOf pairs c × IsBelow c u
+pub minimal_below : (pairs : List Entry) (u : List ℤ) → Contains (vectors_of pairs) u → (c : List ℤ) × IsMinimalOf pairs c × IsBelow c u
 minimal_below pairs u has = (let found = lowest (vectors_of pairs) u in let c = found.0 in let low = found.1 in (
   c,
   record {
