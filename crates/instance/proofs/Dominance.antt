@@ -1,8 +1,10 @@
 -- Vectors of an instance and those of a problem that only minimises.
-use Rattle.std.proofs.Common.{◌≡◌, ◌≢◌, ℕ, ◌+◌, ◌<◌, suc, ℤ, pos, negsuc, neg_ℤ, Bool, true, false, not, ◌&&◌, List, [], ◌∷◌, length, map, get_or, refl, sym, ap, ap₂, ◌∙◌, arith}
+use Rattle.std.proofs.Common.{◌≡◌, ◌^◌, unsigned_abs, ◌<◌, suc, ℤ, not, ◌&&◌, List, [], ◌∷◌, length, map, get_or, refl, sym, ap, ap₂, ◌∙◌, arith}
 use Rattle.std.specs.Prelude.{int_lt}
 use Rattle.std.proofs.lemmas.Int.{ints}
+use Rattle.std.specs.List.{AllByRecursion}
 use Rattle.std.proofs.lemmas.List.{length-map, get_or-map}
+use Rattle.std.proofs.lemmas.List.Elements.{All-from_recursion, recursion_from_All}
 use Rattle.front_set.specs.Vector.{is_below}
 use Rattle.front_set.specs.Front.{AreDistinct, AreIncomparable}
 use Rattle.front_set.proofs.Rising.{distinct_from_incomparable}
@@ -11,7 +13,7 @@ use Rattle.instance.specs.declared.objective.Objective.{Objective}
 use Rattle.instance.specs.declared.objective.Sense.{Sense}
 use Rattle.instance.specs.declared.objective.Sense.TheVariants.{Min, Max}
 use Rattle.instance.specs.Shape.{InstanceValue}
-use Rattle.instance.specs.ParetoFront.{is_as_good, weakly_dominates, problem_number, problem_numbers, problem_vector, listed_entry}
+use Rattle.instance.specs.ParetoFront.{is_as_good, weakly_dominates, problem_number, problem_numbers, problem_vector, IsProblemVector, listed_entry}
 
 problem_number-twice : (s : Sense) (x : ℤ) → problem_number s (problem_number s x) ≡ x
 problem_number-twice Min x = refl
@@ -54,3 +56,19 @@ listed_distinct i entries once = λ m n d less below same.
     let second : get_or (map (listed_entry i) entries) n d ≡ listed_entry i f = get_or-map (listed_entry i) entries n d d within in
     let alike : problem_vector i e.costs ≡ problem_vector i f.costs = ap (λ (x : Entry). x.costs) (sym first) ∙ same ∙ ap (λ (x : Entry). x.costs) second in
     distinct_from_incomparable entries once m n d less within (problem_numbers-injective i.objectives e.costs f.costs alike)
+
+small_number : (s : Sense) (x : ℤ) → unsigned_abs x < 2 ^ 63 → unsigned_abs (problem_number s x) < 2 ^ 63
+small_number Min x small = small
+small_number Max x small = omega (arith, ints)
+
+small_numbers : (os : List Objective) (us : List ℤ) → AllByRecursion (λ x. unsigned_abs x < 2 ^ 63) us → AllByRecursion (λ x. unsigned_abs x < 2 ^ 63) (problem_numbers os us)
+small_numbers [] us small = small
+small_numbers (o ∷ os) [] small = tt
+small_numbers (o ∷ os) (u ∷ us) small = (small_number o.sense u small.0, small_numbers os us small.1)
+
+-- the sign of a number changes nothing of its magnitude
+pub bounds_kept : (i : InstanceValue) (u : List ℤ) → IsProblemVector i u → IsProblemVector i (problem_vector i u)
+bounds_kept i u bounds = record {
+  numbers = length-problem_numbers i.objectives u ∙ bounds.numbers;
+  small = All-from_recursion _ _ (small_numbers i.objectives u (recursion_from_All _ u bounds.small));
+}

@@ -1,5 +1,5 @@
 -- The front of an instance: the costs of models that the costs of no model dominate.
-use Rattle.std.specs.Prelude.{◌≡◌, ◌≢◌, ◌↔◌, ◌^◌, ◌<ℤ◌, pos, length, Bool, true, false, ◌&&◌, not, List, [], ◌∷◌, ℤ, int_lt, neg_ℤ, All, Contains}
+use Rattle.std.specs.Prelude.{◌≡◌, ◌≢◌, ◌↔◌, ◌^◌, ◌<◌, unsigned_abs, length, Bool, true, false, ◌&&◌, not, List, [], ◌∷◌, ℤ, int_lt, neg_ℤ, All, Contains}
 use Rattle.front_set.specs.declared.entry.Entry.{Entry}
 use Rattle.front_set.specs.Vector.{AreRising}
 use Rattle.front_set.specs.Front.{vectors_of}
@@ -55,10 +55,10 @@ problem_vector i u = problem_numbers i.objectives u
 abbrev pub listed_entry : InstanceValue → Entry → Entry
 listed_entry i e = record { costs = problem_vector i e.costs; model = e.model }
 
--- numbers that have a negative of 64 bits, one for each objective
+-- one number for each objective, each of a magnitude below 2^63
 pub record IsProblemVector (i : InstanceValue) (u : List ℤ) : Type 0 where
   pub numbers : length u ≡ length i.objectives
-  pub above : All (λ x. neg_ℤ (pos (2 ^ 63)) <ℤ x) u
+  pub small : All (λ x. unsigned_abs x < 2 ^ 63) u
 
 abbrev pub AreProblemVectors : InstanceValue → List Entry → Type 0
 AreProblemVectors i entries = All (λ e. IsProblemVector i e.costs) entries

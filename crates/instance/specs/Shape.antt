@@ -4,7 +4,6 @@ use Rattle.scut_base.specs.Literal.{Literal}
 use Rattle.instance.specs.declared.row.Linear.{Linear}
 use Rattle.instance.specs.declared.objective.Soft.{Soft}
 use Rattle.instance.specs.declared.objective.Objective.{Objective}
-use Rattle.instance.specs.declared.objective.Sense.{Sense}
 use Rattle.instance.specs.declared.objective.Sense.TheVariants.{Max}
 
 -- an instance, field by field

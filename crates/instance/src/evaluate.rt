@@ -1,5 +1,5 @@
 // Clauses, rows and objectives under an assignment.
-ghost use Rattle.std.specs.Prelude.{◌≡◌, ◌<◌, ◌≤◌, ◌^◌, ◌<ℤ◌, neg_ℤ, pos, length, map, unsigned_abs, All, IfOk};
+ghost use Rattle.std.specs.Prelude.{◌≡◌, ◌<◌, ◌≤◌, ◌^◌, length, map, unsigned_abs, All, IfOk};
 ghost use Rattle.std.specs.List.{list_all};
 ghost use Rattle.instance.specs.Shape.{ClauseUpTo, TermsUpTo, IsRowWithin, IsObjectiveWithin, terms_magnitude, weights_sum};
 ghost use Rattle.instance.specs.Meaning.{clause_true, term_value, terms_value, row_holds, int_sum_by, soft_cost, objective_cost};
@@ -119,7 +119,7 @@ pub fn objective_costs(
 ) -> Result<Vec<i64>, NoMemory>
     requires { All (IsObjectiveWithin (length a.now)) objectives.now }
     ensures costs { IfOk result (λ costs. costs.items ≡ map (objective_cost a.now) objectives.now) }
-    ensures above { IfOk result (λ costs. All (λ x. neg_ℤ (pos (2 ^ 63)) <ℤ x) costs.items) }
+    ensures small { IfOk result (λ costs. All (λ x. unsigned_abs x < 2 ^ 63) costs.items) }
 {
     let mut costs = Vec::with_capacity(alloc, objectives.len())?;
     for objective in objectives {
@@ -132,7 +132,7 @@ pub fn objective_costs(
 fn objective_cost(objective: &Objective, a: &Assignment) -> i64
     requires { IsObjectiveWithin (length a.now) objective.now }
     ensures cost { result ≡ objective_cost a.now objective.now }
-    ensures above { neg_ℤ (pos (2 ^ 63)) <ℤ result }
+    ensures small { unsigned_abs result < 2 ^ 63 }
 {
     let softs = softs_cost(objective.softs.as_slice(), a);
     let terms = terms_value(objective.terms.as_slice(), a);

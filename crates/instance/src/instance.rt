@@ -1,5 +1,5 @@
 // An instance, within its limits.
-ghost use Rattle.std.specs.Prelude.{◌≡◌, ◌↔◌, ◌^◌, ◌<ℤ◌, neg_ℤ, pos, length, All, IsTrue, IfOk};
+ghost use Rattle.std.specs.Prelude.{◌≡◌, ◌↔◌, length, IsTrue, IfOk};
 
 use crate::evaluate::{all_clauses_true, all_rows_hold, objective_costs};
 use crate::sense::problem_numbers;
@@ -78,10 +78,12 @@ impl Instance {
         Ok(CostVec::from_items(Items::from_vec(costs)))
     }
 
-    /// The vector with the sign changed of each number at a maximised objective. It is its own inverse.
+    /// The vector with the sign changed of each number at a maximised objective, whose magnitudes are
+    /// below 2^63. It is its own inverse.
     pub fn problem_vector(&self, alloc: Global, u: &CostVec) -> Result<CostVec, NoMemory>
         requires { IsProblemVector self.now u.now }
-        ensures { IfOk result (λ v. v ≡ problem_vector self.now u.now) }
+        ensures vector { IfOk result (λ v. v ≡ problem_vector self.now u.now) }
+        ensures bounds { IfOk result (λ v. IsProblemVector self.now v) }
     {
         let numbers = problem_numbers(alloc, self.objectives.as_slice(), u.as_slice())?;
         Ok(CostVec::from_items(Items::from_vec(numbers)))

@@ -1,5 +1,5 @@
 // A set of pairs as a list shows it.
-ghost use Rattle.std.specs.Prelude.{◌≡◌, ◌<ℤ◌, ◌^◌, neg_ℤ, pos, length, map, All, IfOk};
+ghost use Rattle.std.specs.Prelude.{◌≡◌, map, IfOk};
 ghost use Rattle.std.specs.List.Sorted.{IsPermutation};
 ghost use Rattle.front_set.specs.declared.entry.Entry.{Entry};
 ghost use Rattle.front_set.specs.Vector.{AreRising};

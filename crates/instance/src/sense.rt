@@ -1,5 +1,5 @@
 // Costs as an instance shows them, and as a problem that only minimises has them.
-ghost use Rattle.std.specs.Prelude.{◌≡◌, ◌^◌, ◌<ℤ◌, neg_ℤ, pos, length, All, IfOk};
+ghost use Rattle.std.specs.Prelude.{◌≡◌, ◌<◌, ◌^◌, unsigned_abs, length, All, IfOk};
 ghost use Rattle.instance.specs.ParetoFront.{problem_number, problem_numbers};
 
 use crate::{Objective, Sense};
@@ -13,7 +13,7 @@ pub fn problem_numbers(
     numbers: &[i64],
 ) -> Result<Vec<i64>, NoMemory>
     requires length { length numbers.now ≡ length objectives.now }
-    requires above { All (λ x. neg_ℤ (pos (2 ^ 63)) <ℤ x) numbers.now }
+    requires small { All (λ x. unsigned_abs x < 2 ^ 63) numbers.now }
     ensures { IfOk result (λ all. all.items ≡ problem_numbers objectives.now numbers.now) }
 {
     let mut all = Vec::with_capacity(alloc, numbers.len())?;
@@ -25,7 +25,7 @@ pub fn problem_numbers(
 
 // The number as a minimised objective would have it.
 fn problem_number(sense: Sense, number: i64) -> i64
-    requires { neg_ℤ (pos (2 ^ 63)) <ℤ number }
+    requires { unsigned_abs number < 2 ^ 63 }
     ensures { result ≡ problem_number sense number }
 {
     match sense {

@@ -1,9 +1,9 @@
-use Rattle.std.proofs.Common.{◌≡◌, ◌≤◌, ◌<◌, ◌+◌, ◌^◌, ℤ, ◌+ℤ◌, unsigned_abs, to_z, of_z, take, get_or, subst, sym, ◌∙◌, arith, rules}
+use Rattle.std.proofs.Common.{◌≡◌, ◌≤◌, ◌<◌, ◌+◌, ◌^◌, ℤ, ◌+ℤ◌, unsigned_abs, to_z, of_z, take, subst, sym, ◌∙◌, arith}
 use Rattle.std.specs.Int.{w64}
 use Rattle.std.proofs.lemmas.Int.{ints}
 use Rattle.std.proofs.lemmas.List.Sums.{sum_by-take-le}
-use Rattle.instance.specs.Shape.{terms_magnitude, weights_sum}
-use Rattle.instance.specs.Meaning.{int_sum_by, term_value, soft_cost}
+use Rattle.instance.specs.Shape.{weights_sum}
+use Rattle.instance.specs.Meaning.{soft_cost}
 use Rattle.instance.proofs.Sums.{sum_goes_on, bound_goes_on}
 use Rattle.instance.proofs.evaluate.softs_cost.Goals as goal
 

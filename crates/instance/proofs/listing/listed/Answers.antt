@@ -1,6 +1,6 @@
 use Rattle.std.proofs.Common.{◌≡◌, ◌∙◌, ap, map, subst, sym, List}
 use Rattle.front_set.specs.declared.entry.Entry.{Entry}
-use Rattle.front_set.specs.Front.{AreDistinct, AreIncomparable}
+use Rattle.front_set.specs.Front.{AreDistinct}
 use Rattle.instance.specs.ParetoFront.{listed_entry}
 use Rattle.instance.proofs.Dominance.{listed_distinct}
 use Rattle.instance.proofs.listing.listed.Goals as goal
