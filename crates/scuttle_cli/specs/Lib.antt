@@ -8,3 +8,5 @@ pub use Rattle.mcnf_reader.specs.Words
 pub use Rattle.mcnf_reader.specs.Grammar
 pub mod Command
 pub mod Outcome
+pub mod Reading
+pub mod Enumeration

@@ -1,9 +1,8 @@
 // The front by going through all assignments.
-ghost use Rattle.std.specs.Prelude.{◌≡◌, ◌≤◌, length, IfOk};
-ghost use Rattle.front_set.specs.declared.entry.Entry.{Entry};
+ghost use Rattle.std.specs.Prelude.{◌≡◌, ◌≤◌, ◌+◌, ◌^◌, ℕ, length, IfOk, OnOk};
+ghost use Rattle.front_set.specs.Front.{HaveLength};
 ghost use Rattle.instance.specs.ParetoFront.{IsFront};
-ghost use Rattle.scuttle_cli.proofs.Numbered.{assignment_of};
-ghost use Rattle.scuttle_cli.proofs.Enumerated.{StandsForModels};
+ghost use Rattle.scuttle_cli.specs.Enumeration.{assignment_of, StandsForModels};
 
 use front_set::{Entry, FrontSet};
 use instance::{Instance, listed};
@@ -41,23 +40,27 @@ fn take_model(
     a: &Assignment,
     front: &mut FrontSet,
 ) -> Result<(), NoMemory>
-    requires { length a.now ≡ inst.now.vars }
+    requires variables { length a.now ≡ inst.now.vars }
+    requires lengths { HaveLength (length inst.now.objectives) front.old }
+    ensures lengths { OnOk result (HaveLength (length inst.now.objectives) front.new) }
+    ensures taken { OnOk result ((k : ℕ) → a.now ≡ assignment_of inst.now.vars k → StandsForModels inst.now front.old k → StandsForModels inst.now front.new (k + 1)) }
 {
     if inst.is_model(a) {
         let costs = inst.costs(alloc, a)?;
         let vector = inst.problem_vector(alloc, &costs)?;
-        front.insert(vector, a.copy(alloc)?)?;
+        let _ = front.insert(vector, a.copy(alloc)?)?;
     }
     Ok(())
 }
 
 // Gives the variables the binary digits of a number, the last digit to the first variable.
 fn write_number(a: &mut Assignment, number: u64)
+    requires { length a.old ≤ 20 }
     ensures { a.new ≡ assignment_of (length a.old) number }
 {
     let mut rest = number;
-    for var in 1..=a.len() {
-        a.set(Lit::new(var, rest % 2 == 0));
+    for at in 0..a.len() {
+        a.set(Lit::new(at + 1, rest % 2 == 0));
         rest /= 2;
     }
 }

@@ -2,6 +2,8 @@
 #![tactic(auto)]
 
 mod command;
+mod enumeration;
+mod input;
 mod status;
 
 fn main() {}

@@ -1,0 +1,4 @@
+pub mod Numbered
+pub mod Enumerated
+pub mod ListedFront
+pub mod ReadSoFar

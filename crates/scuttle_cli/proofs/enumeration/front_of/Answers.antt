@@ -1,0 +1,12 @@
+use Rattle.std.proofs.Common.{◌≡◌, List, sym, subst}
+use Rattle.std.specs.Prelude.{IfOk}
+use Rattle.instance.specs.ParetoFront.{IsFront}
+use Rattle.scuttle_cli.proofs.Enumerated.{entries_are_bounded}
+use Rattle.scuttle_cli.proofs.ListedFront.{listed_is_front}
+use Rattle.scuttle_cli.proofs.enumeration.front_of.Goals as goal
+
+pub listed-requires : goal.listed-requires
+listed-requires c = entries_are_bounded c.args.inst.now c.in_ok-front.front _ c.in_ok-front.ensures
+
+pub returns : goal.returns
+returns c = listed_is_front c.args.inst.now c.in_ok-front.front c.listed.result c.in_ok-front.ensures c.listed.ensures.same c.listed.ensures.rising
