@@ -52,10 +52,14 @@ called c Append = record c { appends = one_more c.appends }
 called c Say = record c { says = one_more c.says }
 called c Warn = record c { warns = one_more c.warns }
 
--- how many bytes are put where the call of this number is to fail, by the first cut that names it
+-- whether a cut is that of the call of this kind and number
+abbrev pub is_cut_of : Cut → ShelfCall → ℕ → Bool
+is_cut_of cut call number = call_number cut.0 == call_number call && cut.1 == number
+
+-- how many bytes are put where the call of this number is to fail, by the first cut that is its
 abbrev pub bytes_before : List Cut → ShelfCall → ℕ → Option ℕ
 bytes_before [] call number = None
-bytes_before (cut ∷ cuts) call number = if call_number cut.0 == call_number call && cut.1 == number then Some cut.2 else bytes_before cuts call number
+bytes_before (cut ∷ cuts) call number = if is_cut_of cut call number then Some cut.2 else bytes_before cuts call number
 
 -- the same of the next call of a kind
 abbrev pub next_cut : Memory → ShelfCall → Option ℕ
@@ -103,7 +107,7 @@ part_of (Some m) piece = take m piece
 abbrev call_of : ℕ → ShelfCall
 call_of n = if n == 0 then Read else if n == 1 then Begin else if n == 2 then Append else if n == 3 then Say else Warn
 
-call_of_number : (call : ShelfCall) → call_of (call_number call) ≡ call
+pub call_of_number : (call : ShelfCall) → call_of (call_number call) ≡ call
 call_of_number Read = refl
 call_of_number Begin = refl
 call_of_number Append = refl

@@ -6,7 +6,7 @@ use Rattle.std.specs.FinMap.{get, insert, empty, get-insert, get-empty, same_map
 use Rattle.std.proofs.Common.{sym, ◌∙◌, ap, ap₂, subst, ◌+◌, get_or, set, take, drop, append_assoc, arith}
 use Rattle.std.proofs.lemmas.List.{take-append-drop, drop_more, take_more_set, drop-set-lt, set-get_or}
 use Rattle.std.proofs.lemmas.Cmp.{nat_list_cmp_total}
-use Rattle.scut_base.specs.Files.{Files, content, with_file}
+use Rattle.scut_base.specs.Files.{Files, content}
 use Rattle.scut_base.specs.FileLaws.{tied_same, tied_other, tied_is}
 use Rattle.scut_base.specs.declared.mem_shelf.Stored.{Stored}
 
@@ -104,24 +104,22 @@ content_at fs k f name first is =
     (subst (λ gs. get (files_of gs) (name_of f) ≡ Some f.bytes) (sym split) (get_found (take k fs) f (drop (k + 1) fs) (subst (λ n. NoneNamed n (take k fs)) (sym named) first.before)))
 
 -- the first file of a name is given other bytes
-pub file_set : (fs : List Stored) (k : ℕ) (h : Stored) (name : List ℕ) → IsFirstAt name fs k → name_of h ≡ name → Some (files_of (set fs k h)) ≡ with_file (Some (files_of fs)) name h.bytes
-unfolding with_file
+pub file_set : (fs : List Stored) (k : ℕ) (h : Stored) (name : List ℕ) → IsFirstAt name fs k → name_of h ≡ name → files_of (set fs k h) ≡ insert (files_of fs) name h.bytes
 file_set fs k h name first named =
     let f = get_or fs k h in
     let same : name_of h ≡ name_of f = named ∙ sym (first.named h) in
     let split : fs ≡ take k fs ++ f ∷ drop (k + 1) fs = sym (take-append-drop k fs) ∙ ap (λ rest. take k fs ++ rest) (drop_more fs k h first.within) in
     let changed : set fs k h ≡ take k fs ++ h ∷ drop (k + 1) fs = set_is fs k h first.within in
     let none : NoneNamed (name_of f) (take k fs) = subst (λ n. NoneNamed n (take k fs)) (sym (first.named h)) first.before in
-    ap Some (ap files_of changed ∙ files_changed (take k fs) f h (drop (k + 1) fs) same none ∙ ap (λ n. insert (files_of (take k fs ++ f ∷ drop (k + 1) fs)) n h.bytes) (first.named h) ∙ ap (λ gs. insert (files_of gs) name h.bytes) (sym split))
+    ap files_of changed ∙ files_changed (take k fs) f h (drop (k + 1) fs) same none ∙ ap (λ n. insert (files_of (take k fs ++ f ∷ drop (k + 1) fs)) n h.bytes) (first.named h) ∙ ap (λ gs. insert (files_of gs) name h.bytes) (sym split)
   where
     set_is : (xs : List Stored) (i : ℕ) (y : Stored) → i < length xs → set xs i y ≡ take i xs ++ y ∷ drop (i + 1) xs
     set_is xs i y lt = sym (take-append-drop (i + 1) (set xs i y)) ∙ ap₂ (λ a b. a ++ b) (take_more_set xs i y lt) (drop-set-lt (i + 1) xs i y (omega arith)) ∙ append_assoc (take i xs) (y ∷ []) (drop (i + 1) xs)
 
 -- a file of a new name
-pub file_pushed : (fs : List Stored) (h : Stored) (name : List ℕ) → NoneNamed name fs → name_of h ≡ name → Some (files_of (fs ++ h ∷ [])) ≡ with_file (Some (files_of fs)) name h.bytes
-unfolding with_file
+pub file_pushed : (fs : List Stored) (h : Stored) (name : List ℕ) → NoneNamed name fs → name_of h ≡ name → files_of (fs ++ h ∷ []) ≡ insert (files_of fs) name h.bytes
 file_pushed fs h name none named =
-    ap Some (files_pushed fs h (subst (λ n. NoneNamed n fs) (sym named) none) ∙ ap (λ n. insert (files_of fs) n h.bytes) named)
+    files_pushed fs h (subst (λ n. NoneNamed n fs) (sym named) none) ∙ ap (λ n. insert (files_of fs) n h.bytes) named
 
 pub content_none : (fs : List Stored) (name : List ℕ) → NoneNamed name fs → content (Some (files_of fs)) name ≡ None
 unfolding content

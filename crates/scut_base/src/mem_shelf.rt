@@ -5,7 +5,7 @@ ghost use Rattle.scut_base.specs.declared.shelf.ShelfCall.{ShelfCall};
 ghost use Rattle.scut_base.specs.declared.shelf.ShelfFault.{ShelfFault};
 ghost use Rattle.scut_base.specs.Faults.{HasCause, plain};
 ghost use Rattle.scut_base.specs.Files.{content, with_file, bytes_or_none, ReadsFrom, IsReadAt, followed, IsPartlyAppended, IsPartlyFollowed, IsTouched, IsTold};
-ghost use Rattle.scut_base.specs.Memory.{fresh, cut_at_start, one_more, calls_of, called, bytes_before, next_cut, passed, faulted, failed, file_of, put_file, put_behind, say_more, warn_more, part_of};
+ghost use Rattle.scut_base.specs.Memory.{fresh, cut_at_start, one_more, calls_of, called, is_cut_of, bytes_before, next_cut, passed, faulted, failed, file_of, put_file, put_behind, say_more, warn_more, part_of};
 ghost use Rattle.scut_base.specs.Stored.{NoneNamed, IsFirstAt, files_of};
 
 use crate::{Items, NoMemory, Shelf, ShelfCall, ShelfFault};
@@ -60,11 +60,8 @@ impl MemShelf {
     pub fn new(alloc: Global, fail: &[(ShelfCall, u64)]) -> Result<MemShelf, NoMemory>
         ensures { IfOk result (λ shelf. shelf ≡ fresh (map cut_at_start fail.now)) }
     {
-        let mut cuts = Items::new(alloc);
-        for &(call, number) in fail {
-            cuts.push((call, number, 0u64))?;
-        }
-        Ok(MemShelf::with_cuts(alloc, cuts))
+        let cuts = fail.iter().map(|pair| (pair.0, pair.1, 0u64)).collect(alloc)?;
+        Ok(MemShelf::with_cuts(alloc, Items::from_vec(cuts)))
     }
 
     /// No files. Where a cut is `(kind, n, m)`, the n-th call of that kind fails after the first m
@@ -217,13 +214,20 @@ impl Calls {
     }
 }
 
+// Whether a cut is that of this call.
+fn is_cut_of(cut: &(ShelfCall, u64, u64), call: ShelfCall, number: u64) -> bool
+    ensures { result ≡ is_cut_of cut.now call number }
+{
+    cut.0 == call && cut.1 == number
+}
+
 // How many bytes are put by the call of this number, where it is to fail.
 fn first_cut(cuts: &[(ShelfCall, u64, u64)], call: ShelfCall, number: u64) -> Option<u64>
     ensures { result ≡ bytes_before cuts.now call number }
 {
-    for &(kind, at, bytes) in cuts {
-        if kind == call && at == number {
-            return Some(bytes);
+    for cut in cuts {
+        if is_cut_of(cut, call, number) {
+            return Some(cut.2);
         }
     }
     None
