@@ -75,6 +75,8 @@ impl MemShelf {
         Ok(MemShelf::with_cuts(alloc, kept))
     }
 
+    // An empty shelf with these cuts.
+    #[tactic(auto, unfolding(crate::specs::Stored::files_of))]
     fn with_cuts(alloc: Global, cuts: Items<(ShelfCall, u64, u64)>) -> MemShelf
         ensures { result ≡ fresh cuts }
     {
@@ -106,6 +108,7 @@ impl MemShelf {
     }
 
     /// The bytes of a file, if it is there.
+    #[tactic(auto, using(crate::specs::Stored::content_none))]
     pub fn get(&self, name: &str) -> Option<&[u8]>
         ensures { MatchOption result (file_of self.now name.now ≡ None) (λ bytes. file_of self.now name.now ≡ Some bytes.now) }
     {
@@ -149,6 +152,7 @@ impl MemShelf {
     fn count_fault(&mut self) -> ShelfFault
         ensures failed { result ≡ ShelfFault.Failed }
         ensures counted { self.new ≡ faulted self.old }
+        ensures later { self.old.faults ≤ self.new.faults }
     {
         self.faults = self.faults.saturating_add(1);
         ShelfFault::Failed
@@ -180,6 +184,129 @@ impl MemShelf {
         ensures err { OnErr result (self.new ≡ self.old) }
     {
         self.warned.extend_from_slice(piece)
+    }
+}
+
+impl Shelf for MemShelf {
+    ghost use Rattle.std.specs.Prelude.{Some};
+    ghost use Rattle.scut_base.specs.Faults.{plain};
+
+    ghost files = { λ s. Some s.files };
+
+    ghost said = { λ s. Some s.said };
+
+    ghost warned = { λ s. Some s.warned };
+
+    ghost faults = { λ s. plain s.faults };
+
+    fn read_at(&mut self, name: &str, at: u64, into: &mut [u8]) -> Result<usize, ShelfFault>
+        requires { 0 < length into.old }
+        ensures bound { IfOk result (λ n. n ≤ length into.old) }
+        ensures bytes { IfOk result (λ n. IsReadAt (Some self.old.files) name.now at n into.new) }
+        ensures files { self.new.files ≡ self.old.files }
+        ensures said { self.new.said ≡ self.old.said }
+        ensures warned { self.new.warned ≡ self.old.warned }
+        ensures cause { HasCause ShelfCall.Read name.now (plain self.old.faults) (plain self.new.faults) result }
+        ensures fails { IsErrOf result ShelfFault.Failed ↔ (IsSome (next_cut self.old ShelfCall.Read) ⊎ (file_of self.old name.now ≡ None)) }
+        ensures enough { IsErrOf result ShelfFault.NoMemory → ⊥ }
+        ensures ok { OnOk result (self.new ≡ passed self.old ShelfCall.Read) }
+        ensures err { OnErr result (self.new ≡ failed self.old ShelfCall.Read) }
+    {
+        if self.count_call(ShelfCall::Read).is_some() {
+            return Err(self.count_fault());
+        }
+        if let Some(bytes) = self.get(name) {
+            return Ok(copy_from(bytes, at, into));
+        }
+        Err(self.count_fault())
+    }
+
+    fn begin(&mut self, name: &str) -> Result<(), ShelfFault>
+        ensures begun { OnOk result (Some self.new.files ≡ with_file (Some self.old.files) name.now []) }
+        ensures fault { OnErr result (IsTouched (Some self.old.files) (Some self.new.files) name.now (λ bytes. bytes ≡ [])) }
+        ensures said { self.new.said ≡ self.old.said }
+        ensures warned { self.new.warned ≡ self.old.warned }
+        ensures cause { HasCause ShelfCall.Begin name.now (plain self.old.faults) (plain self.new.faults) result }
+        ensures fails { IsErrOf result ShelfFault.Failed ↔ IsSome (next_cut self.old ShelfCall.Begin) }
+        ensures ok { OnOk result (self.new ≡ put_file (passed self.old ShelfCall.Begin) name.now []) }
+        ensures refused { IsErrOf result ShelfFault.Failed → self.new ≡ failed self.old ShelfCall.Begin }
+        ensures wanting { IsErrOf result ShelfFault.NoMemory → self.new ≡ passed self.old ShelfCall.Begin }
+    {
+        if self.count_call(ShelfCall::Begin).is_some() {
+            return Err(self.count_fault());
+        }
+        self.put(name, &[])?;
+        Ok(())
+    }
+
+    fn append(&mut self, name: &str, piece: &[u8]) -> Result<(), ShelfFault>
+        requires { IsSome (file_of self.old name.now) }
+        ensures appended { OnOk result (Some self.new.files ≡ with_file (Some self.old.files) name.now (bytes_or_none (file_of self.old name.now) ++ piece.now)) }
+        ensures fault { OnErr result (IsPartlyAppended (Some self.old.files) (Some self.new.files) name.now piece.now) }
+        ensures said { self.new.said ≡ self.old.said }
+        ensures warned { self.new.warned ≡ self.old.warned }
+        ensures cause { HasCause ShelfCall.Append name.now (plain self.old.faults) (plain self.new.faults) result }
+        ensures fails { IsErrOf result ShelfFault.Failed → IsSome (next_cut self.old ShelfCall.Append) }
+        ensures ok { OnOk result ((next_cut self.old ShelfCall.Append ≡ None) × (self.new ≡ put_behind (passed self.old ShelfCall.Append) name.now piece.now)) }
+        ensures refused { IsErrOf result ShelfFault.Failed → self.new ≡ put_behind (failed self.old ShelfCall.Append) name.now (part_of (next_cut self.old ShelfCall.Append) piece.now) }
+        ensures wanting { IsErrOf result ShelfFault.NoMemory → self.new ≡ passed self.old ShelfCall.Append }
+    {
+        match self.count_call(ShelfCall::Append) {
+            None => {
+                self.put_more(name, piece)?;
+                Ok(())
+            }
+            Some(bytes) => {
+                self.put_more(name, front_of(piece, bytes))?;
+                Err(self.count_fault())
+            }
+        }
+    }
+
+    fn say(&mut self, piece: &[u8]) -> Result<(), ShelfFault>
+        ensures said { OnOk result (self.new.said ≡ self.old.said ++ piece.now) }
+        ensures fault { OnErr result (IsPartlyFollowed (Some self.old.said) (Some self.new.said) piece.now) }
+        ensures files { self.new.files ≡ self.old.files }
+        ensures warned { self.new.warned ≡ self.old.warned }
+        ensures cause { HasCause ShelfCall.Say [] (plain self.old.faults) (plain self.new.faults) result }
+        ensures fails { IsErrOf result ShelfFault.Failed → IsSome (next_cut self.old ShelfCall.Say) }
+        ensures ok { OnOk result ((next_cut self.old ShelfCall.Say ≡ None) × (self.new ≡ say_more (passed self.old ShelfCall.Say) piece.now)) }
+        ensures refused { IsErrOf result ShelfFault.Failed → self.new ≡ say_more (failed self.old ShelfCall.Say) (part_of (next_cut self.old ShelfCall.Say) piece.now) }
+        ensures wanting { IsErrOf result ShelfFault.NoMemory → self.new ≡ passed self.old ShelfCall.Say }
+    {
+        match self.count_call(ShelfCall::Say) {
+            None => {
+                self.say_more(piece)?;
+                Ok(())
+            }
+            Some(bytes) => {
+                self.say_more(front_of(piece, bytes))?;
+                Err(self.count_fault())
+            }
+        }
+    }
+
+    fn warn(&mut self, piece: &[u8]) -> Result<(), ShelfFault>
+        ensures warned { OnOk result (self.new.warned ≡ self.old.warned ++ piece.now) }
+        ensures fault { OnErr result (IsPartlyFollowed (Some self.old.warned) (Some self.new.warned) piece.now) }
+        ensures files { self.new.files ≡ self.old.files }
+        ensures said { self.new.said ≡ self.old.said }
+        ensures cause { HasCause ShelfCall.Warn [] (plain self.old.faults) (plain self.new.faults) result }
+        ensures fails { IsErrOf result ShelfFault.Failed → IsSome (next_cut self.old ShelfCall.Warn) }
+        ensures ok { OnOk result ((next_cut self.old ShelfCall.Warn ≡ None) × (self.new ≡ warn_more (passed self.old ShelfCall.Warn) piece.now)) }
+        ensures refused { IsErrOf result ShelfFault.Failed → self.new ≡ warn_more (failed self.old ShelfCall.Warn) (part_of (next_cut self.old ShelfCall.Warn) piece.now) }
+        ensures wanting { IsErrOf result ShelfFault.NoMemory → self.new ≡ passed self.old ShelfCall.Warn }
+    {
+        match self.count_call(ShelfCall::Warn) {
+            None => {
+                self.warn_more(piece)?;
+                Ok(())
+            }
+            Some(bytes) => {
+                self.warn_more(front_of(piece, bytes))?;
+                Err(self.count_fault())
+            }
+        }
     }
 }
 
