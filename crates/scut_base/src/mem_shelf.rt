@@ -9,7 +9,7 @@ ghost use Rattle.scut_base.specs.Memory.{fresh, cut_at_start, one_more, calls_of
 ghost use Rattle.scut_base.specs.Stored.{NoneNamed, IsFirstAt, files_of};
 
 use crate::{Items, NoMemory, Shelf, ShelfCall, ShelfFault};
-use std::alloc::Global;
+use std::alloc::{AllocError, Global};
 use std::marker::Model;
 
 /// A file in memory.
@@ -60,7 +60,7 @@ impl MemShelf {
     pub fn new(alloc: Global, fail: &[(ShelfCall, u64)]) -> Result<MemShelf, NoMemory>
         ensures { IfOk result (λ shelf. shelf ≡ fresh (map cut_at_start fail.now)) }
     {
-        let cuts = fail.iter().map(|pair| (pair.0, pair.1, 0u64)).collect(alloc)?;
+        let cuts = cuts_at_start(alloc, fail)?;
         Ok(MemShelf::with_cuts(alloc, Items::from_vec(cuts)))
     }
 
@@ -339,6 +339,13 @@ impl Calls {
             }
         }
     }
+}
+
+// The cuts of calls that are to put nothing.
+fn cuts_at_start(alloc: Global, fail: &[(ShelfCall, u64)]) -> Result<Vec<(ShelfCall, u64, u64)>, AllocError>
+    ensures { IfOk result (λ cuts. cuts.items ≡ map cut_at_start fail.now) }
+{
+    fail.iter().map(|pair| (pair.0, pair.1, 0)).collect(alloc)
 }
 
 // Whether a cut is that of this call.
