@@ -116,7 +116,8 @@ with_file_kept (Some m) n b is = ap Some (same_map nat_list_cmp_total (slice_cmp
     by q true e = sym (ap (get m) (tied_is q n e) ∙ is)
     by q false e = refl
 
-bytes_kept : (f : Option Files) (n : List ℕ) (o : Option (List ℕ)) → content f n ≡ o → IsSome o → with_file f n (bytes_or_none o ++ []) ≡ f
+-- a file with nothing more behind its bytes
+pub bytes_kept : (f : Option Files) (n : List ℕ) (o : Option (List ℕ)) → content f n ≡ o → IsSome o → with_file f n (bytes_or_none o ++ []) ≡ f
 bytes_kept f n None is some = absurd (true≢false (sym some))
 bytes_kept f n (Some b) is some = ap (with_file f n) (append-nil b) ∙ with_file_kept f n b is
 

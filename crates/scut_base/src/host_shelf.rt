@@ -228,3 +228,41 @@ impl<R: Runtime> Shelf for HostShelf<R> {
         counted(done, &mut self.faults)
     }
 }
+
+#[cfg(test)]
+mod tests {
+    use super::*;
+    use std::test::Fail;
+
+    #[test]
+    fn a_file_is_written_and_read_in_pieces(rt: HostRuntime) -> Result<(), Fail> {
+        let mut shelf = HostShelf::new(rt);
+        shelf.begin("a.txt")?;
+        shelf.append("a.txt", b"old")?;
+        shelf.begin("a.txt")?;
+        shelf.append("a.txt", b"hel")?;
+        shelf.append("a.txt", b"lo")?;
+        let rows: [(u64, &[u8]); 5] = [(0, b"he"), (2, b"ll"), (4, b"o"), (5, b""), (1, b"el")];
+        for (at, piece) in rows {
+            let mut into = [0u8; 2];
+            let read = shelf.read_at("a.txt", at, &mut into)?;
+            assert_eq!(rt; read, piece.len(), "at {at}");
+            assert_eq!(rt; into.get(..read), Some(piece), "at {at}");
+        }
+        Ok(())
+    }
+
+    #[test]
+    fn a_missing_file_fails(rt: HostRuntime) -> Result<(), Fail> {
+        let mut shelf = HostShelf::new(rt);
+        let mut into = [0u8; 2];
+        assert_eq!(rt;
+            shelf.read_at("b.txt", 0, &mut into),
+            Err(ShelfFault::Failed)
+        );
+        assert_eq!(rt; shelf.append("b.txt", b"x"), Err(ShelfFault::Failed));
+        shelf.say(b"")?;
+        shelf.warn(b"")?;
+        Ok(())
+    }
+}

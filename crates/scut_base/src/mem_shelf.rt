@@ -1,5 +1,5 @@
 // Files in memory, whose calls fail where they are told to.
-ghost use Rattle.std.specs.Prelude.{◌≡◌, ◌<◌, ◌≤◌, ◌++◌, ◌↔◌, ◌⊎◌, [], ◌∷◌, length, map, take, IsErrOf, IsSome, IfOk, OnOk, OnErr, MatchOption, Some, None};
+ghost use Rattle.std.specs.Prelude.{◌≡◌, ◌<◌, ◌≤◌, ◌++◌, ◌↔◌, ◌⊎◌, [], ◌∷◌, length, map, take, IsErrOf, IsOk, IsSome, IfOk, OnOk, OnErr, MatchOption, Some, None};
 ghost use Rattle.std.specs.FinMap.{insert};
 ghost use Rattle.scut_base.specs.declared.shelf.ShelfCall.{ShelfCall};
 ghost use Rattle.scut_base.specs.declared.shelf.ShelfFault.{ShelfFault};
@@ -108,7 +108,7 @@ impl MemShelf {
     }
 
     /// The bytes of a file, if it is there.
-    #[tactic(auto, using(crate::specs::Stored::content_none))]
+    #[tactic(auto, using(crate::proofs::StoredLaws::content_none))]
     pub fn get(&self, name: &str) -> Option<&[u8]>
         ensures { MatchOption result (file_of self.now name.now ≡ None) (λ bytes. file_of self.now name.now ≡ Some bytes.now) }
     {
@@ -163,7 +163,11 @@ impl MemShelf {
         requires { IsSome (file_of self.old name.now) }
         ensures ok { OnOk result (self.new ≡ put_behind self.old name.now piece.now) }
         ensures err { OnErr result (self.new ≡ self.old) }
+        ensures nothing { piece.now ≡ [] → IsOk result }
     {
+        if piece.is_empty() {
+            return Ok(());
+        }
         match place_of(&self.files, name) {
             Some(at) => append_at(&mut self.files, name, at, piece),
             None => unreachable!(),
@@ -174,7 +178,11 @@ impl MemShelf {
     fn say_more(&mut self, piece: &[u8]) -> Result<(), NoMemory>
         ensures ok { OnOk result (self.new ≡ say_more self.old piece.now) }
         ensures err { OnErr result (self.new ≡ self.old) }
+        ensures nothing { piece.now ≡ [] → IsOk result }
     {
+        if piece.is_empty() {
+            return Ok(());
+        }
         self.said.extend_from_slice(piece)
     }
 
@@ -182,7 +190,11 @@ impl MemShelf {
     fn warn_more(&mut self, piece: &[u8]) -> Result<(), NoMemory>
         ensures ok { OnOk result (self.new ≡ warn_more self.old piece.now) }
         ensures err { OnErr result (self.new ≡ self.old) }
+        ensures nothing { piece.now ≡ [] → IsOk result }
     {
+        if piece.is_empty() {
+            return Ok(());
+        }
         self.warned.extend_from_slice(piece)
     }
 }
@@ -247,6 +259,7 @@ impl Shelf for MemShelf {
         ensures warned { self.new.warned ≡ self.old.warned }
         ensures cause { HasCause ShelfCall.Append name.now (plain self.old.faults) (plain self.new.faults) result }
         ensures fails { IsErrOf result ShelfFault.Failed → IsSome (next_cut self.old ShelfCall.Append) }
+        ensures at_start { next_cut self.old ShelfCall.Append ≡ Some 0 → IsErrOf result ShelfFault.Failed }
         ensures ok { OnOk result ((next_cut self.old ShelfCall.Append ≡ None) × (self.new ≡ put_behind (passed self.old ShelfCall.Append) name.now piece.now)) }
         ensures refused { IsErrOf result ShelfFault.Failed → self.new ≡ put_behind (failed self.old ShelfCall.Append) name.now (part_of (next_cut self.old ShelfCall.Append) piece.now) }
         ensures wanting { IsErrOf result ShelfFault.NoMemory → self.new ≡ passed self.old ShelfCall.Append }
@@ -270,6 +283,7 @@ impl Shelf for MemShelf {
         ensures warned { self.new.warned ≡ self.old.warned }
         ensures cause { HasCause ShelfCall.Say [] (plain self.old.faults) (plain self.new.faults) result }
         ensures fails { IsErrOf result ShelfFault.Failed → IsSome (next_cut self.old ShelfCall.Say) }
+        ensures at_start { next_cut self.old ShelfCall.Say ≡ Some 0 → IsErrOf result ShelfFault.Failed }
         ensures ok { OnOk result ((next_cut self.old ShelfCall.Say ≡ None) × (self.new ≡ say_more (passed self.old ShelfCall.Say) piece.now)) }
         ensures refused { IsErrOf result ShelfFault.Failed → self.new ≡ say_more (failed self.old ShelfCall.Say) (part_of (next_cut self.old ShelfCall.Say) piece.now) }
         ensures wanting { IsErrOf result ShelfFault.NoMemory → self.new ≡ passed self.old ShelfCall.Say }
@@ -293,6 +307,7 @@ impl Shelf for MemShelf {
         ensures said { self.new.said ≡ self.old.said }
         ensures cause { HasCause ShelfCall.Warn [] (plain self.old.faults) (plain self.new.faults) result }
         ensures fails { IsErrOf result ShelfFault.Failed → IsSome (next_cut self.old ShelfCall.Warn) }
+        ensures at_start { next_cut self.old ShelfCall.Warn ≡ Some 0 → IsErrOf result ShelfFault.Failed }
         ensures ok { OnOk result ((next_cut self.old ShelfCall.Warn ≡ None) × (self.new ≡ warn_more (passed self.old ShelfCall.Warn) piece.now)) }
         ensures refused { IsErrOf result ShelfFault.Failed → self.new ≡ warn_more (failed self.old ShelfCall.Warn) (part_of (next_cut self.old ShelfCall.Warn) piece.now) }
         ensures wanting { IsErrOf result ShelfFault.NoMemory → self.new ≡ passed self.old ShelfCall.Warn }
@@ -342,7 +357,10 @@ impl Calls {
 }
 
 // The cuts of calls that are to put nothing.
-fn cuts_at_start(alloc: Global, fail: &[(ShelfCall, u64)]) -> Result<Vec<(ShelfCall, u64, u64)>, AllocError>
+fn cuts_at_start(
+    alloc: Global,
+    fail: &[(ShelfCall, u64)],
+) -> Result<Vec<(ShelfCall, u64, u64)>, AllocError>
     ensures { IfOk result (λ cuts. cuts.items ≡ map cut_at_start fail.now) }
 {
     fail.iter().map(|pair| (pair.0, pair.1, 0)).collect(alloc)
@@ -410,7 +428,12 @@ fn append_at(files: &mut Vec<Stored>, name: &str, at: usize, piece: &[u8]) -> Re
 }
 
 // Puts a file in place of the first of that name, or behind all files.
-fn store_in(files: &mut Vec<Stored>, alloc: Global, name: &str, bytes: Items<u8>) -> Result<(), NoMemory>
+fn store_in(
+    files: &mut Vec<Stored>,
+    alloc: Global,
+    name: &str,
+    bytes: Items<u8>,
+) -> Result<(), NoMemory>
     ensures ok { OnOk result (files_of files.new.items ≡ insert (files_of files.old.items) name.now bytes) }
     ensures err { OnErr result (files.new.items ≡ files.old.items) }
 {
@@ -441,4 +464,116 @@ fn copy_from(bytes: &[u8], at: u64, into: &mut [u8]) -> usize
     let n = rest.len().min(into.len());
     into[..n].copy_from_slice(&rest[..n]);
     n
+}
+
+#[cfg(test)]
+mod tests {
+    use super::*;
+    use std::test::Fail;
+
+    // One call, on the file `a` where the call takes a name.
+    fn call_once(shelf: &mut MemShelf, call: ShelfCall, piece: &[u8]) -> Result<(), ShelfFault> {
+        match call {
+            ShelfCall::Read => read_once(shelf),
+            ShelfCall::Begin => shelf.begin("a"),
+            ShelfCall::Append => append_once(shelf, piece),
+            ShelfCall::Say => shelf.say(piece),
+            ShelfCall::Warn => shelf.warn(piece),
+        }
+    }
+
+    fn read_once(shelf: &mut MemShelf) -> Result<(), ShelfFault> {
+        let mut into = [0u8; 4];
+        shelf.read_at("a", 0, &mut into)?;
+        Ok(())
+    }
+
+    fn append_once(shelf: &mut MemShelf, piece: &[u8]) -> Result<(), ShelfFault> {
+        if shelf.get("a").is_none() {
+            return Ok(());
+        }
+        shelf.append("a", piece)
+    }
+
+    #[test]
+    fn the_second_call_of_each_kind_fails(rt: HostRuntime) -> Result<(), Fail> {
+        let rows: [(ShelfCall, &[u8], &[u8], &[u8]); 5] = [
+            (ShelfCall::Read, b"xy", b"", b""),
+            (ShelfCall::Begin, b"", b"", b""),
+            (ShelfCall::Append, b"xybc", b"", b""),
+            (ShelfCall::Say, b"xy", b"bc", b""),
+            (ShelfCall::Warn, b"xy", b"", b"bc"),
+        ];
+        for (call, file, said, warned) in rows {
+            let mut shelf = MemShelf::new(rt.alloc(), &[(call, 2)])?;
+            shelf.put("a", b"xy")?;
+            assert_eq!(rt;
+                call_once(&mut shelf, call, b"bc"),
+                Ok(()),
+                "first {call:?}"
+            );
+            assert_eq!(rt;
+                call_once(&mut shelf, call, b"bc"),
+                Err(ShelfFault::Failed),
+                "{call:?}"
+            );
+            assert_eq!(rt; shelf.faults(), 1, "count of {call:?}");
+            assert_eq!(rt; shelf.get("a"), Some(file), "file at {call:?}");
+            assert_eq!(rt; shelf.said(), said, "said at {call:?}");
+            assert_eq!(rt; shelf.warned(), warned, "warned at {call:?}");
+            assert_eq!(rt;
+                call_once(&mut shelf, call, b"bc"),
+                Ok(()),
+                "third {call:?}"
+            );
+            assert_eq!(rt; shelf.faults(), 1, "count after {call:?}");
+        }
+        Ok(())
+    }
+
+    #[test]
+    fn a_read_of_a_missing_name_fails(rt: HostRuntime) -> Result<(), Fail> {
+        let mut shelf = MemShelf::new(rt.alloc(), &[])?;
+        shelf.put("b", b"xy")?;
+        assert_eq!(rt; read_once(&mut shelf), Err(ShelfFault::Failed));
+        assert_eq!(rt; shelf.faults(), 1);
+        assert_eq!(rt; shelf.get("a"), None);
+        assert_eq!(rt; shelf.get("b"), Some(b"xy".as_slice()));
+        Ok(())
+    }
+
+    #[test]
+    fn a_cut_call_puts_the_front_of_its_piece(rt: HostRuntime) -> Result<(), Fail> {
+        let rows: [(u64, &[u8]); 4] = [(0, b""), (1, b"h"), (5, b"hello"), (9, b"hello!")];
+        for (bytes, front) in rows {
+            for call in [ShelfCall::Append, ShelfCall::Say, ShelfCall::Warn] {
+                let mut shelf = MemShelf::cutting(rt.alloc(), &[(call, 1, bytes)])?;
+                shelf.put("a", b"")?;
+                let done = call_once(&mut shelf, call, b"hello!");
+                assert_eq!(rt; done, Err(ShelfFault::Failed), "{call:?} after {bytes}");
+                assert_eq!(rt; shelf.faults(), 1);
+                let put = match call {
+                    ShelfCall::Say => Some(shelf.said()),
+                    ShelfCall::Warn => Some(shelf.warned()),
+                    _ => shelf.get("a"),
+                };
+                assert_eq!(rt; put, Some(front), "put by {call:?} after {bytes}");
+            }
+        }
+        Ok(())
+    }
+
+    #[test]
+    fn a_file_is_read_in_pieces(rt: HostRuntime) -> Result<(), Fail> {
+        let mut shelf = MemShelf::new(rt.alloc(), &[])?;
+        shelf.put("a", b"hello")?;
+        let rows: [(u64, &[u8]); 5] = [(0, b"he"), (2, b"ll"), (4, b"o"), (5, b""), (9, b"")];
+        for (at, piece) in rows {
+            let mut into = [0u8; 2];
+            let read = shelf.read_at("a", at, &mut into)?;
+            assert_eq!(rt; read, piece.len(), "at {at}");
+            assert_eq!(rt; into.get(..read), Some(piece), "at {at}");
+        }
+        Ok(())
+    }
 }

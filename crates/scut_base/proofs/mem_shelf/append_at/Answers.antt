@@ -4,7 +4,8 @@ use Rattle.std.specs.FinMap.{insert}
 use Rattle.scut_base.specs.Files.{content, bytes_or_none}
 use Rattle.scut_base.specs.FileLaws.{on_err_anyway}
 use Rattle.scut_base.specs.declared.mem_shelf.Stored.{Stored}
-use Rattle.scut_base.specs.Stored.{files_of, name_of, file_set, file_same, content_at}
+use Rattle.scut_base.specs.Stored.{files_of, name_of}
+use Rattle.scut_base.proofs.StoredLaws.{file_set, file_same, content_at}
 use Rattle.scut_base.proofs.mem_shelf.append_at.Goals as goal
 
 pub returns-in_err-extend_from_slice-clause-err : goal.returns-in_err-extend_from_slice-clause-err

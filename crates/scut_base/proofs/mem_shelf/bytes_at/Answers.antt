@@ -1,7 +1,8 @@
 use Rattle.std.proofs.Common.{◌≡◌, ◌∙◌, ap, rules}
 use Rattle.std.specs.Prelude.{Some}
 use Rattle.scut_base.specs.Files.{content}
-use Rattle.scut_base.specs.Stored.{content_at, files_of}
+use Rattle.scut_base.specs.Stored.{files_of}
+use Rattle.scut_base.proofs.StoredLaws.{content_at}
 use Rattle.scut_base.proofs.mem_shelf.bytes_at.Goals as goal
 
 pub returns : goal.returns

@@ -1,6 +1,7 @@
 use Rattle.std.proofs.Common.{◌≡◌, ◌≢◌, ◌+◌, ◌++◌, ◌∷◌, [], take, ap, subst, sym, ◌∙◌, rules}
 use Rattle.std.proofs.lemmas.List.{take_more}
-use Rattle.scut_base.specs.Stored.{NoneNamed, none_named_more, name_of}
+use Rattle.scut_base.specs.Stored.{NoneNamed, name_of}
+use Rattle.scut_base.proofs.StoredLaws.{none_named_more}
 use Rattle.scut_base.proofs.mem_shelf.place_of.Goals as goal
 
 pub loop-at-preserved : goal.loop-at-preserved

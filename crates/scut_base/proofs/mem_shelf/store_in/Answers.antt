@@ -1,7 +1,8 @@
 use Rattle.std.proofs.Common.{◌≡◌, ◌++◌, ◌∷◌, [], get_or, ap, ◌∙◌, rules}
 use Rattle.std.specs.Prelude.{string_bytes}
 use Rattle.scut_base.specs.declared.mem_shelf.Stored.{Stored}
-use Rattle.scut_base.specs.Stored.{files_of, name_of, file_set, file_pushed, IsFirstAt, NoneNamed}
+use Rattle.scut_base.specs.Stored.{files_of, name_of, IsFirstAt, NoneNamed}
+use Rattle.scut_base.proofs.StoredLaws.{file_set, file_pushed}
 use Rattle.scut_base.proofs.mem_shelf.store_in.Goals as goal
 
 pub returns-in-Some-clause-ok : goal.returns-in-Some-clause-ok
