@@ -7,20 +7,20 @@
 #![tactic(auto)]
 
 mod assignment;
-// mod host_shelf;
+mod host_shelf;
 mod items;
 mod literal;
-// mod mem_shelf;
+mod mem_shelf;
 mod memory;
 mod number;
 mod partial;
 mod shelf;
 
 pub use assignment::Assignment;
-// pub use host_shelf::HostShelf;
+pub use host_shelf::HostShelf;
 pub use items::Items;
 pub use literal::Lit;
-// pub use mem_shelf::MemShelf;
+pub use mem_shelf::MemShelf;
 pub use memory::{Duplicate, NoMemory};
 pub use number::{NumberFault, read_i64, read_i128, read_u64};
 pub use partial::Partial;

@@ -1,0 +1,268 @@
+// The real files and streams. Nothing is claimed of what they hold; each error raises the count.
+ghost use Rattle.std.specs.Prelude.{◌≡◌, ◌≤◌, ℕ, List, length, IfOk, None};
+ghost use Rattle.scut_base.specs.declared.shelf.ShelfCall.{ShelfCall};
+ghost use Rattle.scut_base.specs.Faults.{plain, HasCause};
+
+use crate::{Shelf, ShelfCall, ShelfFault};
+use std::alloc::Allocator;
+use std::fs::{File, OpenOptions};
+use std::io::{ErrorKind, Read, Seek, SeekFrom, Write};
+use std::marker::Model;
+use std::rt::{Files, Runtime};
+use std::{io, str};
+
+/// A file that is kept open, and the place that it stands at.
+#[derive(Drop)]
+struct Opened<F, A: Allocator> {
+    name: String<A>,
+    at: u64,
+    file: F,
+}
+
+#[derive(Drop)]
+pub struct HostShelf<R: Runtime> {
+    rt: R,
+    faults: u64,
+    reading: Option<Opened<<R as Files>::File, <R as Alloc>::A>>,
+    writing: Option<Opened<<R as Files>::File, <R as Alloc>::A>>,
+}
+
+impl<R: Runtime> Model for HostShelf<R> {
+    ghost use Rattle.std.specs.Prelude.{ℕ};
+
+    ghost Value = { ℕ };
+
+    ghost view = { λ s. s.faults };
+}
+
+impl<R: Runtime> HostShelf<R> {
+    /// A shelf that has opened no file and met no fault.
+    pub fn new(rt: R) -> HostShelf<R>
+        ensures { result ≡ 0 }
+    {
+        HostShelf {
+            rt,
+            faults: 0,
+            reading: None,
+            writing: None,
+        }
+    }
+}
+
+// What a call answers, with one more fault where it failed.
+fn counted<T: Drop>(done: io::Result<T>, faults: &mut u64) -> Result<T, ShelfFault>
+    ensures cause { (call : ShelfCall) (name : List ℕ) → HasCause call name (plain faults.old) (plain faults.new) result }
+    ensures value { IfOk result (λ v. done ≡ Ok v) }
+{
+    match done {
+        Ok(value) => Ok(value),
+        Err(_) => {
+            *faults = faults.saturating_add(1);
+            Err(ShelfFault::Failed)
+        }
+    }
+}
+
+// Reads once, and again where it was interrupted.
+fn read_some<F: Read>(file: &mut F, into: &mut [u8]) -> io::Result<usize>
+    ensures { IfOk result (λ n. n ≤ length into.old) }
+{
+    for _ in 0..1_000_000u64 {
+        match file.read(into) {
+            Ok(n) => return Ok(n),
+            Err(e) if e.kind() == ErrorKind::Interrupted => {}
+            Err(e) => return Err(e),
+        }
+    }
+    Err(io::Error::from(ErrorKind::Interrupted))
+}
+
+// The reader of a file, at a place.
+fn reader_at<'a, R: Runtime>(
+    rt: &R,
+    reading: &'a mut Option<Opened<<R as Files>::File, <R as Alloc>::A>>,
+    name: &str,
+    at: u64,
+) -> io::Result<()> {
+    if let Some(opened) = reading {
+        if opened.name.as_str() == name {
+            if opened.at != at {
+                opened.file.seek(SeekFrom::Start(at))?;
+                opened.at = at;
+            }
+            return Ok(());
+        }
+    }
+    let kept = String::from_str(rt.alloc(), name)?;
+    let mut file = File::open(rt, name)?;
+    if at != 0 {
+        file.seek(SeekFrom::Start(at))?;
+    }
+    *reading = Some(Opened {
+        name: kept,
+        at,
+        file,
+    });
+    Ok(())
+}
+
+// Reads from the file that is open.
+fn read_opened<F: Read, A: Allocator>(
+    reading: &mut Option<Opened<F, A>>,
+    into: &mut [u8],
+) -> io::Result<usize>
+    ensures { IfOk result (λ n. n ≤ length into.old) }
+{
+    match reading {
+        Some(opened) => {
+            let n = read_some(&mut opened.file, into)?;
+            opened.at = opened.at.saturating_add(n as u64);
+            Ok(n)
+        }
+        None => Err(io::Error::from(ErrorKind::NotFound)),
+    }
+}
+
+// Opens a file to write at its end.
+fn writer_of<R: Runtime>(
+    rt: &R,
+    writing: &mut Option<Opened<<R as Files>::File, <R as Alloc>::A>>,
+    name: &str,
+    anew: bool,
+) -> io::Result<()> {
+    if !anew {
+        if let Some(opened) = writing {
+            if opened.name.as_str() == name {
+                return Ok(());
+            }
+        }
+    }
+    let kept = String::from_str(rt.alloc(), name)?;
+    let file = if anew {
+        File::create(rt, name)?
+    } else {
+        OpenOptions::new().append(true).open(rt, name)?
+    };
+    *writing = Some(Opened {
+        name: kept,
+        at: 0,
+        file,
+    });
+    Ok(())
+}
+
+fn write_opened<F: Write, A: Allocator>(
+    writing: &mut Option<Opened<F, A>>,
+    piece: &[u8],
+) -> io::Result<()> {
+    match writing {
+        Some(opened) => opened.file.write_all(piece),
+        None => Err(io::Error::from(ErrorKind::NotFound)),
+    }
+}
+
+// Reads from a file at a place.
+fn read_host<R: Runtime>(
+    rt: &R,
+    reading: &mut Option<Opened<<R as Files>::File, <R as Alloc>::A>>,
+    name: &str,
+    at: u64,
+    into: &mut [u8],
+) -> io::Result<usize>
+    ensures { IfOk result (λ n. n ≤ length into.old) }
+{
+    reader_at(rt, reading, name, at)?;
+    read_opened(reading, into)
+}
+
+// Writes at the end of a file.
+fn append_host<R: Runtime>(
+    rt: &R,
+    writing: &mut Option<Opened<<R as Files>::File, <R as Alloc>::A>>,
+    name: &str,
+    piece: &[u8],
+) -> io::Result<()> {
+    writer_of(rt, writing, name, false)?;
+    write_opened(writing, piece)
+}
+
+fn warn_host<R: Runtime>(rt: &R, piece: &[u8]) -> io::Result<()> {
+    match str::from_utf8(piece) {
+        Ok(text) => rt.eprint(text),
+        Err(_) => Err(io::Error::from(ErrorKind::InvalidData)),
+    }
+}
+
+#[tactic(auto, unfolding(crate::specs::Files::with_file))]
+impl<R: Runtime> Shelf for HostShelf<R> {
+    ghost files = { λ s. None };
+
+    ghost said = { λ s. None };
+
+    ghost warned = { λ s. None };
+
+    ghost faults = { plain };
+
+    fn read_at(&mut self, name: &str, at: u64, into: &mut [u8]) -> Result<usize, ShelfFault> {
+        let done = read_host(&self.rt, &mut self.reading, name, at, into);
+        counted(done, &mut self.faults)
+    }
+
+    fn begin(&mut self, name: &str) -> Result<(), ShelfFault> {
+        let done = writer_of(&self.rt, &mut self.writing, name, true);
+        counted(done, &mut self.faults)
+    }
+
+    fn append(&mut self, name: &str, piece: &[u8]) -> Result<(), ShelfFault> {
+        let done = append_host(&self.rt, &mut self.writing, name, piece);
+        counted(done, &mut self.faults)
+    }
+
+    fn say(&mut self, piece: &[u8]) -> Result<(), ShelfFault> {
+        let done = self.rt.write_all(piece);
+        counted(done, &mut self.faults)
+    }
+
+    fn warn(&mut self, piece: &[u8]) -> Result<(), ShelfFault> {
+        let done = warn_host(&self.rt, piece);
+        counted(done, &mut self.faults)
+    }
+}
+
+#[cfg(test)]
+mod tests {
+    use super::*;
+    use std::test::Fail;
+
+    #[test]
+    fn a_file_is_written_and_read_in_pieces(rt: HostRuntime) -> Result<(), Fail> {
+        let mut shelf = HostShelf::new(rt);
+        shelf.begin("a.txt")?;
+        shelf.append("a.txt", b"old")?;
+        shelf.begin("a.txt")?;
+        shelf.append("a.txt", b"hel")?;
+        shelf.append("a.txt", b"lo")?;
+        let rows: [(u64, &[u8]); 5] = [(0, b"he"), (2, b"ll"), (4, b"o"), (5, b""), (1, b"el")];
+        for (at, piece) in rows {
+            let mut into = [0u8; 2];
+            let read = shelf.read_at("a.txt", at, &mut into)?;
+            assert_eq!(rt; read, piece.len(), "at {at}");
+            assert_eq!(rt; into.get(..read), Some(piece), "at {at}");
+        }
+        Ok(())
+    }
+
+    #[test]
+    fn a_missing_file_fails(rt: HostRuntime) -> Result<(), Fail> {
+        let mut shelf = HostShelf::new(rt);
+        let mut into = [0u8; 2];
+        assert_eq!(rt;
+            shelf.read_at("b.txt", 0, &mut into),
+            Err(ShelfFault::Failed)
+        );
+        assert_eq!(rt; shelf.append("b.txt", b"x"), Err(ShelfFault::Failed));
+        shelf.say(b"")?;
+        shelf.warn(b"")?;
+        Ok(())
+    }
+}
