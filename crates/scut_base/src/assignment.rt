@@ -37,6 +37,13 @@ impl Assignment {
         self.values.len() as u64
     }
 
+    /// The values in order, that of variable 1 first.
+    pub fn as_slice(&self) -> &[bool]
+        ensures { result.now ≡ self.now }
+    {
+        self.values.as_slice()
+    }
+
     /// Whether the literal is true.
     pub fn value(&self, lit: Lit) -> bool
         requires { lit.var ≤ length self.now }

@@ -10,3 +10,4 @@ pub mod Command
 pub mod Outcome
 pub mod Reading
 pub mod Enumeration
+pub mod Lines

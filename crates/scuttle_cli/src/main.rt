@@ -4,6 +4,7 @@
 mod command;
 mod enumeration;
 mod input;
+mod list_lines;
 mod status;
 
 fn main() {}
