@@ -1,14 +1,14 @@
 -- A pair more: what a front holds stands for the minimal vectors of all pairs that were inserted.
-use Rattle.std.proofs.Common.{◌≡◌, ◌⊎◌, inl, inr, Bool, true, false, not, List, [], ◌∷◌, ◌++◌, length, get_or, refl, sym, subst, ◌∙◌, ℤ, arith}
+use Rattle.std.proofs.Common.{◌≡◌, ◌⊎◌, inl, inr, Bool, true, false, not, List, [], ◌∷◌, ◌++◌, get_or, refl, sym, subst, ◌∙◌, ℤ, arith}
 use Rattle.std.specs.List.{All, Contains}
 use Rattle.std.proofs.lemmas.Bool.{not-true, not_from_false, false≢true}
 use Rattle.std.proofs.lemmas.List.{map-append}
-use Rattle.std.proofs.lemmas.List.Elements.{All-nil, All-contains, All-filter, All-push, All-same, All-weaker, All-get_or, filter_passes, Contains-append_left, Contains-push, Contains-push_cases}
+use Rattle.std.proofs.lemmas.List.Elements.{All-nil, All-contains, All-filter, All-push, All-weaker, All-get_or, filter_passes, Contains-append_left, Contains-push, Contains-push_cases}
 use Rattle.std.proofs.lemmas.List.Kept.{AllPairs-filter}
 use Rattle.std.proofs.lemmas.List.Quantifiers.{all_pairs_push}
 use Rattle.front_set.specs.declared.entry.Entry.{Entry}
 use Rattle.front_set.specs.Vector.{is_below, IsBelow}
-use Rattle.front_set.specs.Front.{vectors_of, AreIncomparable, IsMinimalOf, StandsFor, IsInserted, HaveLength, not_above}
+use Rattle.front_set.specs.Front.{vectors_of, AreIncomparable, IsMinimalOf, StandsFor, IsInserted, not_above}
 use Rattle.front_set.specs.declared.set.Inserted.{Inserted}
 use Rattle.front_set.specs.declared.set.Inserted.TheVariants.{Covered, Added}
 use Rattle.front_set.proofs.FrontLaws.{IsBelow-refl, IsBelow-trans, IsBelow-antisym}
@@ -220,10 +220,3 @@ stands_for_more old new pairs p (Covered by) is stands =
     subst (λ (es : List Entry). StandsFor es (pairs ++ p ∷ [])) (sym is.1) (stands_for_covered old pairs p found.0 found.1 found.2 stands)
 stands_for_more old new pairs p (Added removed) is stands =
     subst (λ (es : List Entry). StandsFor es (pairs ++ p ∷ [])) (sym is.1) (stands_for_added old pairs p (fails_from_no_place (λ (e : Entry). is_below e.costs p.costs) 0 old is.0) stands)
-
--- after an insertion the vectors are still of one length
-pub lengths_kept : (old new : List Entry) (p : Entry) (done : Inserted) → IsInserted old new p done → HaveLength (length p.costs) old → HaveLength (length p.costs) new
-lengths_kept old new p (Covered by) is long = All-same (λ (e : Entry). length e.costs ≡ length p.costs) new old is.1 long
-lengths_kept old new p (Added removed) is long =
-    All-same (λ (e : Entry). length e.costs ≡ length p.costs) new (not_above p.costs old ++ p ∷ []) is.1
-    (All-push (λ (e : Entry). length e.costs ≡ length p.costs) (not_above p.costs old) p (All-filter (λ (e : Entry). not (is_below p.costs e.costs)) (λ (e : Entry). length e.costs ≡ length p.costs) old long) refl)

@@ -1,5 +1,5 @@
 -- The minimal pairs of a list of pairs of a vector and an assignment.
-use Rattle.std.specs.Prelude.{◌≡◌, ◌≢◌, ◌↔◌, ℕ, not, List, [], ◌∷◌, ◌++◌, length, map, ℤ, All, Contains, Option, None, Some}
+use Rattle.std.specs.Prelude.{◌≡◌, ◌≢◌, ◌↔◌, ℕ, not, List, [], ◌∷◌, ◌++◌, map, ℤ, All, Contains, Option, None, Some}
 use Rattle.std.specs.List.{filter, AllPairs, position_from, count_by}
 use Rattle.front_set.specs.Vector.{is_below, IsBelow, IsStrictlyBelow}
 use Rattle.front_set.specs.declared.entry.Entry.{Entry}
@@ -40,10 +40,6 @@ not_above v entries = filter (λ e. not (is_below v e.costs)) entries
 -- how many entries this vector is below
 abbrev pub count_above : List ℤ → List Entry → ℕ
 count_above v entries = count_by (λ e. is_below v e.costs) entries
-
--- every entry has a vector of this length
-abbrev pub HaveLength : ℕ → List Entry → Type 0
-HaveLength n entries = All (λ e. length e.costs ≡ n) entries
 
 -- What an insertion answers and leaves: the first entry below the pair's vector, and nothing changed; or, where there is none, the pair instead of the entries that its vector is below.
 abbrev pub IsInserted : List Entry → List Entry → Entry → Inserted → Type 0

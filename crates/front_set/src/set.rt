@@ -4,7 +4,7 @@ ghost use Rattle.std.specs.List.{filter, position_from};
 ghost use Rattle.std.specs.List.Sorted.{IsPermutation};
 ghost use Rattle.front_set.specs.declared.entry.Entry.{Entry};
 ghost use Rattle.front_set.specs.Vector.{is_below, AreRising};
-ghost use Rattle.front_set.specs.Front.{StandsFor, IsInserted, AreIncomparable, HaveLength, first_below, not_above, count_above, vectors_of};
+ghost use Rattle.front_set.specs.Front.{StandsFor, IsInserted, AreIncomparable, first_below, not_above, count_above, vectors_of};
 
 use crate::{CostVec, Entry, sort_entries};
 use scut_base::{Assignment, Duplicate, NoMemory};
@@ -67,10 +67,8 @@ impl FrontSet {
     /// Adds a pair, where no entry weakly dominates its vector, and drops the entries that the vector
     /// dominates. Costs one pass over the entries. A pair that isn't added is given up.
     pub fn insert(&mut self, vec: CostVec, model: Assignment) -> Result<Inserted, NoMemory>
-        requires { HaveLength (length vec) self.old }
         ensures inserted { IfOk result (λ done. IsInserted self.old self.new (record { costs = vec; model = model }) done) }
         ensures stands { OnOk result ((pairs : List Entry) → StandsFor self.old pairs → StandsFor self.new (pairs ++ record { costs = vec; model = model } ∷ [])) }
-        ensures lengths { HaveLength (length vec) self.new }
         ensures err { OnErr result (self.new ≡ self.old) }
     {
         if let Some(by) = place_below(&self.entries, &vec) {

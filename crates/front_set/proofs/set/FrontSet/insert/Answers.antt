@@ -4,7 +4,7 @@ use Rattle.front_set.specs.declared.set.Inserted.TheVariants.{Covered, Added}
 use Rattle.front_set.specs.Vector.{is_below}
 use Rattle.front_set.specs.Front.{AreIncomparable, first_below, not_above}
 use Rattle.front_set.proofs.Members.{fails_from_no_place}
-use Rattle.front_set.proofs.Minimal.{incomparable_more, lengths_kept, stands_for_more}
+use Rattle.front_set.proofs.Minimal.{incomparable_more, stands_for_more}
 use Rattle.front_set.proofs.set.FrontSet.insert.Goals as goal
 
 pub returns-in-Some-clause-stands : goal.returns-in-Some-clause-stands
@@ -24,8 +24,3 @@ pub returns-clause-stands : goal.returns-clause-stands
 returns-clause-stands c = λ pairs stands.
     let p : Entry = record { costs = c.args.vec; model = c.args.model } in
     stands_for_more c.args.self.now c.push.new.self.items pairs p (Added c.drop_above-removed.result) (search rules) stands
-
-pub returns-clause-lengths : goal.returns-clause-lengths
-returns-clause-lengths c =
-    let p : Entry = record { costs = c.args.vec; model = c.args.model } in
-    lengths_kept c.args.self.now c.push.new.self.items p (Added c.drop_above-removed.result) (search rules) c.requires
