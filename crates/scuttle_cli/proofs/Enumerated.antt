@@ -8,7 +8,7 @@ use Rattle.std.proofs.lemmas.List.{length-map, get_or-map}
 use Rattle.std.proofs.lemmas.List.Elements.{All-nil, All-push, All-contains, All-weaker, All-map, Contains-append_left, Contains-push}
 use Rattle.front_set.specs.declared.entry.Entry.{Entry}
 use Rattle.front_set.specs.Vector.{IsBelow, is_below, IsStrictlyBelow, AreRising}
-use Rattle.front_set.specs.Front.{StandsFor, IsMinimalOf, HaveLength, vectors_of}
+use Rattle.front_set.specs.Front.{StandsFor, IsMinimalOf, vectors_of}
 use Rattle.instance.specs.Shape.{InstanceValue}
 use Rattle.instance.specs.Meaning.{IsModel, costs_of, objective_cost}
 use Rattle.instance.specs.ParetoFront.{problem_vector, IsProblemVector, AreProblemVectors, listed_entry, IsFront, IsOnFront, Dominates, WeaklyDominates}

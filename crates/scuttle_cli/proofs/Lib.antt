@@ -2,3 +2,4 @@ pub mod Numbered
 pub mod Enumerated
 pub mod ListedFront
 pub mod ReadSoFar
+pub mod Written

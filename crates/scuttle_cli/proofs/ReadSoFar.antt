@@ -1,5 +1,5 @@
 -- What a loop that reads a file knows.
-use Rattle.std.proofs.Common.{◌≡◌, ℕ, ◌+◌, List, ◌++◌, length, take, drop, refl, sym, ◌∙◌, ap, subst}
+use Rattle.std.proofs.Common.{◌≡◌, ℕ, ◌+◌, ◌≤◌, min, arith, List, ◌++◌, length, take, drop, refl, sym, ◌∙◌, ap, subst}
 use Rattle.std.specs.Prelude.{Option, Some}
 use Rattle.std.proofs.Math.Seq.{take-add}
 use Rattle.std.proofs.lemmas.List.{length-take, take_min, take_all}
@@ -45,3 +45,10 @@ reads_further old now name bytes more into at n front same place is read =
 pub reads_all : (old now : Option Files) (name bytes into : List ℕ) (at n : ℕ) → IsReadSoFar old name bytes → now ≡ old → at ≡ length bytes → n ≡ 0 → IsReadAt now name at n into → IsWhole old name bytes
 reads_all old now name bytes into at n front same place none read =
     read_all old name bytes into front (subst (λ k. IsReadAt old name (length bytes) k into) none (moved old now name bytes into at n same place read))
+
+-- what was read is no longer than the file
+pub read_no_more : (files : Option Files) (name bytes : List ℕ) (n : ℕ) → IsReadSoFar files name bytes → n ≤ length bytes → (whole : List ℕ) → content files name ≡ Some whole → n ≤ length whole
+read_no_more files name bytes n front long whole is =
+    let so_far : bytes ≡ take (length bytes) whole = front whole is in
+    let same : length bytes ≡ min (length bytes) (length whole) = ap length so_far ∙ length-take (length bytes) whole in
+    omega arith

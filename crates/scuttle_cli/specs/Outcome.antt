@@ -1,5 +1,5 @@
 -- What a run leaves, by its status.
-use Rattle.std.specs.Prelude.{◌≡◌, ℕ, zero, ◌<◌, ◌≤◌, ◌^◌, ◌⊎◌, true, List, [], length, Option, Some, None}
+use Rattle.std.specs.Prelude.{◌≡◌, ℕ, zero, ◌<◌, ◌≤◌, ◌^◌, ◌⊎◌, true, List, [], length, Option, Some, None, Result, Ok, Err}
 use Rattle.scut_base.specs.Files.{Files, content, with_file, IsTold, IsTouched, IsPrefixOf}
 use Rattle.scut_base.specs.Faults.{Faults, count, Rose}
 use Rattle.scut_base.specs.declared.shelf.ShelfCall.TheVariants.{Read, Begin, Append, Say}
@@ -95,9 +95,39 @@ IsCausedBy Usage text = Unit {0}
 IsCausedBy NoMemory text = Unit {0}
 IsCausedBy ShelfFailed text = Unit {0}
 
+-- the instance of a file, where the files are told; it has few variables
+abbrev pub IsInstanceOf : Option Files → List ℕ → InstanceValue → Type 0
+IsInstanceOf files input i = (IsTold files → (text : List ℕ) × (content files input ≡ Some text) × (length text < 2 ^ 32) × Spells text i) × (i.vars ≤ 20)
+
+-- a status that tells why no instance was taken from the file
+abbrev pub IsInputFault : Status → Option Files → List ℕ → Type 0
+IsInputFault (Complete size) files input = ⊥
+IsInputFault Usage files input = ⊥
+IsInputFault (BadInput line kind) files input = (text : List ℕ) → content files input ≡ Some text → IsCausedBy (BadInput line kind) text
+IsInputFault (TooLarge line which) files input = (text : List ℕ) → content files input ≡ Some text → IsCausedBy (TooLarge line which) text
+IsInputFault NoMemory files input = Unit {0}
+IsInputFault ShelfFailed files input = Unit {0}
+
+-- a count of the calls that read this file rose
+abbrev pub ReadingFailed : Faults → Faults → List ℕ → Type 0
+ReadingFailed before now name = Rose (count before Read name) (count now Read name)
+
+-- a count of the calls that write this file rose
+abbrev pub WritingFailed : Faults → Faults → List ℕ → Type 0
+WritingFailed before now name = Rose (count before Begin name) (count now Begin name) ⊎ Rose (count before Append name) (count now Append name)
+
+-- a count of the calls that say something rose
+abbrev pub SayingFailed : Faults → Faults → Type 0
+SayingFailed before now = Rose (count before Say []) (count now Say [])
+
 -- a count of the calls that the command makes on its own files, or of what it says, rose
 abbrev pub OwnCountRose : Faults → Faults → List ℕ → List ℕ → Type 0
-OwnCountRose before now input list = Rose (count before Read input) (count now Read input) ⊎ Rose (count before Begin list) (count now Begin list) ⊎ Rose (count before Append list) (count now Append list) ⊎ Rose (count before Say []) (count now Say [])
+OwnCountRose before now input list = ReadingFailed before now input ⊎ WritingFailed before now list ⊎ SayingFailed before now
+
+-- the status of an answer that is a size or a status
+abbrev pub status_of : Result ℕ Status → Status
+status_of (Ok size) = Complete size
+status_of (Err status) = status
 
 -- A fault of the shelf is answered only where an own count rose.
 abbrev pub HasOwnCause : Status → Faults → Faults → List ℕ → List ℕ → Type 0

@@ -1,6 +1,5 @@
 // The front by going through all assignments.
 ghost use Rattle.std.specs.Prelude.{◌≡◌, ◌≤◌, ◌+◌, ◌^◌, ℕ, length, IfOk, OnOk};
-ghost use Rattle.front_set.specs.Front.{HaveLength};
 ghost use Rattle.instance.specs.ParetoFront.{IsFront};
 ghost use Rattle.scuttle_cli.specs.Enumeration.{assignment_of, StandsForModels};
 
@@ -40,10 +39,8 @@ fn take_model(
     a: &Assignment,
     front: &mut FrontSet,
 ) -> Result<(), NoMemory>
-    requires variables { length a.now ≡ inst.now.vars }
-    requires lengths { HaveLength (length inst.now.objectives) front.old }
-    ensures lengths { OnOk result (HaveLength (length inst.now.objectives) front.new) }
-    ensures taken { OnOk result ((k : ℕ) → a.now ≡ assignment_of inst.now.vars k → StandsForModels inst.now front.old k → StandsForModels inst.now front.new (k + 1)) }
+    requires { length a.now ≡ inst.now.vars }
+    ensures { OnOk result ((k : ℕ) → a.now ≡ assignment_of inst.now.vars k → StandsForModels inst.now front.old k → StandsForModels inst.now front.new (k + 1)) }
 {
     if inst.is_model(a) {
         let costs = inst.costs(alloc, a)?;

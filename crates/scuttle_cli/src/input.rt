@@ -1,10 +1,10 @@
 // A file read whole.
-ghost use Rattle.std.specs.Prelude.{◌≡◌, ◌<◌, ◌≤◌, ◌^◌, length, IfOk, MatchOption};
+ghost use Rattle.std.specs.Prelude.{◌≡◌, ◌<◌, ◌≤◌, ◌^◌, length, vec_len, IfOk, MatchOption};
 ghost use Rattle.scut_base.specs.Faults.{HasCause};
 ghost use Rattle.scuttle_cli.specs.Reading.{IsWhole, IsLarge};
 
 use scut_base::{Shelf, ShelfCall, ShelfFault};
-use std::alloc::Global;
+use std::alloc::{AllocError, Global};
 
 const PIECE: usize = 65_536;
 
@@ -23,13 +23,21 @@ pub fn read_whole<H: Shelf>(
     ensures cause { HasCause ShelfCall.Read name.now (H.faults shelf.old) (H.faults shelf.new) result }
 {
     let mut bytes = Vec::new(alloc);
-    let mut piece = vec![in alloc; 0u8; PIECE]?;
+    let mut buffer = zeros(alloc, PIECE)?;
+    let piece = buffer.as_mut_slice();
     while bytes.len() < LIMIT {
-        let n = shelf.read_at(name, bytes.len() as u64, &mut piece)?;
+        let n = shelf.read_at(name, bytes.len() as u64, piece)?;
         if n == 0 {
             return Ok(Some(bytes));
         }
         bytes.extend_from_slice(&piece[..n])?;
     }
     Ok(None)
+}
+
+// A buffer of this many bytes.
+fn zeros(alloc: Global, len: usize) -> Result<Vec<u8>, AllocError>
+    ensures { IfOk result (λ v. vec_len v ≡ len) }
+{
+    vec![in alloc; 0u8; len]
 }

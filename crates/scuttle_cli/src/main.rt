@@ -1,10 +1,37 @@
-//! The program: every best compromise of an instance.
+//! The program: every best compromise of an instance, written as a list.
+//!
+//! Its public contract is that of `run`: after Complete the list file holds exactly the front of the
+//! instance, and every other answer has its stated cause. `main` runs it over the real files.
 #![tactic(auto)]
 
 mod command;
 mod enumeration;
+mod front_command;
 mod input;
 mod list_lines;
+mod running;
 mod status;
+mod warning;
+mod writing;
 
-fn main() {}
+use running::run;
+use scut_base::HostShelf;
+use status::Status;
+use std::process::ExitCode;
+use std::{env, io};
+
+// The words of the command line, without the program's name.
+fn words_of(rt: &HostRuntime) -> io::Result<Vec<String>> {
+    Ok(env::args(rt)?.skip(1).collect(rt.alloc())?)
+}
+
+fn main(rt: HostRuntime) -> ExitCode {
+    let alloc = rt.alloc();
+    let words = words_of(&rt);
+    let mut shelf = HostShelf::new(rt);
+    let status = match &words {
+        Ok(words) => run(alloc, words, &mut shelf),
+        Err(_) => run(alloc, &[], &mut shelf),
+    };
+    ExitCode::from(status.number())
+}

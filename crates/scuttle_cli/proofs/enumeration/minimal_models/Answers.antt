@@ -4,12 +4,11 @@ use Rattle.scuttle_cli.proofs.Numbered.{length-assignment_of}
 use Rattle.scuttle_cli.proofs.Enumerated.{stands_for_no_models}
 use Rattle.scuttle_cli.proofs.enumeration.minimal_models.Goals as goal
 
-pub take_model-requires-clause-variables : goal.take_model-requires-clause-variables
-take_model-requires-clause-variables c = ap length c.write_number.ensures ∙ length-assignment_of _ _ ∙ c.loop-number.invariant.variables
+pub take_model-requires : goal.take_model-requires
+take_model-requires c = ap length c.write_number.ensures ∙ length-assignment_of _ _ ∙ c.loop-number.invariant.variables
 
 pub loop-number-preserved : goal.loop-number-preserved
 loop-number-preserved c = record {
   variables = ap length c.write_number.ensures ∙ length-assignment_of _ _ ∙ c.loop-number.invariant.variables;
-  lengths = c.in_ok-take_model.ensures.lengths;
-  stands = c.in_ok-take_model.ensures.taken c.loop-number.number (c.write_number.ensures ∙ ap (λ n. assignment_of n c.loop-number.number) c.loop-number.invariant.variables) c.loop-number.invariant.stands;
+  stands = c.in_ok-take_model.ensures c.loop-number.number (c.write_number.ensures ∙ ap (λ n. assignment_of n c.loop-number.number) c.loop-number.invariant.variables) c.loop-number.invariant.stands;
 }

@@ -5,8 +5,8 @@ use Rattle.instance.specs.ParetoFront.{problem_vector}
 use Rattle.scuttle_cli.proofs.Enumerated.{one_model_more}
 use Rattle.scuttle_cli.proofs.enumeration.take_model.Goals as goal
 
-pub returns-in_ok-insert-clause-taken : goal.returns-in_ok-insert-clause-taken
-returns-in_ok-insert-clause-taken c = λ k numbered so_far.
+pub returns-in_ok-insert : goal.returns-in_ok-insert
+returns-in_ok-insert c = λ k numbered so_far.
     let p : Entry = record { costs = c.in_ok-vector.vector; model = c.in_ok-copy.field-0 } in
     let same : p.model ≡ c.args.a.now = c.in_ok-copy.ensures in
     one_model_more c.args.inst.now c.args.front.now c.insert.new.self p k so_far c.in_ok-insert.ensures.stands (same ∙ numbered)

@@ -1,16 +1,20 @@
 use Rattle.std.proofs.Common.{◌∙◌, arith}
-use Rattle.scuttle_cli.proofs.ReadSoFar.{reads_further, reads_all}
+use Rattle.scuttle_cli.proofs.ReadSoFar.{reads_further, reads_all, read_no_more}
 use Rattle.scuttle_cli.proofs.input.read_whole.Goals as goal
 
 pub returns-then-n-eq0-clause-whole : goal.returns-then-n-eq0-clause-whole
 returns-then-n-eq0-clause-whole g c =
-    reads_all _ _ _ _ _ _ _ c.loop-shelf.invariant.front c.loop-shelf.invariant.files (omega (arith, c.len-in-loop-shelf.ensures, c.loop-shelf.bytes.ok)) c.if-n-eq0.true c.in_ok-n.ensures.bytes
+    (reads_all _ _ _ _ _ _ _ c.loop-piece.invariant.front c.loop-piece.invariant.files (omega (arith, c.len-in-loop-piece.ensures, c.loop-piece.bytes.ok)) c.if-n-eq0.true c.in_ok-n.ensures.bytes,
+      omega (arith, c.len.ensures, c.loop-piece.bytes.ok, c.loop-piece-test.true))
 
-pub loop-shelf-preserved : goal.loop-shelf-preserved
-loop-shelf-preserved g c = record {
-  front = reads_further _ _ _ _ _ _ _ _ c.loop-shelf.invariant.front c.loop-shelf.invariant.files (omega (arith, c.len-in-loop-shelf.ensures, c.loop-shelf.bytes.ok)) c.in_ok-extend_from_slice.ensures.items c.in_ok-n.ensures.bytes;
-  files = c.in_ok-n.ensures.files ∙ c.loop-shelf.invariant.files;
-  said = c.in_ok-n.ensures.said ∙ c.loop-shelf.invariant.said;
-  warned = c.in_ok-n.ensures.warned ∙ c.loop-shelf.invariant.warned;
-  faults = λ call name. omega (arith, c.loop-shelf.invariant.faults call name, c.in_ok-n.ensures.cause.later call name);
+pub loop-piece-preserved : goal.loop-piece-preserved
+loop-piece-preserved g c = record {
+  front = reads_further _ _ _ _ _ _ _ _ c.loop-piece.invariant.front c.loop-piece.invariant.files (omega (arith, c.len-in-loop-piece.ensures, c.loop-piece.bytes.ok)) c.in_ok-extend_from_slice.ensures.items c.in_ok-n.ensures.bytes;
+  files = c.in_ok-n.ensures.files ∙ c.loop-piece.invariant.files;
+  said = c.in_ok-n.ensures.said ∙ c.loop-piece.invariant.said;
+  warned = c.in_ok-n.ensures.warned ∙ c.loop-piece.invariant.warned;
+  faults = λ call name. omega (arith, c.loop-piece.invariant.faults call name, c.in_ok-n.ensures.cause.later call name);
 }
+
+pub returns-clause-whole : goal.returns-clause-whole
+returns-clause-whole g c = read_no_more _ _ _ _ c.loop-piece.invariant.front (omega (arith, c.len.ensures, c.loop-piece.bytes.ok, c.loop-piece-test.false))

@@ -3,8 +3,8 @@ use Rattle.scut_base.specs.Faults.{NoneFell}
 use Rattle.scuttle_cli.proofs.ReadSoFar.{IsReadSoFar}
 use Rattle.scuttle_cli.proofs.input.read_whole.Given as goal
 
-abbrev pub invariant-loop-shelf : goal.invariant-loop-shelf
-invariant-loop-shelf g l =
+abbrev pub invariant-loop-piece : goal.invariant-loop-piece
+invariant-loop-piece g l =
     let shelf = g.H.Shelf in
     record {
       front : IsReadSoFar (shelf.files l.fn.shelf) l.name l.bytes.items;
@@ -14,5 +14,5 @@ invariant-loop-shelf g l =
       faults : NoneFell (shelf.faults l.fn.shelf) (shelf.faults l.shelf);
     }
 
-abbrev pub decreases-loop-shelf : goal.decreases-loop-shelf
-decreases-loop-shelf g l = 2 ^ 32 - vec_len l.bytes
+abbrev pub decreases-loop-piece : goal.decreases-loop-piece
+decreases-loop-piece g l = 2 ^ 32 - vec_len l.bytes
