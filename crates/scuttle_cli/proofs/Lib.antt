@@ -3,3 +3,4 @@ pub mod Enumerated
 pub mod ListedFront
 pub mod ReadSoFar
 pub mod Written
+pub mod FrontFiles

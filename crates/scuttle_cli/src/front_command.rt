@@ -70,7 +70,10 @@ fn read_instance<H: Shelf>(alloc: Global, input: &str, shelf: &mut H) -> Result<
             });
         }
     };
-    let inst = read(alloc, &bytes)?;
+    let inst = match read(alloc, &bytes) {
+        Ok(inst) => inst,
+        Err(fault) => return Err(Status::from(fault)),
+    };
     if inst.vars() > MOST_VARS {
         return Err(Status::TooLarge {
             line: 0,
