@@ -1,6 +1,6 @@
 -- Which text spells which instance. Each line spells a statement; the statements of all lines make the instance.
-use Rattle.std.specs.Prelude.{◌≡◌, ℕ, ◌+◌, ◌<◌, ◌==◌, max, if◌then◌else◌, List, [], ◌∷◌, ◌++◌, map, drop, slice_index, codes, pos}
-use Rattle.std.specs.List.{AllZip, fold, range_with_len}
+use Rattle.std.specs.Prelude.{◌≡◌, ℕ, ◌<◌, ◌==◌, max, if◌then◌else◌, List, [], ◌∷◌, ◌++◌, map, drop, slice_index, codes, pos}
+use Rattle.std.specs.List.{AllZip, range_with_len}
 use Rattle.std.specs.Str.Parse.{starts_with_minus}
 use Rattle.scut_base.specs.Literal.{Literal}
 use Rattle.scut_base.specs.Number.{IsNatural, natural_value, IsInteger, magnitude_text}

@@ -4,7 +4,13 @@
 //! speaks of whole lines and words, and it refuses only what spells none.
 #![tactic(auto)]
 
+mod draft;
+mod fault;
+mod line;
+mod lines;
+mod number;
 mod reader;
 mod statement;
+mod words;
 
 pub use reader::read;

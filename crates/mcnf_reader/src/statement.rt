@@ -7,7 +7,9 @@ pub enum Statement {
     /// Nothing: the line has no words, or is a comment.
     Nothing,
     /// A hard clause.
-    Hard { lits: Items<Lit> },
+    Hard {
+        lits: Items<Lit>,
+    },
     /// A soft clause of an objective, counted from 1.
     Soft {
         objective: u64,

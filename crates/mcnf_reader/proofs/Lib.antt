@@ -1,0 +1,5 @@
+pub mod Cutting
+pub mod Clauses
+pub mod Drafts
+pub mod Texts
+pub mod Limits

@@ -1,0 +1,84 @@
+// One line: what it says, or what is wrong with it.
+ghost use Rattle.std.specs.Prelude.{ℕ, List, ◌≡◌, ◌<◌, ◌∷◌, ◌^◌, length, IfOk, All};
+ghost use Rattle.scut_base.specs.Literal.{Literal};
+ghost use Rattle.mcnf_reader.specs.Words.{words_of};
+ghost use Rattle.mcnf_reader.specs.Grammar.{SpellsClause, SpellsStatement};
+ghost use Rattle.mcnf_reader.specs.LineFaults.{IsLineRefused, IsClauseWithin, IsStatementWithin};
+ghost use Rattle.mcnf_reader.specs.declared.statement.Statement.{Statement};
+ghost use Rattle.mcnf_reader.specs.declared.statement.Statement.TheVariants.{Soft};
+
+use crate::fault::LineFault;
+use crate::number::{read_literal, read_objective, read_weight};
+use crate::statement::Statement;
+use crate::words::Words;
+use instance::BadKind;
+use scut_base::{Items, Lit};
+use std::alloc::Global;
+
+/// Reads what a line says, where the objectives have these sums of weights already.
+pub fn read_statement(alloc: Global, line: &[u8], sums: &[u64]) -> Result<Statement, LineFault>
+    requires count { length sums.now ≡ 64 }
+    requires small { All (λ sum. sum < 2 ^ 63) sums.now }
+    ensures ok { IfOk result (λ s. SpellsStatement (words_of line.now) s × IsStatementWithin sums.now s) }
+    ensures refused { IsLineRefused result → (s : Statement) → SpellsStatement (words_of line.now) s → IsStatementWithin sums.now s → ⊥ }
+{
+    let mut words = Words::new(line);
+    let first = match words.next() {
+        Some(first) => first,
+        None => return Ok(Statement::Nothing),
+    };
+    match first {
+        [b'c', ..] => Ok(Statement::Nothing),
+        [b'h'] => {
+            let lits = read_clause(alloc, &mut words)?;
+            Ok(Statement::Hard { lits })
+        }
+        _ => read_soft(alloc, first, &mut words, sums),
+    }
+}
+
+// Reads a soft clause from its first word and the words after it.
+fn read_soft(
+    alloc: Global,
+    first: &[u8],
+    words: &mut Words<'_>,
+    sums: &[u64],
+) -> Result<Statement, LineFault>
+    requires count { length sums.now ≡ 64 }
+    requires small { All (λ sum. sum < 2 ^ 63) sums.now }
+    ensures ok { IfOk result (λ s. SpellsStatement (first.now ∷ words.old) s × IsStatementWithin sums.now s) }
+    ensures refused { IsLineRefused result → (o w : ℕ) (lits : List Literal) → SpellsStatement (first.now ∷ words.old) (Soft o w lits) → IsStatementWithin sums.now (Soft o w lits) → ⊥ }
+{
+    let objective = read_objective(first)?;
+    let second = match words.next() {
+        Some(second) => second,
+        None => return Err(LineFault::Bad(BadKind::WeightExpected)),
+    };
+    let weight = read_weight(second, sums[(objective - 1) as usize])?;
+    let lits = read_clause(alloc, words)?;
+    Ok(Statement::Soft {
+        objective,
+        weight,
+        lits,
+    })
+}
+
+// Reads literals up to the terminator, behind which there is no word.
+fn read_clause(alloc: Global, words: &mut Words<'_>) -> Result<Items<Lit>, LineFault>
+    ensures ok { IfOk result (λ lits. SpellsClause words.old lits × IsClauseWithin lits) }
+    ensures refused { IsLineRefused result → (lits : List Literal) → SpellsClause words.old lits → IsClauseWithin lits → ⊥ }
+{
+    let mut lits = Items::new(alloc);
+    while let Some(word) = words.next() {
+        match read_literal(word)? {
+            Some(lit) => lits.push(lit)?,
+            None => {
+                if words.next().is_some() {
+                    return Err(LineFault::Bad(BadKind::TextAfterZero));
+                }
+                return Ok(lits);
+            }
+        }
+    }
+    Err(LineFault::Bad(BadKind::ZeroMissing))
+}
