@@ -509,6 +509,15 @@ mod tests {
         }
     }
 
+    // A shelf with the file `a`, after two calls of a kind, the second of which is to fail.
+    fn after_two(alloc: Global, call: ShelfCall) -> Result<MemShelf, ShelfFault> {
+        let mut shelf = MemShelf::new(alloc, &[(call, 2)])?;
+        shelf.put("a", b"xy")?;
+        call_once(&mut shelf, call, b"bc")?;
+        let _ = call_once(&mut shelf, call, b"bc");
+        Ok(shelf)
+    }
+
     #[test]
     fn the_second_call_of_each_kind_fails(rt: HostRuntime) -> Result<(), Fail> {
         let rows: [(ShelfCall, &[u8], &[u8], &[u8]); 5] = [
@@ -519,11 +528,7 @@ mod tests {
             (ShelfCall::Warn, b"xy", b"", b"bc"),
         ];
         for (call, file, said, warned) in rows {
-            let mut shelf = MemShelf::new(rt.alloc(), &[(call, 2)])?;
-            shelf.put("a", b"xy")?;
-            call_once(&mut shelf, call, b"bc")?;
-            let second = call_once(&mut shelf, call, b"bc");
-            assert_eq!(rt; second, Err(ShelfFault::Failed), "{call:?}");
+            let shelf = after_two(rt.alloc(), call)?;
             assert_eq!(rt; held(&shelf), (Some(file), said, warned, 1), "{call:?}");
         }
         Ok(())
@@ -538,16 +543,22 @@ mod tests {
         Ok(())
     }
 
+    // A shelf with an empty file `a`, after a call that was cut after so many bytes.
+    fn after_cut(alloc: Global, call: ShelfCall, bytes: u64) -> Result<MemShelf, NoMemory> {
+        let mut shelf = MemShelf::cutting(alloc, &[(call, 1, bytes)])?;
+        shelf.put("a", b"")?;
+        let _ = call_once(&mut shelf, call, b"hello!");
+        Ok(shelf)
+    }
+
     #[test]
     fn a_cut_call_puts_the_front_of_its_piece(rt: HostRuntime) -> Result<(), Fail> {
         let rows: [(u64, &[u8]); 4] = [(0, b""), (1, b"h"), (5, b"hello"), (9, b"hello!")];
         for (bytes, front) in rows {
             for call in [ShelfCall::Append, ShelfCall::Say, ShelfCall::Warn] {
-                let mut shelf = MemShelf::cutting(rt.alloc(), &[(call, 1, bytes)])?;
-                shelf.put("a", b"")?;
-                let done = call_once(&mut shelf, call, b"hello!");
-                assert_eq!(rt; done, Err(ShelfFault::Failed), "{call:?} after {bytes}");
+                let shelf = after_cut(rt.alloc(), call, bytes)?;
                 assert_eq!(rt; put_by(&shelf, call), Some(front), "{call:?} after {bytes}");
+                assert_eq!(rt; shelf.faults(), 1);
             }
         }
         Ok(())
