@@ -199,6 +199,7 @@ impl MemShelf {
     }
 }
 
+// Each method has the trait's clauses first, and then exactly when it fails and what it leaves.
 impl Shelf for MemShelf {
     ghost use Rattle.std.specs.Prelude.{Some};
     ghost use Rattle.scut_base.specs.Faults.{plain};
