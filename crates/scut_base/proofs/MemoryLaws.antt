@@ -1,12 +1,12 @@
 -- What the trait asks of a shelf, from what a shelf in memory has become.
-use Rattle.std.specs.Prelude.{◌≡◌, ℕ, ◌≤◌, List, [], ◌++◌, take, drop, Result, Option, Some, IsErrOf, IsSome, refl}
+use Rattle.std.specs.Prelude.{◌≡◌, ℕ, ◌≤◌, List, [], ◌++◌, take, drop, Result, Some, IsSome, refl}
 use Rattle.std.specs.FinMap.{insert}
 use Rattle.std.proofs.Common.{ap, sym, subst, arith}
 use Rattle.std.proofs.lemmas.List.{take-append-drop}
 use Rattle.scut_base.specs.declared.shelf.ShelfCall.{ShelfCall}
 use Rattle.scut_base.specs.declared.shelf.ShelfFault.{ShelfFault}
 use Rattle.scut_base.specs.Faults.{HasCause, plain, plain_cause}
-use Rattle.scut_base.specs.Files.{Files, content, with_file, bytes_or_none, IsPartlyAppended, IsPartlyFollowed, IsTouched}
+use Rattle.scut_base.specs.Files.{Files, content, with_file, bytes_or_none, IsPartlyAppended, IsPartlyFollowed}
 use Rattle.scut_base.specs.FileLaws.{nothing_appended, bytes_kept}
 use Rattle.scut_base.specs.Memory.{Memory, one_more, file_of, put_behind}
 

@@ -1,12 +1,12 @@
 -- Laws of files in memory: what looking a name up and changing its first file come to.
-use Rattle.std.specs.Prelude.{◌≡◌, ◌≢◌, ℕ, ◌<◌, Bool, true, false, cond, List, [], ◌∷◌, ◌++◌, length, string_bytes, Some, None, refl}
+use Rattle.std.specs.Prelude.{◌≡◌, ◌≢◌, ℕ, ◌<◌, Bool, true, false, cond, List, [], ◌∷◌, ◌++◌, length, Some, None, refl}
 use Rattle.std.specs.Ordering.{nat_cmp, eq_by_cmp}
 use Rattle.std.specs.Cmp.Lexicographic.{slice_cmp}
-use Rattle.std.specs.FinMap.{get, insert, empty, get-insert, get-empty, same_map, slice_cmp-IsAntisymmetric, nat_cmp-IsAntisymmetric}
+use Rattle.std.specs.FinMap.{get, insert, get-insert, get-empty, same_map, slice_cmp-IsAntisymmetric, nat_cmp-IsAntisymmetric}
 use Rattle.std.proofs.Common.{sym, ◌∙◌, ap, ap₂, subst, ◌+◌, get_or, set, take, drop, append_assoc, arith}
 use Rattle.std.proofs.lemmas.List.{take-append-drop, drop_more, take_more_set, drop-set-lt, set-get_or}
 use Rattle.std.proofs.lemmas.Cmp.{nat_list_cmp_total}
-use Rattle.scut_base.specs.Files.{Files, content}
+use Rattle.scut_base.specs.Files.{content}
 use Rattle.scut_base.specs.Stored.{name_of, files_of, NoneNamed, IsFirstAt}
 use Rattle.scut_base.specs.FileLaws.{tied_same, tied_other, tied_is}
 use Rattle.scut_base.specs.declared.mem_shelf.Stored.{Stored}

@@ -19,6 +19,9 @@ struct Opened<F, A: Allocator> {
     file: F,
 }
 
+/// The real files, standard output and standard error. It keeps open the file that it read last and
+/// the one that it wrote last, so that one append more to the same file is one write. It tells none
+/// of their bytes; each error raises its one count of faults.
 #[derive(Drop)]
 pub struct HostShelf<R: Runtime> {
     rt: R,
@@ -77,19 +80,20 @@ fn read_some<F: Read>(file: &mut F, into: &mut [u8]) -> io::Result<usize>
     Err(io::Error::from(ErrorKind::Interrupted))
 }
 
-// The reader of a file, at a place.
-fn reader_at<'a, R: Runtime>(
+// Opens a file to read at a place, where it isn't open there. After an error it isn't open.
+fn reader_at<R: Runtime>(
     rt: &R,
-    reading: &'a mut Option<Opened<<R as Files>::File, <R as Alloc>::A>>,
+    reading: &mut Option<Opened<<R as Files>::File, <R as Alloc>::A>>,
     name: &str,
     at: u64,
 ) -> io::Result<()> {
-    if let Some(opened) = reading {
+    if let Some(mut opened) = reading.take() {
         if opened.name.as_str() == name {
             if opened.at != at {
                 opened.file.seek(SeekFrom::Start(at))?;
                 opened.at = at;
             }
+            *reading = Some(opened);
             return Ok(());
         }
     }
@@ -106,24 +110,25 @@ fn reader_at<'a, R: Runtime>(
     Ok(())
 }
 
-// Reads from the file that is open.
-fn read_opened<F: Read, A: Allocator>(
+// Reads from the file that is open. After an error its place isn't known, and it isn't kept.
+fn read_opened<F: Read + Drop, A: Allocator>(
     reading: &mut Option<Opened<F, A>>,
     into: &mut [u8],
 ) -> io::Result<usize>
     ensures { IfOk result (λ n. n ≤ length into.old) }
 {
-    match reading {
-        Some(opened) => {
+    match reading.take() {
+        Some(mut opened) => {
             let n = read_some(&mut opened.file, into)?;
             opened.at = opened.at.saturating_add(n as u64);
+            *reading = Some(opened);
             Ok(n)
         }
         None => Err(io::Error::from(ErrorKind::NotFound)),
     }
 }
 
-// Opens a file to write at its end.
+// Opens a file to write at its end, anew or where it isn't open.
 fn writer_of<R: Runtime>(
     rt: &R,
     writing: &mut Option<Opened<<R as Files>::File, <R as Alloc>::A>>,
@@ -151,12 +156,17 @@ fn writer_of<R: Runtime>(
     Ok(())
 }
 
-fn write_opened<F: Write, A: Allocator>(
+// Writes to the file that is open. After an error its place isn't known, and it isn't kept.
+fn write_opened<F: Write + Drop, A: Allocator>(
     writing: &mut Option<Opened<F, A>>,
     piece: &[u8],
 ) -> io::Result<()> {
-    match writing {
-        Some(opened) => opened.file.write_all(piece),
+    match writing.take() {
+        Some(mut opened) => {
+            opened.file.write_all(piece)?;
+            *writing = Some(opened);
+            Ok(())
+        }
         None => Err(io::Error::from(ErrorKind::NotFound)),
     }
 }
@@ -186,6 +196,7 @@ fn append_host<R: Runtime>(
     write_opened(writing, piece)
 }
 
+// Writes to standard error, which takes only text.
 fn warn_host<R: Runtime>(rt: &R, piece: &[u8]) -> io::Result<()> {
     match str::from_utf8(piece) {
         Ok(text) => rt.eprint(text),

@@ -199,6 +199,7 @@ impl MemShelf {
     }
 }
 
+// Each method has the trait's clauses first, and then exactly when it fails and what it leaves.
 impl Shelf for MemShelf {
     ghost use Rattle.std.specs.Prelude.{Some};
     ghost use Rattle.scut_base.specs.Faults.{plain};
@@ -495,6 +496,29 @@ mod tests {
         shelf.append("a", piece)
     }
 
+    // The file `a`, what was said and warned, and the count of faults.
+    fn held(shelf: &MemShelf) -> (Option<&[u8]>, &[u8], &[u8], u64) {
+        (shelf.get("a"), shelf.said(), shelf.warned(), shelf.faults())
+    }
+
+    // What was put by a call.
+    fn put_by(shelf: &MemShelf, call: ShelfCall) -> Option<&[u8]> {
+        match call {
+            ShelfCall::Say => Some(shelf.said()),
+            ShelfCall::Warn => Some(shelf.warned()),
+            _ => shelf.get("a"),
+        }
+    }
+
+    // A shelf with the file `a`, after two calls of a kind, the second of which is to fail.
+    fn after_two(alloc: Global, call: ShelfCall) -> Result<MemShelf, ShelfFault> {
+        let mut shelf = MemShelf::new(alloc, &[(call, 2)])?;
+        shelf.put("a", b"xy")?;
+        call_once(&mut shelf, call, b"bc")?;
+        let _ = call_once(&mut shelf, call, b"bc");
+        Ok(shelf)
+    }
+
     #[test]
     fn the_second_call_of_each_kind_fails(rt: HostRuntime) -> Result<(), Fail> {
         let rows: [(ShelfCall, &[u8], &[u8], &[u8]); 5] = [
@@ -505,28 +529,8 @@ mod tests {
             (ShelfCall::Warn, b"xy", b"", b"bc"),
         ];
         for (call, file, said, warned) in rows {
-            let mut shelf = MemShelf::new(rt.alloc(), &[(call, 2)])?;
-            shelf.put("a", b"xy")?;
-            assert_eq!(rt;
-                call_once(&mut shelf, call, b"bc"),
-                Ok(()),
-                "first {call:?}"
-            );
-            assert_eq!(rt;
-                call_once(&mut shelf, call, b"bc"),
-                Err(ShelfFault::Failed),
-                "{call:?}"
-            );
-            assert_eq!(rt; shelf.faults(), 1, "count of {call:?}");
-            assert_eq!(rt; shelf.get("a"), Some(file), "file at {call:?}");
-            assert_eq!(rt; shelf.said(), said, "said at {call:?}");
-            assert_eq!(rt; shelf.warned(), warned, "warned at {call:?}");
-            assert_eq!(rt;
-                call_once(&mut shelf, call, b"bc"),
-                Ok(()),
-                "third {call:?}"
-            );
-            assert_eq!(rt; shelf.faults(), 1, "count after {call:?}");
+            let shelf = after_two(rt.alloc(), call)?;
+            assert_eq!(rt; held(&shelf), (Some(file), said, warned, 1), "{call:?}");
         }
         Ok(())
     }
@@ -536,10 +540,16 @@ mod tests {
         let mut shelf = MemShelf::new(rt.alloc(), &[])?;
         shelf.put("b", b"xy")?;
         assert_eq!(rt; read_once(&mut shelf), Err(ShelfFault::Failed));
-        assert_eq!(rt; shelf.faults(), 1);
-        assert_eq!(rt; shelf.get("a"), None);
-        assert_eq!(rt; shelf.get("b"), Some(b"xy".as_slice()));
+        assert_eq!(rt; held(&shelf), (None, b"".as_slice(), b"".as_slice(), 1));
         Ok(())
+    }
+
+    // A shelf with an empty file `a`, after a call that was cut after so many bytes.
+    fn after_cut(alloc: Global, call: ShelfCall, bytes: u64) -> Result<MemShelf, NoMemory> {
+        let mut shelf = MemShelf::cutting(alloc, &[(call, 1, bytes)])?;
+        shelf.put("a", b"")?;
+        let _ = call_once(&mut shelf, call, b"hello!");
+        Ok(shelf)
     }
 
     #[test]
@@ -547,17 +557,9 @@ mod tests {
         let rows: [(u64, &[u8]); 4] = [(0, b""), (1, b"h"), (5, b"hello"), (9, b"hello!")];
         for (bytes, front) in rows {
             for call in [ShelfCall::Append, ShelfCall::Say, ShelfCall::Warn] {
-                let mut shelf = MemShelf::cutting(rt.alloc(), &[(call, 1, bytes)])?;
-                shelf.put("a", b"")?;
-                let done = call_once(&mut shelf, call, b"hello!");
-                assert_eq!(rt; done, Err(ShelfFault::Failed), "{call:?} after {bytes}");
+                let shelf = after_cut(rt.alloc(), call, bytes)?;
+                assert_eq!(rt; put_by(&shelf, call), Some(front), "{call:?} after {bytes}");
                 assert_eq!(rt; shelf.faults(), 1);
-                let put = match call {
-                    ShelfCall::Say => Some(shelf.said()),
-                    ShelfCall::Warn => Some(shelf.warned()),
-                    _ => shelf.get("a"),
-                };
-                assert_eq!(rt; put, Some(front), "put by {call:?} after {bytes}");
             }
         }
         Ok(())

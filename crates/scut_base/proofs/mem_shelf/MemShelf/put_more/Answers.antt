@@ -2,8 +2,7 @@ use Rattle.std.proofs.Common.{◌≡◌, ◌∙◌, ap, sym, subst, List, [], �
 use Rattle.std.proofs.lemmas.Bool.Decides.{nat_tests}
 use Rattle.std.proofs.lemmas.List.{nil_from_length}
 use Rattle.std.proofs.Math.Bool.{false≢true}
-use Rattle.std.specs.Prelude.{Some, None, IsSome, Option}
-use Rattle.scut_base.specs.Files.{content}
+use Rattle.std.specs.Prelude.{None, IsSome, Option}
 use Rattle.scut_base.specs.Memory.{file_of, put_behind}
 use Rattle.scut_base.proofs.MemoryLaws.{put_behind-nil}
 use Rattle.scut_base.proofs.StoredLaws.{content_none}
