@@ -4,7 +4,6 @@ use Rattle.std.specs.Prelude.{Option, Some, Err}
 use Rattle.std.specs.List.{concat, flat_map}
 use Rattle.std.proofs.lemmas.List.{append-nil, append_assoc}
 use Rattle.scut_base.specs.Files.{Files, content, with_file, IsTold, IsTouched, IsPrefixOf}
-use Rattle.scut_base.specs.FileLaws.{told_by_content}
 use Rattle.scut_base.specs.declared.shelf.ShelfFault.{ShelfFault}
 use Rattle.scut_base.specs.declared.shelf.ShelfFault.TheVariants.{Failed, NoMemory as ShelfNoMemory}
 use Rattle.front_set.specs.declared.entry.Entry.{Entry}
@@ -17,23 +16,13 @@ use Rattle.instance.specs.ParetoFront.{IsFront}
 use Rattle.mcnf_reader.specs.Grammar.{Spells}
 use Rattle.scuttle_cli.specs.Lines.{entry_lines, list_lines}
 use Rattle.scuttle_cli.specs.Reading.{IsWhole}
-use Rattle.scuttle_cli.specs.Outcome.{IsFrontOfFile, IsFrontWritten, IsFrontPartlyWritten, IsInstanceOf, HasManyVariables, HasFewVariables, LeavesFiles, status_of_shelf, status_of_reading, IsInputFault, IsRefusedText, SpellsNothing}
+use Rattle.scuttle_cli.specs.Outcome.{IsFrontOfFile, IsFrontWritten, IsFrontPartlyWritten, IsInstanceOf, HasManyVariables, HasFewVariables, LeavesFiles, status_of_shelf, status_of_reading, IsInputFault, HasText, SpellsNothing}
 
-some_is : {X : Type 0} (x y : X) (o : Option X) → o ≡ Some x → o ≡ Some y → x ≡ y
-some_is x y o p q = cc
+pub many_variables : (files : Option Files) (name bytes : List ℕ) (i : InstanceValue) → IsWhole files name bytes → length bytes < 2 ^ 32 → Spells bytes i → 20 < i.vars → HasText files name HasManyVariables
+many_variables files name bytes i read small spelled many = λ told. (bytes, read told, (small, i, spelled, many))
 
--- the bytes that were read are those of the file
-pub read_is : (files : Option Files) (name bytes text : List ℕ) → IsWhole files name bytes → content files name ≡ Some text → bytes ≡ text
-read_is files name bytes text read is = some_is bytes text _ (read (told_by_content files name text is)) is
-
-pub many_variables : (files : Option Files) (name bytes : List ℕ) (i : InstanceValue) → IsWhole files name bytes → length bytes < 2 ^ 32 → Spells bytes i → 20 < i.vars → (text : List ℕ) → content files name ≡ Some text → HasManyVariables text
-many_variables files name bytes i read small spelled many text is = subst (λ (t : List ℕ). HasManyVariables t) (read_is files name bytes text read is) (small, i, spelled, many)
-
-pub few_variables : (files : Option Files) (name : List ℕ) (i : InstanceValue) → IsInstanceOf files name i → (text : List ℕ) → content files name ≡ Some text → HasFewVariables text
-few_variables files name i of text is =
-    let found = of.0 (told_by_content files name text is) in
-    let same : found.0 ≡ text = some_is found.0 text _ found.1 is in
-    subst (λ (t : List ℕ). HasFewVariables t) same (found.2, i, found.3, of.1)
+pub few_variables : (files : Option Files) (name : List ℕ) (i : InstanceValue) → IsInstanceOf files name i → HasText files name HasFewVariables
+few_variables files name i of = λ told. (let found = of.0 told in (found.0, found.1, (found.2, i, found.3, of.1)))
 
 -- the lines make the text
 concat-entry_lines : (entries : List Entry) → concat (flat_map entry_lines entries) ≡ flat_map entry_text entries
@@ -69,7 +58,7 @@ fault_leaves ShelfNoMemory old new input list partly = partly
 
 -- a text that was refused spells nothing
 pub reading_fault : (fault : ReadFault) (files : Option Files) (name bytes : List ℕ) → IsWhole files name bytes → length bytes < 2 ^ 32 → (IsRefused {T = InstanceValue} (Err fault) → SpellsNothing bytes) → HasLine fault → IsInputFault (status_of_reading fault) files name
-reading_fault (Bad line kind) files name bytes read small refused at = λ text is. subst (λ (t : List ℕ). IsRefusedText t) (read_is files name bytes text read is) (small, refused tt)
+reading_fault (Bad line kind) files name bytes read small refused at = λ told. (bytes, read told, (small, refused tt))
 reading_fault (Limit zero which) files name bytes read small refused at = absurd (omega arith)
-reading_fault (Limit (suc line) which) files name bytes read small refused at = λ text is. subst (λ (t : List ℕ). IsRefusedText t) (read_is files name bytes text read is) (small, refused tt)
+reading_fault (Limit (suc line) which) files name bytes read small refused at = λ told. (bytes, read told, (small, refused tt))
 reading_fault ReadNoMemory files name bytes read small refused at = tt

@@ -1,15 +1,24 @@
 -- What a loop that reads a file knows.
-use Rattle.std.proofs.Common.{◌≡◌, ℕ, ◌+◌, ◌≤◌, min, arith, List, ◌++◌, length, take, drop, refl, sym, ◌∙◌, ap, subst}
+use Rattle.std.proofs.Common.{◌≡◌, ℕ, ◌+◌, ◌<◌, ◌≤◌, ◌^◌, min, arith, List, ◌++◌, length, take, drop, refl, sym, ◌∙◌, ap, subst}
 use Rattle.std.specs.Prelude.{Option, Some}
 use Rattle.std.proofs.Math.Seq.{take-add}
 use Rattle.std.proofs.lemmas.List.{length-take, take_min, take_all}
-use Rattle.scut_base.specs.Files.{Files, content, IsReadAt, ReadsFrom}
+use Rattle.scut_base.specs.Files.{Files, content, IsTold, IsReadAt, ReadsFrom}
 use Rattle.scut_base.specs.FileLaws.{told_by_content}
-use Rattle.scuttle_cli.specs.Reading.{IsWhole}
+use Rattle.scuttle_cli.specs.Reading.{IsWhole, IsLarge}
 
 -- the bytes are the first of the file
 abbrev pub IsReadSoFar : Option Files → List ℕ → List ℕ → Type 0
 IsReadSoFar files name bytes = (whole : List ℕ) → content files name ≡ Some whole → bytes ≡ take (length bytes) whole
+
+-- where something was read, the file is there
+abbrev pub IsThereSoFar : Option Files → List ℕ → List ℕ → Type 0
+IsThereSoFar files name bytes = IsTold files → 0 < length bytes → (whole : List ℕ) × (content files name ≡ Some whole)
+
+pub there_from_read : (old now : Option Files) (name bytes into : List ℕ) (at n : ℕ) → now ≡ old → IsReadAt now name at n into → IsThereSoFar old name bytes
+there_from_read old now name bytes into at n same read = λ told some.
+    let got = read (subst IsTold (sym same) told) in
+    (got.0, ap (λ f. content f name) (sym same) ∙ got.1)
 
 some_is : {X : Type 0} (x y : X) (o : Option X) → o ≡ Some x → o ≡ Some y → y ≡ x
 some_is x y o p q = cc
@@ -47,8 +56,14 @@ reads_all old now name bytes into at n front same place none read =
     read_all old name bytes into front (subst (λ k. IsReadAt old name (length bytes) k into) none (moved old now name bytes into at n same place read))
 
 -- what was read is no longer than the file
-pub read_no_more : (files : Option Files) (name bytes : List ℕ) (n : ℕ) → IsReadSoFar files name bytes → n ≤ length bytes → (whole : List ℕ) → content files name ≡ Some whole → n ≤ length whole
-read_no_more files name bytes n front long whole is =
+long_enough : (files : Option Files) (name bytes : List ℕ) (n : ℕ) → IsReadSoFar files name bytes → n ≤ length bytes → (whole : List ℕ) → content files name ≡ Some whole → n ≤ length whole
+long_enough files name bytes n front long whole is =
     let so_far : bytes ≡ take (length bytes) whole = front whole is in
     let same : length bytes ≡ min (length bytes) (length whole) = ap length so_far ∙ length-take (length bytes) whole in
     omega arith
+
+-- what is read on past the limit is large
+pub read_no_more : (files : Option Files) (name bytes : List ℕ) → IsReadSoFar files name bytes → IsThereSoFar files name bytes → 2 ^ 32 ≤ length bytes → IsLarge files name
+read_no_more files name bytes front there long = λ told.
+    let found = there told (omega arith) in
+    (found.0, found.1, long_enough files name bytes (2 ^ 32) front long found.0 found.1)

@@ -99,14 +99,22 @@ IsCausedBy ShelfFailed text = Unit {0}
 abbrev pub IsInstanceOf : Option Files → List ℕ → InstanceValue → Type 0
 IsInstanceOf files input i = (IsTold files → (text : List ℕ) × (content files input ≡ Some text) × (length text < 2 ^ 32) × Spells text i) × (i.vars ≤ 20)
 
+-- the file is there, and its text is what the status says of it
+abbrev pub HasText : Option Files → List ℕ → (List ℕ → Type 0) → Type 0
+HasText files input P = IsTold files → (text : List ℕ) × (content files input ≡ Some text) × P text
+
+-- what each status says of the instance file, where the files are told
+abbrev pub IsCausedByFile : Status → Option Files → List ℕ → Type 0
+IsCausedByFile Usage files input = Unit {0}
+IsCausedByFile NoMemory files input = Unit {0}
+IsCausedByFile ShelfFailed files input = Unit {0}
+IsCausedByFile status files input = HasText files input (IsCausedBy status)
+
 -- a status that tells why no instance was taken from the file
 abbrev pub IsInputFault : Status → Option Files → List ℕ → Type 0
 IsInputFault (Complete size) files input = ⊥
 IsInputFault Usage files input = ⊥
-IsInputFault (BadInput line kind) files input = (text : List ℕ) → content files input ≡ Some text → IsCausedBy (BadInput line kind) text
-IsInputFault (TooLarge line which) files input = (text : List ℕ) → content files input ≡ Some text → IsCausedBy (TooLarge line which) text
-IsInputFault NoMemory files input = Unit {0}
-IsInputFault ShelfFailed files input = Unit {0}
+IsInputFault status files input = IsCausedByFile status files input
 
 -- a count of the calls that read this file rose
 abbrev pub ReadingFailed : Faults → Faults → List ℕ → Type 0
@@ -143,7 +151,7 @@ LeavesFilesOf (Some (FrontOf input list)) status old new = IsTold old → Leaves
 
 abbrev pub IsCausedByInput : Option Request → Status → Option Files → Type 0
 IsCausedByInput None status old = Unit {0}
-IsCausedByInput (Some (FrontOf input list)) status old = (text : List ℕ) → content old input ≡ Some text → IsCausedBy status text
+IsCausedByInput (Some (FrontOf input list)) status old = IsCausedByFile status old input
 
 abbrev pub HasOwnCauseOf : Option Request → Status → Faults → Faults → Type 0
 HasOwnCauseOf None status before now = status ≡ Usage

@@ -6,6 +6,6 @@ use Rattle.scut_base.specs.Files.{Files, content, IsTold}
 abbrev pub IsWhole : Option Files → List ℕ → List ℕ → Type 0
 IsWhole files name bytes = IsTold files → content files name ≡ Some bytes
 
--- what the file holds has 2^32 bytes or more, where the files are told
+-- the file is there and holds 2^32 bytes or more, where the files are told
 abbrev pub IsLarge : Option Files → List ℕ → Type 0
-IsLarge files name = (bytes : List ℕ) → content files name ≡ Some bytes → 2 ^ 32 ≤ length bytes
+IsLarge files name = IsTold files → (bytes : List ℕ) × (content files name ≡ Some bytes) × (2 ^ 32 ≤ length bytes)

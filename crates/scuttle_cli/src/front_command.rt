@@ -1,8 +1,8 @@
 // The command `front`.
-ghost use Rattle.std.specs.Prelude.{◌≡◌, ◌≤◌, ◌<◌, ◌^◌, List, ℕ, Some, IfOk, IfErr, length};
+ghost use Rattle.std.specs.Prelude.{◌≡◌, IfOk, IfErr};
 ghost use Rattle.scut_base.specs.Faults.{NoneFell, HasCause};
-ghost use Rattle.scut_base.specs.Files.{IsTold, content};
-ghost use Rattle.scuttle_cli.specs.Outcome.{LeavesFiles, IsCausedBy, HasOwnCause, IsUsageWhere, IsInputFault, IsInstanceOf, ReadingFailed, status_of};
+ghost use Rattle.scut_base.specs.Files.{IsTold};
+ghost use Rattle.scuttle_cli.specs.Outcome.{LeavesFiles, IsCausedByFile, HasOwnCause, IsUsageWhere, IsInputFault, IsInstanceOf, ReadingFailed, status_of};
 
 use crate::Status;
 use crate::enumeration::front_of;
@@ -22,7 +22,7 @@ const MOST_VARS: u64 = 20;
 pub fn front<H: Shelf>(alloc: Global, input: &str, list: &str, shelf: &mut H) -> Status
     ensures usage { IsUsageWhere result ⊥ }
     ensures files { IsTold (H.files shelf.old) → LeavesFiles result (H.files shelf.old) (H.files shelf.new) input.now list.now }
-    ensures caused { (text : List ℕ) → content (H.files shelf.old) input.now ≡ Some text → IsCausedBy result text }
+    ensures caused { IsCausedByFile result (H.files shelf.old) input.now }
     ensures own_cause { HasOwnCause result (H.faults shelf.old) (H.faults shelf.new) input.now list.now }
     ensures later { NoneFell (H.faults shelf.old) (H.faults shelf.new) }
 {
@@ -41,7 +41,7 @@ fn write_front<H: Shelf>(
 ) -> Result<u64, Status>
     ensures usage { IsUsageWhere (status_of result) ⊥ }
     ensures files { IsTold (H.files shelf.old) → LeavesFiles (status_of result) (H.files shelf.old) (H.files shelf.new) input.now list.now }
-    ensures caused { (text : List ℕ) → content (H.files shelf.old) input.now ≡ Some text → IsCausedBy (status_of result) text }
+    ensures caused { IsCausedByFile (status_of result) (H.files shelf.old) input.now }
     ensures own_cause { HasOwnCause (status_of result) (H.faults shelf.old) (H.faults shelf.new) input.now list.now }
     ensures later { NoneFell (H.faults shelf.old) (H.faults shelf.new) }
 {

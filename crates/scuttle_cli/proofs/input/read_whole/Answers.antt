@@ -1,5 +1,5 @@
 use Rattle.std.proofs.Common.{◌∙◌, arith}
-use Rattle.scuttle_cli.proofs.ReadSoFar.{reads_further, reads_all, read_no_more}
+use Rattle.scuttle_cli.proofs.ReadSoFar.{reads_further, reads_all, there_from_read, read_no_more}
 use Rattle.scuttle_cli.proofs.input.read_whole.Goals as goal
 
 pub returns-then-n-eq0-clause-whole : goal.returns-then-n-eq0-clause-whole
@@ -10,6 +10,7 @@ returns-then-n-eq0-clause-whole g c =
 pub loop-piece-preserved : goal.loop-piece-preserved
 loop-piece-preserved g c = record {
   front = reads_further _ _ _ _ _ _ _ _ c.loop-piece.invariant.front c.loop-piece.invariant.files (omega (arith, c.len-in-loop-piece.ensures, c.loop-piece.bytes.ok)) c.in_ok-extend_from_slice.ensures.items c.in_ok-n.ensures.bytes;
+  there = there_from_read _ _ _ _ _ _ _ c.loop-piece.invariant.files c.in_ok-n.ensures.bytes;
   files = c.in_ok-n.ensures.files ∙ c.loop-piece.invariant.files;
   said = c.in_ok-n.ensures.said ∙ c.loop-piece.invariant.said;
   warned = c.in_ok-n.ensures.warned ∙ c.loop-piece.invariant.warned;
@@ -17,4 +18,4 @@ loop-piece-preserved g c = record {
 }
 
 pub returns-clause-whole : goal.returns-clause-whole
-returns-clause-whole g c = read_no_more _ _ _ _ c.loop-piece.invariant.front (omega (arith, c.len.ensures, c.loop-piece.bytes.ok, c.loop-piece-test.false))
+returns-clause-whole g c = read_no_more _ _ _ c.loop-piece.invariant.front c.loop-piece.invariant.there (omega (arith, c.len.ensures, c.loop-piece.bytes.ok, c.loop-piece-test.false))

@@ -1,6 +1,6 @@
 use Rattle.std.proofs.Common.{◌≡◌, ◌-◌, ◌^◌, vec_len}
 use Rattle.scut_base.specs.Faults.{NoneFell}
-use Rattle.scuttle_cli.proofs.ReadSoFar.{IsReadSoFar}
+use Rattle.scuttle_cli.proofs.ReadSoFar.{IsReadSoFar, IsThereSoFar}
 use Rattle.scuttle_cli.proofs.input.read_whole.Given as goal
 
 abbrev pub invariant-loop-piece : goal.invariant-loop-piece
@@ -8,6 +8,7 @@ invariant-loop-piece g l =
     let shelf = g.H.Shelf in
     record {
       front : IsReadSoFar (shelf.files l.fn.shelf) l.name l.bytes.items;
+      there : IsThereSoFar (shelf.files l.fn.shelf) l.name l.bytes.items;
       files : shelf.files l.shelf ≡ shelf.files l.fn.shelf;
       said : shelf.said l.shelf ≡ shelf.said l.fn.shelf;
       warned : shelf.warned l.shelf ≡ shelf.warned l.fn.shelf;
