@@ -1,5 +1,5 @@
 -- Assignments: the list of the variables' truth values, and the literals that they make true.
-use Rattle.std.specs.Prelude.{◌≡◌, ℕ, ◌-◌, ◌+◌, ◌≤◌, Bool, false, not, if◌then◌else◌, List, take, slice_index_or, Option, None, Some, option_map}
+use Rattle.std.specs.Prelude.{ℕ, ◌-◌, Bool, false, not, if◌then◌else◌, List, take, slice_index_or, Option, None, option_map}
 use Rattle.scut_base.specs.Literal.{Literal}
 
 -- the value of a variable: that of variable 1 is first

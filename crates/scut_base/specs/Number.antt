@@ -1,5 +1,5 @@
 -- Numbers that are read from text.
-use Rattle.std.specs.Prelude.{◌≡◌, ℕ, ◌<◌, ◌^◌, ◌≤◌, Bool, List, Option, None, Some, drop, ℤ, pos, neg_ℤ, Result, Ok, Err, if◌then◌else◌}
+use Rattle.std.specs.Prelude.{◌≡◌, ℕ, ◌≤◌, Bool, List, Option, None, Some, drop, ℤ, pos, neg_ℤ, Result, Ok, Err, if◌then◌else◌}
 use Rattle.std.specs.Str.Parse.{IsNumeral, digits_value, starts_with_minus}
 use Rattle.scut_base.specs.declared.number.NumberFault.{NumberFault}
 use Rattle.scut_base.specs.declared.number.NumberFault.TheVariants.{NotDigits, TooWide}

@@ -1,4 +1,4 @@
-use Rattle.std.proofs.Common.{◌≡◌, take, get_or, ◌^◌, rules}
+use Rattle.std.proofs.Common.{get_or, rules}
 use Rattle.std.specs.Int.{IsInRange}
 use Rattle.scut_base.proofs.Digits.{not_natural, digits_go_on, value_goes_on}
 use Rattle.scut_base.proofs.number.read_u64.Goals as goal
