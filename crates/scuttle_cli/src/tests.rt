@@ -47,6 +47,24 @@ fn assert_input(rt: &impl Abort, shelf: &MemShelf, text: &str) {
     assert_eq!(rt; shelf.get("a.mcnf"), Some(text.as_bytes()), "{text}");
 }
 
+// The file has this front.
+fn assert_complete(
+    rt: &impl Abort,
+    alloc: Global,
+    text: &str,
+    size: u64,
+    list: &str,
+    said: &str,
+) -> Result<(), Fail> {
+    let (status, shelf) = front(alloc, text)?;
+    assert_eq!(rt; status, Status::Complete { size }, "{text}");
+    assert_eq!(rt; shelf.get("a.list"), Some(list.as_bytes()), "{text}");
+    assert_eq!(rt; shelf.said(), said.as_bytes(), "{text}");
+    assert_eq!(rt; shelf.warned(), b"".as_slice(), "{text}");
+    assert_input(rt, &shelf, text);
+    Ok(())
+}
+
 #[test]
 fn complete_leaves_the_list_of_the_front(rt: HostRuntime) -> Result<(), Fail> {
     let rows: [(&str, u64, &str, &str); 8] = [
@@ -54,7 +72,12 @@ fn complete_leaves_the_list_of_the_front(rt: HostRuntime) -> Result<(), Fail> {
         ("", 1, "s COMPLETE 1\no\nv 0\n", "complete 1\n"),
         ("h 0\n", 0, "s COMPLETE 0\n", "complete 0\n"),
         ("o1 5 0\n", 1, "s COMPLETE 1\no 5\nv 0\n", "complete 1\n"),
-        ("o3 1 1 0\n", 1, "s COMPLETE 1\no 0 0 0\nv 1 0\n", "complete 1\n"),
+        (
+            "o3 1 1 0\n",
+            1,
+            "s COMPLETE 1\no 0 0 0\nv 1 0\n",
+            "complete 1\n",
+        ),
         (
             "o1 9223372036854775806 1 0\no1 1 2 0\n",
             1,
@@ -75,13 +98,23 @@ fn complete_leaves_the_list_of_the_front(rt: HostRuntime) -> Result<(), Fail> {
         ),
     ];
     for (text, size, list, said) in rows {
-        let (status, shelf) = front(rt.alloc(), text)?;
-        assert_eq!(rt; status, Status::Complete { size }, "{text}");
-        assert_eq!(rt; shelf.get("a.list"), Some(list.as_bytes()), "{text}");
-        assert_eq!(rt; shelf.said(), said.as_bytes(), "{text}");
-        assert_eq!(rt; shelf.warned(), b"".as_slice(), "{text}");
-        assert_input(&rt, &shelf, text);
+        assert_complete(&rt, rt.alloc(), text, size, list, said)?;
     }
+    Ok(())
+}
+
+// The list of the file's front is one of two.
+fn assert_either(
+    rt: &impl Abort,
+    alloc: Global,
+    text: &str,
+    one: &str,
+    other: &str,
+) -> Result<(), Fail> {
+    let (_, shelf) = front(alloc, text)?;
+    let list = shelf.get("a.list").unwrap_or(b"");
+    let shown = list == one.as_bytes() || list == other.as_bytes();
+    assert!(rt; shown, "{text}");
     Ok(())
 }
 
@@ -101,10 +134,27 @@ fn equal_vectors_are_listed_once(rt: HostRuntime) -> Result<(), Fail> {
         ),
     ];
     for (text, one, other) in rows {
-        let (_, shelf) = front(rt.alloc(), text)?;
-        let list = shelf.get("a.list").unwrap_or(b"");
-        let shown = list == one.as_bytes() || list == other.as_bytes();
-        assert!(rt; shown, "{text}");
+        assert_either(&rt, rt.alloc(), text, one, other)?;
+    }
+    Ok(())
+}
+
+// A run with these words ends so, and leaves no list.
+fn assert_refused(
+    rt: &impl Abort,
+    alloc: Global,
+    words: &[&str],
+    text: Option<&str>,
+    want: Status,
+    warned: &str,
+) -> Result<(), Fail> {
+    let (status, shelf) = ran(alloc, &[], words, text)?;
+    assert_eq!(rt; status, want, "{words:?}");
+    assert_eq!(rt; shelf.warned(), warned.as_bytes(), "{words:?}");
+    assert_eq!(rt; shelf.said(), b"".as_slice(), "{words:?}");
+    assert!(rt; shelf.get("a.list").is_none(), "{words:?}");
+    if let Some(text) = text {
+        assert_input(rt, &shelf, text);
     }
     Ok(())
 }
@@ -113,11 +163,21 @@ fn equal_vectors_are_listed_once(rt: HostRuntime) -> Result<(), Fail> {
 fn a_refusal_warns_and_leaves_no_list(rt: HostRuntime) -> Result<(), Fail> {
     let usage = "scuttle: usage\n";
     let rows: [(&[&str], Option<&str>, Status, &str); 10] = [
-        (&["front", "a.txt", "a.list"], Some(TWO), Status::Usage, usage),
+        (
+            &["front", "a.txt", "a.list"],
+            Some(TWO),
+            Status::Usage,
+            usage,
+        ),
         (&["frobnicate"], Some(TWO), Status::Usage, usage),
         (&[], Some(TWO), Status::Usage, usage),
         (&["front", "a.mcnf"], Some(TWO), Status::Usage, usage),
-        (&["front", "a.mcnf", "a.mcnf"], Some(TWO), Status::Usage, usage),
+        (
+            &["front", "a.mcnf", "a.mcnf"],
+            Some(TWO),
+            Status::Usage,
+            usage,
+        ),
         (
             &["front", "a.mcnf", "a.list", "b.list"],
             Some(TWO),
@@ -159,14 +219,7 @@ fn a_refusal_warns_and_leaves_no_list(rt: HostRuntime) -> Result<(), Fail> {
         ),
     ];
     for (words, text, want, warned) in rows {
-        let (status, shelf) = ran(rt.alloc(), &[], words, text)?;
-        assert_eq!(rt; status, want, "{words:?}");
-        assert_eq!(rt; shelf.warned(), warned.as_bytes(), "{words:?}");
-        assert_eq!(rt; shelf.said(), b"".as_slice(), "{words:?}");
-        assert!(rt; shelf.get("a.list").is_none(), "{words:?}");
-        if let Some(text) = text {
-            assert_input(&rt, &shelf, text);
-        }
+        assert_refused(&rt, rt.alloc(), words, text, want, warned)?;
     }
     Ok(())
 }
@@ -177,37 +230,55 @@ fn assert_faulty_list(rt: &impl Abort, call: ShelfCall, list: Option<&[u8]>) {
     match (call, list) {
         (ShelfCall::Read | ShelfCall::Begin, found) => assert!(rt; found.is_none(), "{call:?}"),
         (ShelfCall::Append, Some(bytes)) => {
-            assert!(rt; bytes.len() < whole.len() && whole.starts_with(bytes), "{call:?}")
+            assert!(rt;
+                bytes.len() < whole.len() && whole.starts_with(bytes),
+                "{call:?}"
+            )
         }
         (_, found) => assert_eq!(rt; found, Some(whole), "{call:?}"),
     }
 }
 
+// Whether a run whose n-th call of this kind fails is complete; else it answers the fault.
+fn is_complete(rt: &impl Abort, alloc: Global, call: ShelfCall, n: u64) -> Result<bool, Fail> {
+    let words = ["front", "a.mcnf", "a.list"];
+    let (status, shelf) = ran(alloc, &[(call, n)], &words, Some(TWO))?;
+    assert_input(rt, &shelf, TWO);
+    if status == (Status::Complete { size: 2 }) {
+        assert_eq!(rt; shelf.get("a.list"), Some(TWO_LIST.as_bytes()), "{call:?}");
+        return Ok(true);
+    }
+    assert_eq!(rt; status, Status::ShelfFailed, "{call:?} {n}");
+    assert_faulty_list(rt, call, shelf.get("a.list"));
+    Ok(false)
+}
+
+// How many calls of this kind a run makes: each of them is made to fail.
+fn calls_that_fail(rt: &impl Abort, alloc: Global, call: ShelfCall) -> Result<u64, Fail> {
+    for n in 1..=12u64 {
+        if is_complete(rt, alloc, call, n)? {
+            return Ok(n - 1);
+        }
+    }
+    Ok(12)
+}
+
 #[test]
 fn a_call_that_fails_is_answered(rt: HostRuntime) -> Result<(), Fail> {
-    let words = ["front", "a.mcnf", "a.list"];
     for call in [
         ShelfCall::Read,
         ShelfCall::Begin,
         ShelfCall::Append,
         ShelfCall::Say,
     ] {
-        let mut failed = 0;
-        let mut complete = false;
-        for n in 1..=12u64 {
-            let (status, shelf) = ran(rt.alloc(), &[(call, n)], &words, Some(TWO))?;
-            assert_input(&rt, &shelf, TWO);
-            if let Status::Complete { .. } = status {
-                assert_eq!(rt; shelf.get("a.list"), Some(TWO_LIST.as_bytes()), "{call:?}");
-                complete = true;
-                break;
-            }
-            assert_eq!(rt; status, Status::ShelfFailed, "{call:?} {n}");
-            assert_faulty_list(&rt, call, shelf.get("a.list"));
-            failed = n;
-        }
-        assert!(rt; complete && failed > 0, "{call:?}");
+        let calls = calls_that_fail(&rt, rt.alloc(), call)?;
+        assert!(rt; 0 < calls && calls < 12, "{call:?}");
     }
+    Ok(())
+}
+
+#[test]
+fn a_warning_that_fails_changes_no_status(rt: HostRuntime) -> Result<(), Fail> {
     let (status, shelf) = ran(rt.alloc(), &[(ShelfCall::Warn, 1)], &["frobnicate"], None)?;
     assert_eq!(rt; status, Status::Usage);
     assert_eq!(rt; shelf.faults(), 1);

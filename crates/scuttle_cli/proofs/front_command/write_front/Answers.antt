@@ -10,7 +10,7 @@ pub returns-clause-files : goal.returns-clause-files
 returns-clause-files g c = λ told.
     let lines : c.as_slice.result.now ≡ list_lines true c.in_ok-entries.entries.items = search rules in
     let written : IsFrontWritten (g.H.Shelf.files c.args.shelf.now) (g.H.Shelf.files c.say_complete.new.shelf) c.args.input.now c.args.list.now _ =
-        front_written _ _ _ _ _ c.in_ok-inst.inst c.in_ok-entries.entries.items c.as_slice.result.now c.in_ok-inst.ensures.read c.in_ok-entries.ensures lines c.in_ok-inst.ensures.files (c.in_ok-say_complete.ensures.files ∙ c.in_ok-write_lines.ensures.ok) told in
+    front_written _ _ _ _ _ c.in_ok-inst.inst c.in_ok-entries.entries.items c.as_slice.result.now c.in_ok-inst.ensures.read c.in_ok-entries.ensures lines c.in_ok-inst.ensures.files (c.in_ok-say_complete.ensures.files ∙ c.in_ok-write_lines.ensures.ok) told in
     subst (λ (n : ℕ). IsFrontWritten (g.H.Shelf.files c.args.shelf.now) (g.H.Shelf.files c.say_complete.new.shelf) c.args.input.now c.args.list.now n) (search rules) written
 
 pub returns-clause-caused : goal.returns-clause-caused
