@@ -1,18 +1,18 @@
 -- What is listed of a set that stands for all models is the front.
-use Rattle.std.proofs.Common.{◌≡◌, ◌≢◌, ℕ, ◌<◌, ◌^◌, ◌↔◌, Bool, true, List, length, map, ℤ, sym, ap, ◌∙◌, subst}
+use Rattle.std.proofs.Common.{◌≡◌, ℕ, ◌<◌, ◌^◌, Bool, List, length, map, ℤ, sym, ap, ◌∙◌, subst}
 use Rattle.std.specs.Prelude.{All, Contains, IfOk, Result, Ok, Err, Vec}
 use Rattle.std.specs.declared.alloc.Global.{Global}
 use Rattle.std.specs.List.Sorted.{IsPermutation}
 use Rattle.std.proofs.lemmas.List.{length-map}
 use Rattle.std.proofs.lemmas.List.Elements.{All-weaker, All-map, All-contains}
-use Rattle.std.proofs.lemmas.List.Sorted.{All-permutation, Contains-permutation, IsPermutation-sym, IsPermutation-map}
+use Rattle.std.proofs.lemmas.List.Sorted.{All-permutation, Contains-permutation, IsPermutation-sym}
 use Rattle.front_set.specs.declared.entry.Entry.{Entry}
-use Rattle.front_set.specs.Vector.{is_below, IsBelow, IsStrictlyBelow, AreRising}
-use Rattle.front_set.specs.Front.{StandsFor, IsMinimalOf, vectors_of}
+use Rattle.front_set.specs.Vector.{IsStrictlyBelow, AreRising}
+use Rattle.front_set.specs.Front.{IsMinimalOf, vectors_of}
 use Rattle.front_set.proofs.Members.{Contains-from_map, Contains-map}
 use Rattle.instance.specs.Shape.{InstanceValue}
 use Rattle.instance.specs.Meaning.{IsModel, costs_of, objective_cost}
-use Rattle.instance.specs.ParetoFront.{problem_vector, listed_entry, IsFront, IsOnFront, Dominates, WeaklyDominates}
+use Rattle.instance.specs.ParetoFront.{problem_vector, listed_entry, IsFront, IsOnFront, Dominates}
 use Rattle.instance.proofs.Dominance.{problem_numbers-twice, problem_numbers-injective, weakly_dominates-is_below}
 use Rattle.scuttle_cli.specs.Enumeration.{assignment_of, pair_of, IsModelPair, StandsForModels}
 use Rattle.scuttle_cli.proofs.Numbered.{number_of, number-small, assignment-number}

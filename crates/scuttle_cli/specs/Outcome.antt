@@ -7,7 +7,6 @@ use Rattle.scut_base.specs.declared.shelf.ShelfFault.{ShelfFault}
 use Rattle.scut_base.specs.declared.shelf.ShelfFault.TheVariants.{Failed, NoMemory as ShelfNoMemory}
 use Rattle.front_set.specs.declared.entry.Entry.{Entry}
 use Rattle.front_set.specs.ListText.{list_text}
-use Rattle.instance.specs.declared.fault.InstanceLimit.{InstanceLimit}
 use Rattle.instance.specs.declared.fault.InstanceLimit.TheVariants.{Bytes, Vars}
 use Rattle.instance.specs.declared.fault.ReadFault.{ReadFault}
 use Rattle.instance.specs.declared.fault.ReadFault.TheVariants.{Bad, Limit, NoMemory as ReadNoMemory}
