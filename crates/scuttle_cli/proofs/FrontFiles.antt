@@ -69,7 +69,7 @@ fault_leaves ShelfNoMemory old new input list partly = partly
 
 -- a text that was refused spells nothing
 pub reading_fault : (fault : ReadFault) (files : Option Files) (name bytes : List ℕ) → IsWhole files name bytes → length bytes < 2 ^ 32 → (IsRefused {T = InstanceValue} (Err fault) → SpellsNothing bytes) → HasLine fault → IsInputFault (status_of_reading fault) files name
-reading_fault (Bad line kind) files name bytes read small refused at = λ text is. subst (λ (t : List ℕ). IsRefusedText t) (read_is files name bytes text read is) (small, refused tt)
+reading_fault (Bad line kind) files name bytes read small refused at = λ text is. (at, subst (λ (t : List ℕ). IsRefusedText t) (read_is files name bytes text read is) (small, refused tt))
 reading_fault (Limit zero which) files name bytes read small refused at = absurd (omega arith)
 reading_fault (Limit (suc line) which) files name bytes read small refused at = λ text is. subst (λ (t : List ℕ). IsRefusedText t) (read_is files name bytes text read is) (small, refused tt)
 reading_fault ReadNoMemory files name bytes read small refused at = tt
