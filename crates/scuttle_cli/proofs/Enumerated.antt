@@ -1,20 +1,14 @@
 -- What a set of pairs stands for, where the assignments below a number were gone through.
-use Rattle.std.proofs.Common.{◌≡◌, ℕ, ◌+◌, ◌<◌, ◌≤◌, ◌^◌, ◌↔◌, Bool, true, List, [], ◌∷◌, ◌++◌, length, map, ℤ, get_or, refl, sym, ap, ap₂, ◌∙◌, subst, inl, inr, ◌⊎◌, arith}
+use Rattle.std.proofs.Common.{◌≡◌, ℕ, ◌+◌, ◌<◌, Bool, List, [], ◌∷◌, ◌++◌, ℤ, ap, ap₂, ◌∙◌, subst, inl, inr, ◌⊎◌, arith}
 use Rattle.std.specs.Prelude.{All, Contains}
-use Rattle.std.specs.List.Sorted.{IsPermutation}
 use Rattle.std.proofs.lemmas.Bool.{cases_lt}
-use Rattle.std.proofs.lemmas.List.Sorted.{All-permutation, Contains-permutation, IsPermutation-sym, IsPermutation-map}
-use Rattle.std.proofs.lemmas.List.{length-map, get_or-map}
-use Rattle.std.proofs.lemmas.List.Elements.{All-nil, All-push, All-contains, All-weaker, All-map, Contains-append_left, Contains-push}
+use Rattle.std.proofs.lemmas.List.Elements.{All-nil, All-push, All-contains, All-weaker, Contains-append_left, Contains-push}
 use Rattle.front_set.specs.declared.entry.Entry.{Entry}
-use Rattle.front_set.specs.Vector.{IsBelow, is_below, IsStrictlyBelow, AreRising}
-use Rattle.front_set.specs.Front.{StandsFor, IsMinimalOf, vectors_of}
+use Rattle.front_set.specs.Front.{StandsFor}
 use Rattle.instance.specs.Shape.{InstanceValue}
-use Rattle.instance.specs.Meaning.{IsModel, costs_of, objective_cost}
-use Rattle.instance.specs.ParetoFront.{problem_vector, IsProblemVector, AreProblemVectors, listed_entry, IsFront, IsOnFront, Dominates, WeaklyDominates}
-use Rattle.instance.proofs.Dominance.{problem_numbers-twice, problem_numbers-injective, weakly_dominates-is_below}
+use Rattle.instance.specs.Meaning.{IsModel, costs_of}
+use Rattle.instance.specs.ParetoFront.{problem_vector, IsProblemVector, AreProblemVectors}
 use Rattle.scuttle_cli.specs.Enumeration.{assignment_of, pair_of, IsModelPair, StandsForModels}
-use Rattle.scuttle_cli.proofs.Numbered.{number_of, number-small, assignment-number}
 
 pub stands_for_no_models : (i : InstanceValue) → StandsFor [] [] → StandsForModels i [] 0
 stands_for_no_models i stands = record {

@@ -1,5 +1,5 @@
 -- What the command leaves in its files, and why it was refused.
-use Rattle.std.proofs.Common.{◌≡◌, ℕ, zero, suc, ◌+◌, ◌<◌, ◌≤◌, ◌^◌, ◌++◌, ◌∷◌, List, [], length, true, refl, sym, ◌∙◌, ap, subst, inl, inr, arith}
+use Rattle.std.proofs.Common.{◌≡◌, ℕ, zero, suc, ◌<◌, ◌^◌, ◌++◌, ◌∷◌, List, [], length, true, refl, ◌∙◌, ap, subst, inl, inr, arith}
 use Rattle.std.specs.Prelude.{Option, Some, Err}
 use Rattle.std.specs.List.{concat, flat_map}
 use Rattle.std.proofs.lemmas.List.{append-nil, append_assoc}
@@ -58,7 +58,7 @@ fault_leaves ShelfNoMemory old new input list partly = partly
 
 -- a text that was refused spells nothing
 pub reading_fault : (fault : ReadFault) (files : Option Files) (name bytes : List ℕ) → IsWhole files name bytes → length bytes < 2 ^ 32 → (IsRefused {T = InstanceValue} (Err fault) → SpellsNothing bytes) → HasLine fault → IsInputFault (status_of_reading fault) files name
-reading_fault (Bad line kind) files name bytes read small refused at = λ told. (bytes, read told, (small, refused tt))
+reading_fault (Bad line kind) files name bytes read small refused at = λ told. (bytes, read told, (at, (small, refused tt)))
 reading_fault (Limit zero which) files name bytes read small refused at = absurd (omega arith)
 reading_fault (Limit (suc line) which) files name bytes read small refused at = λ told. (bytes, read told, (small, refused tt))
 reading_fault ReadNoMemory files name bytes read small refused at = tt

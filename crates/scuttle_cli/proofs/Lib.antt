@@ -4,3 +4,4 @@ pub mod ListedFront
 pub mod ReadSoFar
 pub mod Written
 pub mod FrontFiles
+pub mod Saying

@@ -1,18 +1,18 @@
 -- What is listed of a set that stands for all models is the front.
-use Rattle.std.proofs.Common.{◌≡◌, ◌≢◌, ℕ, ◌<◌, ◌^◌, ◌↔◌, Bool, true, List, length, map, ℤ, sym, ap, ◌∙◌, subst}
+use Rattle.std.proofs.Common.{◌≡◌, ℕ, ◌<◌, ◌^◌, Bool, List, length, map, ℤ, sym, ap, ◌∙◌, subst}
 use Rattle.std.specs.Prelude.{All, Contains, IfOk, Result, Ok, Err, Vec}
 use Rattle.std.specs.declared.alloc.Global.{Global}
 use Rattle.std.specs.List.Sorted.{IsPermutation}
 use Rattle.std.proofs.lemmas.List.{length-map}
 use Rattle.std.proofs.lemmas.List.Elements.{All-weaker, All-map, All-contains}
-use Rattle.std.proofs.lemmas.List.Sorted.{All-permutation, Contains-permutation, IsPermutation-sym, IsPermutation-map}
+use Rattle.std.proofs.lemmas.List.Sorted.{All-permutation, Contains-permutation, IsPermutation-sym}
 use Rattle.front_set.specs.declared.entry.Entry.{Entry}
-use Rattle.front_set.specs.Vector.{is_below, IsBelow, IsStrictlyBelow, AreRising}
-use Rattle.front_set.specs.Front.{StandsFor, IsMinimalOf, vectors_of}
+use Rattle.front_set.specs.Vector.{IsStrictlyBelow, AreRising}
+use Rattle.front_set.specs.Front.{IsMinimalOf, vectors_of}
 use Rattle.front_set.proofs.Members.{Contains-from_map, Contains-map}
 use Rattle.instance.specs.Shape.{InstanceValue}
 use Rattle.instance.specs.Meaning.{IsModel, costs_of, objective_cost}
-use Rattle.instance.specs.ParetoFront.{problem_vector, listed_entry, IsFront, IsOnFront, Dominates, WeaklyDominates}
+use Rattle.instance.specs.ParetoFront.{problem_vector, listed_entry, IsFront, IsOnFront, Dominates}
 use Rattle.instance.proofs.Dominance.{problem_numbers-twice, problem_numbers-injective, weakly_dominates-is_below}
 use Rattle.scuttle_cli.specs.Enumeration.{assignment_of, pair_of, IsModelPair, StandsForModels}
 use Rattle.scuttle_cli.proofs.Numbered.{number_of, number-small, assignment-number}
@@ -55,8 +55,8 @@ on_front_from_minimal i entries all v minimal =
     record {
       reached = (found.0.model, pair.model, costs);
       undominated = λ b model dominates.
-        let length_v : length v ≡ length i.objectives = sym (ap length costs) ∙ costs_length i found.0.model in
-        minimal.least (problem_vector i (costs_of i b)) (Contains-map (λ (e : Entry). e.costs) all.pairs (pair_of i b) (pair_of_model i entries all b model)) (strictly_below i (costs_of i b) v (costs_length i b) length_v dominates);
+          let length_v : length v ≡ length i.objectives = sym (ap length costs) ∙ costs_length i found.0.model in
+          minimal.least (problem_vector i (costs_of i b)) (Contains-map (λ (e : Entry). e.costs) all.pairs (pair_of i b) (pair_of_model i entries all b model)) (strictly_below i (costs_of i b) v (costs_length i b) length_v dominates);
     }
 
 minimal_from_on_front : (i : InstanceValue) (entries : List Entry) (all : StandsForModels i entries (2 ^ i.vars)) (v : List ℤ) → IsOnFront i v → IsMinimalOf all.pairs (problem_vector i v)
@@ -67,11 +67,11 @@ minimal_from_on_front i entries all v on_front =
     record {
       among = subst (λ (w : List ℤ). Contains (vectors_of all.pairs) (problem_vector i w)) costs (Contains-map (λ (e : Entry). e.costs) all.pairs (pair_of i a) (pair_of_model i entries all a on_front.reached.1));
       least = λ u among below.
-        let found = Contains-from_map (λ (e : Entry). e.costs) all.pairs u among in
-        let pair : IsModelPair i found.0 = All-contains (IsModelPair i) all.pairs found.0 all.sound found.1 in
-        let is : u ≡ problem_vector i (costs_of i found.0.model) = sym found.2 ∙ pair.costs in
-        on_front.undominated found.0.model pair.model
-        (dominates_from_below i (costs_of i found.0.model) v (costs_length i found.0.model) length_v (subst (λ (w : List ℤ). IsStrictlyBelow w (problem_vector i v)) is below));
+          let found = Contains-from_map (λ (e : Entry). e.costs) all.pairs u among in
+          let pair : IsModelPair i found.0 = All-contains (IsModelPair i) all.pairs found.0 all.sound found.1 in
+          let is : u ≡ problem_vector i (costs_of i found.0.model) = sym found.2 ∙ pair.costs in
+          on_front.undominated found.0.model pair.model
+          (dominates_from_below i (costs_of i found.0.model) v (costs_length i found.0.model) length_v (subst (λ (w : List ℤ). IsStrictlyBelow w (problem_vector i v)) is below));
     }
 
 -- a vector is listed exactly where the problem's vector is that of an entry
@@ -95,7 +95,8 @@ front_from_models i entries listed all permuted rising = record {
   rising = rising;
   exact = λ v. (
     (λ there. on_front_from_minimal i entries all v ((all.stands.minimal (problem_vector i v)).0 (entry_from_listed i entries listed permuted v there))),
-    (λ on_front. listed_from_entry i entries listed permuted v ((all.stands.minimal (problem_vector i v)).1 (minimal_from_on_front i entries all v on_front))));
+    (λ on_front. listed_from_entry i entries listed permuted v ((all.stands.minimal (problem_vector i v)).1 (minimal_from_on_front i entries all v on_front))),
+  );
   models = All-permutation (IsListed i) (map (listed_entry i) entries) listed permuted (listed_models i entries (entries_are_models i entries _ all));
 }
 

@@ -11,3 +11,4 @@ pub mod Outcome
 pub mod Reading
 pub mod Enumeration
 pub mod Lines
+pub mod Messages

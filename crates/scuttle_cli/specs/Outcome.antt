@@ -1,5 +1,5 @@
 -- What a run leaves, by its status.
-use Rattle.std.specs.Prelude.{◌≡◌, ℕ, zero, ◌<◌, ◌≤◌, ◌^◌, ◌⊎◌, true, List, [], length, Option, Some, None, Result, Ok, Err}
+use Rattle.std.specs.Prelude.{◌≡◌, ℕ, zero, suc, ◌<◌, ◌≤◌, ◌^◌, ◌⊎◌, true, List, [], length, Option, Some, None, Result, Ok, Err}
 use Rattle.scut_base.specs.Files.{Files, content, with_file, IsTold, IsTouched, IsPrefixOf}
 use Rattle.scut_base.specs.Faults.{Faults, count, Rose}
 use Rattle.scut_base.specs.declared.shelf.ShelfCall.TheVariants.{Read, Begin, Append, Say}
@@ -7,7 +7,6 @@ use Rattle.scut_base.specs.declared.shelf.ShelfFault.{ShelfFault}
 use Rattle.scut_base.specs.declared.shelf.ShelfFault.TheVariants.{Failed, NoMemory as ShelfNoMemory}
 use Rattle.front_set.specs.declared.entry.Entry.{Entry}
 use Rattle.front_set.specs.ListText.{list_text}
-use Rattle.instance.specs.declared.fault.InstanceLimit.{InstanceLimit}
 use Rattle.instance.specs.declared.fault.InstanceLimit.TheVariants.{Bytes, Vars}
 use Rattle.instance.specs.declared.fault.ReadFault.{ReadFault}
 use Rattle.instance.specs.declared.fault.ReadFault.TheVariants.{Bad, Limit, NoMemory as ReadNoMemory}
@@ -84,13 +83,14 @@ HasFewVariables text = (length text < 2 ^ 32) × (i : InstanceValue) × Spells t
 abbrev pub HasManyVariables : List ℕ → Type 0
 HasManyVariables text = (length text < 2 ^ 32) × (i : InstanceValue) × Spells text i × (20 < i.vars)
 
--- What each status says of the instance file's text. No two of the causes hold of one text.
+-- What each status says of the instance file's text. No two of the causes hold of one text. Line 0 stands for the whole file, and only for what is counted over all of it.
 abbrev pub IsCausedBy : Status → List ℕ → Type 0
 IsCausedBy (Complete size) text = HasFewVariables text
-IsCausedBy (BadInput line kind) text = IsRefusedText text
+IsCausedBy (BadInput line kind) text = (0 < line) × IsRefusedText text
 IsCausedBy (TooLarge zero Bytes) text = 2 ^ 32 ≤ length text
 IsCausedBy (TooLarge zero Vars) text = HasManyVariables text
-IsCausedBy (TooLarge line which) text = IsRefusedText text
+IsCausedBy (TooLarge zero which) text = ⊥
+IsCausedBy (TooLarge (suc line) which) text = IsRefusedText text
 IsCausedBy Usage text = Unit {0}
 IsCausedBy NoMemory text = Unit {0}
 IsCausedBy ShelfFailed text = Unit {0}

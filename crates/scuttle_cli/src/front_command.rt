@@ -2,6 +2,7 @@
 ghost use Rattle.std.specs.Prelude.{◌≡◌, IfOk, IfErr};
 ghost use Rattle.scut_base.specs.Faults.{NoneFell, HasCause};
 ghost use Rattle.scut_base.specs.Files.{IsTold};
+ghost use Rattle.scuttle_cli.specs.Messages.{Says};
 ghost use Rattle.scuttle_cli.specs.Outcome.{LeavesFiles, IsCausedByFile, HasOwnCause, IsUsageWhere, IsInputFault, IsInstanceOf, ReadingFailed, status_of};
 
 use crate::Status;
@@ -24,6 +25,8 @@ pub fn front<H: Shelf>(alloc: Global, input: &str, list: &str, shelf: &mut H) ->
     ensures files { IsTold (H.files shelf.old) → LeavesFiles result (H.files shelf.old) (H.files shelf.new) input.now list.now }
     ensures caused { IsCausedByFile result (H.files shelf.old) input.now }
     ensures own_cause { HasOwnCause result (H.faults shelf.old) (H.faults shelf.new) input.now list.now }
+    ensures said { Says result (H.said shelf.old) (H.said shelf.new) }
+    ensures warned { H.warned shelf.new ≡ H.warned shelf.old }
     ensures later { NoneFell (H.faults shelf.old) (H.faults shelf.new) }
 {
     match write_front(alloc, input, list, shelf) {
@@ -43,6 +46,8 @@ fn write_front<H: Shelf>(
     ensures files { IsTold (H.files shelf.old) → LeavesFiles (status_of result) (H.files shelf.old) (H.files shelf.new) input.now list.now }
     ensures caused { IsCausedByFile (status_of result) (H.files shelf.old) input.now }
     ensures own_cause { HasOwnCause (status_of result) (H.faults shelf.old) (H.faults shelf.new) input.now list.now }
+    ensures said { Says (status_of result) (H.said shelf.old) (H.said shelf.new) }
+    ensures warned { H.warned shelf.new ≡ H.warned shelf.old }
     ensures later { NoneFell (H.faults shelf.old) (H.faults shelf.new) }
 {
     let inst = read_instance(alloc, input, shelf)?;
@@ -58,6 +63,8 @@ fn read_instance<H: Shelf>(alloc: Global, input: &str, shelf: &mut H) -> Result<
     ensures read { IfOk result (λ inst. IsInstanceOf (H.files shelf.old) input.now inst) }
     ensures fault { IfErr result (λ status. IsInputFault status (H.files shelf.old) input.now) }
     ensures files { H.files shelf.new ≡ H.files shelf.old }
+    ensures said { H.said shelf.new ≡ H.said shelf.old }
+    ensures warned { H.warned shelf.new ≡ H.warned shelf.old }
     ensures later { NoneFell (H.faults shelf.old) (H.faults shelf.new) }
     ensures failed { IfErr result (λ status. status ≡ Status.ShelfFailed → ReadingFailed (H.faults shelf.old) (H.faults shelf.new) input.now) }
 {

@@ -1,9 +1,10 @@
 // A file written line by line, and what is said of it.
-ghost use Rattle.std.specs.Prelude.{◌≡◌, ◌⊎◌, [], OnOk, OnErr, IsErrOf};
+ghost use Rattle.std.specs.Prelude.{◌≡◌, ◌⊎◌, [], OnOk, OnErr, IsErrOf, IfOk};
 ghost use Rattle.std.specs.List.{concat};
 ghost use Rattle.scut_base.specs.Faults.{NoneFell, HasCause};
-ghost use Rattle.scut_base.specs.Files.{with_file, IsTouched, IsPrefixOf};
+ghost use Rattle.scut_base.specs.Files.{with_file, IsTouched, IsPrefixOf, followed, IsPartlyFollowed};
 ghost use Rattle.scuttle_cli.specs.Outcome.{WritingFailed};
+ghost use Rattle.scuttle_cli.specs.Messages.{complete_line};
 
 use itoa::Buffer;
 use scut_base::{Items, NoMemory, Shelf, ShelfCall, ShelfFault};
@@ -31,6 +32,8 @@ pub fn write_lines<H: Shelf>(
 
 /// Says that the front is complete, and how many vectors it has.
 pub fn say_complete<H: Shelf>(alloc: Global, size: usize, shelf: &mut H) -> Result<(), ShelfFault>
+    ensures said { OnOk result (H.said shelf.new ≡ followed (H.said shelf.old) (complete_line size)) }
+    ensures cut { OnErr result (IsPartlyFollowed (H.said shelf.old) (H.said shelf.new) (complete_line size)) }
     ensures files { H.files shelf.new ≡ H.files shelf.old }
     ensures warned { H.warned shelf.new ≡ H.warned shelf.old }
     ensures cause { HasCause ShelfCall.Say [] (H.faults shelf.old) (H.faults shelf.new) result }
@@ -40,7 +43,9 @@ pub fn say_complete<H: Shelf>(alloc: Global, size: usize, shelf: &mut H) -> Resu
 }
 
 // `complete n`
-fn complete_line(alloc: Global, size: usize) -> Result<Items<u8>, NoMemory> {
+fn complete_line(alloc: Global, size: usize) -> Result<Items<u8>, NoMemory>
+    ensures { IfOk result (λ line. line ≡ complete_line size) }
+{
     let mut line = Vec::from_slice(alloc, b"complete ")?;
     line.extend_from_slice(Buffer::new().format(size).as_bytes())?;
     line.push(b'\n')?;

@@ -1,6 +1,3 @@
-use Rattle.std.proofs.Common.{◌≡◌, List, sym, subst}
-use Rattle.std.specs.Prelude.{IfOk}
-use Rattle.instance.specs.ParetoFront.{IsFront}
 use Rattle.scuttle_cli.proofs.Enumerated.{entries_are_bounded}
 use Rattle.scuttle_cli.proofs.ListedFront.{listed_is_front}
 use Rattle.scuttle_cli.proofs.enumeration.front_of.Goals as goal

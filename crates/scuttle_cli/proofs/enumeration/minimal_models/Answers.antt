@@ -1,7 +1,6 @@
-use Rattle.std.proofs.Common.{◌≡◌, ◌∙◌, ap, sym, length, arith, rules}
-use Rattle.scuttle_cli.specs.Enumeration.{assignment_of, StandsForModels}
+use Rattle.std.proofs.Common.{◌∙◌, ap, length}
+use Rattle.scuttle_cli.specs.Enumeration.{assignment_of}
 use Rattle.scuttle_cli.proofs.Numbered.{length-assignment_of}
-use Rattle.scuttle_cli.proofs.Enumerated.{stands_for_no_models}
 use Rattle.scuttle_cli.proofs.enumeration.minimal_models.Goals as goal
 
 pub take_model-requires : goal.take_model-requires

@@ -1,6 +1,5 @@
-use Rattle.std.proofs.Common.{◌≡◌, ◌+◌, ◌-◌, ◌++◌, ◌%◌, ◌/◌, not, set, take, eqb, length, Bool, List, ap, sym, subst, ◌∙◌, arith, rules}
+use Rattle.std.proofs.Common.{◌≡◌, ◌%◌, not, set, eqb, length, Bool, ap, ◌∙◌, arith, rules}
 use Rattle.std.proofs.lemmas.List.{length-set}
-use Rattle.scuttle_cli.specs.Enumeration.{assignment_of}
 use Rattle.scuttle_cli.proofs.Numbered.{digit_written, not_even}
 use Rattle.scuttle_cli.proofs.enumeration.write_number.Goals as goal
 

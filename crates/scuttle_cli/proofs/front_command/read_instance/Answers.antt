@@ -1,4 +1,4 @@
-use Rattle.std.proofs.Common.{◌≡◌, ℕ, List, subst, sym, rules, arith}
+use Rattle.std.proofs.Common.{ℕ, List, subst, sym, rules, arith}
 use Rattle.mcnf_reader.specs.Grammar.{Spells}
 use Rattle.scuttle_cli.specs.Outcome.{IsInputFault}
 use Rattle.scuttle_cli.specs.declared.status.Status.{Status}

@@ -3,9 +3,10 @@ use Rattle.scuttle_cli.proofs.ReadSoFar.{reads_further, reads_all, there_from_re
 use Rattle.scuttle_cli.proofs.input.read_whole.Goals as goal
 
 pub returns-then-n-eq0-clause-whole : goal.returns-then-n-eq0-clause-whole
-returns-then-n-eq0-clause-whole g c =
-    (reads_all _ _ _ _ _ _ _ c.loop-piece.invariant.front c.loop-piece.invariant.files (omega (arith, c.len-in-loop-piece.ensures, c.loop-piece.bytes.ok)) c.if-n-eq0.true c.in_ok-n.ensures.bytes,
-      omega (arith, c.len.ensures, c.loop-piece.bytes.ok, c.loop-piece-test.true))
+returns-then-n-eq0-clause-whole g c = (
+  reads_all _ _ _ _ _ _ _ c.loop-piece.invariant.front c.loop-piece.invariant.files (omega (arith, c.len-in-loop-piece.ensures, c.loop-piece.bytes.ok)) c.if-n-eq0.true c.in_ok-n.ensures.bytes,
+  omega (arith, c.len.ensures, c.loop-piece.bytes.ok, c.loop-piece-test.true),
+)
 
 pub loop-piece-preserved : goal.loop-piece-preserved
 loop-piece-preserved g c = record {
