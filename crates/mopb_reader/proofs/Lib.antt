@@ -1,0 +1,8 @@
+pub mod Cutting
+pub mod Front
+pub mod Statements
+pub mod Drafts
+pub mod Limits
+pub mod Texts
+pub mod Refusals
+pub mod Stuck

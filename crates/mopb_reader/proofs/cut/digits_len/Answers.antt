@@ -1,0 +1,12 @@
+use Rattle.std.proofs.Common.{◌∙◌, not, tests, rules}
+use Rattle.std.specs.Char.{is_ascii_digit}
+use Rattle.std.proofs.lemmas.Iterator.{YieldsList-from_slice}
+use Rattle.std.proofs.lemmas.Iterator.Search.{position_from_yields_List}
+use Rattle.mopb_reader.proofs.Cutting.{first_or_length, first_within}
+use Rattle.mopb_reader.proofs.cut.digits_len.Goals as goal
+
+pub returns : goal.returns
+returns c =
+    let xs = c.args.text.now in
+    let value = c.unwrap_or.ensures ∙ first_or_length (λ b. not (is_ascii_digit b)) xs c.position.result (position_from_yields_List (λ b. not (is_ascii_digit b)) _ _ c.position.result c.position.ensures.ran (YieldsList-from_slice xs cc) (λ x b q k. search (rules, tests))) in
+    record { value = value; within = rw value (first_within (λ b. not (is_ascii_digit b)) xs) }

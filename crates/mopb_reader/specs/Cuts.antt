@@ -1,0 +1,48 @@
+-- Where a text and its lines are cut.
+use Rattle.std.specs.Prelude.{◌≡◌, ◌≢◌, ℕ, ◌+◌, ◌<◌, false, not, if◌then◌else◌, List, [], ◌∷◌, length, Option, Some, None}
+use Rattle.std.specs.List.{filter}
+use Rattle.scut_base.specs.Number.{natural_value}
+use Rattle.mopb_reader.specs.Tokens.{Token, Digits, is_blank, is_comment, is_gap, tokens_of_line, tokens_of}
+use Rattle.mopb_reader.specs.Symbols.{Shows, ValueIs}
+use Rattle.mopb_reader.specs.declared.symbol.Symbol.{Symbol}
+
+-- the tokens of a line that is no comment
+abbrev pub tokens_in : List ℕ → List Token
+tokens_in line = filter (λ t. not (is_gap t)) (tokens_of_line line)
+
+-- the tokens of any line
+abbrev pub tokens_of_content : List ℕ → List Token
+tokens_of_content line = if is_comment line then [] else tokens_in line
+
+-- the tokens of what follows a line, if anything does
+abbrev pub tokens_of_rest : Option (List ℕ) → List Token
+tokens_of_rest None = []
+tokens_of_rest (Some text) = tokens_of text
+
+-- how much follows a line
+abbrev pub rest_size : Option (List ℕ) → ℕ
+rest_size None = 0
+rest_size (Some text) = length text + 1
+
+-- the line is empty, or begins with a token
+abbrev pub BeginsNoBlank : List ℕ → Type 0
+BeginsNoBlank [] = Unit {0}
+BeginsNoBlank (b ∷ bs) = is_blank b ≡ false
+
+-- the tokens are that of the symbol, and those of the text behind it
+abbrev pub HasFront : List Token → Symbol → List ℕ → Type 0
+HasFront tokens symbol rest = (token : Token) × (tokens ≡ token ∷ tokens_of_line rest) × Shows symbol token
+
+-- the tokens do not begin with digits
+abbrev pub BeginsNoDigits : List Token → Type 0
+BeginsNoDigits (Digits digits ∷ tokens) = ⊥
+BeginsNoDigits tokens = Unit {0}
+
+-- the tokens are digits of this value, at least 1, and those of the text behind them
+abbrev pub HasVariable : List Token → Option ℕ → List ℕ → Type 0
+HasVariable tokens var rest = (digits : List ℕ) × (tokens ≡ Digits digits ∷ tokens_of_line rest) × ValueIs var digits × (0 < natural_value digits)
+
+-- the text does not begin with this byte
+abbrev pub IsNotBefore : ℕ → List ℕ → Type 0
+IsNotBefore byte [] = Unit {0}
+IsNotBefore byte (b ∷ bs) = b ≢ byte

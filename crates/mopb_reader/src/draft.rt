@@ -1,0 +1,105 @@
+// What the statements read so far make.
+ghost use Rattle.std.specs.Prelude.{List, ◌≡◌, ◌<◌, ◌≤◌, [], length, max, Some, OnOk};
+ghost use Rattle.instance.specs.Shape.{IsWithinLimits};
+ghost use Rattle.mopb_reader.specs.Tokens.{Token};
+ghost use Rattle.mopb_reader.specs.Symbols.{IsLeft, IsSound};
+ghost use Rattle.mopb_reader.specs.Drafts.{IsDraft, AddsObjective, AddsRow, GoesOn, instance_of};
+
+use crate::fault::LineFault;
+use crate::statement::{read_objective, read_row};
+use crate::symbol::Symbol;
+use crate::terms::begins_row;
+use crate::tokens::Tokens;
+use instance::{BadKind, Instance, InstanceLimit, Linear, Objective};
+use scut_base::Items;
+use std::alloc::Global;
+
+const OBJECTIVES: usize = 64;
+
+/// An instance in the making.
+#[derive(Drop)]
+pub struct Draft {
+    pub objectives: Items<Objective>,
+    pub linear: Items<Linear>,
+    pub vars: u64,
+}
+
+/// The draft of no statements.
+pub fn new_draft(alloc: Global) -> Draft
+    ensures objectives { result.objectives ≡ [] }
+    ensures rows { result.linear ≡ [] }
+    ensures draft { IsDraft result }
+{
+    Draft {
+        objectives: Items::new(alloc),
+        linear: Items::new(alloc),
+        vars: 0,
+    }
+}
+
+/// Reads a statement into the draft, from its first token and those after it. After a fault the draft
+/// is of no use.
+pub fn add_statement(
+    alloc: Global,
+    first: Symbol,
+    tokens: &mut Tokens<'_>,
+    draft: &mut Draft,
+) -> Result<(), LineFault>
+    requires { IsSound (Some first) }
+    ensures draft { OnOk result ((left : List Token) → IsLeft (Some first) tokens.old left → IsDraft draft.old → IsDraft draft.new) }
+    ensures spelled { OnOk result ((all left : List Token) → IsLeft (Some first) tokens.old left → GoesOn all left draft.old → GoesOn all tokens.new draft.new) }
+    ensures fewer { OnOk result ((left : List Token) → IsLeft (Some first) tokens.old left → length tokens.new < length left) }
+{
+    match first {
+        Symbol::Min => add_objective(alloc, tokens, draft),
+        _ => add_row(alloc, first, tokens, draft),
+    }
+}
+
+// Reads an objective into the draft, from behind its head on.
+fn add_objective(alloc: Global, tokens: &mut Tokens<'_>, draft: &mut Draft) -> Result<(), LineFault>
+    ensures { OnOk result (AddsObjective tokens.old tokens.new draft.old draft.new) }
+{
+    if !draft.linear.is_empty() {
+        return Err(LineFault::Bad(BadKind::ObjectiveAfterConstraint));
+    }
+    if draft.objectives.len() >= OBJECTIVES {
+        return Err(LineFault::Limit(InstanceLimit::Objectives));
+    }
+    let (objective, largest) = read_objective(alloc, tokens)?;
+    draft.objectives.push(objective)?;
+    draft.vars = draft.vars.max(largest);
+    Ok(())
+}
+
+// Reads a row into the draft.
+fn add_row(
+    alloc: Global,
+    first: Symbol,
+    tokens: &mut Tokens<'_>,
+    draft: &mut Draft,
+) -> Result<(), LineFault>
+    requires { IsSound (Some first) }
+    ensures { OnOk result (AddsRow first tokens.old tokens.new draft.old draft.new) }
+{
+    if !begins_row(first) {
+        return Err(LineFault::Bad(BadKind::UnknownLine));
+    }
+    let (row, largest) = read_row(alloc, first, tokens)?;
+    draft.linear.push(row)?;
+    draft.vars = draft.vars.max(largest);
+    Ok(())
+}
+
+/// The instance of a draft.
+pub fn finish(alloc: Global, draft: Draft) -> Instance
+    requires { IsWithinLimits (instance_of draft) }
+    ensures { result ≡ instance_of draft }
+{
+    Instance::new(
+        draft.vars,
+        Items::new(alloc),
+        draft.linear,
+        draft.objectives,
+    )
+}

@@ -1,0 +1,133 @@
+// One term, and what it is made of.
+ghost use Rattle.std.specs.Prelude.{ℕ, List, ◌≡◌, ◌<◌, ◌≤◌, ◌^◌, ◌∷◌, length, unsigned_abs, Some, IfOk};
+ghost use Rattle.scut_base.specs.Number.{signed_value};
+ghost use Rattle.mopb_reader.specs.Tokens.{Token};
+ghost use Rattle.mopb_reader.specs.Symbols.{IsLeft, IsSound};
+ghost use Rattle.mopb_reader.specs.Grammar.{SpellsLiteral, SpellsUnsigned, SpellsTerm};
+ghost use Rattle.mopb_reader.specs.Steps.{BeginsWith, IsTermWithin, IsTokenRefused, NoLiteral, NoTerm};
+
+use crate::fault::LineFault;
+use crate::symbol::{Symbol, number_of, sign_of};
+use crate::tokens::Tokens;
+use instance::{BadKind, InstanceLimit};
+use scut_base::Lit;
+
+const VARS: u64 = 1 << 24;
+
+/// Reads a term from its first token, if there is one, and those after it. Its magnitude is at most
+/// what there is room for.
+pub fn read_term(
+    first: Option<Symbol>,
+    tokens: &mut Tokens<'_>,
+    room: u64,
+    limit: InstanceLimit,
+) -> Result<(i64, Lit), LineFault>
+    requires room { room < 2 ^ 63 }
+    requires sound { IsSound first }
+    ensures ok { IfOk result (λ term. (left : List Token) → IsLeft first tokens.old left → BeginsWith SpellsTerm left tokens.new term) }
+    ensures refused { IsTokenRefused result → (left : List Token) → IsLeft first tokens.old left → NoTerm SpellsTerm room left }
+    ensures within { IfOk result (λ term. IsTermWithin room term) }
+    ensures fewer { length tokens.new ≤ length tokens.old }
+{
+    match sign_of(first) {
+        Some(minus) => {
+            let next = tokens.next();
+            read_unsigned(minus, next, tokens, room, limit)
+        }
+        None => read_unsigned(false, first, tokens, room, limit),
+    }
+}
+
+// Reads a term from behind its sign on.
+fn read_unsigned(
+    minus: bool,
+    first: Option<Symbol>,
+    tokens: &mut Tokens<'_>,
+    room: u64,
+    limit: InstanceLimit,
+) -> Result<(i64, Lit), LineFault>
+    requires room { room < 2 ^ 63 }
+    requires sound { IsSound first }
+    ensures ok { IfOk result (λ term. (left : List Token) → IsLeft first tokens.old left → BeginsWith (SpellsUnsigned minus) left tokens.new term) }
+    ensures refused { IsTokenRefused result → (left : List Token) → IsLeft first tokens.old left → NoTerm (SpellsUnsigned minus) room left }
+    ensures within { IfOk result (λ term. IsTermWithin room term) }
+    ensures fewer { length tokens.new ≤ length tokens.old }
+{
+    match number_of(first) {
+        Some(value) => {
+            let magnitude = magnitude_within(value, room, limit)?;
+            let next = tokens.next();
+            let lit = read_literal(next)?;
+            Ok(term_of(minus, magnitude, lit))
+        }
+        None => {
+            let lit = read_literal(first)?;
+            let magnitude = magnitude_within(Some(1), room, limit)?;
+            Ok(term_of(minus, magnitude, lit))
+        }
+    }
+}
+
+// The term of a sign, a magnitude and a literal.
+fn term_of(minus: bool, magnitude: u64, lit: Lit) -> (i64, Lit)
+    requires { magnitude < 2 ^ 63 }
+    ensures coefficient { result.0 ≡ signed_value minus magnitude }
+    ensures literal { result.1 ≡ lit }
+    ensures magnitude { unsigned_abs result.0 ≡ magnitude }
+{
+    (signed(minus, magnitude), lit)
+}
+
+/// Judges a magnitude: it is below 2^63, and there is room for it.
+pub fn magnitude_within(
+    value: Option<u64>,
+    room: u64,
+    limit: InstanceLimit,
+) -> Result<u64, LineFault>
+    ensures ok { IfOk result (λ magnitude. (value ≡ Some magnitude) × (magnitude ≤ room)) }
+    ensures refused { IsTokenRefused result → (magnitude : ℕ) → value ≡ Some magnitude → magnitude ≤ room → ⊥ }
+{
+    match value {
+        None => Err(LineFault::Bad(BadKind::NumberTooWide)),
+        Some(magnitude) => {
+            if magnitude > room {
+                return Err(LineFault::Limit(limit));
+            }
+            Ok(magnitude)
+        }
+    }
+}
+
+// Reads a literal, whose variable is at most 2^24.
+fn read_literal(symbol: Option<Symbol>) -> Result<Lit, LineFault>
+    requires { IsSound symbol }
+    ensures ok { IfOk result (λ l. (rest left : List Token) → IsLeft symbol rest left → (token : Token) × (left ≡ token ∷ rest) × SpellsLiteral token l) }
+    ensures within { IfOk result (λ l. l.var ≤ 2 ^ 24) }
+    ensures refused { IsTokenRefused result → (rest left : List Token) → IsLeft symbol rest left → NoLiteral left }
+{
+    match symbol {
+        Some(Symbol::Literal { var: None, .. }) => Err(LineFault::Bad(BadKind::NumberTooWide)),
+        Some(
+            Symbol::Literal {
+                var: Some(var),
+                neg,
+            },
+        ) => {
+            if var > VARS {
+                return Err(LineFault::Limit(InstanceLimit::Vars));
+            }
+            Ok(Lit::new(var, neg))
+        }
+        _ => Err(LineFault::Bad(BadKind::TermExpected)),
+    }
+}
+
+/// The number of a sign and a magnitude.
+pub fn signed(minus: bool, magnitude: u64) -> i64
+    requires { magnitude < 2 ^ 63 }
+    ensures value { result ≡ signed_value minus magnitude }
+    ensures magnitude { unsigned_abs result ≡ magnitude }
+{
+    let value = magnitude as i64;
+    if minus { -value } else { value }
+}
