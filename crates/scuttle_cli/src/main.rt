@@ -15,14 +15,26 @@ mod warning;
 mod writing;
 
 use running::run;
-use scut_base::HostShelf;
+use scut_base::{HostShelf, Shelf};
 use status::Status;
+use std::alloc::Global;
+use std::io::ErrorKind;
 use std::process::ExitCode;
 use std::{env, io};
+use warning::warn_of;
 
 // The words of the command line, without the program's name.
 fn words_of(rt: &HostRuntime) -> io::Result<Vec<String>> {
     Ok(env::args(rt)?.skip(1).collect(rt.alloc())?)
+}
+
+// Answers for words that could not be collected: want of memory, or words that are no command.
+fn without_words<H: Shelf>(alloc: Global, fault: ErrorKind, shelf: &mut H) -> Status {
+    if fault == ErrorKind::OutOfMemory {
+        warn_of(alloc, Status::NoMemory, shelf);
+        return Status::NoMemory;
+    }
+    run(alloc, &[], shelf)
 }
 
 fn main(rt: HostRuntime) -> ExitCode {
@@ -31,7 +43,7 @@ fn main(rt: HostRuntime) -> ExitCode {
     let mut shelf = HostShelf::new(rt);
     let status = match &words {
         Ok(words) => run(alloc, words, &mut shelf),
-        Err(_) => run(alloc, &[], &mut shelf),
+        Err(fault) => without_words(alloc, fault.kind(), &mut shelf),
     };
     ExitCode::from(status.number())
 }
