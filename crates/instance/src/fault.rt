@@ -36,6 +36,44 @@ pub enum BadKind {
     ObjectiveAfterConstraint,
 }
 
+/// Why a place of an instance file was refused.
+#[derive(Clone, Copy, Debug, PartialEq, Eq)]
+pub enum PlaceFault {
+    /// What stands there isn't in the grammar.
+    Bad(BadKind),
+    /// It passes a limit.
+    Limit(InstanceLimit),
+    /// Memory was refused.
+    NoMemory,
+}
+
+impl PlaceFault {
+    ghost use Rattle.std.specs.Prelude.{◌≡◌};
+    ghost use Rattle.instance.specs.Reading.{at_line};
+
+    /// The fault with the line of its place, counted from 1.
+    pub fn at_line(self, line: u64) -> ReadFault
+        ensures { result ≡ at_line line self }
+    {
+        match self {
+            PlaceFault::Bad(kind) => ReadFault::Bad { line, kind },
+            PlaceFault::Limit(which) => ReadFault::Limit { line, which },
+            PlaceFault::NoMemory => ReadFault::NoMemory,
+        }
+    }
+}
+
+impl From<NoMemory> for PlaceFault {
+    ghost use Rattle.std.specs.Prelude.{◌≡◌};
+    ghost use Rattle.instance.specs.declared.fault.PlaceFault.TheVariants.{NoMemory};
+
+    ghost from_gives = { λ _ e. e ≡ NoMemory };
+
+    fn from(_: NoMemory) -> PlaceFault {
+        PlaceFault::NoMemory
+    }
+}
+
 /// Why an instance file was refused. Lines are counted from 1.
 #[derive(Clone, Copy, Debug, PartialEq, Eq, Error)]
 pub enum ReadFault {

@@ -15,7 +15,7 @@ mod objective;
 mod row;
 mod sense;
 
-pub use fault::{BadKind, InstanceLimit, ReadFault};
+pub use fault::{BadKind, InstanceLimit, PlaceFault, ReadFault};
 pub use instance::Instance;
 pub use listing::listed;
 pub use objective::{Objective, Sense, Soft};

@@ -6,3 +6,4 @@ pub mod Symbols
 pub mod Cuts
 pub mod Steps
 pub mod Drafts
+pub mod FirstFault
