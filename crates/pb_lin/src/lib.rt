@@ -1,0 +1,14 @@
+//! Pseudo-Boolean constraints in normal form, and what can be said and made of them.
+//!
+//! Its public contract: `normal`, `restricted` and `under` are the normal forms of what they are given,
+//! `negated` holds exactly where the constraint doesn't, and a constraint that covers another implies
+//! it. `Lines` is a finite map from ids to constraints. The crate knows no rule of a proof.
+#![tactic(auto)]
+
+mod constraint;
+mod fault;
+mod witness;
+
+pub use constraint::Constraint;
+pub use fault::LinFault;
+pub use witness::{Image, Witness};
