@@ -9,19 +9,21 @@ use Rattle.scut_base.specs.declared.shelf.ShelfFault.TheVariants.{Failed, NoMemo
 use Rattle.front_set.specs.declared.entry.Entry.{Entry}
 use Rattle.front_set.specs.ListText.{list_text, entry_text, head_line}
 use Rattle.instance.specs.Shape.{InstanceValue}
-use Rattle.instance.specs.Reading.{IsRefused, HasLine}
+use Rattle.instance.specs.Reading.{IsFaultOf}
+use Rattle.instance.specs.declared.fault.InstanceLimit.TheVariants.{Bytes, Vars, Weights, Row, Objectives}
 use Rattle.instance.specs.declared.fault.ReadFault.{ReadFault}
 use Rattle.instance.specs.declared.fault.ReadFault.TheVariants.{Bad, Limit, NoMemory as ReadNoMemory}
 use Rattle.instance.specs.ParetoFront.{IsFront}
-use Rattle.mcnf_reader.specs.Grammar.{Spells}
+use Rattle.scuttle_cli.specs.InstanceFile.{SpellsIn, HasFault, fault_in}
+use Rattle.scuttle_cli.proofs.InstanceFiles.{limit_has_line}
 use Rattle.scuttle_cli.specs.Lines.{entry_lines, list_lines}
 use Rattle.scuttle_cli.specs.Reading.{IsWhole}
-use Rattle.scuttle_cli.specs.Outcome.{IsFrontOfFile, IsFrontWritten, IsFrontPartlyWritten, IsInstanceOf, HasManyVariables, HasFewVariables, LeavesFiles, status_of_shelf, status_of_reading, IsInputFault, HasText, SpellsNothing}
+use Rattle.scuttle_cli.specs.Outcome.{IsFrontOfFile, IsFrontWritten, IsFrontPartlyWritten, IsInstanceOf, HasManyVariables, HasFewVariables, LeavesFiles, status_of_shelf, status_of_reading, IsInputFault, HasText}
 
-pub many_variables : (files : Option Files) (name bytes : List ℕ) (i : InstanceValue) → IsWhole files name bytes → length bytes < 2 ^ 32 → Spells bytes i → 20 < i.vars → HasText files name HasManyVariables
+pub many_variables : (files : Option Files) (name bytes : List ℕ) (i : InstanceValue) → IsWhole files name bytes → length bytes < 2 ^ 32 → SpellsIn name bytes i → 20 < i.vars → HasText files name (HasManyVariables name)
 many_variables files name bytes i read small spelled many = λ told. (bytes, read told, (small, i, spelled, many))
 
-pub few_variables : (files : Option Files) (name : List ℕ) (i : InstanceValue) → IsInstanceOf files name i → HasText files name HasFewVariables
+pub few_variables : (files : Option Files) (name : List ℕ) (i : InstanceValue) → IsInstanceOf files name i → HasText files name (HasFewVariables name)
 few_variables files name i of = λ told. (let found = of.0 told in (found.0, found.1, (found.2, i, found.3, of.1)))
 
 -- the lines make the text
@@ -56,9 +58,10 @@ pub fault_leaves : (fault : ShelfFault) (old new : Option Files) (input list : L
 fault_leaves Failed old new input list partly = partly
 fault_leaves ShelfNoMemory old new input list partly = partly
 
--- a text that was refused spells nothing
-pub reading_fault : (fault : ReadFault) (files : Option Files) (name bytes : List ℕ) → IsWhole files name bytes → length bytes < 2 ^ 32 → (IsRefused {T = InstanceValue} (Err fault) → SpellsNothing bytes) → HasLine fault → IsInputFault (status_of_reading fault) files name
-reading_fault (Bad line kind) files name bytes read small refused at = λ told. (bytes, read told, (at, (small, refused tt)))
-reading_fault (Limit zero which) files name bytes read small refused at = absurd (omega arith)
-reading_fault (Limit (suc line) which) files name bytes read small refused at = λ told. (bytes, read told, (small, refused tt))
-reading_fault ReadNoMemory files name bytes read small refused at = tt
+-- the first fault of the text
+pub reading_fault : (fault : ReadFault) (files : Option Files) (name bytes : List ℕ) → IsWhole files name bytes → length bytes < 2 ^ 32 → IsFaultOf (fault_in name bytes) fault → IsInputFault (status_of_reading fault) files name
+reading_fault (Bad line kind) files name bytes read small first = λ told. (bytes, read told, record { taken = small; first = first })
+reading_fault (Limit zero Bytes) files name bytes read small first = absurd (limit_has_line name bytes Bytes first)
+reading_fault (Limit zero Vars) files name bytes read small first = absurd (limit_has_line name bytes Vars first)
+reading_fault (Limit line which) files name bytes read small first = λ told. (bytes, read told, record { taken = small; first = first })
+reading_fault ReadNoMemory files name bytes read small first = tt

@@ -3,5 +3,7 @@ pub mod Enumerated
 pub mod ListedFront
 pub mod ReadSoFar
 pub mod Written
+pub mod InstanceFiles
 pub mod FrontFiles
+pub mod Completing
 pub mod Saying

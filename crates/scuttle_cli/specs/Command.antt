@@ -1,7 +1,7 @@
 -- What the words of a command line ask for.
-use Rattle.std.specs.Prelude.{◌≡◌, ℕ, Bool, not, ◌&&◌, nat_eq, if◌then◌else◌, List, [], ◌∷◌, codes, Option, Some, None}
-use Rattle.std.specs.List.{ends_with}
+use Rattle.std.specs.Prelude.{◌≡◌, ℕ, Bool, not, ◌&&◌, if◌then◌else◌, List, [], ◌∷◌, codes, Option, Some, None}
 use Rattle.std.specs.Str.{bytes_eq}
+use Rattle.scuttle_cli.specs.InstanceFile.{is_instance_name}
 use Rattle.scuttle_cli.specs.declared.command.Command.{Command}
 use Rattle.scuttle_cli.specs.declared.command.Command.TheVariants.{Front}
 
@@ -9,10 +9,6 @@ use Rattle.scuttle_cli.specs.declared.command.Command.TheVariants.{Front}
 pub data Request : Type 0 where
   -- the front of the instance in the one file, as a list in the other
   FrontOf : (input list : List ℕ) → Request
-
--- the name of an instance file
-abbrev pub is_instance_name : List ℕ → Bool
-is_instance_name name = ends_with nat_eq name (codes ".mcnf")
 
 -- What the words ask for: `front IN LIST` with two different names, the first of an instance file. All other words ask for nothing.
 abbrev pub request_of : List (List ℕ) → Option Request

@@ -6,6 +6,7 @@ pub use Rattle.instance.specs.Meaning
 pub use Rattle.instance.specs.ParetoFront
 pub use Rattle.mcnf_reader.specs.Words
 pub use Rattle.mcnf_reader.specs.Grammar
+pub mod InstanceFile
 pub mod Command
 pub mod Outcome
 pub mod Reading

@@ -1,11 +1,13 @@
 -- What a run says and warns.
-use Rattle.std.specs.Prelude.{◌≡◌, ℕ, List, [], ◌∷◌, ◌++◌, codes, Option}
+use Rattle.std.specs.Prelude.{◌≡◌, ℕ, ◌⊎◌, List, [], ◌∷◌, ◌++◌, codes, Option, Some, None}
 use Rattle.std.specs.Fmt.{decimal}
-use Rattle.scut_base.specs.Files.{followed, IsPartlyFollowed}
+use Rattle.scut_base.specs.Files.{Files, IsTold, followed, IsPartlyFollowed}
 use Rattle.instance.specs.declared.fault.BadKind.{BadKind}
 use Rattle.instance.specs.declared.fault.BadKind.TheVariants.{UnknownLine, ObjectiveIndex, WeightExpected, LiteralExpected, ZeroMissing, TextAfterZero, NumberTooWide, TermExpected, RelationExpected, BoundExpected, SemicolonMissing, Product, ObjectiveAfterConstraint}
 use Rattle.instance.specs.declared.fault.InstanceLimit.{InstanceLimit}
 use Rattle.instance.specs.declared.fault.InstanceLimit.TheVariants.{Bytes, Vars, Weights, Row, Objectives}
+use Rattle.scuttle_cli.specs.Command.{Request, FrontOf}
+use Rattle.scuttle_cli.specs.Outcome.{IsFrontWritten}
 use Rattle.scuttle_cli.specs.declared.status.Status.{Status}
 use Rattle.scuttle_cli.specs.declared.status.Status.TheVariants.{Complete, Usage, BadInput, TooLarge, NoMemory, ShelfFailed}
 
@@ -48,11 +50,20 @@ warning_text (TooLarge line which) = line_warning line (codes "too large: " ++ l
 warning_text NoMemory = codes "scuttle: no memory" ++ 10 ∷ []
 warning_text ShelfFailed = codes "scuttle: file fault" ++ 10 ∷ []
 
--- What is said at each status: the line at Complete, a prefix of such a line where the run was cut off, and else nothing.
-abbrev pub Says : Status → Option (List ℕ) → Option (List ℕ) → Type 0
-Says (Complete size) old new = new ≡ followed old (complete_line size)
-Says Usage old new = new ≡ old
-Says (BadInput line kind) old new = new ≡ old
-Says (TooLarge line which) old new = new ≡ old
-Says NoMemory old new = (size : ℕ) × IsPartlyFollowed old new (complete_line size)
-Says ShelfFailed old new = (size : ℕ) × IsPartlyFollowed old new (complete_line size)
+-- Nothing was said, or the list is whole and a prefix of its line was said.
+abbrev pub IsCutOff : Option Files → Option Files → List ℕ → List ℕ → Option (List ℕ) → Option (List ℕ) → Type 0
+IsCutOff files left input list old new = (new ≡ old) ⊎ ((size : ℕ) × (IsTold files → IsFrontWritten files left input list size) × IsPartlyFollowed old new (complete_line size))
+
+-- What is said at each status, with the files before and after: the line at Complete, at most a prefix of it where the run was cut off, and else nothing.
+abbrev pub Says : Status → Option Files → Option Files → List ℕ → List ℕ → Option (List ℕ) → Option (List ℕ) → Type 0
+Says (Complete size) files left input list old new = new ≡ followed old (complete_line size)
+Says Usage files left input list old new = new ≡ old
+Says (BadInput line kind) files left input list old new = new ≡ old
+Says (TooLarge line which) files left input list old new = new ≡ old
+Says NoMemory files left input list old new = IsCutOff files left input list old new
+Says ShelfFailed files left input list old new = IsCutOff files left input list old new
+
+-- the same of the words of a command line; nothing is said where they ask for nothing
+abbrev pub SaysOf : Option Request → Status → Option Files → Option Files → Option (List ℕ) → Option (List ℕ) → Type 0
+SaysOf None status files left old new = new ≡ old
+SaysOf (Some (FrontOf input list)) status files left old new = Says status files left input list old new

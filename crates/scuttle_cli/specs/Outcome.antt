@@ -12,8 +12,8 @@ use Rattle.instance.specs.declared.fault.ReadFault.{ReadFault}
 use Rattle.instance.specs.declared.fault.ReadFault.TheVariants.{Bad, Limit, NoMemory as ReadNoMemory}
 use Rattle.instance.specs.Shape.{InstanceValue}
 use Rattle.instance.specs.ParetoFront.{IsFront}
-use Rattle.mcnf_reader.specs.Grammar.{Spells}
 use Rattle.scuttle_cli.specs.Command.{Request, FrontOf}
+use Rattle.scuttle_cli.specs.InstanceFile.{SpellsIn, HasFault}
 use Rattle.scuttle_cli.specs.declared.status.Status.{Status}
 use Rattle.scuttle_cli.specs.declared.status.Status.TheVariants.{Complete, Usage, BadInput, TooLarge, NoMemory, ShelfFailed}
 
@@ -48,7 +48,7 @@ pub record IsFrontOfFile (files : Option Files) (input : List ℕ) (entries : Li
   pub text : List ℕ
   pub instance : InstanceValue
   pub there : content files input ≡ Some text
-  pub spelled : Spells text instance
+  pub spelled : SpellsIn input text instance
   pub front : IsFront instance entries
 
 -- The list of the front was written whole; no other file has changed.
@@ -68,36 +68,27 @@ LeavesFiles (TooLarge line which) old new input list = new ≡ old
 LeavesFiles NoMemory old new input list = IsFrontPartlyWritten old new input list
 LeavesFiles ShelfFailed old new input list = IsFrontPartlyWritten old new input list
 
--- the text spells no instance
-abbrev pub SpellsNothing : List ℕ → Type 0
-SpellsNothing text = (i : InstanceValue) → Spells text i → ⊥
-
--- the text is one that a reader takes, and spells no instance
-abbrev pub IsRefusedText : List ℕ → Type 0
-IsRefusedText text = (length text < 2 ^ 32) × SpellsNothing text
-
 -- the instance of a text has this many variables at the most, or more
-abbrev pub HasFewVariables : List ℕ → Type 0
-HasFewVariables text = (length text < 2 ^ 32) × (i : InstanceValue) × Spells text i × (i.vars ≤ 20)
+abbrev pub HasFewVariables : List ℕ → List ℕ → Type 0
+HasFewVariables name text = (length text < 2 ^ 32) × (i : InstanceValue) × SpellsIn name text i × (i.vars ≤ 20)
 
-abbrev pub HasManyVariables : List ℕ → Type 0
-HasManyVariables text = (length text < 2 ^ 32) × (i : InstanceValue) × Spells text i × (20 < i.vars)
+abbrev pub HasManyVariables : List ℕ → List ℕ → Type 0
+HasManyVariables name text = (length text < 2 ^ 32) × (i : InstanceValue) × SpellsIn name text i × (20 < i.vars)
 
--- What each status says of the instance file's text. No two of the causes hold of one text. Line 0 stands for the whole file, and only for what is counted over all of it.
-abbrev pub IsCausedBy : Status → List ℕ → Type 0
-IsCausedBy (Complete size) text = HasFewVariables text
-IsCausedBy (BadInput line kind) text = (0 < line) × IsRefusedText text
-IsCausedBy (TooLarge zero Bytes) text = 2 ^ 32 ≤ length text
-IsCausedBy (TooLarge zero Vars) text = HasManyVariables text
-IsCausedBy (TooLarge zero which) text = ⊥
-IsCausedBy (TooLarge (suc line) which) text = IsRefusedText text
-IsCausedBy Usage text = Unit {0}
-IsCausedBy NoMemory text = Unit {0}
-IsCausedBy ShelfFailed text = Unit {0}
+-- What each status says of the text of the instance file of this name. No two of the causes hold of one text. Line 0 stands for the whole file, and only for what is counted over all of it.
+abbrev pub IsCausedBy : Status → List ℕ → List ℕ → Type 0
+IsCausedBy (Complete size) name text = HasFewVariables name text
+IsCausedBy (BadInput line kind) name text = HasFault name text (Bad line kind)
+IsCausedBy (TooLarge zero Bytes) name text = 2 ^ 32 ≤ length text
+IsCausedBy (TooLarge zero Vars) name text = HasManyVariables name text
+IsCausedBy (TooLarge line which) name text = HasFault name text (Limit line which)
+IsCausedBy Usage name text = Unit {0}
+IsCausedBy NoMemory name text = Unit {0}
+IsCausedBy ShelfFailed name text = Unit {0}
 
 -- the instance of a file, where the files are told; it has few variables
 abbrev pub IsInstanceOf : Option Files → List ℕ → InstanceValue → Type 0
-IsInstanceOf files input i = (IsTold files → (text : List ℕ) × (content files input ≡ Some text) × (length text < 2 ^ 32) × Spells text i) × (i.vars ≤ 20)
+IsInstanceOf files input i = (IsTold files → (text : List ℕ) × (content files input ≡ Some text) × (length text < 2 ^ 32) × SpellsIn input text i) × (i.vars ≤ 20)
 
 -- the file is there, and its text is what the status says of it
 abbrev pub HasText : Option Files → List ℕ → (List ℕ → Type 0) → Type 0
@@ -108,7 +99,7 @@ abbrev pub IsCausedByFile : Status → Option Files → List ℕ → Type 0
 IsCausedByFile Usage files input = Unit {0}
 IsCausedByFile NoMemory files input = Unit {0}
 IsCausedByFile ShelfFailed files input = Unit {0}
-IsCausedByFile status files input = HasText files input (IsCausedBy status)
+IsCausedByFile status files input = HasText files input (IsCausedBy status input)
 
 -- a status that tells why no instance was taken from the file
 abbrev pub IsInputFault : Status → Option Files → List ℕ → Type 0
@@ -142,6 +133,16 @@ abbrev pub HasOwnCause : Status → Faults → Faults → List ℕ → List ℕ 
 HasOwnCause ShelfFailed before now input list = OwnCountRose before now input list
 HasOwnCause status before now input list = Unit {0}
 
+-- the front was written, or memory was wanted
+abbrev pub IsCompleteUnlessNoMemory : Status → Type 0
+IsCompleteUnlessNoMemory (Complete size) = Unit {0}
+IsCompleteUnlessNoMemory NoMemory = Unit {0}
+IsCompleteUnlessNoMemory status = ⊥
+
+-- Where the file spells an instance of few variables and no own count rose, the front is written, unless memory is wanted.
+abbrev pub Completes : Status → Option Files → Faults → Faults → List ℕ → List ℕ → Type 0
+Completes status files before now input list = (text : List ℕ) → content files input ≡ Some text → HasFewVariables input text → ¬ (OwnCountRose before now input list) → IsCompleteUnlessNoMemory status
+
 -- ---- of the words of a command line
 
 -- the command's clauses, where the words ask for it; nothing has changed where they ask for nothing
@@ -156,3 +157,7 @@ IsCausedByInput (Some (FrontOf input list)) status old = IsCausedByFile status o
 abbrev pub HasOwnCauseOf : Option Request → Status → Faults → Faults → Type 0
 HasOwnCauseOf None status before now = status ≡ Usage
 HasOwnCauseOf (Some (FrontOf input list)) status before now = HasOwnCause status before now input list
+
+abbrev pub CompletesOf : Option Request → Status → Option Files → Faults → Faults → Type 0
+CompletesOf None status old before now = Unit {0}
+CompletesOf (Some (FrontOf input list)) status old before now = Completes status old before now input list

@@ -1,6 +1,8 @@
 // What the words of the command line ask for.
 ghost use Rattle.std.specs.Prelude.{◌≡◌, map, string_bytes};
-ghost use Rattle.scuttle_cli.specs.Command.{is_instance_name, IsCommandOf};
+ghost use Rattle.scuttle_cli.specs.Command.{IsCommandOf};
+
+use crate::instance_file::is_instance_name;
 
 /// A command with its files.
 #[derive(Clone, Copy, Debug)]
@@ -23,11 +25,4 @@ pub fn read_command(words: &[String]) -> Option<Command<'_>>
     } else {
         None
     }
-}
-
-// Whether the name is that of an instance file.
-fn is_instance_name(name: &str) -> bool
-    ensures { result ≡ is_instance_name name.now }
-{
-    name.as_bytes().ends_with(b".mcnf")
 }

@@ -8,10 +8,10 @@ ghost use Rattle.scuttle_cli.specs.Outcome.{LeavesFiles, IsCausedByFile, HasOwnC
 use crate::Status;
 use crate::enumeration::front_of;
 use crate::input::read_whole;
+use crate::instance_file::read_text;
 use crate::list_lines::complete_lines;
 use crate::writing::{say_complete, write_lines};
 use instance::{Instance, InstanceLimit};
-use mcnf_reader::read;
 use scut_base::Shelf;
 use std::alloc::Global;
 
@@ -25,7 +25,7 @@ pub fn front<H: Shelf>(alloc: Global, input: &str, list: &str, shelf: &mut H) ->
     ensures files { IsTold (H.files shelf.old) → LeavesFiles result (H.files shelf.old) (H.files shelf.new) input.now list.now }
     ensures caused { IsCausedByFile result (H.files shelf.old) input.now }
     ensures own_cause { HasOwnCause result (H.faults shelf.old) (H.faults shelf.new) input.now list.now }
-    ensures said { Says result (H.said shelf.old) (H.said shelf.new) }
+    ensures said { Says result (H.files shelf.old) (H.files shelf.new) input.now list.now (H.said shelf.old) (H.said shelf.new) }
     ensures warned { H.warned shelf.new ≡ H.warned shelf.old }
     ensures later { NoneFell (H.faults shelf.old) (H.faults shelf.new) }
 {
@@ -46,7 +46,7 @@ fn write_front<H: Shelf>(
     ensures files { IsTold (H.files shelf.old) → LeavesFiles (status_of result) (H.files shelf.old) (H.files shelf.new) input.now list.now }
     ensures caused { IsCausedByFile (status_of result) (H.files shelf.old) input.now }
     ensures own_cause { HasOwnCause (status_of result) (H.faults shelf.old) (H.faults shelf.new) input.now list.now }
-    ensures said { Says (status_of result) (H.said shelf.old) (H.said shelf.new) }
+    ensures said { Says (status_of result) (H.files shelf.old) (H.files shelf.new) input.now list.now (H.said shelf.old) (H.said shelf.new) }
     ensures warned { H.warned shelf.new ≡ H.warned shelf.old }
     ensures later { NoneFell (H.faults shelf.old) (H.faults shelf.new) }
 {
@@ -77,7 +77,7 @@ fn read_instance<H: Shelf>(alloc: Global, input: &str, shelf: &mut H) -> Result<
             });
         }
     };
-    let inst = match read(alloc, &bytes) {
+    let inst = match read_text(alloc, input, &bytes) {
         Ok(inst) => inst,
         Err(fault) => return Err(Status::from(fault)),
     };

@@ -8,6 +8,7 @@ mod command;
 mod enumeration;
 mod front_command;
 mod input;
+mod instance_file;
 mod list_lines;
 mod running;
 mod status;

@@ -2,8 +2,8 @@
 ghost use Rattle.std.specs.Prelude.{◌≡◌, None, map, string_bytes};
 ghost use Rattle.scuttle_cli.specs.Command.{request_of};
 ghost use Rattle.scut_base.specs.Files.{IsPartlyFollowed};
-ghost use Rattle.scuttle_cli.specs.Messages.{Says, warning_text};
-ghost use Rattle.scuttle_cli.specs.Outcome.{IsUsageWhere, LeavesFilesOf, IsCausedByInput, HasOwnCauseOf};
+ghost use Rattle.scuttle_cli.specs.Messages.{SaysOf, warning_text};
+ghost use Rattle.scuttle_cli.specs.Outcome.{IsUsageWhere, LeavesFilesOf, IsCausedByInput, HasOwnCauseOf, CompletesOf};
 
 use crate::Status;
 use crate::command::{Command, read_command};
@@ -19,7 +19,8 @@ pub fn run<H: Shelf>(alloc: Global, words: &[String], shelf: &mut H) -> Status
     ensures files { LeavesFilesOf (request_of (map string_bytes words.now)) result (H.files shelf.old) (H.files shelf.new) }
     ensures caused { IsCausedByInput (request_of (map string_bytes words.now)) result (H.files shelf.old) }
     ensures own_cause { HasOwnCauseOf (request_of (map string_bytes words.now)) result (H.faults shelf.old) (H.faults shelf.new) }
-    ensures said { Says result (H.said shelf.old) (H.said shelf.new) }
+    ensures complete { CompletesOf (request_of (map string_bytes words.now)) result (H.files shelf.old) (H.faults shelf.old) (H.faults shelf.new) }
+    ensures said { SaysOf (request_of (map string_bytes words.now)) result (H.files shelf.old) (H.files shelf.new) (H.said shelf.old) (H.said shelf.new) }
     ensures warned { IsPartlyFollowed (H.warned shelf.old) (H.warned shelf.new) (warning_text result) }
 {
     let status = match read_command(words) {

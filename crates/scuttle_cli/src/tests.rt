@@ -20,17 +20,18 @@ fn strings(alloc: Global, words: &[&str]) -> Result<Vec<String>, AllocError> {
     Ok(all)
 }
 
-// The status of a run with these words, and the shelf that it leaves: one with the file `a.mcnf`, if
-// there is a text for it, whose n-th calls of some kinds fail.
+// The status of a run with these words, and the shelf that it leaves: one with the file of this name,
+// if there is a text for it, whose n-th calls of some kinds fail.
 fn ran(
     alloc: Global,
     fail: &[(ShelfCall, u64)],
     words: &[&str],
+    name: &str,
     text: Option<&str>,
 ) -> Result<(Status, MemShelf), Fail> {
     let mut shelf = MemShelf::new(alloc, fail)?;
     if let Some(text) = text {
-        shelf.put("a.mcnf", text.as_bytes())?;
+        shelf.put(name, text.as_bytes())?;
     }
     let words = strings(alloc, words)?;
     let status = run(alloc, &words, &mut shelf);
@@ -38,30 +39,28 @@ fn ran(
 }
 
 // The same with the words of the command `front`, where no call fails.
-fn front(alloc: Global, text: &str) -> Result<(Status, MemShelf), Fail> {
-    ran(alloc, &[], &["front", "a.mcnf", "a.list"], Some(text))
+fn front(alloc: Global, name: &str, text: &str) -> Result<(Status, MemShelf), Fail> {
+    ran(alloc, &[], &["front", name, "a.list"], name, Some(text))
 }
 
 // The input is as it was.
-fn assert_input(rt: &impl Abort, shelf: &MemShelf, text: &str) {
-    assert_eq!(rt; shelf.get("a.mcnf"), Some(text.as_bytes()), "{text}");
+fn assert_input(rt: &impl Abort, shelf: &MemShelf, name: &str, text: &str) {
+    assert_eq!(rt; shelf.get(name), Some(text.as_bytes()), "{text}");
 }
 
 // The file has this front.
 fn assert_complete(
     rt: &impl Abort,
     alloc: Global,
-    text: &str,
-    size: u64,
-    list: &str,
-    said: &str,
+    name: &str,
+    (text, size, list, said): (&str, u64, &str, &str),
 ) -> Result<(), Fail> {
-    let (status, shelf) = front(alloc, text)?;
+    let (status, shelf) = front(alloc, name, text)?;
     assert_eq!(rt; status, Status::Complete { size }, "{text}");
     assert_eq!(rt; shelf.get("a.list"), Some(list.as_bytes()), "{text}");
     assert_eq!(rt; shelf.said(), said.as_bytes(), "{text}");
     assert_eq!(rt; shelf.warned(), b"".as_slice(), "{text}");
-    assert_input(rt, &shelf, text);
+    assert_input(rt, &shelf, name, text);
     Ok(())
 }
 
@@ -97,8 +96,29 @@ fn complete_leaves_the_list_of_the_front(rt: HostRuntime) -> Result<(), Fail> {
             "complete 1\n",
         ),
     ];
-    for (text, size, list, said) in rows {
-        assert_complete(&rt, rt.alloc(), text, size, list, said)?;
+    for row in rows {
+        assert_complete(&rt, rt.alloc(), "a.mcnf", row)?;
+    }
+    Ok(())
+}
+
+#[test]
+fn linear_statements_are_read_from_both_endings(rt: HostRuntime) -> Result<(), Fail> {
+    let rows: [(&str, u64, &str, &str); 4] = [
+        (
+            "* #variable= 3 #constraint= 2\nmin: +2 x1 -3 x2 ;\nmin: +1 x2 +1 x3 ;\n+1 x1 +1 x2 +1 x3 = 2 ;\n+1 x1 +1 x2 >= 1 ;\n",
+            2,
+            "s COMPLETE 2\no -3 2\nv -1 2 3 0\no -1 1\nv 1 2 -3 0\n",
+            "complete 2\n",
+        ),
+        ("min: ;", 1, "s COMPLETE 1\no 0\nv 0\n", "complete 1\n"),
+        (">= 0 ;\n", 1, "s COMPLETE 1\no\nv 0\n", "complete 1\n"),
+        (">= 1 ;\n", 0, "s COMPLETE 0\n", "complete 0\n"),
+    ];
+    for name in ["a.opb", "a.mopb"] {
+        for row in rows {
+            assert_complete(&rt, rt.alloc(), name, row)?;
+        }
     }
     Ok(())
 }
@@ -111,7 +131,7 @@ fn assert_either(
     one: &str,
     other: &str,
 ) -> Result<(), Fail> {
-    let (_, shelf) = front(alloc, text)?;
+    let (_, shelf) = front(alloc, "a.mcnf", text)?;
     let list = shelf.get("a.list").unwrap_or(b"");
     let shown = list == one.as_bytes() || list == other.as_bytes();
     assert!(rt; shown, "{text}");
@@ -148,13 +168,14 @@ fn assert_refused(
     want: Status,
     warned: &str,
 ) -> Result<(), Fail> {
-    let (status, shelf) = ran(alloc, &[], words, text)?;
+    let name = words.get(1).copied().unwrap_or("a.mcnf");
+    let (status, shelf) = ran(alloc, &[], words, name, text)?;
     assert_eq!(rt; status, want, "{words:?}");
     assert_eq!(rt; shelf.warned(), warned.as_bytes(), "{words:?}");
     assert_eq!(rt; shelf.said(), b"".as_slice(), "{words:?}");
     assert!(rt; shelf.get("a.list").is_none(), "{words:?}");
     if let Some(text) = text {
-        assert_input(rt, &shelf, text);
+        assert_input(rt, &shelf, name, text);
     }
     Ok(())
 }
@@ -162,7 +183,7 @@ fn assert_refused(
 #[test]
 fn a_refusal_warns_and_leaves_no_list(rt: HostRuntime) -> Result<(), Fail> {
     let usage = "scuttle: usage\n";
-    let rows: [(&[&str], Option<&str>, Status, &str); 10] = [
+    let rows: [(&[&str], Option<&str>, Status, &str); 12] = [
         (
             &["front", "a.txt", "a.list"],
             Some(TWO),
@@ -212,6 +233,24 @@ fn a_refusal_warns_and_leaves_no_list(rt: HostRuntime) -> Result<(), Fail> {
             "scuttle: line 0: too large: Vars\n",
         ),
         (
+            &["front", "a.opb", "a.list"],
+            Some("+1 x1 >= 1 ;\n* min: x2 ;\nmin: x1 ;\n"),
+            Status::BadInput {
+                line: 3,
+                kind: BadKind::ObjectiveAfterConstraint,
+            },
+            "scuttle: line 3: ObjectiveAfterConstraint\n",
+        ),
+        (
+            &["front", "a.mopb", "a.list"],
+            Some("\nmin: 9223372036854775807 x1 +1 x2 ;\n"),
+            Status::TooLarge {
+                line: 2,
+                which: InstanceLimit::Weights,
+            },
+            "scuttle: line 2: too large: Weights\n",
+        ),
+        (
             &["front", "a.mcnf", "a.list"],
             None,
             Status::ShelfFailed,
@@ -242,8 +281,8 @@ fn assert_faulty_list(rt: &impl Abort, call: ShelfCall, list: Option<&[u8]>) {
 // Whether a run whose n-th call of this kind fails is complete; else it answers the fault.
 fn is_complete(rt: &impl Abort, alloc: Global, call: ShelfCall, n: u64) -> Result<bool, Fail> {
     let words = ["front", "a.mcnf", "a.list"];
-    let (status, shelf) = ran(alloc, &[(call, n)], &words, Some(TWO))?;
-    assert_input(rt, &shelf, TWO);
+    let (status, shelf) = ran(alloc, &[(call, n)], &words, "a.mcnf", Some(TWO))?;
+    assert_input(rt, &shelf, "a.mcnf", TWO);
     if status == (Status::Complete { size: 2 }) {
         assert_eq!(rt; shelf.get("a.list"), Some(TWO_LIST.as_bytes()), "{call:?}");
         return Ok(true);
@@ -279,7 +318,13 @@ fn a_call_that_fails_is_answered(rt: HostRuntime) -> Result<(), Fail> {
 
 #[test]
 fn a_warning_that_fails_changes_no_status(rt: HostRuntime) -> Result<(), Fail> {
-    let (status, shelf) = ran(rt.alloc(), &[(ShelfCall::Warn, 1)], &["frobnicate"], None)?;
+    let (status, shelf) = ran(
+        rt.alloc(),
+        &[(ShelfCall::Warn, 1)],
+        &["frobnicate"],
+        "a.mcnf",
+        None,
+    )?;
     assert_eq!(rt; status, Status::Usage);
     assert_eq!(rt; shelf.faults(), 1);
     Ok(())
