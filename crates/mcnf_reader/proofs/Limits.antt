@@ -18,7 +18,7 @@ use Rattle.mcnf_reader.specs.declared.statement.Statement.{Statement}
 use Rattle.mcnf_reader.specs.declared.statement.Statement.TheVariants.{Nothing, Hard, Soft as SoftIn}
 use Rattle.mcnf_reader.specs.Words.{words_of, lines_of}
 use Rattle.mcnf_reader.specs.Grammar.{Spells, SpellsStatement, literals_of, largest_of, largest_variable, objective_count, hard_clauses, soft_of, softs_of, objective_at, objectives_of}
-use Rattle.mcnf_reader.specs.LineFaults.{IsStatementWithin}
+use Rattle.mcnf_reader.specs.LineLimits.{IsStatementWithin}
 use Rattle.mcnf_reader.specs.Draft.{IsReady, IsDraftOf, weight_of, clause_count, total_clauses, instance_of}
 use Rattle.mcnf_reader.specs.Reads.{IsReadAs}
 use Rattle.mcnf_reader.proofs.Drafts.{softs_of-append, weight_at}
