@@ -126,10 +126,10 @@ largest_more lits i l x y lt read so_far new =
     let pushed : largest_of (take (i + 1) lits) ≡ max (largest_of (take i lits)) l.var = ap largest_of more ∙ largest_push (take i lits) l in
     new ∙ larger_of x l.var ∙ ap (λ n. max n l.var) so_far ∙ sym pushed
 
-soft_here : (k weight : ℕ) (lits : List Literal) → soft_of k (SoftIn k weight lits) ≡ record { weight = weight; lits = lits } ∷ []
+pub soft_here : (k weight : ℕ) (lits : List Literal) → soft_of k (SoftIn k weight lits) ≡ record { weight = weight; lits = lits } ∷ []
 soft_here k weight lits = ap (λ b. cond b (record { weight = weight; lits = lits } ∷ []) []) (eq-eqb k k refl)
 
-soft_elsewhere : (j k weight : ℕ) (lits : List Literal) → j ≢ k → soft_of j (SoftIn k weight lits) ≡ []
+pub soft_elsewhere : (j k weight : ℕ) (lits : List Literal) → j ≢ k → soft_of j (SoftIn k weight lits) ≡ []
 soft_elsewhere j k weight lits other = ap (λ b. cond b (record { weight = weight; lits = lits } ∷ []) []) (ne_eqb k j (λ e. other (sym e)))
 
 -- the softs of an objective, one clause on

@@ -1,5 +1,5 @@
 -- Which lines have a fault, by what they spell.
-use Rattle.std.proofs.Common.{◌≡◌, ◌≢◌, ℕ, ◌+◌, ◌-◌, ◌<◌, ◌≤◌, ◌^◌, Bool, true, false, cond, List, [], ◌∷◌, ◌++◌, map, drop, Option, None, Some, ⊎_elim, refl, sym, ap, ◌∙◌, subst, arith}
+use Rattle.std.proofs.Common.{◌≡◌, ◌≢◌, ℕ, ◌+◌, ◌-◌, ◌<◌, ◌≤◌, ◌^◌, Bool, true, false, cond, List, [], ◌∷◌, ◌++◌, length, map, drop, Option, None, Some, ⊎_elim, refl, sym, ap, ◌∙◌, subst, arith}
 use Rattle.std.specs.Prelude.{codes, slice_index, ◌==◌, ◌&&◌, sum_by}
 use Rattle.std.specs.Option.{option_or}
 use Rattle.std.specs.List.{All, AllZip}
@@ -7,28 +7,37 @@ use Rattle.std.specs.Str.{bytes_eq}
 use Rattle.std.proofs.lemmas.Bool.{and_from, and_left, and_right, cases_Bool, cond-true, cond-false, false_from_ne_true, eq-eqb, ne_eqb, eqb-true, eqb-false}
 use Rattle.std.proofs.lemmas.List.Elements.{All-nil, All-cons, All-head, All-tail}
 use Rattle.std.proofs.lemmas.List.FromFn.{get_or-map-range_with_len}
-use Rattle.std.proofs.lemmas.List.Sums.{sum_by-append}
+use Rattle.std.proofs.lemmas.List.Sums.{sum_by-append, sum_by-cons}
 use Rattle.std.proofs.lemmas.Slice.Eq.{bytes_eq-Decides}
 use Rattle.scut_base.specs.Literal.{Literal}
 use Rattle.scut_base.specs.Number.{natural_value}
-use Rattle.instance.specs.declared.fault.BadKind.TheVariants.{ZeroMissing, WeightExpected}
+use Rattle.instance.specs.declared.fault.BadKind.TheVariants.{ZeroMissing, TextAfterZero, WeightExpected}
 use Rattle.instance.specs.declared.fault.PlaceFault.{PlaceFault}
 use Rattle.instance.specs.declared.fault.PlaceFault.TheVariants.{Bad}
 use Rattle.instance.specs.declared.objective.Soft.{Soft}
+use Rattle.instance.specs.Reading.{IsPlaceFaultOf}
 use Rattle.instance.specs.Shape.{weights_sum}
 use Rattle.mcnf_reader.specs.declared.statement.Statement.{Statement}
 use Rattle.mcnf_reader.specs.declared.statement.Statement.TheVariants.{Nothing, Hard, Soft as SoftIn}
-use Rattle.mcnf_reader.specs.Grammar.{SpellsLiteral, SpellsClause, SpellsObjective, SpellsWeight, SpellsStatement, soft_of, softs_of}
+use Rattle.mcnf_reader.specs.Grammar.{SpellsLiteral, SpellsZero, SpellsClause, SpellsObjective, SpellsWeight, SpellsStatement, soft_of, softs_of}
 use Rattle.mcnf_reader.specs.FirstFault.{objective_fault, weight_fault, literal_fault, is_zero, ending_fault, clause_fault, soft_fault, weight_in, weights_in, line_fault}
 use Rattle.mcnf_reader.specs.LineLimits.{IsClauseWithin, IsStatementWithin, IsSumsOf}
 use Rattle.mcnf_reader.specs.Draft.{weight_of, objective_numbers}
 use Rattle.mcnf_reader.proofs.Drafts.{map_agree}
-use Rattle.mcnf_reader.proofs.FaultChoice.{or_at_none, or_none}
+use Rattle.mcnf_reader.proofs.FaultChoice.{or_at_none, or_none, place_fault, place_fault_same}
 use Rattle.mcnf_reader.proofs.WordFaults.{objective_none, objective_from, weight_none, weight_from, literal_none, literal_from, zero_passes, zero_from, no_zero_at_literal}
 
 -- a clause after one literal
 pub clause_behind : (word : List ℕ) (words : List (List ℕ)) (l : Literal) → SpellsLiteral word l → l.var ≤ 2 ^ 24 → clause_fault (word ∷ words) ≡ clause_fault words
 clause_behind word words l spelled le = cond-false (is_zero word) (ending_fault words) (option_or (literal_fault word) (clause_fault words)) (no_zero_at_literal word l spelled) ∙ or_at_none (literal_fault word) (clause_fault words) (literal_none word l spelled le)
+
+-- the fault of a word that is neither a literal within the limit nor the terminator
+pub word_wrong : (all words rest : List (List ℕ)) (word : List ℕ) (f : PlaceFault) → clause_fault all ≡ clause_fault words → words ≡ word ∷ rest → is_zero word ≡ false → literal_fault word ≡ Some f → IsPlaceFaultOf (clause_fault all) f
+word_wrong all words rest word f same cut other wrong = place_fault (clause_fault all) f (same ∙ ap clause_fault cut ∙ cond-false (is_zero word) (ending_fault rest) (option_or (literal_fault word) (clause_fault rest)) other ∙ ap (λ o. option_or o (clause_fault rest)) wrong)
+
+-- a word behind the terminator
+pub text_behind : (all words rest more : List (List ℕ)) (word next : List ℕ) → clause_fault all ≡ clause_fault words → words ≡ word ∷ rest → SpellsZero word → rest ≡ next ∷ more → clause_fault all ≡ Some (Bad TextAfterZero)
+text_behind all words rest more word next same cut zero left = same ∙ ap clause_fault cut ∙ cond-true (is_zero word) (ending_fault rest) (option_or (literal_fault word) (clause_fault rest)) (zero_passes word zero) ∙ ap ending_fault left
 
 -- a clause within the limit has no fault
 pub clause_none : (words : List (List ℕ)) (lits : List Literal) → SpellsClause words lits → IsClauseWithin lits → clause_fault words ≡ None
@@ -103,6 +112,32 @@ soft_line before sums first words same no_comment no_hard =
     other_line before first words no_comment no_hard ∙ same_behind (objective_fault first) (soft_fault (weights_in k before) words) (soft_fault (slice_index sums (k - 1)) words) (λ none.
     let objective = objective_from first none in
     ap (λ n. soft_fault n words) (sym (sum_at before sums k same objective.0.positive objective.1)))
+
+-- the fault of a soft clause behind its objective
+pub behind_objective : (sums : List ℕ) (first : List ℕ) (words : List (List ℕ)) (k : ℕ) → SpellsObjective first k → k ≤ 64 → option_or (objective_fault first) (soft_fault (slice_index sums (natural_value (drop 1 first) - 1)) words) ≡ soft_fault (slice_index sums (k - 1)) words
+behind_objective sums first words k objective le =
+    or_at_none (objective_fault first) (soft_fault (slice_index sums (natural_value (drop 1 first) - 1)) words) (objective_none first k objective le) ∙ ap (λ n. soft_fault (slice_index sums (n - 1)) words) objective.value
+
+pub no_weight_left : (sums : List ℕ) (first : List ℕ) (words : List (List ℕ)) (k : ℕ) → SpellsObjective first k → k ≤ 64 → words ≡ [] → option_or (objective_fault first) (soft_fault (slice_index sums (natural_value (drop 1 first) - 1)) words) ≡ Some (Bad WeightExpected)
+no_weight_left sums first words k objective le none = behind_objective sums first words k objective le ∙ ap (soft_fault (slice_index sums (k - 1))) none
+
+pub weight_wrong : (sums : List ℕ) (first : List ℕ) (words rest : List (List ℕ)) (second : List ℕ) (k : ℕ) (f : PlaceFault) → SpellsObjective first k → k ≤ 64 → words ≡ second ∷ rest → weight_fault (slice_index sums (k - 1)) second ≡ Some f → IsPlaceFaultOf (option_or (objective_fault first) (soft_fault (slice_index sums (natural_value (drop 1 first) - 1)) words)) f
+weight_wrong sums first words rest second k f objective le cut wrong = place_fault _ f (behind_objective sums first words k objective le ∙ ap (soft_fault (slice_index sums (k - 1))) cut ∙ ap (λ o. option_or o (clause_fault rest)) wrong)
+
+pub clause_wrong : (sums : List ℕ) (first : List ℕ) (words rest : List (List ℕ)) (second : List ℕ) (k weight : ℕ) (f : PlaceFault) → SpellsObjective first k → k ≤ 64 → words ≡ second ∷ rest → SpellsWeight second weight → slice_index sums (k - 1) + weight < 2 ^ 63 → IsPlaceFaultOf (clause_fault rest) f → IsPlaceFaultOf (option_or (objective_fault first) (soft_fault (slice_index sums (natural_value (drop 1 first) - 1)) words)) f
+clause_wrong sums first words rest second k weight f objective le cut spelled small wrong = place_fault_same (clause_fault rest) _ f (behind_objective sums first words k objective le ∙ ap (soft_fault (slice_index sums (k - 1))) cut ∙ or_at_none (weight_fault (slice_index sums (k - 1)) second) (clause_fault rest) (weight_none (slice_index sums (k - 1)) second weight spelled small)) wrong
+
+-- the fault of a line whose first word is neither a comment's nor a hard clause's
+pub soft_wrong : (sums : List ℕ) (line words : List (List ℕ)) (first : List ℕ) (f : PlaceFault) → line ≡ first ∷ words → slice_index first 0 ≢ 99 → (first ≡ codes "h" → ⊥) → IsPlaceFaultOf (option_or (objective_fault first) (soft_fault (slice_index sums (natural_value (drop 1 first) - 1)) words)) f → (before : List (List (List ℕ))) → IsSumsOf before sums → IsPlaceFaultOf (line_fault before line) f
+soft_wrong sums line words first f cut no_comment no_hard wrong before same = place_fault_same _ (line_fault before line) f (ap (line_fault before) cut ∙ soft_line before sums first words same no_comment no_hard) wrong
+
+-- the fault of a hard clause
+pub hard_wrong : (line words : List (List ℕ)) (first : List ℕ) (f : PlaceFault) → line ≡ first ∷ words → first ≡ codes "h" → IsPlaceFaultOf (clause_fault words) f → (before : List (List (List ℕ))) → IsPlaceFaultOf (line_fault before line) f
+hard_wrong line words first f cut hard wrong before = place_fault_same (clause_fault words) (line_fault before line) f (ap (line_fault before) cut ∙ hard_line before first words hard) wrong
+
+pub empty_letter : (word : List ℕ) → length word < 1 → slice_index word 0 ≡ 0
+empty_letter [] short = refl
+empty_letter (x ∷ word) short = absurd (omega arith)
 
 -- a line that spells a statement within the limits has no fault
 pub line_none : (before : List (List (List ℕ))) (sums : List ℕ) → IsSumsOf before sums → (words : List (List ℕ)) (s : Statement) → SpellsStatement words s → IsStatementWithin sums s → line_fault before words ≡ None
@@ -187,7 +222,7 @@ pub weights_same : (k : ℕ) (before : List (List (List ℕ))) (done : List Stat
 weights_same k [] [] spelled = refl
 weights_same k [] (s ∷ done) spelled = absurd spelled
 weights_same k (words ∷ before) [] spelled = absurd spelled
-weights_same k (words ∷ before) (s ∷ done) spelled = sum_by-append (λ (x : Soft). x.weight) (soft_of k s) (softs_of k done) ∙ ap (λ n. weights_sum (soft_of k s) + n) (weights_same k before done spelled.1) ∙ ap (λ n. n + weights_in k before) (sym (weight_same k words s spelled.0))
+weights_same k (words ∷ before) (s ∷ done) spelled = sum_by-append (λ (x : Soft). x.weight) (soft_of k s) (softs_of k done) ∙ ap (λ n. weights_sum (soft_of k s) + n) (weights_same k before done spelled.1) ∙ ap (λ n. n + weights_in k before) (sym (weight_same k words s spelled.0)) ∙ sym (sum_by-cons (weight_in k) words before)
 
 pub sums_same : (before : List (List (List ℕ))) (done : List Statement) → AllZip SpellsStatement before done → IsSumsOf before (map (weight_of done) objective_numbers)
 sums_same before done spelled = map_agree (weight_of done) (λ k. weights_in k before) (λ k. weights_same k before done spelled) objective_numbers
