@@ -41,28 +41,10 @@ place_fault o (BadPlace kind) e = e
 place_fault o (LimitThere which) e = e
 place_fault o PlaceNoMemory e = tt
 
--- the first fault of the front part
-pub place_fault_first : (o p : Option PlaceFault) (f : PlaceFault) → IsPlaceFaultOf o f → IsPlaceFaultOf (option_or o p) f
-place_fault_first o p (BadPlace kind) e = ap (λ x. option_or x p) e
-place_fault_first o p (LimitThere which) e = ap (λ x. option_or x p) e
-place_fault_first o p PlaceNoMemory e = tt
-
--- the first fault of the back part, where the front part has none
-pub place_fault_second : (o p : Option PlaceFault) (f : PlaceFault) → o ≡ None → IsPlaceFaultOf p f → IsPlaceFaultOf (option_or o p) f
-place_fault_second o p (BadPlace kind) none e = or_at_none o p none ∙ e
-place_fault_second o p (LimitThere which) none e = or_at_none o p none ∙ e
-place_fault_second o p PlaceNoMemory none e = tt
-
 pub place_fault_same : (o p : Option PlaceFault) (f : PlaceFault) → p ≡ o → IsPlaceFaultOf o f → IsPlaceFaultOf p f
 place_fault_same o p (BadPlace kind) same e = same ∙ e
 place_fault_same o p (LimitThere which) same e = same ∙ e
 place_fault_same o p PlaceNoMemory same e = tt
-
--- the same with a line
-pub fault_at_line : (o : Option PlaceFault) (line : ℕ) (f : PlaceFault) → IsPlaceFaultOf o f → IsFaultOf (option_map (at_line line) o) (at_line line f)
-fault_at_line o line (BadPlace kind) e = ap (option_map (at_line line)) e
-fault_at_line o line (LimitThere which) e = ap (option_map (at_line line)) e
-fault_at_line o line PlaceNoMemory e = tt
 
 pub fault_first : (o p : Option ReadFault) (f : ReadFault) → IsFaultOf o f → IsFaultOf (option_or o p) f
 fault_first o p (Bad line kind) e = ap (λ x. option_or x p) e

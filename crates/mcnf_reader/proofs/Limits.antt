@@ -327,13 +327,15 @@ statements_limits text xs short spelled within = record {
 pub spelled_without_fault : (text : List ℕ) → length text < 2 ^ 32 → first_fault text ≡ None → (i : InstanceValue) × Spells text i
 spelled_without_fault text short none =
     let empty : AreWithin [] = record { variables = omega arith; count = omega arith; weights = λ k. omega arith } in
-    let found = statements_behind [] [] (map words_of (lines_of text)) tt empty none in
-    (instance_from found.0, record {
-      statements = found.0;
-      lines = found.1;
-      variables = refl;
-      clauses = refl;
-      rows = refl;
-      objectives = refl;
-      limits = statements_limits text found.0 short found.1 found.2;
-    })
+    let found = statements_behind [] [] (map words_of (lines_of text)) tt empty none in (
+      instance_from found.0,
+      record {
+        statements = found.0;
+        lines = found.1;
+        variables = refl;
+        clauses = refl;
+        rows = refl;
+        objectives = refl;
+        limits = statements_limits text found.0 short found.1 found.2;
+      },
+    )

@@ -131,10 +131,6 @@ clause_wrong sums first words rest second k weight f objective le cut spelled sm
 pub soft_wrong : (sums : List ℕ) (line words : List (List ℕ)) (first : List ℕ) (f : PlaceFault) → line ≡ first ∷ words → slice_index first 0 ≢ 99 → (first ≡ codes "h" → ⊥) → IsPlaceFaultOf (option_or (objective_fault first) (soft_fault (slice_index sums (natural_value (drop 1 first) - 1)) words)) f → (before : List (List (List ℕ))) → IsSumsOf before sums → IsPlaceFaultOf (line_fault before line) f
 soft_wrong sums line words first f cut no_comment no_hard wrong before same = place_fault_same _ (line_fault before line) f (ap (line_fault before) cut ∙ soft_line before sums first words same no_comment no_hard) wrong
 
--- the fault of a hard clause
-pub hard_wrong : (line words : List (List ℕ)) (first : List ℕ) (f : PlaceFault) → line ≡ first ∷ words → first ≡ codes "h" → IsPlaceFaultOf (clause_fault words) f → (before : List (List (List ℕ))) → IsPlaceFaultOf (line_fault before line) f
-hard_wrong line words first f cut hard wrong before = place_fault_same (clause_fault words) (line_fault before line) f (ap (line_fault before) cut ∙ hard_line before first words hard) wrong
-
 pub empty_letter : (word : List ℕ) → length word < 1 → slice_index word 0 ≡ 0
 empty_letter [] short = refl
 empty_letter (x ∷ word) short = absurd (omega arith)
