@@ -1,5 +1,5 @@
 -- What a clause's words spell, from left to right.
-use Rattle.std.proofs.Common.{◌≡◌, ℕ, ◌≤◌, ◌^◌, false, List, [], ◌∷◌, ◌++◌, refl, sym, ap, ◌∙◌, subst, append_assoc, append-nil, Option, None, Some, MatchOption, arith}
+use Rattle.std.proofs.Common.{◌≡◌, ℕ, ◌≤◌, ◌^◌, true, false, List, [], ◌∷◌, ◌++◌, refl, sym, ap, ◌∙◌, subst, append_assoc, append-nil, Option, None, Some, MatchOption, arith}
 use Rattle.std.specs.Prelude.{is_some}
 use Rattle.std.specs.Str.Parse.{starts_with_minus}
 use Rattle.std.specs.Int.{IsInRange}
@@ -8,16 +8,12 @@ use Rattle.std.proofs.lemmas.Bool.Decides.{nat_tests}
 use Rattle.scut_base.specs.Literal.{Literal}
 use Rattle.scut_base.specs.Number.{IsNatural, natural_value, magnitude_text}
 use Rattle.mcnf_reader.specs.Grammar.{SpellsLiteral, SpellsZero, SpellsClause}
-use Rattle.mcnf_reader.specs.LineFaults.{IsClauseWithin}
+use Rattle.mcnf_reader.specs.LineLimits.{IsClauseWithin}
 use Rattle.std.proofs.lemmas.List.Elements.{All-head, All-tail}
 
 -- what the words left spell makes, behind these literals, what all words spell
 abbrev pub GoesOn : List (List ℕ) → List (List ℕ) → List Literal → Type 0
 GoesOn all words lits = (more : List Literal) → SpellsClause words more → SpellsClause all (lits ++ more)
-
--- the words left spell a clause within the limit where all words do
-abbrev pub CanGoOn : List (List ℕ) → List (List ℕ) → Type 0
-CanGoOn all words = (lits : List Literal) → SpellsClause all lits → IsClauseWithin lits → (more : List Literal) × SpellsClause words more × IsClauseWithin more
 
 -- digits have no minus in front
 pub natural_sign : (word : List ℕ) → IsNatural word → starts_with_minus word ≡ false
@@ -38,29 +34,6 @@ pub goes_on : (all words rest : List (List ℕ)) (word : List ℕ) (l : Literal)
 goes_on all words rest word l lits cut literal so_far more spelled =
     rw append_assoc (so_far (l ∷ more) (rw cut (literal, spelled)))
 
-after_literal : (word : List ℕ) (rest : List (List ℕ)) (l : Literal) → SpellsLiteral word l → (lits : List Literal) → SpellsClause (word ∷ rest) lits → IsClauseWithin lits → (more : List Literal) × SpellsClause rest more × IsClauseWithin more
-after_literal word [] l literal [] zero within = absurd (not_both word l literal zero)
-after_literal word (x ∷ rest) l literal [] nothing within = absurd nothing
-after_literal word rest l literal (m ∷ more) spelled within = (more, spelled.1, All-tail (λ k. k.var ≤ 2 ^ 24) m more within)
-
--- behind a literal there is more to spell
-pub can_go_on : (all words rest : List (List ℕ)) (word : List ℕ) (l : Literal) → words ≡ word ∷ rest → SpellsLiteral word l → CanGoOn all words → CanGoOn all rest
-can_go_on all words rest word l cut literal so_far lits spelled within =
-    let left = so_far lits spelled within in
-    after_literal word rest l literal left.0 (subst (λ (ws : List (List ℕ)). SpellsClause ws left.0) cut left.1) left.2
-
--- a word that is neither a literal within the limit nor the terminator begins no clause
-pub begins_none : (word : List ℕ) (rest : List (List ℕ)) → (SpellsZero word → ⊥) → ((l : Literal) → SpellsLiteral word l → l.var ≤ 2 ^ 24 → ⊥) → (lits : List Literal) → SpellsClause (word ∷ rest) lits → IsClauseWithin lits → ⊥
-begins_none word [] not_zero not_literal [] zero within = not_zero zero
-begins_none word (x ∷ rest) not_zero not_literal [] nothing within = nothing
-begins_none word rest not_zero not_literal (l ∷ lits) spelled within = not_literal l spelled.0 (All-head (λ k. k.var ≤ 2 ^ 24) l lits within)
-
--- so all words spell no clause within the limit
-pub none_from : (all words rest : List (List ℕ)) (word : List ℕ) → words ≡ word ∷ rest → CanGoOn all words → (SpellsZero word → ⊥) → ((l : Literal) → SpellsLiteral word l → l.var ≤ 2 ^ 24 → ⊥) → (lits : List Literal) → SpellsClause all lits → IsClauseWithin lits → ⊥
-none_from all words rest word cut so_far not_zero not_literal lits spelled within =
-    let left = so_far lits spelled within in
-    begins_none word rest not_zero not_literal left.0 (subst (λ (ws : List (List ℕ)). SpellsClause ws left.0) cut left.1) left.2
-
 -- the terminator ends the clause where no word is left
 pub ends_clause : (all words rest : List (List ℕ)) (word : List ℕ) (lits : List Literal) → words ≡ word ∷ rest → rest ≡ [] → SpellsZero word → GoesOn all words lits → SpellsClause all lits
 ends_clause all words rest word lits cut none zero so_far =
@@ -72,3 +45,8 @@ ends_clause all words rest word lits cut none zero so_far =
 pub where_none : {X : Type 0} (o : Option X) (P : Type 0) (Q : X → Type 0) → MatchOption o P Q → is_some o ≡ false → P
 where_none None P Q fact none = fact
 where_none (Some x) P Q fact none = cc
+
+-- what holds of what there is
+pub where_some : {X : Type 0} (o : Option X) (P : Type 0) (Q : X → Type 0) → MatchOption o P Q → is_some o ≡ true → (x : X) × Q x
+where_some None P Q fact some = absurd cc
+where_some (Some x) P Q fact some = (x, fact)

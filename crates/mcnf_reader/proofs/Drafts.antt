@@ -18,7 +18,7 @@ use Rattle.mcnf_reader.specs.declared.draft.Draft.{Draft}
 use Rattle.mcnf_reader.specs.declared.statement.Statement.{Statement}
 use Rattle.mcnf_reader.specs.declared.statement.Statement.TheVariants.{Nothing, Hard, Soft as SoftIn}
 use Rattle.mcnf_reader.specs.Grammar.{literals_of, largest_of, largest_variable, objective_of, objective_count, hard_clauses, soft_of, softs_of, objective_at}
-use Rattle.mcnf_reader.specs.LineFaults.{IsClauseWithin, IsStatementWithin}
+use Rattle.mcnf_reader.specs.LineLimits.{IsClauseWithin, IsStatementWithin}
 use Rattle.mcnf_reader.specs.Draft.{IsReady, IsDraftOf, AddsSoft, with_soft, objective_numbers, weight_of, clause_count, total_clauses}
 
 -- one literal more
@@ -58,7 +58,7 @@ pub total_clauses_push : (xs : List Statement) (s : Statement) → total_clauses
 total_clauses_push [] s = omega arith
 total_clauses_push (x ∷ xs) s = omega (arith, total_clauses_push xs s)
 
-map_agree : {X Y : Type 0} (f g : X → Y) → ((x : X) → f x ≡ g x) → (xs : List X) → map f xs ≡ map g xs
+pub map_agree : {X Y : Type 0} (f g : X → Y) → ((x : X) → f x ≡ g x) → (xs : List X) → map f xs ≡ map g xs
 map_agree f g same [] = refl
 map_agree f g same (x ∷ xs) = ap (λ y. y ∷ map f xs) (same x) ∙ ap (λ ys. g x ∷ ys) (map_agree f g same xs)
 
@@ -126,10 +126,10 @@ largest_more lits i l x y lt read so_far new =
     let pushed : largest_of (take (i + 1) lits) ≡ max (largest_of (take i lits)) l.var = ap largest_of more ∙ largest_push (take i lits) l in
     new ∙ larger_of x l.var ∙ ap (λ n. max n l.var) so_far ∙ sym pushed
 
-soft_here : (k weight : ℕ) (lits : List Literal) → soft_of k (SoftIn k weight lits) ≡ record { weight = weight; lits = lits } ∷ []
+pub soft_here : (k weight : ℕ) (lits : List Literal) → soft_of k (SoftIn k weight lits) ≡ record { weight = weight; lits = lits } ∷ []
 soft_here k weight lits = ap (λ b. cond b (record { weight = weight; lits = lits } ∷ []) []) (eq-eqb k k refl)
 
-soft_elsewhere : (j k weight : ℕ) (lits : List Literal) → j ≢ k → soft_of j (SoftIn k weight lits) ≡ []
+pub soft_elsewhere : (j k weight : ℕ) (lits : List Literal) → j ≢ k → soft_of j (SoftIn k weight lits) ≡ []
 soft_elsewhere j k weight lits other = ap (λ b. cond b (record { weight = weight; lits = lits } ∷ []) []) (ne_eqb k j (λ e. other (sym e)))
 
 -- the softs of an objective, one clause on

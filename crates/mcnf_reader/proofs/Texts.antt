@@ -1,9 +1,13 @@
 -- What lines spell, from first to last.
-use Rattle.std.proofs.Common.{◌≡◌, ℕ, Bool, List, [], ◌∷◌, ◌++◌, map, refl, sym, ap, ◌∙◌, subst, append_assoc, append-nil, arith}
+use Rattle.std.proofs.Common.{◌≡◌, ℕ, ◌+◌, Bool, List, [], ◌∷◌, ◌++◌, length, map, None, refl, sym, ap, ◌∙◌, subst, append_assoc, append-nil, arith}
 use Rattle.std.specs.Prelude.{codes, slice_index}
+use Rattle.std.specs.Option.{option_map}
 use Rattle.std.specs.List.{AllZip}
+use Rattle.std.proofs.lemmas.List.{length_push, length-append, length-map}
 use Rattle.instance.specs.declared.row.Linear.{Linear}
 use Rattle.instance.specs.declared.objective.Objective.{Objective}
+use Rattle.instance.specs.declared.fault.ReadFault.{ReadFault}
+use Rattle.instance.specs.Reading.{at_line, IsFaultOf}
 use Rattle.instance.specs.Shape.{InstanceValue}
 use Rattle.scut_base.specs.Literal.{Literal}
 use Rattle.mcnf_reader.specs.declared.draft.Draft.{Draft}
@@ -13,17 +17,24 @@ use Rattle.mcnf_reader.specs.Words.{words_of, lines_of}
 use Rattle.mcnf_reader.specs.Grammar.{Spells, largest_variable, hard_clauses, objectives_of, SpellsStatement, SpellsClause, SpellsLiteral}
 use Rattle.mcnf_reader.specs.Draft.{IsReady, IsDraftOf}
 use Rattle.mcnf_reader.specs.Reads.{IsReadAs}
+use Rattle.mcnf_reader.specs.FirstFault.{line_fault, fault_behind, first_fault}
+use Rattle.mcnf_reader.specs.LineLimits.{IsStatementWithin, IsSumsOf}
 use Rattle.mcnf_reader.proofs.Clauses.{not_both}
+use Rattle.mcnf_reader.proofs.FaultChoice.{or_at_none, map_at_none, fault_first, fault_same}
+use Rattle.mcnf_reader.proofs.StatementFaults.{line_none, sums_same}
 
 abbrev pub SpellAll : List (List ℕ) → List Statement → Type 0
 SpellAll lines statements = AllZip SpellsStatement (map words_of lines) statements
 
--- the lines before these have spelled statements that make the draft
-pub record IsReadTo (lines rest : List (List ℕ)) (d : Draft) : Type 0 where
+-- The lines before these were read: they have no fault, and their statements make the draft.
+pub record IsReadTo (lines rest : List (List ℕ)) (number : ℕ) (d : Draft) : Type 0 where
+  pub before : List (List (List ℕ))
   pub done : List Statement
+  pub whole : before ++ map words_of rest ≡ map words_of lines
+  pub numbered : number ≡ length before
+  pub spelled : AllZip SpellsStatement before done
+  pub faultless : fault_behind [] (map words_of lines) ≡ fault_behind before (map words_of rest)
   pub draft : IsDraftOf d done
-  pub spelled : (more : List Statement) → SpellAll rest more → SpellAll lines (done ++ more)
-  pub needed : (statements : List Statement) → SpellAll lines statements → (more : List Statement) × (statements ≡ done ++ more) × SpellAll rest more
 
 abbrev literal_from : ℕ → Bool → Literal
 literal_from var neg = record { var = var; neg = neg }
@@ -99,37 +110,66 @@ one_spelled text i j left right =
     let objectives : i.objectives ≡ j.objectives = left.objectives ∙ ap objectives_of same ∙ sym right.objectives in
     ap (λ x. instance_from x i.clauses i.linear i.objectives) vars ∙ ap (λ x. instance_from j.vars x i.linear i.objectives) clauses ∙ ap (λ x. instance_from j.vars j.clauses x i.objectives) linear ∙ ap (instance_from j.vars j.clauses j.linear) objectives
 
--- what lines spell begins with what the first line spells
-pub first_taken : (line : List ℕ) (rest : List (List ℕ)) (s : Statement) → SpellsStatement (words_of line) s → (more : List Statement) → SpellAll (line ∷ rest) more → (left : List Statement) × (more ≡ s ∷ left) × SpellAll rest left
-first_taken line rest s says [] none = absurd none
-first_taken line rest s says (t ∷ more) spelled = (more, ap (λ x. x ∷ more) (one_statement (words_of line) t s spelled.0 says), spelled.1)
-
 -- one line more
-pub read_on : (lines rest left : List (List ℕ)) (line : List ℕ) (d e : Draft) (s : Statement) → rest ≡ line ∷ left → SpellsStatement (words_of line) s → ((done : List Statement) → IsDraftOf d done → IsDraftOf e (done ++ s ∷ [])) → IsReadTo lines rest d → IsReadTo lines left e
-read_on lines rest left line d e s cut says added so_far = record {
-  done = so_far.done ++ s ∷ [];
-  draft = added so_far.done so_far.draft;
-  spelled = λ more spelled. rw append_assoc (so_far.spelled (s ∷ more) (subst (λ (ls : List (List ℕ)). SpellAll ls (s ∷ more)) (sym cut) (says, spelled)));
-  needed = λ statements spelled.
-      let old = so_far.needed statements spelled in
-      let new = first_taken line left s says old.0 (subst (λ (ls : List (List ℕ)). SpellAll ls old.0) cut old.2) in
-      (new.0, old.1 ∙ ap (λ more. so_far.done ++ more) new.1 ∙ sym (append_assoc so_far.done (s ∷ []) new.0), new.2);
-}
+pub spelled_push : (before : List (List (List ℕ))) (done : List Statement) (words : List (List ℕ)) (s : Statement) → AllZip SpellsStatement before done → SpellsStatement words s → AllZip SpellsStatement (before ++ words ∷ []) (done ++ s ∷ [])
+spelled_push [] [] words s spelled says = (says, tt)
+spelled_push [] (t ∷ done) words s spelled says = absurd spelled
+spelled_push (line ∷ before) [] words s spelled says = absurd spelled
+spelled_push (line ∷ before) (t ∷ done) words s spelled says = (spelled.0, spelled_push before done words s spelled.1 says)
+
+-- behind a line without a fault the fault is that of the lines left
+pub fault_on : (before : List (List (List ℕ))) (words : List (List ℕ)) (lines : List (List (List ℕ))) → line_fault before words ≡ None → fault_behind before (words ∷ lines) ≡ fault_behind (before ++ words ∷ []) lines
+fault_on before words lines none = or_at_none (option_map (at_line (length before + 1)) (line_fault before words)) (fault_behind (before ++ words ∷ []) lines) (map_at_none (at_line (length before + 1)) (line_fault before words) none)
+
+pub sums_of : (d : Draft) (before : List (List (List ℕ))) (done : List Statement) → AllZip SpellsStatement before done → IsDraftOf d done → IsSumsOf before d.sums
+sums_of d before done spelled draft = draft.weights ∙ sums_same before done spelled
+
+pub read_on : (lines rest left : List (List ℕ)) (line : List ℕ) (number : ℕ) (d e : Draft) (s : Statement) → rest ≡ line ∷ left → SpellsStatement (words_of line) s → IsStatementWithin d.sums s → ((done : List Statement) → IsDraftOf d done → IsDraftOf e (done ++ s ∷ [])) → IsReadTo lines rest number d → IsReadTo lines left (number + 1) e
+read_on lines rest left line number d e s cut says within added so_far =
+    let cut_words : map words_of rest ≡ words_of line ∷ map words_of left = ap (map words_of) cut in
+    let none : line_fault so_far.before (words_of line) ≡ None = line_none so_far.before d.sums (sums_of d so_far.before so_far.done so_far.spelled so_far.draft) (words_of line) s says within in
+    record {
+      before = so_far.before ++ words_of line ∷ [];
+      done = so_far.done ++ s ∷ [];
+      whole = append_assoc so_far.before (words_of line ∷ []) (map words_of left) ∙ ap (λ more. so_far.before ++ more) (sym cut_words) ∙ so_far.whole;
+      numbered = omega (arith, so_far.numbered, length_push so_far.before (words_of line));
+      spelled = spelled_push so_far.before so_far.done (words_of line) s so_far.spelled says;
+      faultless = so_far.faultless ∙ ap (fault_behind so_far.before) cut_words ∙ fault_on so_far.before (words_of line) (map words_of left) none;
+      draft = added so_far.done so_far.draft;
+    }
 
 -- no line is read yet
-pub read_none : (lines : List (List ℕ)) (d : Draft) → IsDraftOf d [] → IsReadTo lines lines d
+pub read_none : (lines : List (List ℕ)) (d : Draft) → IsDraftOf d [] → IsReadTo lines lines 0 d
 read_none lines d empty = record {
+  before = [];
   done = [];
+  whole = refl;
+  numbered = refl;
+  spelled = tt;
+  faultless = refl;
   draft = empty;
-  spelled = λ more spelled. spelled;
-  needed = λ statements spelled. (statements, refl, spelled);
 }
 
 -- all lines are read
-pub read_all : (text : List ℕ) (rest : List (List ℕ)) (d : Draft) → rest ≡ [] → IsReady d → IsReadTo (lines_of text) rest d → IsReadAs text d
-read_all text rest d none ready so_far = record {
-  statements = so_far.done;
-  lines = rw append-nil at (so_far.spelled [] (subst (λ (ls : List (List ℕ)). SpellAll ls []) (sym none) tt));
-  ready = ready;
-  draft = so_far.draft;
-}
+pub read_all : (text : List ℕ) (rest : List (List ℕ)) (number : ℕ) (d : Draft) → rest ≡ [] → IsReady d → IsReadTo (lines_of text) rest number d → IsReadAs text d
+read_all text rest number d none ready so_far =
+    let whole : so_far.before ≡ map words_of (lines_of text) = sym (append-nil so_far.before) ∙ ap (λ (ls : List (List ℕ)). so_far.before ++ map words_of ls) (sym none) ∙ so_far.whole in
+    record {
+      statements = so_far.done;
+      lines = subst (λ (ls : List (List (List ℕ))). AllZip SpellsStatement ls so_far.done) whole so_far.spelled;
+      ready = ready;
+      draft = so_far.draft;
+    }
+
+-- the fault of the next line is the first of the text
+pub next_wrong : (text : List ℕ) (rest left : List (List ℕ)) (line : List ℕ) (number : ℕ) (d : Draft) (f : ReadFault) → rest ≡ line ∷ left → IsReadTo (lines_of text) rest number d → ((before : List (List (List ℕ))) → IsSumsOf before d.sums → IsFaultOf (option_map (at_line (number + 1)) (line_fault before (words_of line))) f) → IsFaultOf (first_fault text) f
+next_wrong text rest left line number d f cut so_far wrong =
+    let before = so_far.before in
+    let here : IsFaultOf (option_map (at_line (number + 1)) (line_fault before (words_of line))) f = wrong before (sums_of d before so_far.done so_far.spelled so_far.draft) in
+    let there : IsFaultOf (option_map (at_line (length before + 1)) (line_fault before (words_of line))) f = subst (λ (n : ℕ). IsFaultOf (option_map (at_line (n + 1)) (line_fault before (words_of line))) f) so_far.numbered here in
+    let first : IsFaultOf (fault_behind before (words_of line ∷ map words_of left)) f = fault_first (option_map (at_line (length before + 1)) (line_fault before (words_of line))) (fault_behind (before ++ words_of line ∷ []) (map words_of left)) f there in
+    fault_same (fault_behind before (words_of line ∷ map words_of left)) (first_fault text) f (so_far.faultless ∙ ap (λ (ls : List (List ℕ)). fault_behind before (map words_of ls)) cut) first
+
+-- the number of a line is at most the count of lines
+pub number_below : (lines rest : List (List ℕ)) (number : ℕ) (d : Draft) → IsReadTo lines rest number d → number + length rest ≡ length lines
+number_below lines rest number d so_far = omega (arith, so_far.numbered, length-append so_far.before (map words_of rest), ap length so_far.whole, length-map rest words_of, length-map lines words_of)

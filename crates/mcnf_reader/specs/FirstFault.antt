@@ -29,8 +29,8 @@ number_fault kind word =
 abbrev pub objective_number_fault : List ℕ → Option PlaceFault
 objective_number_fault digits = option_or (number_fault UnknownLine digits)
     (if natural_value digits == 0 then Some (Bad ObjectiveIndex)
-     else if nat_le (natural_value digits) 64 then None
-     else Some (Limit Objectives))
+    else if nat_le (natural_value digits) 64 then None
+    else Some (Limit Objectives))
 
 -- the first word of a line that is neither a comment nor a hard clause: an `o` and the number of an objective
 abbrev pub objective_fault : List ℕ → Option PlaceFault
@@ -45,8 +45,8 @@ weight_fault so_far word = option_or (number_fault WeightExpected word)
 abbrev pub literal_fault : List ℕ → Option PlaceFault
 literal_fault word = option_or (number_fault LiteralExpected (magnitude_text word))
     (if natural_value (magnitude_text word) == 0 then Some (Bad LiteralExpected)
-     else if nat_le (natural_value (magnitude_text word)) (2 ^ 24) then None
-     else Some (Limit Vars))
+    else if nat_le (natural_value (magnitude_text word)) (2 ^ 24) then None
+    else Some (Limit Vars))
 
 -- the terminator: digits of value 0
 abbrev pub is_zero : List ℕ → Bool

@@ -3,7 +3,7 @@ ghost use Rattle.std.specs.Prelude.{List, ◌≡◌, ◌<◌, ◌≤◌, ◌+◌
 ghost use Rattle.instance.specs.declared.objective.Objective.{Objective};
 ghost use Rattle.instance.specs.Shape.{IsWithinLimits};
 ghost use Rattle.mcnf_reader.specs.Grammar.{largest_of, objective_at};
-ghost use Rattle.mcnf_reader.specs.LineFaults.{IsClauseWithin, IsStatementWithin};
+ghost use Rattle.mcnf_reader.specs.LineLimits.{IsClauseWithin, IsStatementWithin};
 ghost use Rattle.mcnf_reader.specs.Draft.{IsReady, IsDraftOf, AddsSoft, with_soft, instance_of, objective_numbers};
 ghost use Rattle.mcnf_reader.specs.declared.statement.Statement.{Statement};
 

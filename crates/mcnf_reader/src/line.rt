@@ -1,26 +1,26 @@
 // One line: what it says, or what is wrong with it.
-ghost use Rattle.std.specs.Prelude.{ℕ, List, ◌≡◌, ◌<◌, ◌∷◌, ◌^◌, length, IfOk, All};
-ghost use Rattle.scut_base.specs.Literal.{Literal};
+ghost use Rattle.std.specs.Prelude.{ℕ, List, ◌≡◌, ◌<◌, ◌-◌, ◌∷◌, ◌^◌, length, drop, slice_index, IfOk, IfErr, All};
+ghost use Rattle.std.specs.Option.{option_or};
+ghost use Rattle.scut_base.specs.Number.{natural_value};
+ghost use Rattle.instance.specs.Reading.{IsPlaceFaultOf};
 ghost use Rattle.mcnf_reader.specs.Words.{words_of};
 ghost use Rattle.mcnf_reader.specs.Grammar.{SpellsClause, SpellsStatement};
-ghost use Rattle.mcnf_reader.specs.LineFaults.{IsLineRefused, IsClauseWithin, IsStatementWithin};
-ghost use Rattle.mcnf_reader.specs.declared.statement.Statement.{Statement};
-ghost use Rattle.mcnf_reader.specs.declared.statement.Statement.TheVariants.{Soft};
+ghost use Rattle.mcnf_reader.specs.FirstFault.{objective_fault, soft_fault, clause_fault, line_fault};
+ghost use Rattle.mcnf_reader.specs.LineLimits.{IsClauseWithin, IsStatementWithin, IsSumsOf};
 
-use crate::fault::LineFault;
 use crate::number::{read_literal, read_objective, read_weight};
 use crate::statement::Statement;
 use crate::words::Words;
-use instance::BadKind;
+use instance::{BadKind, PlaceFault};
 use scut_base::{Items, Lit};
 use std::alloc::Global;
 
 /// Reads what a line says, where the objectives have these sums of weights already.
-pub fn read_statement(alloc: Global, line: &[u8], sums: &[u64]) -> Result<Statement, LineFault>
+pub fn read_statement(alloc: Global, line: &[u8], sums: &[u64]) -> Result<Statement, PlaceFault>
     requires count { length sums.now ≡ 64 }
     requires small { All (λ sum. sum < 2 ^ 63) sums.now }
     ensures ok { IfOk result (λ s. SpellsStatement (words_of line.now) s × IsStatementWithin sums.now s) }
-    ensures refused { IsLineRefused result → (s : Statement) → SpellsStatement (words_of line.now) s → IsStatementWithin sums.now s → ⊥ }
+    ensures fault { IfErr result (λ f. (before : List (List (List ℕ))) → IsSumsOf before sums.now → IsPlaceFaultOf (line_fault before (words_of line.now)) f) }
 {
     let mut words = Words::new(line);
     let first = match words.next() {
@@ -43,16 +43,16 @@ fn read_soft(
     first: &[u8],
     words: &mut Words<'_>,
     sums: &[u64],
-) -> Result<Statement, LineFault>
+) -> Result<Statement, PlaceFault>
     requires count { length sums.now ≡ 64 }
     requires small { All (λ sum. sum < 2 ^ 63) sums.now }
     ensures ok { IfOk result (λ s. SpellsStatement (first.now ∷ words.old) s × IsStatementWithin sums.now s) }
-    ensures refused { IsLineRefused result → (o w : ℕ) (lits : List Literal) → SpellsStatement (first.now ∷ words.old) (Soft o w lits) → IsStatementWithin sums.now (Soft o w lits) → ⊥ }
+    ensures fault { IfErr result (IsPlaceFaultOf (option_or (objective_fault first.now) (soft_fault (slice_index sums.now (natural_value (drop 1 first.now) - 1)) words.old))) }
 {
     let objective = read_objective(first)?;
     let second = match words.next() {
         Some(second) => second,
-        None => return Err(LineFault::Bad(BadKind::WeightExpected)),
+        None => return Err(PlaceFault::Bad(BadKind::WeightExpected)),
     };
     let weight = read_weight(second, sums[(objective - 1) as usize])?;
     let lits = read_clause(alloc, words)?;
@@ -64,9 +64,9 @@ fn read_soft(
 }
 
 // Reads literals up to the terminator, behind which there is no word.
-fn read_clause(alloc: Global, words: &mut Words<'_>) -> Result<Items<Lit>, LineFault>
+fn read_clause(alloc: Global, words: &mut Words<'_>) -> Result<Items<Lit>, PlaceFault>
     ensures ok { IfOk result (λ lits. SpellsClause words.old lits × IsClauseWithin lits) }
-    ensures refused { IsLineRefused result → (lits : List Literal) → SpellsClause words.old lits → IsClauseWithin lits → ⊥ }
+    ensures fault { IfErr result (IsPlaceFaultOf (clause_fault words.old)) }
 {
     let mut lits = Items::new(alloc);
     while let Some(word) = words.next() {
@@ -74,11 +74,11 @@ fn read_clause(alloc: Global, words: &mut Words<'_>) -> Result<Items<Lit>, LineF
             Some(lit) => lits.push(lit)?,
             None => {
                 if words.next().is_some() {
-                    return Err(LineFault::Bad(BadKind::TextAfterZero));
+                    return Err(PlaceFault::Bad(BadKind::TextAfterZero));
                 }
                 return Ok(lits);
             }
         }
     }
-    Err(LineFault::Bad(BadKind::ZeroMissing))
+    Err(PlaceFault::Bad(BadKind::ZeroMissing))
 }

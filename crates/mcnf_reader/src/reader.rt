@@ -1,16 +1,17 @@
 // The reader.
-ghost use Rattle.std.specs.Prelude.{ℕ, List, ◌≡◌, ◌<◌, ◌^◌, ◌++◌, [], ◌∷◌, length, Err, IfOk, IfErr, OnOk};
+ghost use Rattle.std.specs.Prelude.{ℕ, List, ◌≡◌, ◌<◌, ◌^◌, ◌++◌, [], ◌∷◌, None, length, IfOk, IfErr, OnOk};
+ghost use Rattle.std.specs.Option.{option_map};
 ghost use Rattle.instance.specs.Shape.{InstanceValue};
-ghost use Rattle.instance.specs.Reading.{IsRefused, HasLine};
+ghost use Rattle.instance.specs.Reading.{at_line, IsFaultOf};
 ghost use Rattle.mcnf_reader.specs.Words.{words_of};
 ghost use Rattle.mcnf_reader.specs.Grammar.{Spells, SpellsStatement};
-ghost use Rattle.mcnf_reader.specs.LineFaults.{IsLineRefused, IsStatementWithin};
+ghost use Rattle.mcnf_reader.specs.FirstFault.{line_fault, first_fault};
+ghost use Rattle.mcnf_reader.specs.LineLimits.{IsStatementWithin, IsSumsOf};
 ghost use Rattle.mcnf_reader.specs.Draft.{IsReady, IsDraftOf};
 ghost use Rattle.mcnf_reader.specs.Reads.{IsReadAs};
 ghost use Rattle.mcnf_reader.specs.declared.statement.Statement.{Statement};
 
 use crate::draft::{Draft, add_statement, finish, new_draft};
-use crate::fault::LineFault;
 use crate::line::read_statement;
 use crate::lines::Lines;
 use instance::{Instance, ReadFault};
@@ -21,8 +22,7 @@ use std::alloc::Global;
 pub fn read(alloc: Global, bytes: &[u8]) -> Result<Instance, ReadFault>
     requires { length bytes.now < 2 ^ 32 }
     ensures spelled { IfOk result (λ inst. Spells bytes.now inst) }
-    ensures refused { IsRefused result → (i : InstanceValue) → Spells bytes.now i → ⊥ }
-    ensures line { IfErr result HasLine }
+    ensures fault { IfErr result (λ f. IsFaultOf (first_fault bytes.now) f) }
 {
     let draft = read_lines(alloc, bytes)?;
     Ok(finish(alloc, draft))
@@ -32,8 +32,7 @@ pub fn read(alloc: Global, bytes: &[u8]) -> Result<Instance, ReadFault>
 fn read_lines(alloc: Global, bytes: &[u8]) -> Result<Draft, ReadFault>
     requires { length bytes.now < 2 ^ 32 }
     ensures ok { IfOk result (λ d. IsReadAs bytes.now d) }
-    ensures refused { IsRefused result → (i : InstanceValue) → Spells bytes.now i → ⊥ }
-    ensures line { IfErr result HasLine }
+    ensures fault { IfErr result (λ f. IsFaultOf (first_fault bytes.now) f) }
 {
     let mut draft = new_draft(alloc)?;
     let mut lines = Lines::new(bytes);
@@ -47,38 +46,33 @@ fn read_lines(alloc: Global, bytes: &[u8]) -> Result<Draft, ReadFault>
 
 // Reads one line into the draft.
 fn read_line(alloc: Global, line: &[u8], number: u64, draft: &mut Draft) -> Result<(), ReadFault>
-    requires ready { IsReady draft.old }
-    requires number { 0 < number }
+    requires { IsReady draft.old }
     ensures ready { OnOk result (IsReady draft.new) }
-    ensures ok { OnOk result ((s : Statement) × SpellsStatement (words_of line.now) s × ((done : List Statement) → IsDraftOf draft.old done → IsDraftOf draft.new (done ++ s ∷ []))) }
-    ensures refused { IsRefused result → (s : Statement) → SpellsStatement (words_of line.now) s → IsStatementWithin draft.old.sums s → ⊥ }
-    ensures line { IfErr result HasLine }
+    ensures ok { OnOk result ((s : Statement) × SpellsStatement (words_of line.now) s × IsStatementWithin draft.old.sums s × ((done : List Statement) → IsDraftOf draft.old done → IsDraftOf draft.new (done ++ s ∷ []))) }
+    ensures fault { IfErr result (λ f. (before : List (List (List ℕ))) → IsSumsOf before draft.old.sums → IsFaultOf (option_map (at_line number) (line_fault before (words_of line.now))) f) }
 {
     match read_statement(alloc, line, &draft.sums) {
         Ok(statement) => {
             add_statement(draft, statement)?;
             Ok(())
         }
-        Err(fault) => Err(at_line(fault, number)),
-    }
-}
-
-// The fault of a line, with its number.
-fn at_line(fault: LineFault, line: u64) -> ReadFault
-    requires { 0 < line }
-    ensures refused { IsRefused {T = Unit {0}} (Err result) → IsLineRefused {T = Unit {0}} (Err fault) }
-    ensures line { HasLine result }
-{
-    match fault {
-        LineFault::Bad(kind) => ReadFault::Bad { line, kind },
-        LineFault::Limit(which) => ReadFault::Limit { line, which },
-        LineFault::OutOfMemory => ReadFault::NoMemory,
+        Err(fault) => Err(fault.at_line(number)),
     }
 }
 
 /// A text spells at most one instance.
 pub fn one_instance()
     ensures { (text : List ℕ) (i j : InstanceValue) → Spells text i → Spells text j → i ≡ j }
+{}
+
+/// A text that spells an instance has no fault.
+pub fn no_fault_where_spelled()
+    ensures { (text : List ℕ) (i : InstanceValue) → Spells text i → first_fault text ≡ None }
+{}
+
+/// A text of fewer than 2^32 bytes that has no fault spells an instance.
+pub fn spelled_where_no_fault()
+    ensures { (text : List ℕ) → length text < 2 ^ 32 → first_fault text ≡ None → (i : InstanceValue) × Spells text i }
 {}
 
 #[cfg(test)]

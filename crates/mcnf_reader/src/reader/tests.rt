@@ -2,7 +2,6 @@
 ghost use Rattle.std.specs.Prelude.{◌<◌, ◌^◌, length};
 
 use super::*;
-use instance::{BadKind, InstanceLimit};
 use std::fmt::Write;
 use std::test::Fail;
 
@@ -29,13 +28,15 @@ fn shown(alloc: Global, inst: &Instance) -> Result<String, Fail> {
     Ok(text)
 }
 
-// What is read from a text, as text.
+// What is read from a text, as text: the instance, or the fault with its line.
 fn reading(alloc: Global, text: &[u8]) -> Result<String, Fail>
     requires { length text.now < 2 ^ 32 }
 {
     match read(alloc, text) {
         Ok(inst) => shown(alloc, &inst),
-        Err(_) => Ok(format!(in alloc; "refused")?),
+        Err(ReadFault::Bad { line, kind }) => Ok(format!(in alloc; "{line} {kind:?}")?),
+        Err(ReadFault::Limit { line, which }) => Ok(format!(in alloc; "{line} limit {which:?}")?),
+        Err(ReadFault::NoMemory) => Ok(format!(in alloc; "no memory")?),
     }
 }
 
@@ -82,89 +83,126 @@ fn reads_what_the_format_allows(rt: HostRuntime) -> Result<(), Fail> {
     Ok(())
 }
 
-// The fault of a text, if it has one.
-fn fault_of(alloc: Global, text: &[u8]) -> Option<ReadFault>
-    requires { length text.now < 2 ^ 32 }
-{
-    match read(alloc, text) {
-        Ok(_) => None,
-        Err(fault) => Some(fault),
-    }
-}
-
 #[test]
-fn says_which_rule_a_line_breaks(rt: HostRuntime) {
-    let table: [(&[u8], u64, BadKind); 39] = [
-        (b"p cnf 1 1", 1, BadKind::UnknownLine),
-        (b"o", 1, BadKind::UnknownLine),
-        (b"o1x 1 0", 1, BadKind::UnknownLine),
-        (b"o-1 1 0", 1, BadKind::UnknownLine),
-        (b"hx 1 0", 1, BadKind::UnknownLine),
-        (b"H 1 0", 1, BadKind::UnknownLine),
-        (b"1 0", 1, BadKind::UnknownLine),
-        (b"\xff", 1, BadKind::UnknownLine),
-        (b"\r h 1 0", 1, BadKind::UnknownLine),
-        (b"\rh 1 0", 1, BadKind::UnknownLine),
-        (b"o0 1 1 0", 1, BadKind::ObjectiveIndex),
-        (b"o00 x", 1, BadKind::ObjectiveIndex),
-        (b"o9223372036854775808 1 0", 1, BadKind::NumberTooWide),
-        (b"o99999999999999999999", 1, BadKind::NumberTooWide),
-        (b"o1", 1, BadKind::WeightExpected),
-        (b"o1 -3 1 0", 1, BadKind::WeightExpected),
-        (b"o1 x 1 0", 1, BadKind::WeightExpected),
-        (b"o1 +1 1 0", 1, BadKind::WeightExpected),
-        (b"o1 9223372036854775808 x", 1, BadKind::NumberTooWide),
-        (b"h", 1, BadKind::ZeroMissing),
-        (b"h 1 2", 1, BadKind::ZeroMissing),
-        (b"o1 1", 1, BadKind::ZeroMissing),
-        (b"o1 0", 1, BadKind::ZeroMissing),
-        (b"h 1 0 2", 1, BadKind::TextAfterZero),
-        (b"h 0 0", 1, BadKind::TextAfterZero),
-        (b"h 1 0 c", 1, BadKind::TextAfterZero),
-        (b"h 1 x 0", 1, BadKind::LiteralExpected),
-        (b"h 1 -0 0", 1, BadKind::LiteralExpected),
-        (b"h - 0", 1, BadKind::LiteralExpected),
-        (b"h --1 0", 1, BadKind::LiteralExpected),
-        (b"o1 1 -", 1, BadKind::LiteralExpected),
-        (b"h +1 0", 1, BadKind::LiteralExpected),
-        (b"h 1 \xff 0", 1, BadKind::LiteralExpected),
-        (b"h 1 0\r\r\n", 1, BadKind::LiteralExpected),
-        (b"h 99999999999999999999 0", 1, BadKind::NumberTooWide),
-        (b"h -9223372036854775808 0", 1, BadKind::NumberTooWide),
-        (b"h 1 0\nc\n\nh 1 2\nh x 0", 4, BadKind::ZeroMissing),
-        (b"h 1 0\r\nh 1 0\r\nq", 3, BadKind::UnknownLine),
-        (b"\n\no1 1 1 0\no1", 4, BadKind::WeightExpected),
-    ];
-    for (text, line, kind) in table {
-        assert!(rt; text.len() < 1000);
-        let given = fault_of(rt.alloc(), text);
-        assert_eq!(rt; given, Some(ReadFault::Bad { line, kind }));
-    }
-}
-
-#[test]
-fn says_which_limit_a_line_passes(rt: HostRuntime) {
-    let table: [(&[u8], u64, InstanceLimit); 8] = [
-        (b"h 16777217 0", 1, InstanceLimit::Vars),
-        (b"h -16777217 x", 1, InstanceLimit::Vars),
-        (b"h 9223372036854775807 0", 1, InstanceLimit::Vars),
-        (b"o65 1 1 0", 1, InstanceLimit::Objectives),
-        (b"o9223372036854775807", 1, InstanceLimit::Objectives),
+fn names_the_first_fault(rt: HostRuntime) -> Result<(), Fail> {
+    let alloc = rt.alloc();
+    let table: [(&[u8], &str); 90] = [
+        (b"p cnf 1 1", "1 UnknownLine"),
+        (b"o", "1 UnknownLine"),
+        (b"o 1 0", "1 UnknownLine"),
+        (b"hx 1 0\n", "1 UnknownLine"),
+        (b"hh 0", "1 UnknownLine"),
+        (b"\xff", "1 UnknownLine"),
+        (b"\xff\n", "1 UnknownLine"),
+        (b"H 1 0\nh 1 0\n", "1 UnknownLine"),
+        (b"1 0", "1 UnknownLine"),
+        (b"o1x 1 0", "1 UnknownLine"),
+        (b"o-1 1 0", "1 UnknownLine"),
+        (b"o9223372036854775808x 1 0", "1 UnknownLine"),
+        (b"\r h 1 0", "1 UnknownLine"),
+        (b"\rh 1 0", "1 UnknownLine"),
+        (b"h 1 0\r\nh 1 0\r\nq", "3 UnknownLine"),
+        (b"h 1 0\nc\nx\nh 2 0\n", "3 UnknownLine"),
+        (b"h 0\no\n", "2 UnknownLine"),
+        (b"o0 1 1 0", "1 ObjectiveIndex"),
+        (b"o00 x", "1 ObjectiveIndex"),
+        (b"o1 1 0\no0 1 0\nh 1 0\n", "2 ObjectiveIndex"),
+        (b"h 1 0\n\no0", "3 ObjectiveIndex"),
+        (b"h 1 0\no000\n", "2 ObjectiveIndex"),
+        (b"o9223372036854775808 1 0", "1 NumberTooWide"),
+        (b"o99999999999999999999", "1 NumberTooWide"),
+        (b"c\no9223372036854775808 x\nh 0", "2 NumberTooWide"),
+        (b"o9223372036854775807", "1 limit Objectives"),
+        (b"o65 1 1 0", "1 limit Objectives"),
+        (b"h 1 0\no65\n", "2 limit Objectives"),
+        (b"o64 1 0\no64 1 0\no065 1 0", "3 limit Objectives"),
+        (b"o1", "1 WeightExpected"),
+        (b"o1\n", "1 WeightExpected"),
+        (b"o64\nh 0", "1 WeightExpected"),
+        (b"o1 -3 1 0", "1 WeightExpected"),
+        (b"o1 x 1 0\nh 1 0", "1 WeightExpected"),
+        (b"o1 +1 1 0", "1 WeightExpected"),
+        (b"o1 9223372036854775808x 0", "1 WeightExpected"),
+        (b"\n\no1 1 1 0\no1", "4 WeightExpected"),
+        (b"h 1 0\no2 1x 0\nh 1 0\n", "2 WeightExpected"),
+        (b"o1 9223372036854775808 x", "1 NumberTooWide"),
+        (b"h 1 0\no1 9223372036854775808\n", "2 NumberTooWide"),
+        (
+            b"o1 9223372036854775807 0\no1 9223372036854775808 0",
+            "2 NumberTooWide",
+        ),
+        (b"o1 9223372036854775807 0\n", "0 | 9223372036854775807"),
+        (
+            b"o1 9223372036854775806 1 0\no1 1 2 0\n",
+            "2 | 9223372036854775806,1 1,2",
+        ),
+        (b"o1 9223372036854775806 1 0\no1 2 2 0", "2 limit Weights"),
         (
             b"o1 9223372036854775806 1 0\no1 1 2 0\no1 1 3 0",
-            3,
-            InstanceLimit::Weights,
+            "3 limit Weights",
+        ),
+        (
+            b"o1 9223372036854775807 0\no1 0 0\n",
+            "0 | 9223372036854775807 0",
+        ),
+        (
+            b"o1 9223372036854775807 0\no2 9223372036854775807 0",
+            "0 | 9223372036854775807 | 9223372036854775807",
         ),
         (
             b"o1 9223372036854775807 0\no2 5 0\no1 1 x",
-            3,
-            InstanceLimit::Weights,
+            "3 limit Weights",
         ),
-        (b"\nc\nh 16777217 0", 3, InstanceLimit::Vars),
+        (
+            b"o01 9223372036854775807 0\nc o1 1 0\no1 1\nh x 0\n",
+            "3 limit Weights",
+        ),
+        (b"h 1 x 0", "1 LiteralExpected"),
+        (b"h 1 -0 0", "1 LiteralExpected"),
+        (b"h - 0", "1 LiteralExpected"),
+        (b"h --1 0", "1 LiteralExpected"),
+        (b"o1 1 -", "1 LiteralExpected"),
+        (b"o1 1 -0 0", "1 LiteralExpected"),
+        (b"h +1 0", "1 LiteralExpected"),
+        (b"h 1 \xff 0", "1 LiteralExpected"),
+        (b"h 1 0\r\r\n", "1 LiteralExpected"),
+        (b"h x 9223372036854775808 16777217", "1 LiteralExpected"),
+        (b"h 9223372036854775808x 0", "1 LiteralExpected"),
+        (b"h -\nh 0", "1 LiteralExpected"),
+        (b"h 1 0\nh -\n", "2 LiteralExpected"),
+        (b"h 1 0\nh 1 -00 0\nh 1", "2 LiteralExpected"),
+        (b"h 9223372036854775808 0", "1 NumberTooWide"),
+        (b"h -9223372036854775808 0", "1 NumberTooWide"),
+        (b"h 1 0\nh 99999999999999999999 x\n", "2 NumberTooWide"),
+        (b"h 9223372036854775807 0", "1 limit Vars"),
+        (b"h -9223372036854775807 0", "1 limit Vars"),
+        (b"h 16777216 -16777216 0", "16777216 h,16777216,-16777216"),
+        (b"h 16777217 0", "1 limit Vars"),
+        (b"h -16777217 x", "1 limit Vars"),
+        (b"\nc\nh 16777217 0", "3 limit Vars"),
+        (b"h 1 0\no1 1 1 16777217\nh 1 0", "2 limit Vars"),
+        (b"o1 1 16777217 0\n", "1 limit Vars"),
+        (b"o1 1 16777216 0\n", "16777216 | 1,16777216"),
+        (b"h", "1 ZeroMissing"),
+        (b"h\n", "1 ZeroMissing"),
+        (b"h 1 2", "1 ZeroMissing"),
+        (b"o1 1", "1 ZeroMissing"),
+        (b"o1 0", "1 ZeroMissing"),
+        (b"o1 1 1\nh 1 0\n", "1 ZeroMissing"),
+        (b"h 1 0\nc\n\nh 1 2\nh x 0", "4 ZeroMissing"),
+        (b"h 0\nh 1\n", "2 ZeroMissing"),
+        (b"h 1 0 2", "1 TextAfterZero"),
+        (b"h 0 0", "1 TextAfterZero"),
+        (b"h 1 0 c", "1 TextAfterZero"),
+        (b"h 0 x\nh", "1 TextAfterZero"),
+        (b"h 1 0\no1 1 0 0", "2 TextAfterZero"),
+        (b"h 0\nh 1 00 1\nh 0\n", "2 TextAfterZero"),
+        (b"h 0\n\nc\nh 1 0 16777217\n", "4 TextAfterZero"),
     ];
-    for (text, line, which) in table {
+    for (text, expected) in table {
         assert!(rt; text.len() < 1000);
-        let given = fault_of(rt.alloc(), text);
-        assert_eq!(rt; given, Some(ReadFault::Limit { line, which }));
+        let given = reading(alloc, text)?;
+        assert_eq!(rt; given.as_str(), expected);
     }
+    Ok(())
 }

@@ -1,0 +1,5 @@
+use Rattle.mcnf_reader.proofs.Limits.{no_fault}
+use Rattle.mcnf_reader.proofs.reader.no_fault_where_spelled.Goals as goal
+
+pub returns : goal.returns
+returns c = no_fault
