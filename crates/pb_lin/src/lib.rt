@@ -19,3 +19,6 @@ pub use lines::Lines;
 pub use negation::negation_holds_elsewhere;
 pub use problem::{CostRow, PbProblem, row_cost};
 pub use witness::{Image, Witness};
+
+#[cfg(test)]
+mod tests_a;

@@ -9,7 +9,7 @@ use std::collections::HashMap;
 use std::marker::Model;
 
 /// Constraints, found by their ids. Contracts see it as a finite map.
-#[derive(Drop)]
+#[derive(Debug, Drop)]
 pub struct Lines {
     lines: HashMap<u64, Constraint>,
 }

@@ -54,5 +54,4 @@ fn opposite_terms(alloc: Global, terms: &[(Lit, u128)]) -> Result<Items<(Lit, u1
 /// A law, with nothing to run: the negation of a constraint holds exactly where the constraint doesn't.
 pub fn negation_holds_elsewhere()
     ensures { (c : ConstraintValue) → IsNormal c.terms c.degree → (a : List Bool) → (Holds a (negation c) ↔ ¬ (Holds a c)) }
-{
-}
+{}
