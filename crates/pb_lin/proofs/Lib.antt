@@ -1,0 +1,2 @@
+mod LineEntries
+mod OppositeTerms

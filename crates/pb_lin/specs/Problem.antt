@@ -1,5 +1,5 @@
 -- Problems of constraints and of sums to be minimised.
-use Rattle.std.specs.Prelude.{ℕ, ◌+◌, ◌^◌, ◌<◌, ◌≤◌, ◌≢◌, Bool, List, length, sum_by, All, AllPairs, ℤ, pos, ◌+ℤ◌, ◌<ℤ◌, unsigned_abs}
+use Rattle.std.specs.Prelude.{ℕ, ◌^◌, ◌<◌, ◌≤◌, ◌≢◌, Bool, List, length, All, AllPairs, ℤ, pos, ◌+ℤ◌, ◌<ℤ◌, unsigned_abs}
 use Rattle.scut_base.specs.Literal.{Literal}
 use Rattle.pb_lin.specs.Constraint.{ConstraintValue, size, total, value, TermsUpTo}
 

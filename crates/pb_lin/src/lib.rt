@@ -6,9 +6,19 @@
 #![tactic(auto)]
 
 mod constraint;
+mod evaluate;
 mod fault;
+mod lines;
+mod negation;
+mod problem;
 mod witness;
 
 pub use constraint::Constraint;
 pub use fault::LinFault;
+pub use lines::Lines;
+pub use negation::negation_holds_elsewhere;
+pub use problem::{CostRow, PbProblem, row_cost};
 pub use witness::{Image, Witness};
+
+#[cfg(test)]
+mod tests_a;

@@ -1,0 +1,40 @@
+-- The entries of a hash map as a finite map.
+use Rattle.std.specs.Prelude.{◌≡◌, ℕ, cond, List, [], ◌∷◌, Some, None, nat_eq, refl}
+use Rattle.std.proofs.Common.{sym, ◌∙◌, ap}
+use Rattle.std.specs.Ordering.{nat_cmp, eq_by_cmp}
+use Rattle.std.specs.Cmp.{nat_cmp_total, unsigned_tied}
+use Rattle.std.proofs.lemmas.Cmp.{eq_by_cmp_equiv}
+use Rattle.std.specs.Map.{lookup}
+use Rattle.std.specs.FinMap.{get, find, insert, remove, empty, get-insert, get-remove, get-from_entries, same_map, nat_cmp-IsAntisymmetric}
+use Rattle.pb_lin.specs.Constraint.{ConstraintValue}
+use Rattle.pb_lin.specs.LineMap.{lines_of}
+
+find_is_lookup : (q : ℕ) (es : List (ℕ × ConstraintValue)) → find nat_cmp q es ≡ lookup (nat_eq q) es
+find_is_lookup q [] = refl
+find_is_lookup q (e ∷ es) = ap (λ t. cond t (Some e.1) (find nat_cmp q es)) (unsigned_tied q e.0) ∙ ap (cond (nat_eq q e.0) (Some e.1)) (find_is_lookup q es)
+
+-- what the map holds at an id
+pub get_line : (es : List (ℕ × ConstraintValue)) (q : ℕ) → get (lines_of es) q ≡ lookup (nat_eq q) es
+unfolding lines_of
+get_line es q = get-from_entries nat_cmp_total es q ∙ find_is_lookup q es
+
+pub no_lines : lines_of [] ≡ empty
+unfolding lines_of
+no_lines = refl
+
+turned : (q id : ℕ) → eq_by_cmp nat_cmp q id ≡ nat_eq id q
+turned q id = (eq_by_cmp_equiv nat_cmp_total).symm q id ∙ unsigned_tied id q
+
+-- entries that give an id this constraint, and each other id what it had
+pub lines_put : (es fs : List (ℕ × ConstraintValue)) (id : ℕ) (c : ConstraintValue) → ((q : ℕ) → lookup (nat_eq q) fs ≡ cond (nat_eq id q) (Some c) (lookup (nat_eq q) es)) → lines_of fs ≡ insert (lines_of es) id c
+lines_put es fs id c updates =
+    same_map nat_cmp_total nat_cmp-IsAntisymmetric _ _ (λ q.
+    get_line fs q ∙ updates q ∙ ap (λ t. cond t (Some c) (lookup (nat_eq q) es)) (sym (turned q id)) ∙ ap (cond (eq_by_cmp nat_cmp q id) (Some c)) (sym (get_line es q))
+    ∙ sym (get-insert nat_cmp_total (lines_of es) id c q))
+
+-- entries without an id, that give each other id what it had
+pub lines_removed : (es fs : List (ℕ × ConstraintValue)) (id : ℕ) → ((q : ℕ) → lookup (nat_eq q) fs ≡ cond (nat_eq id q) None (lookup (nat_eq q) es)) → lines_of fs ≡ remove (lines_of es) id
+lines_removed es fs id updates =
+    same_map nat_cmp_total nat_cmp-IsAntisymmetric _ _ (λ q.
+    get_line fs q ∙ updates q ∙ ap (λ t. cond t None (lookup (nat_eq q) es)) (sym (turned q id)) ∙ ap (cond (eq_by_cmp nat_cmp q id) None) (sym (get_line es q))
+    ∙ sym (get-remove nat_cmp_total (lines_of es) id q))
