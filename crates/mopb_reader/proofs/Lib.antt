@@ -4,5 +4,4 @@ pub mod Statements
 pub mod Drafts
 pub mod Limits
 pub mod Texts
-pub mod Refusals
-pub mod Stuck
+pub mod Places

@@ -10,15 +10,6 @@ use Rattle.mopb_reader.specs.declared.symbol.Symbol.{Symbol}
 abbrev pub tokens_in : List ℕ → List Token
 tokens_in line = filter (λ t. not (is_gap t)) (tokens_of_line line)
 
--- the tokens of any line
-abbrev pub tokens_of_content : List ℕ → List Token
-tokens_of_content line = if is_comment line then [] else tokens_in line
-
--- the tokens of what follows a line, if anything does
-abbrev pub tokens_of_rest : Option (List ℕ) → List Token
-tokens_of_rest None = []
-tokens_of_rest (Some text) = tokens_of text
-
 -- how much follows a line
 abbrev pub rest_size : Option (List ℕ) → ℕ
 rest_size None = 0

@@ -7,7 +7,6 @@
 
 mod cut;
 mod draft;
-mod fault;
 mod lines;
 mod reader;
 mod statement;

@@ -4,8 +4,8 @@ use Rattle.mopb_reader.proofs.statement.read_bound.Goals as goal
 
 pub returns-in-Some-clause-ok : goal.returns-in-Some-clause-ok
 returns-in-Some-clause-ok c =
-    IfOk-weaker c.read_magnitude.result _ _ (λ bound digits. bound_signed c.next-first.result c.in-Some.minus bound c.args.tokens.now c.next-first.new.self c.next-next.new.self c.in-Some.ensures c.next-first.ensures.left (digits c.next-next.new.self c.next-first.new.self c.next-next.ensures.left)) c.read_magnitude.ensures.ok
+    IfOk-weaker c.read_magnitude.result _ _ (λ bound digits. bound_signed c.next-first.result c.in-Some.minus bound (plain c.args.tokens.now.left) (plain c.next-first.new.self.left) (plain c.next-next.new.self.left) c.in-Some.ensures c.next-first.ensures.left (digits (plain c.next-next.new.self.left) (plain c.next-first.new.self.left) c.next-next.ensures.left)) c.read_magnitude.ensures.ok
 
 pub returns-in-None-clause-ok : goal.returns-in-None-clause-ok
 returns-in-None-clause-ok c =
-    IfOk-weaker c.read_magnitude-in-None.result _ _ (λ bound digits. bound_plain bound c.args.tokens.now c.next-first.new.self (digits c.next-first.new.self c.args.tokens.now c.next-first.ensures.left)) c.read_magnitude-in-None.ensures.ok
+    IfOk-weaker c.read_magnitude-in-None.result _ _ (λ bound digits. bound_plain bound (plain c.args.tokens.now.left) (plain c.next-first.new.self.left) (digits (plain c.next-first.new.self.left) (plain c.args.tokens.now.left) c.next-first.ensures.left)) c.read_magnitude-in-None.ensures.ok
