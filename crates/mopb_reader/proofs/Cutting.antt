@@ -6,13 +6,13 @@ use Rattle.std.specs.Char.{is_ascii_digit, digit_value}
 use Rattle.std.specs.Str.Parse.{AllDigits}
 use Rattle.std.proofs.lemmas.Bool.{cases_Bool, cases_lt, cond_both, eqb-true, ne_eqb}
 use Rattle.std.proofs.lemmas.Bool.Decides.{nat_tests}
-use Rattle.std.proofs.lemmas.List.{take_all}
+use Rattle.std.proofs.lemmas.List.{take_all, map-append}
 use Rattle.std.proofs.lemmas.List.Elements.{All-from_get_or, filter-append}
 use Rattle.std.proofs.lemmas.List.Splits.{slice_split_none, slice_split_first}
 use Rattle.std.proofs.lemmas.List.Sums.{prefix_len-le-length, fails_before_first}
 use Rattle.scut_base.specs.Number.{natural_value}
 use Rattle.mopb_reader.specs.Tokens.{Token, Blank, Plus, Minus, Digits, Positive, Negative, Min, AtLeast, AtMost, Equal, Semicolon, Other, is_blank, is_comment, is_gap, with_digit, with_x, with_tilde, with_m, with_greater, with_less, with_byte, tokens_of_line, tokens_of}
-use Rattle.mopb_reader.specs.FirstFault.{lines_of, numbered_tokens, tokens_in_line}
+use Rattle.mopb_reader.specs.FirstFault.{is_misspelled, lines_of, numbered_tokens, tokens_in_line}
 use Rattle.mopb_reader.specs.Cuts.{tokens_in, BeginsNoDigits, BeginsNoBlank, IsNotBefore}
 use Rattle.mopb_reader.specs.Streams.{plain, numbered_rest, numbered_from, lines_behind}
 
@@ -314,3 +314,6 @@ negated_none text after e none = tilde_x_alone (tokens_of_line text) (tokens_of_
 pub other_alone : (line : List ℕ) (b : ℕ) (rest : List ℕ) → line ≡ b ∷ rest → is_blank b ≡ false → (is_ascii_digit b ≡ true → ⊥) → b ≢ 120 → b ≢ 126 → b ≢ 109 → b ≢ 62 → b ≢ 60 → b ≢ 61 → b ≢ 43 → b ≢ 45 → b ≢ 59 → tokens_of_line line ≡ Other b ∷ tokens_of_line rest
 other_alone line b rest e blank digit x tilde m greater less equal plus minus semicolon =
     rw e (byte_cases (λ ts. ts ≡ Other b ∷ tokens_of_line rest) b (tokens_of_line rest) (λ t. absurd cc) (λ t. absurd (digit t)) (λ t. absurd (x t)) (λ t. absurd (tilde t)) (λ t. absurd (m t)) (λ t. absurd (greater t)) (λ t. absurd (less t)) (λ t. absurd (plus t)) (λ t. absurd (minus t)) (λ t. absurd (equal t)) (λ t. absurd (semicolon t)) refl)
+
+pub other_plain : (b : ℕ) → b ≢ 120 → b ≢ 126 → is_misspelled b ≡ false
+other_plain b x tilde = rw (ne_eqb b 120 x, ne_eqb b 126 tilde) refl

@@ -5,3 +5,4 @@ pub mod Drafts
 pub mod Limits
 pub mod Texts
 pub mod Places
+pub mod Findings

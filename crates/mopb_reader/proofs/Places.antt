@@ -1,5 +1,5 @@
 -- What a token that was taken does at a place.
-use Rattle.std.proofs.Common.{◌≡◌, ℕ, ◌+◌, ◌<◌, ◌≤◌, ◌^◌, true, false, List, [], ◌∷◌, map, Option, Some, None, Ok, Err, ⊎_elim, inl, inr, refl, sym, ap, ◌∙◌, subst, arith}
+use Rattle.std.proofs.Common.{◌≡◌, ℕ, ◌+◌, ◌<◌, ◌≤◌, ◌^◌, Bool, true, false, List, [], ◌∷◌, map, Option, Some, None, Ok, Err, ⊎_elim, inl, inr, refl, sym, ap, ◌∙◌, subst, arith}
 use Rattle.std.specs.Prelude.{nat_lt, nat_le}
 use Rattle.std.proofs.lemmas.Bool.Decides.{nat_tests}
 use Rattle.scut_base.specs.Number.{natural_value}
@@ -84,16 +84,21 @@ abbrev pub Inside : Place → Type 0
 Inside Start = ⊥
 Inside place = Unit {0}
 
+moved_placed : (p : Progress) (place : Place) (rows : Bool) (next : Next) → moved (placed p place) rows next ≡ moved p rows next
+moved_placed p place rows (Ok q) = refl
+moved_placed p place rows (Err fault) = refl
+
 step_inside : (p : Progress) (place : Place) (token : Token) → Inside place → step (placed p place) token ≡ moved p p.rows (behind place token)
 step_inside p Start token inside = absurd inside
-step_inside p place token inside = by (behind place token)
-  where
-    by : (next : Next) → moved (placed p place) p.rows next ≡ moved p p.rows next
-    by (Ok q) = refl
-    by (Err fault) = refl
+step_inside p place token inside = moved_placed p place p.rows (behind place token)
 
 step_start : (p : Progress) (symbol : Symbol) (token : Token) → Shows symbol token → step (placed p Start) token ≡ symbol_step p symbol
-step_start p symbol token shows = ?
+step_start p symbol token shows =
+    shown_cases (λ s t. step (placed p Start) t ≡ symbol_step p s) refl refl
+    (λ v ds is. moved_placed p Start true (behind Start (Digits ds)) ∙ ap (moved p true) (behind_shown Start (Number v) (Digits ds) (ds, refl, is)))
+    (λ v ds is. moved_placed p Start true (behind Start (Positive ds)) ∙ ap (moved p true) (bare_value Constraint 0 v ds is))
+    (λ v ds is. moved_placed p Start true (behind Start (Negative ds)) ∙ ap (moved p true) (bare_value Constraint 0 v ds is))
+    refl refl refl refl refl refl refl (λ b other. moved_placed p Start true (behind Start (Other b)) ∙ ap (moved p true) (behind_shown Start Unknown (Other b) (b, refl, other))) symbol token shows
 
 ended_inside : (line : ℕ) (place : Place) → Inside place → end_in line (end_fault place) ≡ Some (at_line line (Bad (missing_at place)))
 ended_inside line Start inside = absurd inside

@@ -1,4 +1,5 @@
 use Rattle.std.proofs.lemmas.Result.{on_ok_weaker}
+use Rattle.mopb_reader.specs.Streams.{plain}
 use Rattle.mopb_reader.proofs.Drafts.{objective_goes_on, row_goes_on, objective_draft, row_draft, objective_fewer, row_fewer}
 use Rattle.mopb_reader.proofs.draft.add_statement.Goals as goal
 

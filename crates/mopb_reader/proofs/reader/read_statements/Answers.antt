@@ -1,4 +1,5 @@
 use Rattle.mopb_reader.specs.Tokens.{tokens_of}
+use Rattle.mopb_reader.specs.Streams.{plain}
 use Rattle.mopb_reader.proofs.Drafts.{all_read}
 use Rattle.mopb_reader.proofs.reader.read_statements.Goals as goal
 
@@ -6,6 +7,7 @@ pub loop-first-preserved : goal.loop-first-preserved
 loop-first-preserved c =
     let read = c.in_ok-read_statement.ensures in
     record {
+      fault = ?;
       draft = read.draft (plain c.loop-first.tokens.left) c.in-Some.ensures.left c.loop-first.invariant.draft;
       so_far = read.spelled (tokens_of c.args.bytes.now) (plain c.loop-first.tokens.left) c.in-Some.ensures.left c.loop-first.invariant.so_far;
     }

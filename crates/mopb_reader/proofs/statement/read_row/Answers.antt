@@ -1,6 +1,7 @@
 use Rattle.std.proofs.Common.{◌<◌, ◌+◌, ◌^◌, arith}
 use Rattle.std.specs.Prelude.{unsigned_abs}
 use Rattle.instance.specs.Shape.{terms_magnitude}
+use Rattle.mopb_reader.specs.Streams.{plain}
 use Rattle.mopb_reader.proofs.Front.{same_number}
 use Rattle.mopb_reader.proofs.Statements.{row_read}
 use Rattle.mopb_reader.proofs.statement.read_row.Goals as goal
