@@ -206,3 +206,12 @@ bare_bound sum p first old new other taken last =
 pub judged_found : {T : Type 0} (first : Option ReadFault) (s : Stream) (p : Progress) (next : Next) (result : Result T PlaceFault) (place : Place) → first ≡ fault_inside s p next → Judges next result (λ _. place) → Finds first result s (λ _. fault_at s p place)
 judged_found first s p next (Ok x) place e judged = e ∙ ap (fault_inside s p) judged
 judged_found first s p next (Err fault) place e judged = fault_along first (fault_inside s p next) (at_line s.line fault) e (refused s p next fault judged)
+
+-- an objective's terms, and what follows them
+pub objective_so : (p : Progress) (first next : Option Symbol) (items : List (ℤ × Lit)) (old middle new : Stream) → IsTaken first middle old → middle.last ≡ old.last → fault_inside middle p (taken_behind Head first) ≡ fault_inside new p (taken_behind (place_of Objective items) next) → begins_term next ≡ false → fault_at old p Head ≡ fault_inside new p (taken_behind Bound next)
+objective_so p first next items old middle new taken last read ended =
+    took first middle old p Head tt taken last ∙ read ∙ ap (fault_inside new p) (end_there items next ended)
+
+-- a row's terms, and what follows them
+pub row_so : (p : Progress) (first : Symbol) (next : Option Symbol) (items : List (ℤ × Lit)) (old new : Stream) → fault_inside old p (symbol_behind Start first) ≡ fault_inside new p (taken_behind (place_of Constraint items) next) → (items ≡ [] → next ≡ Some first) → begins_row first ≡ true → begins_term next ≡ false → fault_inside old p (symbol_behind Start first) ≡ fault_inside new p (taken_behind (Term Constraint (terms_magnitude items)) next)
+row_so p first next items old new read same row ended = read ∙ ap (fault_inside new p) (relation_there items next first same row ended)

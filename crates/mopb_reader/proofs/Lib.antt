@@ -1,8 +1,8 @@
 pub mod Cutting
 pub mod Front
 pub mod Statements
+pub mod Places
+pub mod Findings
 pub mod Drafts
 pub mod Limits
 pub mod Texts
-pub mod Places
-pub mod Findings

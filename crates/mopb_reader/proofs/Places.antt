@@ -1,5 +1,5 @@
 -- What a token that was taken does at a place.
-use Rattle.std.proofs.Common.{◌≡◌, ℕ, ◌+◌, ◌<◌, ◌≤◌, ◌^◌, Bool, true, false, List, [], ◌∷◌, map, Option, Some, None, Ok, Err, ⊎_elim, inl, inr, refl, sym, ap, ◌∙◌, subst, arith}
+use Rattle.std.proofs.Common.{◌≡◌, ◌≢◌, ℕ, ◌+◌, ◌<◌, ◌≤◌, ◌^◌, Bool, true, false, List, [], ◌∷◌, map, Option, Some, None, Ok, Err, ⊎_elim, inl, inr, refl, sym, ap, ◌∙◌, subst, arith}
 use Rattle.std.specs.Prelude.{nat_lt, nat_le}
 use Rattle.std.proofs.lemmas.Bool.Decides.{nat_tests}
 use Rattle.scut_base.specs.Number.{natural_value}
@@ -18,7 +18,7 @@ use Rattle.mopb_reader.specs.SymbolTable.{value_counted, variable_judged, bare_j
 use Rattle.mopb_reader.specs.declared.symbol.Symbol.{Symbol}
 use Rattle.mopb_reader.specs.declared.symbol.Symbol.TheVariants.{Sign, Number, Literal, Misspelled, Min, Relation, Semicolon, Unknown}
 
-below : (n m : ℕ) → n < m → nat_lt n m ≡ true
+pub below : (n m : ℕ) → n < m → nat_lt n m ≡ true
 below n m lt = grind (arith, nat_tests)
 
 not_below : (n m : ℕ) → m ≤ n → nat_lt n m ≡ false
@@ -124,3 +124,7 @@ took_first symbol new old p taken last =
 pub taken_left : (symbol : Option Symbol) (new old : Stream) → IsTaken symbol new old → IsLeft symbol (plain new.left) (plain old.left)
 taken_left None new old taken = (ap plain taken.0, ap plain taken.1)
 taken_left (Some symbol) new old taken = (taken.0, ap plain taken.1, taken.2)
+
+pub step_other : (p : Progress) (symbol : Symbol) → symbol ≢ Min → symbol_step p symbol ≡ moved p true (symbol_behind Start symbol)
+step_other p Min other = absurd (other refl)
+step_other p symbol other = refl
