@@ -1,7 +1,7 @@
 -- Where tokens and lines are cut.
 use Rattle.std.proofs.Common.{◌≡◌, ◌≢◌, ℕ, ◌+◌, ◌<◌, ◌≤◌, Bool, true, false, not, cond, ltb, List, [], ◌∷◌, ◌++◌, length, take, drop, map, Option, Some, None, ⊎_elim, inl, inr, suc, zero, refl, sym, ap, ◌∙◌, subst, arith}
 use Rattle.std.specs.Prelude.{unwrap_or, ◌==◌, ◌&&◌}
-use Rattle.std.specs.List.{All, filter, flat_map, slice_split, position_or_len}
+use Rattle.std.specs.List.{All, filter, flat_map, position_or_len}
 use Rattle.std.specs.Char.{is_ascii_digit, digit_value}
 use Rattle.std.specs.Str.Parse.{AllDigits}
 use Rattle.std.proofs.lemmas.Bool.{cases_Bool, cases_lt, cond_both, eqb-true, ne_eqb}
@@ -11,7 +11,7 @@ use Rattle.std.proofs.lemmas.List.Elements.{All-from_get_or, filter-append}
 use Rattle.std.proofs.lemmas.List.Splits.{slice_split_none, slice_split_first}
 use Rattle.std.proofs.lemmas.List.Sums.{prefix_len-le-length, fails_before_first}
 use Rattle.scut_base.specs.Number.{natural_value}
-use Rattle.mopb_reader.specs.Tokens.{Token, Blank, Plus, Minus, Digits, Positive, Negative, Min, AtLeast, AtMost, Equal, Semicolon, Other, is_blank, is_comment, is_gap, with_digit, with_x, with_tilde, with_m, with_greater, with_less, with_byte, tokens_of_line, tokens_of}
+use Rattle.mopb_reader.specs.Tokens.{Token, Blank, Plus, Minus, Digits, Positive, Negative, Min, AtLeast, AtMost, Equal, Semicolon, Other, is_blank, is_comment, is_gap, with_digit, with_x, with_tilde, with_m, with_greater, with_less, with_byte, tokens_of_line}
 use Rattle.mopb_reader.specs.FirstFault.{is_misspelled, lines_of, numbered_tokens, tokens_in_line}
 use Rattle.mopb_reader.specs.Cuts.{tokens_in, BeginsNoDigits, BeginsNoBlank, IsNotBefore}
 use Rattle.mopb_reader.specs.Streams.{plain, numbered_rest, numbered_from, lines_behind}

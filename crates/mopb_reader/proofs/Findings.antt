@@ -1,5 +1,5 @@
 -- What was read or refused, against the first fault.
-use Rattle.std.proofs.Common.{◌≡◌, ◌≢◌, ℕ, ◌+◌, ◌<◌, ◌≤◌, ◌^◌, Bool, true, false, cond, List, [], ◌∷◌, ◌++◌, Option, Some, None, Result, Ok, Err, refl, sym, ap, ◌∙◌, subst, ℤ, arith}
+use Rattle.std.proofs.Common.{◌≡◌, ℕ, ◌+◌, ◌^◌, Bool, true, false, cond, List, [], ◌∷◌, ◌++◌, Option, Some, None, Result, Ok, Err, refl, sym, ap, ◌∙◌, subst, ℤ}
 use Rattle.std.specs.Prelude.{unsigned_abs, nat_le}
 use Rattle.scut_base.specs.Literal.{Literal as Lit}
 use Rattle.instance.specs.Shape.{terms_magnitude}
@@ -14,7 +14,7 @@ use Rattle.mopb_reader.specs.Symbols.{begins_literal, begins_term, begins_row}
 use Rattle.mopb_reader.specs.Streams.{Stream, IsTaken}
 use Rattle.mopb_reader.specs.SymbolTable.{value_counted, variable_judged, taken_begun, symbol_behind, taken_behind, fault_at, fault_inside, Finds, Judges, place_of}
 use Rattle.mopb_reader.specs.declared.symbol.Symbol.{Symbol}
-use Rattle.mopb_reader.specs.declared.symbol.Symbol.TheVariants.{Sign, Number, Literal, Misspelled, Min, Relation, Semicolon, Unknown}
+use Rattle.mopb_reader.specs.declared.symbol.Symbol.TheVariants.{Sign, Number, Literal, Misspelled, Relation, Semicolon}
 use Rattle.mopb_reader.proofs.Front.{magnitude_push}
 use Rattle.mopb_reader.proofs.Places.{took}
 

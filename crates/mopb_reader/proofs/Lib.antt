@@ -6,3 +6,4 @@ pub mod Findings
 pub mod Drafts
 pub mod Limits
 pub mod Texts
+pub mod Faultless

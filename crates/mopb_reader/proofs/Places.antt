@@ -1,20 +1,17 @@
 -- What a token that was taken does at a place.
-use Rattle.std.proofs.Common.{◌≡◌, ◌≢◌, ℕ, ◌+◌, ◌<◌, ◌≤◌, ◌^◌, Bool, true, false, List, [], ◌∷◌, map, Option, Some, None, Ok, Err, ⊎_elim, inl, inr, refl, sym, ap, ◌∙◌, subst, arith}
-use Rattle.std.specs.Prelude.{nat_lt, nat_le}
+use Rattle.std.proofs.Common.{◌≡◌, ◌≢◌, ℕ, ◌<◌, ◌≤◌, ◌^◌, Bool, true, false, List, Option, Some, None, Ok, Err, inl, inr, refl, sym, ap, ◌∙◌, subst, arith}
+use Rattle.std.specs.Prelude.{nat_lt}
 use Rattle.std.proofs.lemmas.Bool.Decides.{nat_tests}
 use Rattle.scut_base.specs.Number.{natural_value}
-use Rattle.instance.specs.declared.row.Rel.{Rel}
 use Rattle.instance.specs.declared.row.Rel.TheVariants.{AtLeast as HoldsAtLeast, AtMost as HoldsAtMost, Equal as HoldsEqual}
-use Rattle.instance.specs.declared.fault.BadKind.{BadKind}
 use Rattle.instance.specs.declared.fault.InstanceLimit.{InstanceLimit}
-use Rattle.instance.specs.declared.fault.PlaceFault.{PlaceFault}
-use Rattle.instance.specs.declared.fault.PlaceFault.TheVariants.{Bad, Limit, NoMemory}
-use Rattle.instance.specs.Reading.{at_line, IsFaultOf}
+use Rattle.instance.specs.declared.fault.PlaceFault.TheVariants.{Bad}
+use Rattle.instance.specs.Reading.{at_line}
 use Rattle.mopb_reader.specs.Tokens.{Token, Plus, Minus, Digits, Positive, Negative, Min as Opening, AtLeast, AtMost, Equal, Semicolon as End, Other}
-use Rattle.mopb_reader.specs.FirstFault.{Kind, Objective, Constraint, limit_of, Place, Start, Head, Sign as BehindSign, Coefficient, Term, Relation as BehindRelation, BoundSign, Bound, missing_at, Next, counted, indexed, behind_bare, behind_begun, behind, is_misspelled, Progress, moved, step, fault_or, end_in, end_fault, fault_from}
+use Rattle.mopb_reader.specs.FirstFault.{Kind, Objective, Constraint, limit_of, Place, Start, Head, Sign as BehindSign, Coefficient, Term, Relation as BehindRelation, BoundSign, Bound, missing_at, Next, counted, indexed, behind_bare, behind, is_misspelled, Progress, moved, step, fault_or, end_in, end_fault, fault_from}
 use Rattle.mopb_reader.specs.Symbols.{ValueIs, Shows, IsLeft}
 use Rattle.mopb_reader.specs.Streams.{Stream, plain, IsTaken}
-use Rattle.mopb_reader.specs.SymbolTable.{value_counted, variable_judged, bare_judged, symbol_begun, symbol_behind, taken_behind, symbol_step, placed, fault_at, fault_behind, fault_inside}
+use Rattle.mopb_reader.specs.SymbolTable.{value_counted, variable_judged, bare_judged, symbol_behind, taken_behind, symbol_step, placed, fault_at, fault_behind, fault_inside}
 use Rattle.mopb_reader.specs.declared.symbol.Symbol.{Symbol}
 use Rattle.mopb_reader.specs.declared.symbol.Symbol.TheVariants.{Sign, Number, Literal, Misspelled, Min, Relation, Semicolon, Unknown}
 
@@ -88,7 +85,7 @@ moved_placed : (p : Progress) (place : Place) (rows : Bool) (next : Next) → mo
 moved_placed p place rows (Ok q) = refl
 moved_placed p place rows (Err fault) = refl
 
-step_inside : (p : Progress) (place : Place) (token : Token) → Inside place → step (placed p place) token ≡ moved p p.rows (behind place token)
+pub step_inside : (p : Progress) (place : Place) (token : Token) → Inside place → step (placed p place) token ≡ moved p p.rows (behind place token)
 step_inside p Start token inside = absurd inside
 step_inside p place token inside = moved_placed p place p.rows (behind place token)
 

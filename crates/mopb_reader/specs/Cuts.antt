@@ -1,8 +1,8 @@
 -- Where a text and its lines are cut.
-use Rattle.std.specs.Prelude.{◌≡◌, ◌≢◌, ℕ, ◌+◌, ◌<◌, false, not, if◌then◌else◌, List, [], ◌∷◌, length, Option, Some, None}
+use Rattle.std.specs.Prelude.{◌≡◌, ◌≢◌, ℕ, ◌+◌, ◌<◌, false, not, List, [], ◌∷◌, length, Option, Some, None}
 use Rattle.std.specs.List.{filter}
 use Rattle.scut_base.specs.Number.{natural_value}
-use Rattle.mopb_reader.specs.Tokens.{Token, Digits, is_blank, is_comment, is_gap, tokens_of_line, tokens_of}
+use Rattle.mopb_reader.specs.Tokens.{Token, Digits, is_blank, is_gap, tokens_of_line}
 use Rattle.mopb_reader.specs.Symbols.{Shows, ValueIs}
 use Rattle.mopb_reader.specs.declared.symbol.Symbol.{Symbol}
 

@@ -1,4 +1,4 @@
-use Rattle.std.proofs.Common.{◌≡◌, ◌<◌, [], length, ◌∙◌, rules, arith}
+use Rattle.std.proofs.Common.{◌≡◌, ◌<◌, [], length, ◌∙◌, rules}
 use Rattle.std.proofs.lemmas.Result.{err_from_is_err_and}
 use Rattle.mopb_reader.proofs.Findings.{fault_along}
 use Rattle.mopb_reader.proofs.Drafts.{behind_objective, head_fits, objective_progress}

@@ -1,4 +1,4 @@
-use Rattle.std.proofs.Common.{◌≡◌, ◌<◌, ◌^◌, ◌+◌, ◌∙◌, sym, max, ap, arith}
+use Rattle.std.proofs.Common.{◌≡◌, ◌<◌, ◌^◌, ◌∙◌, sym, max, ap, arith}
 use Rattle.std.specs.Prelude.{unsigned_abs}
 use Rattle.mopb_reader.specs.Streams.{plain}
 use Rattle.std.proofs.lemmas.Result.{err_from_is_err_and}
