@@ -14,7 +14,9 @@ use Rattle.instance.specs.declared.row.Rel.{Rel}
 use Rattle.instance.specs.declared.objective.Objective.{Objective as Goal}
 use Rattle.instance.specs.declared.fault.BadKind.{BadKind}
 use Rattle.instance.specs.declared.fault.InstanceLimit.{InstanceLimit}
+use Rattle.instance.specs.declared.fault.InstanceLimit.TheVariants.{Objectives}
 use Rattle.instance.specs.declared.fault.PlaceFault.{PlaceFault}
+use Rattle.instance.specs.declared.fault.PlaceFault.TheVariants.{Limit}
 use Rattle.instance.specs.declared.fault.ReadFault.{ReadFault}
 use Rattle.instance.specs.Shape.{InstanceValue, terms_magnitude, IsRowWithin, IsObjectiveWithin}
 use Rattle.mopb_reader.specs.Tokens.{Token, Plus, Minus, Digits, Positive, Negative, Min, AtLeast, AtMost, Equal, Semicolon, tokens_of}
@@ -294,3 +296,109 @@ row_passes p (item ∷ items) before after rest t rel bound spelled related boun
     ∙ terms_pass q Constraint (0 + unsigned_abs item.0) items spelled.1 tail spelled.5 spelled.4 (omega arith) (omega arith)
     ∙ relation_passes q (0 + unsigned_abs item.0 + terms_magnitude items) t rel (after ++ Semicolon ∷ rest) related
     ∙ row_ends q (0 + unsigned_abs item.0 + terms_magnitude items) after rest bound bounded (omega arith)
+
+-- the statements of tokens
+token_cases : (t : Token) (P : Type 0) → (t ≡ Semicolon → is_semicolon t ≡ true → P) → (is_semicolon t ≡ false → P) → P
+token_cases Semicolon P here other = here refl refl
+token_cases t P here other = other refl
+
+cut_at : (b : Bool) (t : Token) (parts x : List (List Token)) → b ≡ true → cond b ([] ∷ parts) (onto_first t parts) ≡ x → [] ∷ parts ≡ x
+cut_at true t parts x e cut = cut
+cut_at false t parts x e cut = absurd cc
+
+cut_on : (b : Bool) (t : Token) (parts x : List (List Token)) → b ≡ false → cond b ([] ∷ parts) (onto_first t parts) ≡ x → onto_first t parts ≡ x
+cut_on true t parts x e cut = absurd cc
+cut_on false t parts x e cut = cut
+
+-- a first part of two or more ends at a semicolon
+abbrev pub IsCut : List Token → List Token → List (List Token) → Type 0
+IsCut tokens part parts = (rest : List Token) × (tokens ≡ part ++ Semicolon ∷ rest) × (slice_split is_semicolon rest ≡ parts)
+
+onto_cut : (t : Token) (tokens part : List Token) (next : List Token) (more whole : List (List Token)) → slice_split is_semicolon tokens ≡ whole → onto_first t whole ≡ part ∷ next ∷ more → ((front : List Token) → whole ≡ front ∷ next ∷ more → IsCut tokens front (next ∷ more)) → IsCut (t ∷ tokens) part (next ∷ more)
+onto_cut t tokens part next more [] split cut further = absurd cc
+onto_cut t tokens part next more (front ∷ parts) split cut further =
+    let rest : parts ≡ next ∷ more = cc in
+    let first : t ∷ front ≡ part = cc in
+    let found = further front (ap (λ ps. front ∷ ps) rest) in
+    (found.0, ap (λ ts. t ∷ ts) found.1 ∙ ap (λ ts. ts ++ Semicolon ∷ found.0) first, found.2)
+
+pub first_cut : (tokens part next : List Token) (more : List (List Token)) → slice_split is_semicolon tokens ≡ part ∷ next ∷ more → IsCut tokens part (next ∷ more)
+first_cut [] part next more e = absurd cc
+first_cut (t ∷ tokens) part next more e =
+    token_cases t (IsCut (t ∷ tokens) part (next ∷ more))
+    (λ is same.
+    let here : [] ∷ slice_split is_semicolon tokens ≡ part ∷ next ∷ more = cut_at (is_semicolon t) t (slice_split is_semicolon tokens) (part ∷ next ∷ more) same e in
+    let none : [] ≡ part = cc in
+    let rest : slice_split is_semicolon tokens ≡ next ∷ more = cc in
+    (tokens, ap (λ x. x ∷ tokens) is ∙ ap (λ ts. ts ++ Semicolon ∷ tokens) none, rest))
+    (λ other. onto_cut t tokens part next more (slice_split is_semicolon tokens) refl (cut_on (is_semicolon t) t (slice_split is_semicolon tokens) (part ∷ next ∷ more) other e) (λ front found. first_cut tokens front next more found))
+
+onto_some : (t : Token) (parts : List (List Token)) → onto_first t parts ≡ [] ∷ [] → ⊥
+onto_some t [] e = absurd cc
+onto_some t (part ∷ parts) e = absurd cc
+
+onto_none : (t : Token) (parts : List (List Token)) → onto_first t parts ≡ [] → ⊥
+onto_none t [] e = absurd cc
+onto_none t (part ∷ parts) e = absurd cc
+
+split_none : (tokens : List Token) → slice_split is_semicolon tokens ≡ [] → ⊥
+split_none [] e = absurd cc
+split_none (t ∷ tokens) e = elim (cases_Bool (is_semicolon t)) [
+  | inl here ↦ let some : [] ∷ slice_split is_semicolon tokens ≡ [] = cut_at (is_semicolon t) t (slice_split is_semicolon tokens) [] here e in absurd cc
+  | inr other ↦ onto_none t (slice_split is_semicolon tokens) (cut_on (is_semicolon t) t (slice_split is_semicolon tokens) [] other e)
+]
+
+split_some : (tokens : List Token) → [] ∷ slice_split is_semicolon tokens ≡ [] ∷ [] → ⊥
+split_some tokens e = split_none tokens cc
+
+pub none_cut : (tokens : List Token) → slice_split is_semicolon tokens ≡ [] ∷ [] → tokens ≡ []
+none_cut [] e = refl
+none_cut (t ∷ tokens) e = elim (cases_Bool (is_semicolon t)) [
+  | inl here ↦ absurd (split_some tokens (cut_at (is_semicolon t) t (slice_split is_semicolon tokens) ([] ∷ []) here e))
+  | inr other ↦ absurd (onto_some t (slice_split is_semicolon tokens) (cut_on (is_semicolon t) t (slice_split is_semicolon tokens) ([] ∷ []) other e))
+]
+
+-- all rows, and all objectives before them
+abbrev pub started : ℕ → Bool → Progress
+started n rows = record { objectives = n; rows = rows; place = Start }
+
+next_cut : (tokens part : List Token) (parts : List (List Token)) → slice_split is_semicolon tokens ≡ part ∷ (parts ++ [] ∷ []) → IsCut tokens part (parts ++ [] ∷ [])
+next_cut tokens part [] e = first_cut tokens part [] [] e
+next_cut tokens part (next ∷ parts) e = first_cut tokens part next (parts ++ [] ∷ []) e
+
+rows_pass : (n v : ℕ) (seen : Bool) (parts : List (List Token)) (rows : List Linear) (tokens : List Token) → slice_split is_semicolon tokens ≡ parts ++ [] ∷ [] → AllZip SpellsRow parts rows → All (IsRowWithin v) rows → largest_in_rows rows ≤ 2 ^ 24 → fault_in (started n seen) tokens ≡ None
+rows_pass n v seen [] [] tokens split spelled limits within = ap (fault_in (started n seen)) (none_cut tokens split)
+rows_pass n v seen [] (row ∷ rows) tokens split spelled limits within = absurd spelled
+rows_pass n v seen (part ∷ parts) [] tokens split spelled limits within = absurd spelled
+rows_pass n v seen (part ∷ parts) (row ∷ rows) tokens split spelled limits within =
+    let cut = next_cut tokens part parts split in
+    let found = spelled.0 in
+    let whole : tokens ≡ found.before ++ (found.relation ∷ found.after ++ Semicolon ∷ cut.0) = cut.1 ∙ ap (λ ts. ts ++ Semicolon ∷ cut.0) found.parts ∙ append_assoc found.before (found.relation ∷ found.after) (Semicolon ∷ cut.0) in
+    let here : IsRowWithin v row = All-head (IsRowWithin v) row rows limits in
+    ap (fault_in (started n seen)) whole
+    ∙ row_passes (started n seen) row.terms found.before found.after cut.0 found.relation row.rel row.bound found.terms found.rel found.bound here.magnitude (omega arith)
+    ∙ rows_pass n v true parts rows cut.0 cut.2 spelled.1 (All-tail (IsRowWithin v) row rows limits) (omega arith)
+
+head_passes : (n : ℕ) (rest : List Token) → n < 64 → fault_in (started n false) (Min ∷ rest) ≡ fault_on (started (n + 1) false) Head rest
+head_passes n rest room = ap (λ b. fault_then (if b then Ok (record { objectives = n + 1; rows = false; place = Head }) else Err (Limit Objectives)) (λ q. fault_in q rest)) (below n 64 room)
+
+objectives_pass : (n v : ℕ) (first parts : List (List Token)) (objectives : List Goal) (rows : List Linear) (tokens : List Token) → slice_split is_semicolon tokens ≡ first ++ parts ++ [] ∷ [] → AllZip SpellsObjective first objectives → AllZip SpellsRow parts rows → All (IsObjectiveWithin v) objectives → All (IsRowWithin v) rows → largest_in_objectives objectives ≤ 2 ^ 24 → largest_in_rows rows ≤ 2 ^ 24 → n + length objectives ≤ 64 → fault_in (started n false) tokens ≡ None
+objectives_pass n v [] parts [] rows tokens split spelled rows_spelled limits rows_limits within rows_within room = rows_pass n v false parts rows tokens split rows_spelled rows_limits rows_within
+objectives_pass n v [] parts (o ∷ objectives) rows tokens split spelled rows_spelled limits rows_limits within rows_within room = absurd spelled
+objectives_pass n v (part ∷ first) parts [] rows tokens split spelled rows_spelled limits rows_limits within rows_within room = absurd spelled
+objectives_pass n v (part ∷ first) parts (o ∷ objectives) rows tokens split spelled rows_spelled limits rows_limits within rows_within room =
+    let cut = next_cut tokens part (first ++ parts) split in
+    let found = spelled.0 in
+    let whole : tokens ≡ Min ∷ found.after ++ Semicolon ∷ cut.0 = cut.1 ∙ ap (λ ts. ts ++ Semicolon ∷ cut.0) found.begins in
+    let here : IsObjectiveWithin v o = All-head (IsObjectiveWithin v) o objectives limits in
+    ap (fault_in (started n false)) whole
+    ∙ head_passes n (found.after ++ Semicolon ∷ cut.0) (omega arith)
+    ∙ objective_passes (started (n + 1) false) o.terms found.after cut.0 found.terms (omega (arith, here.magnitude)) (omega arith)
+    ∙ objectives_pass (n + 1) v first parts objectives rows cut.0 cut.2 spelled.1 rows_spelled (All-tail (IsObjectiveWithin v) o objectives limits) rows_limits (omega arith) rows_within (omega arith)
+
+pub spelled_faultless : (text : List ℕ) (i : InstanceValue) → Spells text i → first_fault text ≡ None
+spelled_faultless text i spelled =
+    let limits = spelled.limits in
+    lined (length (lines_of text)) nothing_yet (numbered_tokens 1 (lines_of text))
+    (ap (fault_in nothing_yet) (text_tokens text)
+    ∙ objectives_pass 0 i.vars spelled.first spelled.then i.objectives i.linear (tokens_of text) spelled.statements spelled.objectives spelled.rows limits.objectives limits.rows (omega (arith, spelled.variables, limits.variables)) (omega (arith, spelled.variables, limits.variables)) (omega (arith, limits.count)))
