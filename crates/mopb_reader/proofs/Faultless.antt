@@ -88,7 +88,7 @@ counted_fits limit sum value behind small = rw (below value (2 ^ 63) (omega arit
 indexed_fits : (index : ℕ) (next : Next) → index ≤ 2 ^ 24 → indexed index next ≡ next
 indexed_fits index next small = rw (below index (2 ^ 63) (omega arith), at_most index (2 ^ 24) small) refl
 
-size_of : (minus : Bool) (n : ℕ) → unsigned_abs (signed_value minus n) ≡ n
+pub size_of : (minus : Bool) (n : ℕ) → unsigned_abs (signed_value minus n) ≡ n
 size_of false n = refl
 size_of true n = omega (arith, ints)
 
@@ -188,7 +188,7 @@ head_opens t begins = absurd begins
 abbrev pub in_row : Progress → Progress
 in_row p = record { objectives = p.objectives; rows = true; place = Start }
 
-moved_row : (p : Progress) (next : Next) (rest : List Token) → fault_then (moved (placed p Start) true next) (λ q. fault_in q rest) ≡ fault_after (in_row p) next rest
+pub moved_row : (p : Progress) (next : Next) (rest : List Token) → fault_then (moved (placed p Start) true next) (λ q. fault_in q rest) ≡ fault_after (in_row p) next rest
 moved_row p (Ok place) rest = refl
 moved_row p (Err fault) rest = refl
 
@@ -222,7 +222,7 @@ first_further p kind sum [] others rest term spelled may = absurd spelled
 first_further p kind sum (t ∷ front) others rest term spelled may = goes p (Term kind sum) t (front ++ rest) tt ∙ ap (λ next. fault_after p next (front ++ rest)) (further_opens kind sum t (front ++ others) may)
 
 -- terms
-magnitude_cons : (t : ℤ × Lit) (ts : List (ℤ × Lit)) → terms_magnitude (t ∷ ts) ≡ unsigned_abs t.0 + terms_magnitude ts
+pub magnitude_cons : (t : ℤ × Lit) (ts : List (ℤ × Lit)) → terms_magnitude (t ∷ ts) ≡ unsigned_abs t.0 + terms_magnitude ts
 magnitude_cons t ts = sum_by-cons (λ x. unsigned_abs x.0) t ts
 
 terms_pass : (p : Progress) (kind : Kind) (sum : ℕ) (items : List (ℤ × Lit)) (front rest : List Token) → SpellsTerms front items → MayFollowTerm front → sum + terms_magnitude items < 2 ^ 63 → largest_of items ≤ 2 ^ 24 → fault_on p (Term kind sum) (front ++ rest) ≡ fault_on p (Term kind (sum + terms_magnitude items)) rest

@@ -7,3 +7,4 @@ pub mod Drafts
 pub mod Limits
 pub mod Texts
 pub mod Faultless
+pub mod Completions
