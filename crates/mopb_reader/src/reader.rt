@@ -1,5 +1,5 @@
 // The reader.
-ghost use Rattle.std.specs.Prelude.{ℕ, List, ◌≡◌, ◌<◌, ◌^◌, length, Some, IfOk, IfErr, OnOk};
+ghost use Rattle.std.specs.Prelude.{ℕ, List, ◌≡◌, ◌<◌, ◌^◌, length, Some, None, IfOk, IfErr, OnOk};
 ghost use Rattle.instance.specs.Shape.{InstanceValue};
 ghost use Rattle.instance.specs.Reading.{IsFaultOf};
 ghost use Rattle.mopb_reader.specs.Tokens.{Token, tokens_of};
@@ -63,6 +63,16 @@ fn read_statement(
 /// A text spells at most one instance.
 pub fn one_instance()
     ensures { (text : List ℕ) (i j : InstanceValue) → Spells text i → Spells text j → i ≡ j }
+{}
+
+/// A text that spells an instance has no fault.
+pub fn no_fault_where_spelled()
+    ensures { (text : List ℕ) (i : InstanceValue) → Spells text i → first_fault text ≡ None }
+{}
+
+/// A text of fewer than 2^32 bytes that has no fault spells an instance.
+pub fn spelled_where_no_fault()
+    ensures { (text : List ℕ) → length text < 2 ^ 32 → first_fault text ≡ None → (i : InstanceValue) × Spells text i }
 {}
 
 #[cfg(test)]
