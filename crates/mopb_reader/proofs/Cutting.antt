@@ -1,18 +1,20 @@
 -- Where tokens and lines are cut.
-use Rattle.std.proofs.Common.{◌≡◌, ◌≢◌, ℕ, ◌+◌, ◌<◌, ◌≤◌, Bool, true, false, not, cond, ltb, List, [], ◌∷◌, ◌++◌, length, take, drop, Option, Some, None, ⊎_elim, inl, inr, suc, zero, refl, sym, ap, ◌∙◌, subst, arith}
+use Rattle.std.proofs.Common.{◌≡◌, ◌≢◌, ℕ, ◌+◌, ◌<◌, ◌≤◌, Bool, true, false, not, cond, ltb, List, [], ◌∷◌, ◌++◌, length, take, drop, map, Option, Some, None, ⊎_elim, inl, inr, suc, zero, refl, sym, ap, ◌∙◌, subst, arith}
 use Rattle.std.specs.Prelude.{unwrap_or, ◌==◌, ◌&&◌}
-use Rattle.std.specs.List.{All, filter, flat_map, slice_split, position_or_len}
+use Rattle.std.specs.List.{All, filter, flat_map, position_or_len}
 use Rattle.std.specs.Char.{is_ascii_digit, digit_value}
 use Rattle.std.specs.Str.Parse.{AllDigits}
 use Rattle.std.proofs.lemmas.Bool.{cases_Bool, cases_lt, cond_both, eqb-true, ne_eqb}
 use Rattle.std.proofs.lemmas.Bool.Decides.{nat_tests}
-use Rattle.std.proofs.lemmas.List.{take_all}
+use Rattle.std.proofs.lemmas.List.{take_all, map-append}
 use Rattle.std.proofs.lemmas.List.Elements.{All-from_get_or, filter-append}
 use Rattle.std.proofs.lemmas.List.Splits.{slice_split_none, slice_split_first}
 use Rattle.std.proofs.lemmas.List.Sums.{prefix_len-le-length, fails_before_first}
 use Rattle.scut_base.specs.Number.{natural_value}
-use Rattle.mopb_reader.specs.Tokens.{Token, Blank, Plus, Minus, Digits, Positive, Negative, Min, AtLeast, AtMost, Equal, Semicolon, Other, is_blank, is_comment, is_gap, with_digit, with_x, with_tilde, with_m, with_greater, with_less, with_byte, tokens_of_line, tokens_of}
-use Rattle.mopb_reader.specs.Cuts.{tokens_in, tokens_of_content, BeginsNoDigits, BeginsNoBlank, IsNotBefore}
+use Rattle.mopb_reader.specs.Tokens.{Token, Blank, Plus, Minus, Digits, Positive, Negative, Min, AtLeast, AtMost, Equal, Semicolon, Other, is_blank, is_comment, is_gap, with_digit, with_x, with_tilde, with_m, with_greater, with_less, with_byte, tokens_of_line}
+use Rattle.mopb_reader.specs.FirstFault.{is_misspelled, lines_of, numbered_tokens, tokens_in_line}
+use Rattle.mopb_reader.specs.Cuts.{tokens_in, BeginsNoDigits, BeginsNoBlank, IsNotBefore}
+use Rattle.mopb_reader.specs.Streams.{plain, numbered_rest, numbered_from, lines_behind}
 
 at_most : (n m : ℕ) → n ≤ m → unwrap_or (cond (ltb n m) (Some n) None) m ≡ n
 at_most n m le = grind (arith, nat_tests)
@@ -256,18 +258,47 @@ line_kept : (c : Bool) (line : List ℕ) (lines : List (List ℕ)) → filter (�
 line_kept true line lines = refl
 line_kept false line lines = filter-append (λ t. not (is_gap t)) (tokens_of_line line) (flat_map tokens_of_line lines)
 
-pub tokens_first : (text : List ℕ) (n : ℕ) → n ≡ position_or_len (λ b. b == 10) text → n < length text → tokens_of text ≡ tokens_of_content (take n text) ++ tokens_of (drop (n + 1) text)
-tokens_first text n at lt =
-    let first : slice_split (λ b. b == 10) text ≡ take n text ∷ slice_split (λ b. b == 10) (drop (n + 1) text) = rw at (slice_split_first (λ b. b == 10) text 0 (rw (← at) lt)) in
-    ap (λ (lines : List (List ℕ)). filter (λ t. not (is_gap t)) (flat_map tokens_of_line (filter (λ line. not (is_comment line)) lines))) first
-    ∙ line_kept (is_comment (take n text)) (take n text) (filter (λ line. not (is_comment line)) (slice_split (λ b. b == 10) (drop (n + 1) text)))
+-- a text's lines are the first one and those of what follows
+pub lines_first : (text : List ℕ) (n : ℕ) → n ≡ position_or_len (λ b. b == 10) text → n < length text → lines_of text ≡ take n text ∷ lines_of (drop (n + 1) text)
+lines_first text n at lt = rw at (slice_split_first (λ b. b == 10) text 0 (rw (← at) lt))
 
-pub tokens_last : (text : List ℕ) (n : ℕ) → n ≡ position_or_len (λ b. b == 10) text → length text ≤ n → tokens_of text ≡ tokens_of_content (take n text) ++ []
-tokens_last text n at le =
+pub lines_last : (text : List ℕ) (n : ℕ) → n ≡ position_or_len (λ b. b == 10) text → length text ≤ n → lines_of text ≡ take n text ∷ []
+lines_last text n at le =
     let none : All (λ b. (b == 10) ≡ false) text = All-from_get_or (λ b. (b == 10) ≡ false) text 0 (λ i lt. fails_before_first (λ b. b == 10) text i 0 (omega arith)) in
     let whole : take n text ≡ text = take_all n text le in
-    rw whole (ap (λ (lines : List (List ℕ)). filter (λ t. not (is_gap t)) (flat_map tokens_of_line (filter (λ line. not (is_comment line)) lines))) (slice_split_none (λ b. b == 10) text none)
-    ∙ line_kept (is_comment text) text [])
+    rw whole (slice_split_none (λ b. b == 10) text none)
+
+-- the lines that follow a line
+abbrev pub rest_lines : Option (List ℕ) → List (List ℕ)
+rest_lines None = []
+rest_lines (Some text) = lines_of text
+
+rest_numbered : (number : ℕ) (rest : Option (List ℕ)) → numbered_rest number rest ≡ numbered_tokens number (rest_lines rest)
+rest_numbered number None = refl
+rest_numbered number (Some text) = refl
+
+pub numbered_first : (number : ℕ) (content line text : List ℕ) (rest : Option (List ℕ)) → lines_of text ≡ line ∷ rest_lines rest → tokens_in content ≡ tokens_in_line line → numbered_from number content rest ≡ numbered_tokens number (lines_of text)
+numbered_first number content line text rest cut same =
+    ap (λ tokens. map (λ t. (number, t)) tokens ++ numbered_rest (number + 1) rest) same
+    ∙ ap (λ tokens. map (λ t. (number, t)) (tokens_in_line line) ++ tokens) (rest_numbered (number + 1) rest)
+    ∙ sym (ap (numbered_tokens number) cut)
+
+pub lines_counted : (line text : List ℕ) (rest : Option (List ℕ)) → lines_of text ≡ line ∷ rest_lines rest → lines_behind rest + 1 ≡ length (lines_of text)
+lines_counted line text None cut = omega (arith, ap length cut)
+lines_counted line text (Some more) cut = omega (arith, ap length cut)
+
+-- the tokens of a text, without their lines
+pub numbered_plain : (number : ℕ) (lines : List (List ℕ)) → plain (numbered_tokens number lines) ≡ filter (λ t. not (is_gap t)) (flat_map tokens_of_line (filter (λ line. not (is_comment line)) lines))
+numbered_plain number [] = refl
+numbered_plain number (line ∷ lines) =
+    map-append (λ (t : ℕ × Token). t.1) (map (λ t. (number, t)) (tokens_in_line line)) (numbered_tokens (number + 1) lines)
+    ∙ ap (λ tokens. tokens ++ plain (numbered_tokens (number + 1) lines)) (numbered_back number (tokens_in_line line))
+    ∙ ap (λ tokens. tokens_in_line line ++ tokens) (numbered_plain (number + 1) lines)
+    ∙ sym (line_kept (is_comment line) line (filter (λ line. not (is_comment line)) lines))
+  where
+    numbered_back : (number : ℕ) (tokens : List Token) → plain (map (λ t. (number, t)) tokens) ≡ tokens
+    numbered_back number [] = refl
+    numbered_back number (t ∷ tokens) = ap (λ ts. t ∷ ts) (numbered_back number tokens)
 
 -- a variable behind `~x`
 pub negated_first : (text after rest ds : List ℕ) → text ≡ 120 ∷ after → tokens_of_line after ≡ Digits ds ∷ tokens_of_line rest → 0 < natural_value ds → with_tilde (tokens_of_line text) ≡ Negative ds ∷ tokens_of_line rest
@@ -283,3 +314,6 @@ negated_none text after e none = tilde_x_alone (tokens_of_line text) (tokens_of_
 pub other_alone : (line : List ℕ) (b : ℕ) (rest : List ℕ) → line ≡ b ∷ rest → is_blank b ≡ false → (is_ascii_digit b ≡ true → ⊥) → b ≢ 120 → b ≢ 126 → b ≢ 109 → b ≢ 62 → b ≢ 60 → b ≢ 61 → b ≢ 43 → b ≢ 45 → b ≢ 59 → tokens_of_line line ≡ Other b ∷ tokens_of_line rest
 other_alone line b rest e blank digit x tilde m greater less equal plus minus semicolon =
     rw e (byte_cases (λ ts. ts ≡ Other b ∷ tokens_of_line rest) b (tokens_of_line rest) (λ t. absurd cc) (λ t. absurd (digit t)) (λ t. absurd (x t)) (λ t. absurd (tilde t)) (λ t. absurd (m t)) (λ t. absurd (greater t)) (λ t. absurd (less t)) (λ t. absurd (plus t)) (λ t. absurd (minus t)) (λ t. absurd (equal t)) (λ t. absurd (semicolon t)) refl)
+
+pub other_plain : (b : ℕ) → b ≢ 120 → b ≢ 126 → is_misspelled b ≡ false
+other_plain b x tilde = rw (ne_eqb b 120 x, ne_eqb b 126 tilde) refl

@@ -1,5 +1,6 @@
 -- What a statement more makes of a draft.
-use Rattle.std.proofs.Common.{◌≡◌, ◌≢◌, ◌<◌, ◌^◌, Bool, true, false, max, List, [], ◌∷◌, ◌++◌, length, Some, refl, sym, ap, ◌∙◌, subst, append_assoc, append-nil, ℤ, arith}
+use Rattle.std.proofs.Common.{◌≡◌, ◌≢◌, ℕ, ◌+◌, ◌<◌, ◌^◌, Bool, true, false, max, List, [], ◌∷◌, ◌++◌, length, Some, refl, sym, ap, ◌∙◌, subst, append_assoc, append-nil, ℤ, arith}
+use Rattle.std.specs.Prelude.{nat_lt, if◌then◌else◌}
 use Rattle.std.specs.List.{AllZip, All, slice_split}
 use Rattle.std.proofs.lemmas.List.{length_push, length-append}
 use Rattle.std.proofs.lemmas.List.Elements.{All-nil, All-cons, All-append, All-push}
@@ -10,12 +11,17 @@ use Rattle.instance.specs.declared.row.Rel.{Rel}
 use Rattle.instance.specs.declared.objective.Objective.{Objective}
 use Rattle.instance.specs.Shape.{objective_magnitude, row_magnitude}
 use Rattle.mopb_reader.specs.Tokens.{Token, Plus, Minus, Digits, Positive, Negative, Min as Head, AtLeast, AtMost, Equal, Semicolon as End}
+use Rattle.mopb_reader.specs.FirstFault.{Start, Head, Progress, Progressed, first_fault, fault_from, head_begun, lines_of, numbered_tokens}
 use Rattle.mopb_reader.specs.Symbols.{IsLeft}
+use Rattle.mopb_reader.specs.Streams.{Stream}
+use Rattle.mopb_reader.specs.SymbolTable.{fault_at, fault_behind}
 use Rattle.mopb_reader.specs.Grammar.{SpellsLiteral, SpellsUnsigned, SpellsTerm, SpellsTerms, SpellsMagnitude, SpellsBound, SpellsRelation, SpellsObjective, SpellsRow, is_semicolon, largest_of, largest_in_objectives, largest_in_rows}
-use Rattle.mopb_reader.specs.Drafts.{SpellsAll, IsDraft, GoesOn, AddsObjective, AddsRow}
+use Rattle.mopb_reader.specs.Drafts.{SpellsAll, IsDraft, GoesOn, AddsObjective, AddsRow, has_any, progress_of}
 use Rattle.mopb_reader.specs.declared.symbol.Symbol.{Symbol}
 use Rattle.mopb_reader.specs.declared.symbol.Symbol.TheVariants.{Min}
 use Rattle.mopb_reader.specs.declared.draft.Draft.{Draft}
+use Rattle.mopb_reader.proofs.Places.{below}
+use Rattle.mopb_reader.proofs.Findings.{push_some}
 
 -- no token is a semicolon
 abbrev pub NoEnd : List Token → Type 0
@@ -111,10 +117,6 @@ objective_goes_on first tokens rest all left d e is_min adds is_left so_far obje
     let rs : e.linear ++ rows ≡ d.linear ++ rows = ap (λ (x : Draft). x.linear ++ rows) adds.added in
     rw (os, rs) whole
 
-push_some : {X : Type 0} (xs : List X) (x : X) → xs ++ x ∷ [] ≡ [] → ⊥
-push_some [] x e = absurd cc
-push_some (y ∷ xs) x e = absurd cc
-
 pub row_goes_on : (first : Symbol) (tokens rest all left : List Token) (d e : Draft) → AddsRow first tokens rest d e → IsLeft (Some first) tokens left → GoesOn all left d → GoesOn all rest e
 row_goes_on first tokens rest all left d e adds is_left so_far objectives rows ordered spelled =
     let row = adds.row in
@@ -182,3 +184,37 @@ all_read all left d none so_far =
     let nothing : SpellsAll [] [] [] = record { first = []; then = []; statements = refl; objectives_spelled = tt; rows_spelled = tt } in
     let whole : SpellsAll all (d.objectives ++ []) (d.linear ++ []) = so_far [] [] (λ _. refl) (subst (λ (ts : List Token). SpellsAll ts [] []) (sym none) nothing) in
     subst (λ (rows : List Linear). SpellsAll all d.objectives rows) (append-nil d.linear) (subst (λ (os : List Objective). SpellsAll all os (d.linear ++ [])) (append-nil d.objectives) whole)
+
+-- how far a draft with a statement more is
+any_push : {X : Type 0} (xs : List X) (x : X) → has_any (xs ++ x ∷ []) ≡ true
+any_push [] x = refl
+any_push (y ∷ xs) x = refl
+
+abbrev pub behind_objective : Draft → Progress
+behind_objective d = record { objectives = length d.objectives + 1; rows = false; place = Start }
+
+abbrev pub behind_row : Draft → Progress
+behind_row d = record { objectives = length d.objectives; rows = true; place = Start }
+
+opened : (b c : Bool) (wrong many begun : Progressed) → b ≡ false → c ≡ true → (if b then wrong else if c then begun else many) ≡ begun
+opened b c wrong many begun first second = rw (first, second) refl
+
+pub head_fits : (s : Stream) (d : Draft) → d.linear ≡ [] → length d.objectives < 64 → fault_behind s (head_begun (progress_of d)) ≡ fault_at s (behind_objective d) Head
+head_fits s d none room = ap (fault_behind s) (opened (has_any d.linear) (nat_lt (length d.objectives) 64) _ _ _ (ap has_any none) (below (length d.objectives) 64 room))
+
+pub objective_progress : (s : Stream) (d : Draft) (objectives : List Objective) (o : Objective) (vars : ℕ) → d.linear ≡ [] → objectives ≡ d.objectives ++ o ∷ [] → fault_at s (behind_objective d) Start ≡ fault_from s.last (progress_of (record { objectives = objectives; linear = d.linear; vars = vars })) s.left
+objective_progress s d objectives o vars none added =
+    let count : length objectives ≡ length d.objectives + 1 = ap length added ∙ length_push d.objectives o in
+    ap (λ n. fault_from s.last (record { objectives = n; rows = false; place = Start }) s.left) (sym count)
+    ∙ ap (λ b. fault_from s.last (record { objectives = length objectives; rows = b; place = Start }) s.left) (sym (ap has_any none))
+
+pub row_progress : (s : Stream) (d : Draft) (linear : List Linear) (row : Linear) (vars : ℕ) → linear ≡ d.linear ++ row ∷ [] → fault_at s (behind_row d) Start ≡ fault_from s.last (progress_of (record { objectives = d.objectives; linear = linear; vars = vars })) s.left
+row_progress s d linear row vars added =
+    ap (λ b. fault_from s.last (record { objectives = length d.objectives; rows = b; place = Start }) s.left) (sym (ap has_any added ∙ any_push d.linear row))
+
+pub none_faulty : (text : List ℕ) (s : Stream) (d : Draft) → s.left ≡ numbered_tokens 1 (lines_of text) → s.last ≡ length (lines_of text) → d.objectives ≡ [] → d.linear ≡ [] → first_fault text ≡ fault_from s.last (progress_of d) s.left
+none_faulty text s d left last no_objectives no_rows =
+    ap (λ n. fault_from n (record { objectives = 0; rows = false; place = Start }) (numbered_tokens 1 (lines_of text))) (sym last)
+    ∙ ap (fault_from s.last (record { objectives = 0; rows = false; place = Start })) (sym left)
+    ∙ ap (λ n. fault_from s.last (record { objectives = n; rows = false; place = Start }) s.left) (sym (ap length no_objectives))
+    ∙ ap (λ b. fault_from s.last (record { objectives = length d.objectives; rows = b; place = Start }) s.left) (sym (ap has_any no_rows))

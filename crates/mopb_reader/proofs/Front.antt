@@ -59,7 +59,7 @@ term_signed first minus left middle rest term e is_left unsigned = by minus (sub
     by true found front = (Minus ∷ front.0, found.1 ∙ ap (λ t. t ∷ middle) found.2 ∙ ap (λ ts. Minus ∷ ts) front.1, front.2)
 
 -- a term without one
-plain : (front : List Token) (term : ℤ × Lit) → SpellsUnsigned false front term → SpellsTerm front term
+pub plain : (front : List Token) (term : ℤ × Lit) → SpellsUnsigned false front term → SpellsTerm front term
 plain [] term spelled = absurd spelled
 plain (Plus ∷ []) term spelled = absurd spelled.1
 plain (Plus ∷ token ∷ front) term spelled = absurd spelled

@@ -1,8 +1,10 @@
 pub mod Cutting
 pub mod Front
 pub mod Statements
+pub mod Places
+pub mod Findings
 pub mod Drafts
 pub mod Limits
 pub mod Texts
-pub mod Refusals
-pub mod Stuck
+pub mod Faultless
+pub mod Completions

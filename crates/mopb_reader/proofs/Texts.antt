@@ -12,7 +12,6 @@ use Rattle.instance.specs.declared.objective.Sense.{Sense}
 use Rattle.instance.specs.Shape.{InstanceValue}
 use Rattle.mopb_reader.specs.Tokens.{Token, Plus, Minus, Digits, Positive, Negative, Min, AtLeast, AtMost, Equal}
 use Rattle.mopb_reader.specs.Grammar.{SpellsLiteral, SpellsUnsigned, SpellsTerm, SpellsTerms, SpellsMagnitude, SpellsBound, SpellsRelation, SpellsObjective, SpellsRow, Spells, largest_in_objectives, largest_in_rows}
-use Rattle.mopb_reader.specs.Steps.{BeginsNoTerm}
 
 abbrev literal_from : ℕ → Bool → Lit
 literal_from var neg = record { var = var; neg = neg }
@@ -127,6 +126,15 @@ term_same p q xs ys s t e left right = by (term_is p s left) (term_is q t right)
     by (inr (inl a)) (inr (inr b)) = absurd (signed_bare Minus (a.0 ++ xs) q ys (λ x. x) (ap (λ z. z ++ xs) (sym a.1) ∙ e) b.0)
     by (inr (inr a)) (inl b) = absurd (signed_bare Plus (b.0 ++ ys) p xs (λ x. x) (sym (e ∙ ap (λ z. z ++ ys) b.1)) a.0)
     by (inr (inr a)) (inr (inl b)) = absurd (signed_bare Minus (b.0 ++ ys) p xs (λ x. x) (sym (e ∙ ap (λ z. z ++ ys) b.1)) a.0)
+
+-- the tokens begin with what begins no term
+abbrev pub BeginsNoTerm : List Token → Type 0
+BeginsNoTerm (Plus ∷ tokens) = ⊥
+BeginsNoTerm (Minus ∷ tokens) = ⊥
+BeginsNoTerm (Digits digits ∷ tokens) = ⊥
+BeginsNoTerm (Positive digits ∷ tokens) = ⊥
+BeginsNoTerm (Negative digits ∷ tokens) = ⊥
+BeginsNoTerm tokens = Unit {0}
 
 literal_ends : (t : Token) (l : Lit) (rest : List Token) → SpellsLiteral t l → BeginsNoTerm (t ∷ rest) → ⊥
 literal_ends (Positive ds) l rest lit ended = ended

@@ -1,23 +1,14 @@
 -- Where a text and its lines are cut.
-use Rattle.std.specs.Prelude.{◌≡◌, ◌≢◌, ℕ, ◌+◌, ◌<◌, false, not, if◌then◌else◌, List, [], ◌∷◌, length, Option, Some, None}
+use Rattle.std.specs.Prelude.{◌≡◌, ◌≢◌, ℕ, ◌+◌, ◌<◌, false, not, List, [], ◌∷◌, length, Option, Some, None}
 use Rattle.std.specs.List.{filter}
 use Rattle.scut_base.specs.Number.{natural_value}
-use Rattle.mopb_reader.specs.Tokens.{Token, Digits, is_blank, is_comment, is_gap, tokens_of_line, tokens_of}
+use Rattle.mopb_reader.specs.Tokens.{Token, Digits, is_blank, is_gap, tokens_of_line}
 use Rattle.mopb_reader.specs.Symbols.{Shows, ValueIs}
 use Rattle.mopb_reader.specs.declared.symbol.Symbol.{Symbol}
 
 -- the tokens of a line that is no comment
 abbrev pub tokens_in : List ℕ → List Token
 tokens_in line = filter (λ t. not (is_gap t)) (tokens_of_line line)
-
--- the tokens of any line
-abbrev pub tokens_of_content : List ℕ → List Token
-tokens_of_content line = if is_comment line then [] else tokens_in line
-
--- the tokens of what follows a line, if anything does
-abbrev pub tokens_of_rest : Option (List ℕ) → List Token
-tokens_of_rest None = []
-tokens_of_rest (Some text) = tokens_of text
 
 -- how much follows a line
 abbrev pub rest_size : Option (List ℕ) → ℕ

@@ -1,10 +1,11 @@
 -- What the statements read so far make.
-use Rattle.std.specs.Prelude.{◌≡◌, ◌≢◌, ℕ, ◌<◌, ◌≤◌, ◌^◌, max, List, [], ◌∷◌, ◌++◌, length, All, Some}
+use Rattle.std.specs.Prelude.{◌≡◌, ◌≢◌, ℕ, ◌<◌, ◌≤◌, ◌^◌, max, List, [], ◌∷◌, ◌++◌, length, All, Bool, true, false, Some}
 use Rattle.std.specs.List.{AllZip, slice_split}
 use Rattle.instance.specs.declared.row.Linear.{Linear}
 use Rattle.instance.specs.declared.objective.Objective.{Objective}
 use Rattle.instance.specs.Shape.{InstanceValue, objective_magnitude, row_magnitude}
 use Rattle.mopb_reader.specs.Tokens.{Token}
+use Rattle.mopb_reader.specs.FirstFault.{Progress, Start}
 use Rattle.mopb_reader.specs.Symbols.{IsLeft}
 use Rattle.mopb_reader.specs.Grammar.{SpellsObjective, SpellsRow, is_semicolon, largest_in_objectives, largest_in_rows}
 use Rattle.mopb_reader.specs.Steps.{IsReadObjective, IsReadRow}
@@ -46,6 +47,14 @@ pub record AddsRow (first : Symbol) (tokens rest : List Token) (d e : Draft) : T
   pub vars : ℕ
   pub added : e ≡ record d { linear = d.linear ++ row ∷ []; vars = max d.vars vars }
   pub read : (left : List Token) → IsLeft (Some first) tokens left → IsReadRow left rest row vars
+
+abbrev pub has_any : {X : Type 0} → List X → Bool
+has_any [] = false
+has_any (x ∷ xs) = true
+
+-- how far a draft is, where a statement begins
+abbrev pub progress_of : Draft → Progress
+progress_of d = record { objectives = length d.objectives; rows = has_any d.linear; place = Start }
 
 -- the instance of a draft
 abbrev pub instance_of : Draft → InstanceValue

@@ -4,6 +4,7 @@ use Rattle.scut_base.specs.Number.{natural_value}
 use Rattle.instance.specs.declared.row.Rel.{Rel}
 use Rattle.instance.specs.declared.row.Rel.TheVariants.{AtLeast as HoldsAtLeast, AtMost as HoldsAtMost, Equal as HoldsEqual}
 use Rattle.mopb_reader.specs.Tokens.{Token, Plus, Minus, Digits, Positive, Negative, Min as Head, AtLeast, AtMost, Equal, Semicolon as End, Other}
+use Rattle.mopb_reader.specs.FirstFault.{is_misspelled}
 use Rattle.mopb_reader.specs.declared.symbol.Symbol.{Symbol}
 use Rattle.mopb_reader.specs.declared.symbol.Symbol.TheVariants.{Sign, Number, Literal, Misspelled, Min, Relation, Semicolon, Unknown}
 
@@ -29,7 +30,7 @@ Shows Misspelled token = (token ≡ Other 120) ⊎ (token ≡ Other 126)
 Shows Min token = token ≡ Head
 Shows (Relation rel) token = token ≡ relation_token rel
 Shows Semicolon token = token ≡ End
-Shows Unknown token = (b : ℕ) × (token ≡ Other b)
+Shows Unknown token = (b : ℕ) × (token ≡ Other b) × (is_misspelled b ≡ false)
 
 -- the tokens that are left are the one that was taken and the rest, or none
 abbrev pub IsLeft : Option Symbol → List Token → List Token → Type 0
@@ -52,6 +53,11 @@ abbrev pub begins_term : Option Symbol → Bool
 begins_term (Some (Sign minus)) = true
 begins_term (Some (Number value)) = true
 begins_term symbol = begins_literal symbol
+
+-- the token begins a constraint, well spelled or not
+abbrev pub begins_row : Symbol → Bool
+begins_row (Relation rel) = true
+begins_row symbol = begins_term (Some symbol)
 
 -- how many tokens are left, with the one that was taken
 abbrev pub count_left : Option Symbol → List Token → ℕ

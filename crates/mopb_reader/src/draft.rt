@@ -1,16 +1,18 @@
 // What the statements read so far make.
-ghost use Rattle.std.specs.Prelude.{List, ◌≡◌, ◌<◌, ◌≤◌, [], length, max, Some, OnOk};
+ghost use Rattle.std.specs.Prelude.{List, ◌≡◌, ◌<◌, ◌≤◌, [], length, max, true, Some, OnOk};
 ghost use Rattle.instance.specs.Shape.{IsWithinLimits};
 ghost use Rattle.mopb_reader.specs.Tokens.{Token};
+ghost use Rattle.mopb_reader.specs.FirstFault.{Start, fault_from, head_begun, moved};
 ghost use Rattle.mopb_reader.specs.Symbols.{IsLeft, IsSound};
-ghost use Rattle.mopb_reader.specs.Drafts.{IsDraft, AddsObjective, AddsRow, GoesOn, instance_of};
+ghost use Rattle.mopb_reader.specs.Streams.{plain};
+ghost use Rattle.mopb_reader.specs.SymbolTable.{symbol_behind, symbol_step, fault_behind, Finds};
+ghost use Rattle.mopb_reader.specs.Drafts.{IsDraft, AddsObjective, AddsRow, GoesOn, instance_of, progress_of};
 
-use crate::fault::LineFault;
 use crate::statement::{read_objective, read_row};
 use crate::symbol::Symbol;
 use crate::terms::begins_row;
 use crate::tokens::Tokens;
-use instance::{BadKind, Instance, InstanceLimit, Linear, Objective};
+use instance::{BadKind, Instance, InstanceLimit, Linear, Objective, PlaceFault};
 use scut_base::Items;
 use std::alloc::Global;
 
@@ -44,11 +46,12 @@ pub fn add_statement(
     first: Symbol,
     tokens: &mut Tokens<'_>,
     draft: &mut Draft,
-) -> Result<(), LineFault>
+) -> Result<(), PlaceFault>
     requires { IsSound (Some first) }
-    ensures draft { OnOk result ((left : List Token) → IsLeft (Some first) tokens.old left → IsDraft draft.old → IsDraft draft.new) }
-    ensures spelled { OnOk result ((all left : List Token) → IsLeft (Some first) tokens.old left → GoesOn all left draft.old → GoesOn all tokens.new draft.new) }
-    ensures fewer { OnOk result ((left : List Token) → IsLeft (Some first) tokens.old left → length tokens.new < length left) }
+    ensures draft { OnOk result ((left : List Token) → IsLeft (Some first) (plain tokens.old.left) left → IsDraft draft.old → IsDraft draft.new) }
+    ensures spelled { OnOk result ((all left : List Token) → IsLeft (Some first) (plain tokens.old.left) left → GoesOn all left draft.old → GoesOn all (plain tokens.new.left) draft.new) }
+    ensures fewer { OnOk result ((left : List Token) → IsLeft (Some first) (plain tokens.old.left) left → length (plain tokens.new.left) < length left) }
+    ensures fault { Finds (fault_behind tokens.old (symbol_step (progress_of draft.old) first)) result tokens.new (λ _. fault_from tokens.new.last (progress_of draft.new) tokens.new.left) }
 {
     match first {
         Symbol::Min => add_objective(alloc, tokens, draft),
@@ -57,14 +60,15 @@ pub fn add_statement(
 }
 
 // Reads an objective into the draft, from behind its head on.
-fn add_objective(alloc: Global, tokens: &mut Tokens<'_>, draft: &mut Draft) -> Result<(), LineFault>
-    ensures { OnOk result (AddsObjective tokens.old tokens.new draft.old draft.new) }
+fn add_objective(alloc: Global, tokens: &mut Tokens<'_>, draft: &mut Draft) -> Result<(), PlaceFault>
+    ensures ok { OnOk result (AddsObjective (plain tokens.old.left) (plain tokens.new.left) draft.old draft.new) }
+    ensures fault { Finds (fault_behind tokens.old (head_begun (progress_of draft.old))) result tokens.new (λ _. fault_from tokens.new.last (progress_of draft.new) tokens.new.left) }
 {
     if !draft.linear.is_empty() {
-        return Err(LineFault::Bad(BadKind::ObjectiveAfterConstraint));
+        return Err(PlaceFault::Bad(BadKind::ObjectiveAfterConstraint));
     }
     if draft.objectives.len() >= OBJECTIVES {
-        return Err(LineFault::Limit(InstanceLimit::Objectives));
+        return Err(PlaceFault::Limit(InstanceLimit::Objectives));
     }
     let (objective, largest) = read_objective(alloc, tokens)?;
     draft.objectives.push(objective)?;
@@ -78,12 +82,13 @@ fn add_row(
     first: Symbol,
     tokens: &mut Tokens<'_>,
     draft: &mut Draft,
-) -> Result<(), LineFault>
+) -> Result<(), PlaceFault>
     requires { IsSound (Some first) }
-    ensures { OnOk result (AddsRow first tokens.old tokens.new draft.old draft.new) }
+    ensures ok { OnOk result (AddsRow first (plain tokens.old.left) (plain tokens.new.left) draft.old draft.new) }
+    ensures fault { Finds (fault_behind tokens.old (moved (progress_of draft.old) true (symbol_behind Start first))) result tokens.new (λ _. fault_from tokens.new.last (progress_of draft.new) tokens.new.left) }
 {
     if !begins_row(first) {
-        return Err(LineFault::Bad(BadKind::UnknownLine));
+        return Err(PlaceFault::Bad(BadKind::UnknownLine));
     }
     let (row, largest) = read_row(alloc, first, tokens)?;
     draft.linear.push(row)?;

@@ -1,13 +1,13 @@
 //! Reads an instance from a file of linear statements (OPB with several objectives).
 //!
 //! Its public contract: what `read` answers is the instance that the text spells, by a grammar that
-//! speaks of the whole text's tokens and statements, and a text spells at most one. That `read` refuses
-//! only what spells none is proved for terms and for lists of terms, and tested for whole texts.
+//! speaks of the whole text's tokens and statements, and a refusal names the text's first fault with
+//! its line, by a table of what may follow what, or want of memory. A text spells at most one instance,
+//! and one of fewer than 2^32 bytes has a first fault exactly where it spells none.
 #![tactic(auto)]
 
 mod cut;
 mod draft;
-mod fault;
 mod lines;
 mod reader;
 mod statement;
@@ -16,4 +16,4 @@ mod term;
 mod terms;
 mod tokens;
 
-pub use reader::read;
+pub use reader::{no_fault_where_spelled, one_instance, read, spelled_where_no_fault};

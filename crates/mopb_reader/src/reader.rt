@@ -1,14 +1,16 @@
 // The reader.
-ghost use Rattle.std.specs.Prelude.{ℕ, List, ◌≡◌, ◌<◌, ◌^◌, length, Some, IfOk, IfErr, OnOk};
+ghost use Rattle.std.specs.Prelude.{ℕ, List, ◌≡◌, ◌<◌, ◌^◌, length, Some, None, IfOk, IfErr, OnOk};
 ghost use Rattle.instance.specs.Shape.{InstanceValue};
-ghost use Rattle.instance.specs.Reading.{HasLine};
+ghost use Rattle.instance.specs.Reading.{IsFaultOf};
 ghost use Rattle.mopb_reader.specs.Tokens.{Token, tokens_of};
+ghost use Rattle.mopb_reader.specs.FirstFault.{first_fault, fault_from};
 ghost use Rattle.mopb_reader.specs.Symbols.{IsLeft, IsSound};
+ghost use Rattle.mopb_reader.specs.Streams.{plain};
+ghost use Rattle.mopb_reader.specs.SymbolTable.{symbol_step, fault_behind, Meets};
 ghost use Rattle.mopb_reader.specs.Grammar.{Spells};
-ghost use Rattle.mopb_reader.specs.Drafts.{SpellsAll, IsDraft, GoesOn};
+ghost use Rattle.mopb_reader.specs.Drafts.{SpellsAll, IsDraft, GoesOn, progress_of};
 
 use crate::draft::{Draft, add_statement, finish, new_draft};
-use crate::fault::LineFault;
 use crate::symbol::Symbol;
 use crate::tokens::Tokens;
 use instance::{Instance, ReadFault};
@@ -19,7 +21,7 @@ use std::alloc::Global;
 pub fn read(alloc: Global, bytes: &[u8]) -> Result<Instance, ReadFault>
     requires { length bytes.now < 2 ^ 32 }
     ensures spelled { IfOk result (λ inst. Spells bytes.now inst) }
-    ensures line { IfErr result HasLine }
+    ensures fault { IfErr result (λ f. IsFaultOf (first_fault bytes.now) f) }
 {
     let draft = read_statements(alloc, bytes)?;
     Ok(finish(alloc, draft))
@@ -29,7 +31,7 @@ pub fn read(alloc: Global, bytes: &[u8]) -> Result<Instance, ReadFault>
 fn read_statements(alloc: Global, bytes: &[u8]) -> Result<Draft, ReadFault>
     requires { length bytes.now < 2 ^ 32 }
     ensures ok { IfOk result (λ d. SpellsAll (tokens_of bytes.now) d.objectives d.linear × IsDraft d) }
-    ensures line { IfErr result HasLine }
+    ensures fault { IfErr result (λ f. IsFaultOf (first_fault bytes.now) f) }
 {
     let mut draft = new_draft(alloc);
     let mut tokens = Tokens::new(bytes);
@@ -47,32 +49,30 @@ fn read_statement(
     draft: &mut Draft,
 ) -> Result<(), ReadFault>
     requires { IsSound (Some first) }
-    ensures draft { OnOk result ((left : List Token) → IsLeft (Some first) tokens.old left → IsDraft draft.old → IsDraft draft.new) }
-    ensures spelled { OnOk result ((all left : List Token) → IsLeft (Some first) tokens.old left → GoesOn all left draft.old → GoesOn all tokens.new draft.new) }
-    ensures fewer { OnOk result ((left : List Token) → IsLeft (Some first) tokens.old left → length tokens.new < length left) }
-    ensures line { IfErr result HasLine }
+    ensures draft { OnOk result ((left : List Token) → IsLeft (Some first) (plain tokens.old.left) left → IsDraft draft.old → IsDraft draft.new) }
+    ensures spelled { OnOk result ((all left : List Token) → IsLeft (Some first) (plain tokens.old.left) left → GoesOn all left draft.old → GoesOn all (plain tokens.new.left) draft.new) }
+    ensures fewer { OnOk result ((left : List Token) → IsLeft (Some first) (plain tokens.old.left) left → length (plain tokens.new.left) < length left) }
+    ensures fault { Meets (fault_behind tokens.old (symbol_step (progress_of draft.old) first)) result (fault_from tokens.new.last (progress_of draft.new) tokens.new.left) }
 {
     match add_statement(alloc, first, tokens, draft) {
         Ok(()) => Ok(()),
-        Err(fault) => Err(at_line(fault, tokens.line())),
-    }
-}
-
-// The fault of a token, with its line.
-fn at_line(fault: LineFault, line: u64) -> ReadFault
-    requires { 0 < line }
-    ensures line { HasLine result }
-{
-    match fault {
-        LineFault::Bad(kind) => ReadFault::Bad { line, kind },
-        LineFault::Limit(which) => ReadFault::Limit { line, which },
-        LineFault::OutOfMemory => ReadFault::NoMemory,
+        Err(fault) => Err(fault.at_line(tokens.line())),
     }
 }
 
 /// A text spells at most one instance.
 pub fn one_instance()
     ensures { (text : List ℕ) (i j : InstanceValue) → Spells text i → Spells text j → i ≡ j }
+{}
+
+/// A text that spells an instance has no fault.
+pub fn no_fault_where_spelled()
+    ensures { (text : List ℕ) (i : InstanceValue) → Spells text i → first_fault text ≡ None }
+{}
+
+/// A text of fewer than 2^32 bytes that has no fault spells an instance.
+pub fn spelled_where_no_fault()
+    ensures { (text : List ℕ) → length text < 2 ^ 32 → first_fault text ≡ None → (i : InstanceValue) × Spells text i }
 {}
 
 #[cfg(test)]

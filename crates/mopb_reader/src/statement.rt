@@ -1,25 +1,28 @@
 // One statement: an objective or a row.
-ghost use Rattle.std.specs.Prelude.{List, ◌≡◌, ◌<◌, ◌≤◌, ◌^◌, [], ◌∷◌, unsigned_abs, Some, IfOk, OnOk};
+ghost use Rattle.std.specs.Prelude.{ℕ, List, ◌≡◌, ◌<◌, ◌≤◌, ◌+◌, ◌^◌, [], ◌∷◌, unsigned_abs, true, false, Some, IfOk, OnOk};
 ghost use Rattle.mopb_reader.specs.Tokens.{Token};
-ghost use Rattle.mopb_reader.specs.Symbols.{IsLeft, IsSound};
+ghost use Rattle.mopb_reader.specs.FirstFault.{Place, Start, Head, Term, Constraint, Relation as BehindRelation, BoundSign, Bound, Progress};
+ghost use Rattle.mopb_reader.specs.Symbols.{IsLeft, IsSound, begins_term, begins_row};
+ghost use Rattle.mopb_reader.specs.Streams.{plain};
+ghost use Rattle.mopb_reader.specs.SymbolTable.{taken_behind, symbol_behind, fault_at, fault_inside, Finds, Judges};
 ghost use Rattle.mopb_reader.specs.Grammar.{SpellsBound, SpellsMagnitude};
 ghost use Rattle.mopb_reader.specs.Steps.{BeginsWith, IsReadObjective, IsReadRow};
 ghost use Rattle.mopb_reader.specs.declared.symbol.Symbol.TheVariants.{Relation, Semicolon};
 
-use crate::fault::LineFault;
 use crate::symbol::{Symbol, number_of, relation_of, sign_of};
 use crate::term::{magnitude_within, signed};
 use crate::terms::read_terms;
 use crate::tokens::Tokens;
-use instance::{BadKind, InstanceLimit, Linear, Objective, Rel, Sense};
+use instance::{BadKind, InstanceLimit, Linear, Objective, PlaceFault, Rel, Sense};
 use scut_base::Items;
 use std::alloc::Global;
 
 const LARGEST: u64 = (1 << 63) - 1;
 
 /// Reads an objective from behind its head on, and answers its largest variable too.
-pub fn read_objective(alloc: Global, tokens: &mut Tokens<'_>) -> Result<(Objective, u64), LineFault>
-    ensures { IfOk result (λ r. IsReadObjective tokens.old tokens.new r.0 r.1) }
+pub fn read_objective(alloc: Global, tokens: &mut Tokens<'_>) -> Result<(Objective, u64), PlaceFault>
+    ensures ok { IfOk result (λ r. IsReadObjective (plain tokens.old.left) (plain tokens.new.left) r.0 r.1) }
+    ensures fault { (p : Progress) → Finds (fault_at tokens.old p Head) result tokens.new (λ _. fault_at tokens.new p Start) }
 {
     let first = tokens.next();
     let terms = read_terms(alloc, first, tokens, InstanceLimit::Weights)?;
@@ -38,9 +41,11 @@ pub fn read_row(
     alloc: Global,
     first: Symbol,
     tokens: &mut Tokens<'_>,
-) -> Result<(Linear, u64), LineFault>
-    requires { IsSound (Some first) }
-    ensures { IfOk result (λ r. (left : List Token) → IsLeft (Some first) tokens.old left → IsReadRow left tokens.new r.0 r.1) }
+) -> Result<(Linear, u64), PlaceFault>
+    requires sound { IsSound (Some first) }
+    requires begins { begins_row first ≡ true }
+    ensures ok { IfOk result (λ r. (left : List Token) → IsLeft (Some first) (plain tokens.old.left) left → IsReadRow left (plain tokens.new.left) r.0 r.1) }
+    ensures fault { (p : Progress) → Finds (fault_inside tokens.old p (symbol_behind Start first)) result tokens.new (λ _. fault_at tokens.new p Start) }
 {
     let terms = read_terms(alloc, Some(first), tokens, InstanceLimit::Row)?;
     let rel = read_relation(terms.next)?;
@@ -56,20 +61,22 @@ pub fn read_row(
 }
 
 // Reads a relation.
-fn read_relation(symbol: Option<Symbol>) -> Result<Rel, LineFault>
-    ensures { IfOk result (λ rel. symbol ≡ Some (Relation rel)) }
+fn read_relation(symbol: Option<Symbol>) -> Result<Rel, PlaceFault>
+    ensures ok { IfOk result (λ rel. symbol ≡ Some (Relation rel)) }
+    ensures fault { (sum : ℕ) → begins_term symbol ≡ false → Judges (taken_behind (Term Constraint sum) symbol) result (λ _. BehindRelation sum) }
 {
     match relation_of(symbol) {
         Some(rel) => Ok(rel),
-        None => Err(LineFault::Bad(BadKind::RelationExpected)),
+        None => Err(PlaceFault::Bad(BadKind::RelationExpected)),
     }
 }
 
 // Reads a bound, whose magnitude is at most what there is room for.
-fn read_bound(tokens: &mut Tokens<'_>, room: u64) -> Result<i64, LineFault>
+fn read_bound(tokens: &mut Tokens<'_>, room: u64) -> Result<i64, PlaceFault>
     requires { room < 2 ^ 63 }
-    ensures ok { IfOk result (λ bound. BeginsWith SpellsBound tokens.old tokens.new bound) }
+    ensures ok { IfOk result (λ bound. BeginsWith SpellsBound (plain tokens.old.left) (plain tokens.new.left) bound) }
     ensures within { IfOk result (λ bound. unsigned_abs bound ≤ room) }
+    ensures fault { (sum : ℕ) (p : Progress) → room + sum + 1 ≡ 2 ^ 63 → Finds (fault_at tokens.old p (BehindRelation sum)) result tokens.new (λ _. fault_at tokens.new p Bound) }
 {
     let first = tokens.next();
     match sign_of(first) {
@@ -82,26 +89,28 @@ fn read_bound(tokens: &mut Tokens<'_>, room: u64) -> Result<i64, LineFault>
 }
 
 // Reads a bound from behind its sign on.
-fn read_magnitude(minus: bool, symbol: Option<Symbol>, room: u64) -> Result<i64, LineFault>
+fn read_magnitude(minus: bool, symbol: Option<Symbol>, room: u64) -> Result<i64, PlaceFault>
     requires { room < 2 ^ 63 }
     ensures ok { IfOk result (λ bound. (rest left : List Token) → IsLeft symbol rest left → (token : Token) × (left ≡ token ∷ rest) × SpellsMagnitude minus (token ∷ []) bound) }
     ensures within { IfOk result (λ bound. unsigned_abs bound ≤ room) }
+    ensures fault { (sum : ℕ) → room + sum + 1 ≡ 2 ^ 63 → Judges (taken_behind (BoundSign sum) symbol) result (λ _. Bound) }
 {
     match number_of(symbol) {
         Some(value) => {
             let magnitude = magnitude_within(value, room, InstanceLimit::Row)?;
             Ok(signed(minus, magnitude))
         }
-        None => Err(LineFault::Bad(BadKind::BoundExpected)),
+        None => Err(PlaceFault::Bad(BadKind::BoundExpected)),
     }
 }
 
 // Reads the end of a statement.
-fn end_statement(symbol: Option<Symbol>) -> Result<(), LineFault>
-    ensures { OnOk result (symbol ≡ Some Semicolon) }
+fn end_statement(symbol: Option<Symbol>) -> Result<(), PlaceFault>
+    ensures ok { OnOk result (symbol ≡ Some Semicolon) }
+    ensures fault { Judges (taken_behind Bound symbol) result (λ _. Start) }
 {
     match symbol {
         Some(Symbol::Semicolon) => Ok(()),
-        _ => Err(LineFault::Bad(BadKind::SemicolonMissing)),
+        _ => Err(PlaceFault::Bad(BadKind::SemicolonMissing)),
     }
 }

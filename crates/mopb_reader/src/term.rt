@@ -1,15 +1,18 @@
 // One term, and what it is made of.
-ghost use Rattle.std.specs.Prelude.{ℕ, List, ◌≡◌, ◌<◌, ◌≤◌, ◌^◌, ◌∷◌, length, unsigned_abs, Some, IfOk};
+ghost use Rattle.std.specs.Prelude.{ℕ, List, ◌≡◌, ◌<◌, ◌≤◌, ◌+◌, ◌^◌, ◌∷◌, length, unsigned_abs, true, Some, IfOk};
 ghost use Rattle.scut_base.specs.Number.{signed_value};
 ghost use Rattle.mopb_reader.specs.Tokens.{Token};
-ghost use Rattle.mopb_reader.specs.Symbols.{IsLeft, IsSound};
+ghost use Rattle.instance.specs.declared.fault.BadKind.{BadKind};
+ghost use Rattle.mopb_reader.specs.FirstFault.{Kind, limit_of, Place, Sign, Coefficient, Term, Progress};
+ghost use Rattle.mopb_reader.specs.Symbols.{IsLeft, IsSound, begins_term};
+ghost use Rattle.mopb_reader.specs.Streams.{plain};
+ghost use Rattle.mopb_reader.specs.SymbolTable.{value_counted, taken_begun, taken_behind, fault_at, fault_inside, Finds, Judges};
 ghost use Rattle.mopb_reader.specs.Grammar.{SpellsLiteral, SpellsUnsigned, SpellsTerm};
-ghost use Rattle.mopb_reader.specs.Steps.{BeginsWith, IsTermWithin, IsTokenRefused, NoLiteral, NoTerm};
+ghost use Rattle.mopb_reader.specs.Steps.{BeginsWith, IsTermWithin};
 
-use crate::fault::LineFault;
 use crate::symbol::{Symbol, number_of, sign_of};
 use crate::tokens::Tokens;
-use instance::{BadKind, InstanceLimit};
+use instance::{BadKind, InstanceLimit, PlaceFault};
 use scut_base::Lit;
 
 const VARS: u64 = 1 << 24;
@@ -21,13 +24,13 @@ pub fn read_term(
     tokens: &mut Tokens<'_>,
     room: u64,
     limit: InstanceLimit,
-) -> Result<(i64, Lit), LineFault>
+) -> Result<(i64, Lit), PlaceFault>
     requires room { room < 2 ^ 63 }
     requires sound { IsSound first }
-    ensures ok { IfOk result (λ term. (left : List Token) → IsLeft first tokens.old left → BeginsWith SpellsTerm left tokens.new term) }
-    ensures refused { IsTokenRefused result → (left : List Token) → IsLeft first tokens.old left → NoTerm SpellsTerm room left }
+    ensures ok { IfOk result (λ term. (left : List Token) → IsLeft first (plain tokens.old.left) left → BeginsWith SpellsTerm left (plain tokens.new.left) term) }
     ensures within { IfOk result (λ term. IsTermWithin room term) }
-    ensures fewer { length tokens.new ≤ length tokens.old }
+    ensures fewer { length (plain tokens.new.left) ≤ length (plain tokens.old.left) }
+    ensures fault { (kind : Kind) (sum : ℕ) (missing : BadKind) (p : Progress) → limit ≡ limit_of kind → room + sum + 1 ≡ 2 ^ 63 → begins_term first ≡ true → Finds (fault_inside tokens.old p (taken_begun kind sum missing first)) result tokens.new (λ term. fault_at tokens.new p (Term kind (sum + unsigned_abs term.0))) }
 {
     match sign_of(first) {
         Some(minus) => {
@@ -45,13 +48,13 @@ fn read_unsigned(
     tokens: &mut Tokens<'_>,
     room: u64,
     limit: InstanceLimit,
-) -> Result<(i64, Lit), LineFault>
+) -> Result<(i64, Lit), PlaceFault>
     requires room { room < 2 ^ 63 }
     requires sound { IsSound first }
-    ensures ok { IfOk result (λ term. (left : List Token) → IsLeft first tokens.old left → BeginsWith (SpellsUnsigned minus) left tokens.new term) }
-    ensures refused { IsTokenRefused result → (left : List Token) → IsLeft first tokens.old left → NoTerm (SpellsUnsigned minus) room left }
+    ensures ok { IfOk result (λ term. (left : List Token) → IsLeft first (plain tokens.old.left) left → BeginsWith (SpellsUnsigned minus) left (plain tokens.new.left) term) }
     ensures within { IfOk result (λ term. IsTermWithin room term) }
-    ensures fewer { length tokens.new ≤ length tokens.old }
+    ensures fewer { length (plain tokens.new.left) ≤ length (plain tokens.old.left) }
+    ensures fault { (kind : Kind) (sum : ℕ) (p : Progress) → limit ≡ limit_of kind → room + sum + 1 ≡ 2 ^ 63 → Finds (fault_inside tokens.old p (taken_behind (Sign kind sum) first)) result tokens.new (λ term. fault_at tokens.new p (Term kind (sum + unsigned_abs term.0))) }
 {
     match number_of(first) {
         Some(value) => {
@@ -83,15 +86,15 @@ pub fn magnitude_within(
     value: Option<u64>,
     room: u64,
     limit: InstanceLimit,
-) -> Result<u64, LineFault>
+) -> Result<u64, PlaceFault>
     ensures ok { IfOk result (λ magnitude. (value ≡ Some magnitude) × (magnitude ≤ room)) }
-    ensures refused { IsTokenRefused result → (magnitude : ℕ) → value ≡ Some magnitude → magnitude ≤ room → ⊥ }
+    ensures fault { (sum : ℕ) (place : ℕ → Place) → room + sum + 1 ≡ 2 ^ 63 → Judges (value_counted limit sum value place) result (λ magnitude. place (sum + magnitude)) }
 {
     match value {
-        None => Err(LineFault::Bad(BadKind::NumberTooWide)),
+        None => Err(PlaceFault::Bad(BadKind::NumberTooWide)),
         Some(magnitude) => {
             if magnitude > room {
-                return Err(LineFault::Limit(limit));
+                return Err(PlaceFault::Limit(limit));
             }
             Ok(magnitude)
         }
@@ -99,14 +102,14 @@ pub fn magnitude_within(
 }
 
 // Reads a literal, whose variable is at most 2^24.
-fn read_literal(symbol: Option<Symbol>) -> Result<Lit, LineFault>
+fn read_literal(symbol: Option<Symbol>) -> Result<Lit, PlaceFault>
     requires { IsSound symbol }
     ensures ok { IfOk result (λ l. (rest left : List Token) → IsLeft symbol rest left → (token : Token) × (left ≡ token ∷ rest) × SpellsLiteral token l) }
     ensures within { IfOk result (λ l. l.var ≤ 2 ^ 24) }
-    ensures refused { IsTokenRefused result → (rest left : List Token) → IsLeft symbol rest left → NoLiteral left }
+    ensures fault { (kind : Kind) (sum : ℕ) → Judges (taken_behind (Coefficient kind sum) symbol) result (λ _. Term kind sum) }
 {
     match symbol {
-        Some(Symbol::Literal { var: None, .. }) => Err(LineFault::Bad(BadKind::NumberTooWide)),
+        Some(Symbol::Literal { var: None, .. }) => Err(PlaceFault::Bad(BadKind::NumberTooWide)),
         Some(
             Symbol::Literal {
                 var: Some(var),
@@ -114,11 +117,11 @@ fn read_literal(symbol: Option<Symbol>) -> Result<Lit, LineFault>
             },
         ) => {
             if var > VARS {
-                return Err(LineFault::Limit(InstanceLimit::Vars));
+                return Err(PlaceFault::Limit(InstanceLimit::Vars));
             }
             Ok(Lit::new(var, neg))
         }
-        _ => Err(LineFault::Bad(BadKind::TermExpected)),
+        _ => Err(PlaceFault::Bad(BadKind::TermExpected)),
     }
 }
 

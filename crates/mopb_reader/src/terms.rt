@@ -1,14 +1,16 @@
 // Terms, one directly after another.
-ghost use Rattle.std.specs.Prelude.{List, [], ◌≡◌, ◌≢◌, true, false, IfOk};
+ghost use Rattle.std.specs.Prelude.{List, [], ◌≡◌, ◌≢◌, true, false, Some, IfOk};
 ghost use Rattle.mopb_reader.specs.Tokens.{Token};
-ghost use Rattle.mopb_reader.specs.Symbols.{IsLeft, IsSound, begins_term, begins_literal};
-ghost use Rattle.mopb_reader.specs.Steps.{BeginsWithTerms, AreSummed, IsTokenRefused, NoTerms};
+ghost use Rattle.mopb_reader.specs.FirstFault.{Kind, limit_of, Progress};
+ghost use Rattle.mopb_reader.specs.Symbols.{IsLeft, IsSound, begins_term, begins_literal, begins_row};
+ghost use Rattle.mopb_reader.specs.Streams.{plain};
+ghost use Rattle.mopb_reader.specs.SymbolTable.{taken_behind, place_of, fault_inside, Finds};
+ghost use Rattle.mopb_reader.specs.Steps.{BeginsWithTerms, AreSummed};
 
-use crate::fault::LineFault;
 use crate::symbol::Symbol;
 use crate::term::read_term;
 use crate::tokens::Tokens;
-use instance::{BadKind, InstanceLimit};
+use instance::{BadKind, InstanceLimit, PlaceFault};
 use scut_base::{Items, Lit};
 use std::alloc::Global;
 
@@ -30,11 +32,12 @@ pub fn read_terms(
     first: Option<Symbol>,
     tokens: &mut Tokens<'_>,
     limit: InstanceLimit,
-) -> Result<Terms, LineFault>
+) -> Result<Terms, PlaceFault>
     requires { IsSound first }
-    ensures ok { IfOk result (λ t. (left : List Token) → IsLeft first tokens.old left → BeginsWithTerms left tokens.new t.next t.items) }
+    ensures ok { IfOk result (λ t. (left : List Token) → IsLeft first (plain tokens.old.left) left → BeginsWithTerms left (plain tokens.new.left) t.next t.items) }
     ensures sums { IfOk result (λ t. AreSummed t) }
-    ensures refused { IsTokenRefused result → (left : List Token) → IsLeft first tokens.old left → NoTerms 0 false left }
+    ensures none { IfOk result (λ t. t.items ≡ [] → t.next ≡ first) }
+    ensures fault { (kind : Kind) (p : Progress) → limit ≡ limit_of kind → Finds (fault_inside tokens.old p (taken_behind (place_of kind []) first)) result tokens.new (λ t. fault_inside tokens.new p (taken_behind (place_of kind t.items) t.next)) }
 {
     let mut items = Items::new(alloc);
     let mut sum = 0u64;
@@ -42,7 +45,7 @@ pub fn read_terms(
     let mut next = first;
     while begins_term(next) {
         if is_product(&items, next) {
-            return Err(LineFault::Bad(BadKind::Product));
+            return Err(PlaceFault::Bad(BadKind::Product));
         }
         let term = read_term(next, tokens, LARGEST - sum, limit)?;
         sum += term.0.unsigned_abs();
@@ -92,7 +95,9 @@ fn begins_literal(symbol: Option<Symbol>) -> bool
 }
 
 /// Whether a token begins a constraint: it begins a term, or is a relation.
-pub fn begins_row(symbol: Symbol) -> bool {
+pub fn begins_row(symbol: Symbol) -> bool
+    ensures { result ≡ begins_row symbol }
+{
     match symbol {
         Symbol::Relation { .. } => true,
         _ => begins_term(Some(symbol)),

@@ -1,15 +1,16 @@
 // The tokens of a text, from first to last.
-ghost use Rattle.std.specs.Prelude.{◌≡◌, ◌<◌};
-ghost use Rattle.mopb_reader.specs.Tokens.{tokens_of};
+ghost use Rattle.std.specs.Prelude.{◌≡◌, ◌<◌, ◌^◌, length};
+ghost use Rattle.mopb_reader.specs.FirstFault.{lines_of, numbered_tokens};
 ghost use Rattle.mopb_reader.specs.Symbols.{IsLeft, IsSound};
+ghost use Rattle.mopb_reader.specs.Streams.{IsTaken, plain};
 
 use crate::cut::cut_token;
 use crate::lines::{first_line, skip_blanks};
 use crate::symbol::Symbol;
 use std::marker::Model;
 
-/// The tokens of a text that were not taken yet. Contracts see it as their list. It keeps the number
-/// of the line that it stands in.
+/// The tokens of a text that were not taken yet. Contracts see it as their list, with lines. It keeps
+/// the number of the line that it stands in.
 #[derive(Drop)]
 pub struct Tokens<'a> {
     line: &'a [u8],
@@ -18,21 +19,23 @@ pub struct Tokens<'a> {
 }
 
 impl<'a> Model for Tokens<'a> {
-    ghost use Rattle.std.specs.Prelude.{List, ◌++◌, ◌<◌, option_map};
-    ghost use Rattle.mopb_reader.specs.Tokens.{Token};
-    ghost use Rattle.mopb_reader.specs.Cuts.{tokens_in, tokens_of_rest, BeginsNoBlank};
+    ghost use Rattle.std.specs.Prelude.{◌+◌, ◌<◌, ◌≤◌, ◌^◌, option_map};
+    ghost use Rattle.mopb_reader.specs.Cuts.{rest_size, BeginsNoBlank};
+    ghost use Rattle.mopb_reader.specs.Streams.{Stream, numbered_from, lines_behind};
 
-    ghost Value = { List Token };
+    ghost Value = { Stream };
 
-    ghost view = { λ t. tokens_in t.line.now ++ tokens_of_rest (option_map (λ r. r.now) t.rest) };
+    ghost view = { λ t. record { left = numbered_from t.number t.line.now (option_map (λ r. r.now) t.rest); last = t.number + lines_behind (option_map (λ r. r.now) t.rest); line = t.number } };
 
-    ghost invariant = { λ t. BeginsNoBlank t.line.now × (0 < t.number) };
+    ghost invariant = { λ t. BeginsNoBlank t.line.now × (t.number + rest_size (option_map (λ r. r.now) t.rest) ≤ 2 ^ 32) };
 }
 
 impl<'a> Tokens<'a> {
     /// All tokens of a text.
     pub fn new(text: &'a [u8]) -> Tokens<'a>
-        ensures { result ≡ tokens_of text.entry.now }
+        requires { length text.now < 2 ^ 32 }
+        ensures left { result.left ≡ numbered_tokens 1 (lines_of text.entry.now) }
+        ensures last { result.last ≡ length (lines_of text.entry.now) }
     {
         let (line, rest) = first_line(text);
         Tokens {
@@ -44,14 +47,16 @@ impl<'a> Tokens<'a> {
 
     /// The line of the token that was taken last, or the last line where all were taken.
     pub fn line(&self) -> u64
-        ensures { 0 < result }
+        ensures { result ≡ self.now.line }
     {
         self.number
     }
 
     /// Takes the next token.
     pub fn next(&mut self) -> Option<Symbol>
-        ensures left { IsLeft result self.new self.old }
+        ensures taken { IsTaken result self.new self.old }
+        ensures left { IsLeft result (plain self.new.left) (plain self.old.left) }
+        ensures last { self.new.last ≡ self.old.last }
         ensures sound { IsSound result }
     {
         while self.line.is_empty() {
@@ -61,7 +66,7 @@ impl<'a> Tokens<'a> {
                     let (line, rest) = first_line(text);
                     self.line = line;
                     self.rest = rest;
-                    self.number = self.number.saturating_add(1);
+                    self.number += 1;
                 }
             }
         }

@@ -1,13 +1,16 @@
-use Rattle.std.proofs.Common.{length}
+use Rattle.std.proofs.Common.{◌≡◌, length}
 use Rattle.mopb_reader.specs.Tokens.{tokens_of}
-use Rattle.mopb_reader.specs.Drafts.{IsDraft, GoesOn}
+use Rattle.mopb_reader.specs.FirstFault.{first_fault, fault_from}
+use Rattle.mopb_reader.specs.Streams.{plain}
+use Rattle.mopb_reader.specs.Drafts.{IsDraft, GoesOn, progress_of}
 use Rattle.mopb_reader.proofs.reader.read_statements.Given as goal
 
 abbrev pub invariant-loop-first : goal.invariant-loop-first
 invariant-loop-first l = record {
   draft : IsDraft l.draft;
-  so_far : GoesOn (tokens_of l.bytes) l.tokens l.draft;
+  so_far : GoesOn (tokens_of l.bytes) (plain l.tokens.left) l.draft;
+  fault : first_fault l.bytes ≡ fault_from l.tokens.last (progress_of l.draft) l.tokens.left;
 }
 
 abbrev pub decreases-loop-first : goal.decreases-loop-first
-decreases-loop-first l = length l.tokens
+decreases-loop-first l = length (plain l.tokens.left)
