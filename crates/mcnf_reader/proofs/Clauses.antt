@@ -1,5 +1,5 @@
 -- What a clause's words spell, from left to right.
-use Rattle.std.proofs.Common.{◌≡◌, ℕ, ◌≤◌, ◌^◌, true, false, List, [], ◌∷◌, ◌++◌, refl, sym, ap, ◌∙◌, subst, append_assoc, append-nil, Option, None, Some, MatchOption, arith}
+use Rattle.std.proofs.Common.{◌≡◌, ℕ, true, false, List, [], ◌∷◌, ◌++◌, refl, sym, ap, ◌∙◌, subst, append_assoc, append-nil, Option, None, Some, MatchOption, arith}
 use Rattle.std.specs.Prelude.{is_some}
 use Rattle.std.specs.Str.Parse.{starts_with_minus}
 use Rattle.std.specs.Int.{IsInRange}
@@ -8,8 +8,6 @@ use Rattle.std.proofs.lemmas.Bool.Decides.{nat_tests}
 use Rattle.scut_base.specs.Literal.{Literal}
 use Rattle.scut_base.specs.Number.{IsNatural, natural_value, magnitude_text}
 use Rattle.mcnf_reader.specs.Grammar.{SpellsLiteral, SpellsZero, SpellsClause}
-use Rattle.mcnf_reader.specs.LineLimits.{IsClauseWithin}
-use Rattle.std.proofs.lemmas.List.Elements.{All-head, All-tail}
 
 -- what the words left spell makes, behind these literals, what all words spell
 abbrev pub GoesOn : List (List ℕ) → List (List ℕ) → List Literal → Type 0

@@ -1,11 +1,11 @@
 -- Which of two faults is the first.
-use Rattle.std.proofs.Common.{◌≡◌, ℕ, Bool, true, false, not, cond, Option, None, Some, refl, sym, ap, ◌∙◌}
+use Rattle.std.proofs.Common.{◌≡◌, Bool, true, false, not, cond, Option, None, Some, refl, ap, ◌∙◌}
 use Rattle.std.specs.Option.{option_or, option_map}
 use Rattle.instance.specs.declared.fault.PlaceFault.{PlaceFault}
 use Rattle.instance.specs.declared.fault.PlaceFault.TheVariants.{Bad as BadPlace, Limit as LimitThere, NoMemory as PlaceNoMemory}
 use Rattle.instance.specs.declared.fault.ReadFault.{ReadFault}
 use Rattle.instance.specs.declared.fault.ReadFault.TheVariants.{Bad, Limit, NoMemory}
-use Rattle.instance.specs.Reading.{at_line, IsFaultOf, IsPlaceFaultOf}
+use Rattle.instance.specs.Reading.{IsFaultOf, IsPlaceFaultOf}
 
 pub or_at_none : {X : Type 0} (o p : Option X) → o ≡ None → option_or o p ≡ p
 or_at_none None p e = refl

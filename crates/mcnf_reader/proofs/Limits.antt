@@ -1,6 +1,6 @@
 -- The limits of an instance, and those of its statements one by one.
-use Rattle.std.proofs.Common.{◌≡◌, ◌≢◌, ℕ, zero, suc, ◌+◌, ◌-◌, ◌<◌, ◌≤◌, ◌^◌, Bool, true, false, cond, max, List, [], ◌∷◌, ◌++◌, length, map, take, get_or, Option, None, ⊎_elim, refl, sym, ap, ◌∙◌, subst, append_assoc, append-nil, ℤ, arith}
-use Rattle.std.specs.Prelude.{slice_index, ◌==◌}
+use Rattle.std.proofs.Common.{◌≡◌, ◌≢◌, ℕ, zero, suc, ◌+◌, ◌-◌, ◌<◌, ◌≤◌, ◌^◌, Bool, true, false, cond, max, List, [], ◌∷◌, ◌++◌, length, map, take, get_or, None, ⊎_elim, refl, sym, ap, ◌∙◌, subst, append_assoc, append-nil, ℤ, arith}
+use Rattle.std.specs.Prelude.{◌==◌}
 use Rattle.std.specs.Option.{option_map}
 use Rattle.std.specs.List.{All, AllZip, sum_by, range_with_len, slice_split, onto_first}
 use Rattle.std.specs.Str.Lines.{strip_carriage_return}

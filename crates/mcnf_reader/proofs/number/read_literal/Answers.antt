@@ -1,4 +1,3 @@
-use Rattle.std.proofs.Common.{arith}
 use Rattle.mcnf_reader.proofs.WordFaults.{literal_large}
 use Rattle.mcnf_reader.proofs.number.read_literal.Goals as goal
 
