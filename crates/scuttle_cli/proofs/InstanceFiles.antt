@@ -17,7 +17,7 @@ use Rattle.mcnf_reader.proofs.Texts.{one_spelled as one_mcnf}
 use Rattle.mcnf_reader.proofs.Limits.{no_fault as mcnf_no_fault}
 use Rattle.mopb_reader.specs.Grammar.{Spells as SpellsOpb}
 use Rattle.mopb_reader.proofs.Texts.{one_spelled as one_opb}
-use Rattle.mopb_reader.proofs.Statements.{no_fault as opb_no_fault}
+use Rattle.mopb_reader.proofs.Faultless.{spelled_faultless as opb_no_fault}
 use Rattle.mopb_reader.specs.Tokens.{Token}
 use Rattle.mopb_reader.specs.FirstFault.{Progress, Progressed, Place, step, end_fault, end_in, fault_or, fault_from, numbered_tokens, tokens_in_line, nothing_yet, lines_of as opb_lines_of, first_fault as opb_fault}
 use Rattle.scuttle_cli.specs.InstanceFile.{is_mcnf_name, SpellsIn, fault_in}
