@@ -1,7 +1,7 @@
 -- Tokens without a fault complete what has begun, so a text without one spells an instance.
-use Rattle.std.proofs.Common.{◌≡◌, ℕ, ◌+◌, ◌-◌, ◌<◌, ◌≤◌, ◌^◌, Bool, true, false, cond, max, List, [], ◌∷◌, ◌++◌, length, Option, Some, None, Ok, Err, refl, sym, ap, ◌∙◌, subst, append_assoc, ℤ, pos, arith}
+use Rattle.std.proofs.Common.{◌≡◌, ℕ, ◌+◌, ◌-◌, ◌<◌, ◌≤◌, ◌^◌, Bool, true, false, cond, max, List, [], ◌∷◌, ◌++◌, length, Option, None, Ok, Err, refl, sym, ap, ◌∙◌, subst, append_assoc, ℤ, pos, arith}
 use Rattle.std.specs.Prelude.{nat_lt, nat_le, unsigned_abs}
-use Rattle.std.specs.List.{All, slice_split}
+use Rattle.std.specs.List.{All}
 use Rattle.std.proofs.lemmas.Bool.Decides.{nat_tests}
 use Rattle.std.proofs.lemmas.List.Elements.{All-nil, All-cons}
 use Rattle.scut_base.specs.Literal.{Literal as Lit}
@@ -20,14 +20,14 @@ use Rattle.instance.specs.declared.fault.PlaceFault.TheVariants.{Bad, Limit}
 use Rattle.instance.specs.Shape.{InstanceValue, terms_magnitude, objective_magnitude, row_magnitude}
 use Rattle.mopb_reader.specs.Tokens.{Token, Plus, Minus, Digits, Positive, Negative, Min, AtLeast, AtMost, Equal, Semicolon, Other, tokens_of}
 use Rattle.mopb_reader.specs.FirstFault.{Kind, Objective, Constraint, limit_of, Place, Start, Head, Sign, Coefficient, Term, Relation, BoundSign, Bound, missing_at, Next, counted, indexed, behind_begun, behind, is_misspelled, Progress, first_fault, lines_of, numbered_tokens, nothing_yet}
-use Rattle.mopb_reader.specs.Grammar.{SpellsLiteral, SpellsUnsigned, SpellsTerm, MayFollowTerm, SpellsTerms, SpellsObjective, SpellsRelation, SpellsBound, SpellsRow, Spells, is_semicolon, largest_of, largest_in_objectives, largest_in_rows}
+use Rattle.mopb_reader.specs.Grammar.{SpellsLiteral, SpellsUnsigned, SpellsTerm, MayFollowTerm, SpellsTerms, SpellsObjective, SpellsRelation, SpellsBound, SpellsRow, Spells, largest_of, largest_in_objectives, largest_in_rows}
 use Rattle.mopb_reader.specs.Drafts.{SpellsAll, instance_of}
 use Rattle.mopb_reader.specs.declared.draft.Draft.{Draft}
 use Rattle.mopb_reader.proofs.Front.{plain}
 use Rattle.mopb_reader.proofs.Drafts.{objective_first, row_first}
 use Rattle.mopb_reader.proofs.Limits.{draft_spells}
 use Rattle.mopb_reader.proofs.Texts.{head_same}
-use Rattle.mopb_reader.proofs.Faultless.{fault_then, fault_in, fault_after, started, moved_row, magnitude_cons, size_of, bare, text_tokens}
+use Rattle.mopb_reader.proofs.Faultless.{fault_then, fault_in, fault_after, magnitude_cons, size_of, bare, text_tokens}
 
 -- whole statements, within the limits, behind some objectives and perhaps a row
 pub record IsFinished (n : ℕ) (seen : Bool) (tokens : List Token) : Type 0 where

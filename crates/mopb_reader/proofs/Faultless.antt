@@ -1,6 +1,6 @@
 -- A text that spells an instance has no fault.
-use Rattle.std.proofs.Common.{◌≡◌, ℕ, ◌+◌, ◌<◌, ◌≤◌, ◌^◌, Bool, true, false, cond, List, [], ◌∷◌, ◌++◌, length, map, Option, Some, None, Ok, Err, inl, inr, refl, sym, ap, ◌∙◌, subst, append_assoc, ℤ, arith}
-use Rattle.std.specs.Prelude.{◌⊎◌, nat_lt, nat_le, unsigned_abs, if◌then◌else◌}
+use Rattle.std.proofs.Common.{◌≡◌, ℕ, ◌+◌, ◌<◌, ◌≤◌, ◌^◌, Bool, true, false, cond, List, [], ◌∷◌, ◌++◌, length, Option, Some, None, Ok, Err, inl, inr, refl, sym, ap, ◌∙◌, subst, append_assoc, ℤ, arith}
+use Rattle.std.specs.Prelude.{◌⊎◌, nat_le, unsigned_abs, if◌then◌else◌}
 use Rattle.std.specs.List.{All, AllZip, slice_split, onto_first}
 use Rattle.std.proofs.lemmas.Bool.{cases_Bool}
 use Rattle.std.proofs.lemmas.Bool.Decides.{nat_tests}
@@ -20,7 +20,7 @@ use Rattle.instance.specs.declared.fault.PlaceFault.TheVariants.{Limit}
 use Rattle.instance.specs.declared.fault.ReadFault.{ReadFault}
 use Rattle.instance.specs.Shape.{InstanceValue, terms_magnitude, IsRowWithin, IsObjectiveWithin}
 use Rattle.mopb_reader.specs.Tokens.{Token, Plus, Minus, Digits, Positive, Negative, Min, AtLeast, AtMost, Equal, Semicolon, tokens_of}
-use Rattle.mopb_reader.specs.FirstFault.{Kind, Objective, Constraint, limit_of, Place, Start, Head, Sign, Coefficient, Term, Relation, BoundSign, Bound, missing_at, Next, counted, indexed, behind_begun, behind, Progress, Progressed, moved, step, head_begun, fault_or, end_in, end_fault, fault_from, first_fault, lines_of, numbered_tokens, nothing_yet}
+use Rattle.mopb_reader.specs.FirstFault.{Kind, Objective, Constraint, limit_of, Place, Start, Head, Sign, Coefficient, Term, Relation, BoundSign, Bound, missing_at, Next, counted, indexed, behind_begun, behind, Progress, Progressed, moved, step, fault_or, end_in, end_fault, fault_from, first_fault, lines_of, numbered_tokens, nothing_yet}
 use Rattle.mopb_reader.specs.Grammar.{SpellsLiteral, SpellsUnsigned, SpellsTerm, MayFollowTerm, SpellsTerms, SpellsObjective, SpellsRelation, SpellsMagnitude, SpellsBound, SpellsRow, Spells, is_semicolon, largest_of, largest_in_objectives, largest_in_rows}
 use Rattle.mopb_reader.specs.Streams.{plain}
 use Rattle.mopb_reader.specs.SymbolTable.{placed}

@@ -9,7 +9,7 @@ use Rattle.instance.specs.Shape.{terms_magnitude}
 use Rattle.scut_base.specs.Literal.{Literal as Lit}
 use Rattle.scut_base.specs.Number.{signed_value}
 use Rattle.mopb_reader.specs.Tokens.{Token, Plus, Minus, Digits, Positive, Negative}
-use Rattle.mopb_reader.specs.Symbols.{Shows, IsLeft, IsSound, begins_term, begins_literal, count_left}
+use Rattle.mopb_reader.specs.Symbols.{Shows, IsLeft, IsSound, begins_term, begins_literal}
 use Rattle.mopb_reader.specs.Grammar.{SpellsLiteral, SpellsUnsigned, SpellsTerm, SpellsTerms, MayFollowTerm, largest_of}
 use Rattle.mopb_reader.specs.Steps.{BeginsWith, BeginsWithTerms}
 use Rattle.mopb_reader.specs.declared.symbol.Symbol.{Symbol}
@@ -77,6 +77,11 @@ literal_is k l left rest e found = (found.0, found.1, subst (SpellsLiteral found
 pub left_fewer : (symbol : Option Symbol) (rest left : List Token) → IsLeft symbol rest left → length rest ≤ length left
 left_fewer None rest left is_left = omega (arith, ap length is_left.1)
 left_fewer (Some symbol) rest left is_left = omega (arith, ap length is_left.1)
+
+-- how many tokens are left, with the one that was taken
+abbrev pub count_left : Option Symbol → List Token → ℕ
+count_left None rest = length rest
+count_left (Some symbol) rest = length rest + 1
 
 pub left_count : (symbol : Option Symbol) (rest left : List Token) → IsLeft symbol rest left → count_left symbol rest ≤ length left
 left_count None rest left is_left = omega (arith, ap length is_left.1)

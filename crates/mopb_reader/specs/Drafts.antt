@@ -48,6 +48,7 @@ pub record AddsRow (first : Symbol) (tokens rest : List Token) (d e : Draft) : T
   pub added : e ≡ record d { linear = d.linear ++ row ∷ []; vars = max d.vars vars }
   pub read : (left : List Token) → IsLeft (Some first) tokens left → IsReadRow left rest row vars
 
+-- the list is not empty
 abbrev pub has_any : {X : Type 0} → List X → Bool
 has_any [] = false
 has_any (x ∷ xs) = true

@@ -123,7 +123,7 @@ fault_behind tokens progressed = fault_or progressed tokens.line (λ q. fault_fr
 abbrev pub fault_inside : Stream → Progress → Next → Option ReadFault
 fault_inside tokens p next = fault_behind tokens (moved p p.rows next)
 
--- Where something was read, the first fault is one further on; where it was refused, for that.
+-- Where something was read, the first fault is the first one further on; where it was refused, it is that with its line.
 abbrev pub Finds : {T : Type 0} → Option ReadFault → Result T PlaceFault → Stream → (T → Option ReadFault) → Type 0
 Finds first (Ok x) tokens further = first ≡ further x
 Finds first (Err fault) tokens further = IsFaultOf first (at_line tokens.line fault)
@@ -133,7 +133,7 @@ abbrev pub Meets : {T : Type 0} → Option ReadFault → Result T ReadFault → 
 Meets first (Ok x) further = first ≡ further
 Meets first (Err fault) further = IsFaultOf first fault
 
--- What a token does at a place is what was answered.
+-- What the token taken last does at its place is what was answered.
 abbrev pub Judges : {T : Type 0} → Next → Result T PlaceFault → (T → Place) → Type 0
 Judges next (Ok x) place = next ≡ Ok (place x)
 Judges next (Err fault) place = next ≡ Err fault

@@ -1,5 +1,5 @@
 -- Tokens as the reader has them.
-use Rattle.std.specs.Prelude.{◌≡◌, ℕ, ◌<◌, ◌≤◌, ◌^◌, ◌⊎◌, Bool, true, false, List, [], ◌∷◌, length, ◌+◌, Option, Some, None}
+use Rattle.std.specs.Prelude.{◌≡◌, ℕ, ◌<◌, ◌≤◌, ◌^◌, ◌⊎◌, Bool, true, false, List, [], ◌∷◌, Option, Some, None}
 use Rattle.scut_base.specs.Number.{natural_value}
 use Rattle.instance.specs.declared.row.Rel.{Rel}
 use Rattle.instance.specs.declared.row.Rel.TheVariants.{AtLeast as HoldsAtLeast, AtMost as HoldsAtMost, Equal as HoldsEqual}
@@ -58,8 +58,3 @@ begins_term symbol = begins_literal symbol
 abbrev pub begins_row : Symbol → Bool
 begins_row (Relation rel) = true
 begins_row symbol = begins_term (Some symbol)
-
--- how many tokens are left, with the one that was taken
-abbrev pub count_left : Option Symbol → List Token → ℕ
-count_left None rest = length rest
-count_left (Some symbol) rest = length rest + 1

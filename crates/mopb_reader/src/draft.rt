@@ -60,7 +60,11 @@ pub fn add_statement(
 }
 
 // Reads an objective into the draft, from behind its head on.
-fn add_objective(alloc: Global, tokens: &mut Tokens<'_>, draft: &mut Draft) -> Result<(), PlaceFault>
+fn add_objective(
+    alloc: Global,
+    tokens: &mut Tokens<'_>,
+    draft: &mut Draft,
+) -> Result<(), PlaceFault>
     ensures ok { OnOk result (AddsObjective (plain tokens.old.left) (plain tokens.new.left) draft.old draft.new) }
     ensures fault { Finds (fault_behind tokens.old (head_begun (progress_of draft.old))) result tokens.new (λ _. fault_from tokens.new.last (progress_of draft.new) tokens.new.left) }
 {

@@ -20,7 +20,10 @@ use std::alloc::Global;
 const LARGEST: u64 = (1 << 63) - 1;
 
 /// Reads an objective from behind its head on, and answers its largest variable too.
-pub fn read_objective(alloc: Global, tokens: &mut Tokens<'_>) -> Result<(Objective, u64), PlaceFault>
+pub fn read_objective(
+    alloc: Global,
+    tokens: &mut Tokens<'_>,
+) -> Result<(Objective, u64), PlaceFault>
     ensures ok { IfOk result (λ r. IsReadObjective (plain tokens.old.left) (plain tokens.new.left) r.0 r.1) }
     ensures fault { (p : Progress) → Finds (fault_at tokens.old p Head) result tokens.new (λ _. fault_at tokens.new p Start) }
 {

@@ -2,7 +2,7 @@
 ghost use Rattle.std.specs.Prelude.{◌<◌, ◌^◌, length};
 
 use super::*;
-use instance::{BadKind, InstanceLimit, Rel};
+use instance::Rel;
 use scut_base::Lit;
 use std::fmt::Write;
 use std::test::Fail;
@@ -109,146 +109,178 @@ fn reads_what_the_format_allows(rt: HostRuntime) -> Result<(), Fail> {
     Ok(())
 }
 
-// The fault of a text, if it has one.
-fn fault_of(alloc: Global, text: &[u8]) -> Option<ReadFault>
+// The fault of a text, with its line, as text.
+fn fault_of(alloc: Global, text: &[u8]) -> Result<String, Fail>
     requires { length text.now < 2 ^ 32 }
 {
     match read(alloc, text) {
-        Ok(_) => None,
-        Err(fault) => Some(fault),
+        Ok(_) => Ok(format!(in alloc; "taken")?),
+        Err(ReadFault::Bad { line, kind }) => Ok(format!(in alloc; "{line} {kind:?}")?),
+        Err(ReadFault::Limit { line, which }) => Ok(format!(in alloc; "{line} {which:?}")?),
+        Err(ReadFault::NoMemory) => Ok(format!(in alloc; "no memory")?),
     }
 }
+
+const FAULTS: &[(&[u8], &str)] = &[
+    (b"max: x1 ;", "1 UnknownLine"),
+    (b"min x1 ;", "1 UnknownLine"),
+    (b"mi", "1 UnknownLine"),
+    (b"min", "1 UnknownLine"),
+    (b";", "1 UnknownLine"),
+    (b"x1 >= 1 ; ;", "1 UnknownLine"),
+    (b"> 1 ;", "1 UnknownLine"),
+    (b"< 1 ;", "1 UnknownLine"),
+    (b"\xff", "1 UnknownLine"),
+    (b"x1 >= 1 ; *", "1 UnknownLine"),
+    (b"min: x1 ;\n\nh 1 0", "3 UnknownLine"),
+    (b"* max:\nmax: x1 ;\n", "2 UnknownLine"),
+    (b"x1 >= 1 ;\n* note\n; \nx2 >= 1 ;\n", "3 UnknownLine"),
+    (b"min: x1 ;\r\n! ;\r\n", "2 UnknownLine"),
+    (b"+1 x1 >= 1 ;\nmin: x1 ;", "2 ObjectiveAfterConstraint"),
+    (
+        b"min: x1 ; >= 0 ; min: 9223372036854775808",
+        "1 ObjectiveAfterConstraint",
+    ),
+    (
+        b">= 0 ;\nx1 >= 1 ;\nmin: x1 ;\nx2 >= 1 ;\n",
+        "3 ObjectiveAfterConstraint",
+    ),
+    (b"x1 = 1 ; min:\n;\n", "1 ObjectiveAfterConstraint"),
+    (b"+2 >= 1 ;", "1 TermExpected"),
+    (b"+ >= 1 ;", "1 TermExpected"),
+    (b"+ - x1 >= 1 ;", "1 TermExpected"),
+    (b"+ ; ", "1 TermExpected"),
+    (b"2 3 x1 >= 1 ;", "1 TermExpected"),
+    (b"2\n", "2 TermExpected"),
+    (b"2 + x1 >= 1 ;", "1 TermExpected"),
+    (b"~ >= 1 ;", "1 TermExpected"),
+    (b"~~x1 >= 1 ;", "1 TermExpected"),
+    (b"~ x1 >= 1 ;", "1 TermExpected"),
+    (b"~x0 >= 1 ;", "1 TermExpected"),
+    (b"x0 >= 1 ;", "1 TermExpected"),
+    (b"x >= 1 ;", "1 TermExpected"),
+    (b"x 1 >= 1 ;", "1 TermExpected"),
+    (b"min: x00 ;", "1 TermExpected"),
+    (b"min: 2 x\n1 ;", "1 TermExpected"),
+    (b"x1 -\n x >= 1 ;\n", "2 TermExpected"),
+    (b"min: x1 ;\n* x\nmin: - ;\nx1 >= 1 ;\n", "3 TermExpected"),
+    (b"min: -", "1 TermExpected"),
+    (b"2 9223372036854775808 >= 1 ;", "1 TermExpected"),
+    (b"+2 x1 x2 >= 1 ;", "1 Product"),
+    (b"x1 x2 >= 1 ;", "1 Product"),
+    (b"x1 x0", "1 Product"),
+    (b"x1 ~", "1 Product"),
+    (b"min: x1 ~x2 ;", "1 Product"),
+    (b"min: x1 \n x16777217 ;", "2 Product"),
+    (b"min: x1 ;\nx1\n~x2 = 1 ;\nx3 = 1 ;\n", "3 Product"),
+    (b"x1 x9223372036854775808\n", "1 Product"),
+    (b"min: x1 >= 1 ;", "1 SemicolonMissing"),
+    (b"min:", "1 SemicolonMissing"),
+    (b"min: min:", "1 SemicolonMissing"),
+    (b"min: x1\n", "2 SemicolonMissing"),
+    (b"+1 x1 >= 1\n", "2 SemicolonMissing"),
+    (b"+1 x1 >= 1", "1 SemicolonMissing"),
+    (b"+1 x1 >= 1 2 ;", "1 SemicolonMissing"),
+    (b"min: ;\nx1 >= 1\n* ;\nx2 >= 1 ;\n", "4 SemicolonMissing"),
+    (
+        b"min: x1 ; x1 >= 1 9223372036854775808",
+        "1 SemicolonMissing",
+    ),
+    (b"min: x1 9223372036854775807 =", "1 Weights"),
+    (b"+1 x1 ;", "1 RelationExpected"),
+    (b"+1 x1\n* >= 1 ;\n > 1 ;", "3 RelationExpected"),
+    (b"x1 min: ;", "1 RelationExpected"),
+    (b"x1\n\n", "3 RelationExpected"),
+    (b"min: x1 ;\nx1 ;\nx2 = 1 ;\n", "2 RelationExpected"),
+    (b"+1 x1", "1 RelationExpected"),
+    (b"+1 x1 >= ;", "1 BoundExpected"),
+    (b"x1 >= x0", "1 BoundExpected"),
+    (b"x1 >= - ;", "1 BoundExpected"),
+    (b"x1 >= + - 1 ;", "1 BoundExpected"),
+    (b"x1 = = 1 ;", "1 BoundExpected"),
+    (b"min: ;\n\nx1 <=\n;\n>= 0 ;\n", "4 BoundExpected"),
+    (b"x1 >=\n", "2 BoundExpected"),
+    (b"x1 >= -", "1 BoundExpected"),
+    (b">= x9223372036854775808", "1 BoundExpected"),
+    (b"9223372036854775808 x1 >= 1 ;", "1 NumberTooWide"),
+    (b"min:\n99999999999999999999 >=", "2 NumberTooWide"),
+    (b"x9223372036854775808 >= 1 ;", "1 NumberTooWide"),
+    (b"2 ~x99999999999999999999 ;", "1 NumberTooWide"),
+    (b"x1 >= 9223372036854775808 ;", "1 NumberTooWide"),
+    (b"x1 >= -9223372036854775808 ;", "1 NumberTooWide"),
+    (b"x1 >= -99999999999999999999", "1 NumberTooWide"),
+    (
+        b"min: ;\nx1\n+9223372036854775808\nx2 >= 1 ;\n",
+        "3 NumberTooWide",
+    ),
+    (
+        b"9223372036854775807 x1 -x9223372036854775808",
+        "1 NumberTooWide",
+    ),
+    (b"min: 00009223372036854775808\n", "1 NumberTooWide"),
+    (b"min: x16777216 ;\n~x16777216 >= 1 ;\n", "taken"),
+    (b"x16777217 >= 1 ;", "1 Vars"),
+    (b"\nmin: ~x16777217 x1", "2 Vars"),
+    (b"x9223372036854775807", "1 Vars"),
+    (b"min: 3 x016777216\n-2 x16777217 ;\n", "2 Vars"),
+    (b"9223372036854775807 x1 -x16777217", "1 Vars"),
+    (
+        b"min: 9223372036854775807 x1 ;\nmin: 9223372036854775806 x1 -x2 ;\n",
+        "taken",
+    ),
+    (b"min: -9223372036854775806 x1 +1 ~x2 -0 x3 ;", "taken"),
+    (b"min: 9223372036854775806 x1 -2 >=", "1 Weights"),
+    (b"min: 9223372036854775807 x1\n-x2 ;", "2 Weights"),
+    (
+        b"min: 9223372036854775807 x1 ;\n* note\nmin: x1 +9223372036854775807\nx2 ;\n",
+        "3 Weights",
+    ),
+    (
+        b"9223372036854775807 x1 >= 0 ;\n9223372036854775806 x1 <= -1 ;\n",
+        "taken",
+    ),
+    (b"x1 9223372036854775805 x2 = 1 ;", "taken"),
+    (
+        b">= 9223372036854775807 ;\n0 x1 <= -9223372036854775807 ;",
+        "taken",
+    ),
+    (b"9223372036854775806 x1 >= -2", "1 Row"),
+    (b"9223372036854775807 x1 -x1 >=", "1 Row"),
+    (b"x1 >=\n9223372036854775807 x", "2 Row"),
+    (b">= 0 ;\n\nx1 9223372036854775806 x2\n= 1 ;\n", "4 Row"),
+];
 
 #[test]
-fn says_which_rule_a_token_breaks(rt: HostRuntime) {
-    let table: [(&[u8], u64, BadKind); 51] = [
-        (b"max: x1 ;", 1, BadKind::UnknownLine),
-        (b"min x1 ;", 1, BadKind::UnknownLine),
-        (b"mi", 1, BadKind::UnknownLine),
-        (b"min", 1, BadKind::UnknownLine),
-        (b";", 1, BadKind::UnknownLine),
-        (b"x1 >= 1 ; ;", 1, BadKind::UnknownLine),
-        (b"> 1 ;", 1, BadKind::UnknownLine),
-        (b"< 1 ;", 1, BadKind::UnknownLine),
-        (b"\xff", 1, BadKind::UnknownLine),
-        (b"x1 >= 1 ; *", 1, BadKind::UnknownLine),
-        (b"min: x1 ;\n\nh 1 0", 3, BadKind::UnknownLine),
-        (
-            b"+1 x1 >= 1 ;\nmin: x1 ;",
-            2,
-            BadKind::ObjectiveAfterConstraint,
-        ),
-        (
-            b"min: x1 ; >= 0 ; min: 9223372036854775808",
-            1,
-            BadKind::ObjectiveAfterConstraint,
-        ),
-        (b"+2 >= 1 ;", 1, BadKind::TermExpected),
-        (b"+ >= 1 ;", 1, BadKind::TermExpected),
-        (b"+ - x1 >= 1 ;", 1, BadKind::TermExpected),
-        (b"+ ; ", 1, BadKind::TermExpected),
-        (b"2 3 x1 >= 1 ;", 1, BadKind::TermExpected),
-        (b"2\n", 2, BadKind::TermExpected),
-        (b"2 + x1 >= 1 ;", 1, BadKind::TermExpected),
-        (b"~ >= 1 ;", 1, BadKind::TermExpected),
-        (b"~~x1 >= 1 ;", 1, BadKind::TermExpected),
-        (b"~ x1 >= 1 ;", 1, BadKind::TermExpected),
-        (b"~x0 >= 1 ;", 1, BadKind::TermExpected),
-        (b"x0 >= 1 ;", 1, BadKind::TermExpected),
-        (b"x >= 1 ;", 1, BadKind::TermExpected),
-        (b"x 1 >= 1 ;", 1, BadKind::TermExpected),
-        (b"min: x00 ;", 1, BadKind::TermExpected),
-        (b"min: 2 x\n1 ;", 1, BadKind::TermExpected),
-        (b"+2 x1 x2 >= 1 ;", 1, BadKind::Product),
-        (b"x1 x2 >= 1 ;", 1, BadKind::Product),
-        (b"x1 x0", 1, BadKind::Product),
-        (b"x1 ~", 1, BadKind::Product),
-        (b"min: x1 ~x2 ;", 1, BadKind::Product),
-        (b"min: x1 \n x16777217 ;", 2, BadKind::Product),
-        (b"min: x1 >= 1 ;", 1, BadKind::SemicolonMissing),
-        (b"min:", 1, BadKind::SemicolonMissing),
-        (b"min: min:", 1, BadKind::SemicolonMissing),
-        (b"min: x1\n", 2, BadKind::SemicolonMissing),
-        (b"+1 x1 >= 1\n", 2, BadKind::SemicolonMissing),
-        (b"+1 x1 >= 1", 1, BadKind::SemicolonMissing),
-        (b"+1 x1 >= 1 2 ;", 1, BadKind::SemicolonMissing),
-        (b"+1 x1 ;", 1, BadKind::RelationExpected),
-        (b"+1 x1\n* >= 1 ;\n > 1 ;", 3, BadKind::RelationExpected),
-        (b"x1 min: ;", 1, BadKind::RelationExpected),
-        (b"x1\n\n", 3, BadKind::RelationExpected),
-        (b"+1 x1 >= ;", 1, BadKind::BoundExpected),
-        (b"x1 >= x0", 1, BadKind::BoundExpected),
-        (b"x1 >= - ;", 1, BadKind::BoundExpected),
-        (b"x1 >= + - 1 ;", 1, BadKind::BoundExpected),
-        (b"x1 = = 1 ;", 1, BadKind::BoundExpected),
-    ];
-    for (text, line, kind) in table {
+fn names_the_first_fault(rt: HostRuntime) -> Result<(), Fail> {
+    for (text, expected) in FAULTS {
         assert!(rt; text.len() < 1000);
-        let given = fault_of(rt.alloc(), text);
-        assert_eq!(rt; given, Some(ReadFault::Bad { line, kind }));
+        let given = fault_of(rt.alloc(), text)?;
+        assert_eq!(rt; given.as_str(), *expected);
     }
+    Ok(())
 }
 
-#[test]
-fn says_which_number_is_too_wide(rt: HostRuntime) {
-    let kind = BadKind::NumberTooWide;
-    let table: [(&[u8], u64); 7] = [
-        (b"9223372036854775808 x1 >= 1 ;", 1),
-        (b"min:\n99999999999999999999 >=", 2),
-        (b"x9223372036854775808 >= 1 ;", 1),
-        (b"2 ~x99999999999999999999 ;", 1),
-        (b"x1 >= 9223372036854775808 ;", 1),
-        (b"x1 >= -9223372036854775808 ;", 1),
-        (b"x1 >= -99999999999999999999", 1),
-    ];
-    for (text, line) in table {
-        assert!(rt; text.len() < 1000);
-        let given = fault_of(rt.alloc(), text);
-        assert_eq!(rt; given, Some(ReadFault::Bad { line, kind }));
-    }
-}
-
-#[test]
-fn says_which_limit_a_token_passes(rt: HostRuntime) {
-    let table: [(&[u8], u64, InstanceLimit); 8] = [
-        (b"x16777217 >= 1 ;", 1, InstanceLimit::Vars),
-        (b"\nmin: ~x16777217 x1", 2, InstanceLimit::Vars),
-        (b"x9223372036854775807", 1, InstanceLimit::Vars),
-        (
-            b"min: 9223372036854775806 x1 -2 >=",
-            1,
-            InstanceLimit::Weights,
-        ),
-        (
-            b"min: 9223372036854775807 x1\n-x2 ;",
-            2,
-            InstanceLimit::Weights,
-        ),
-        (b"9223372036854775806 x1 >= -2", 1, InstanceLimit::Row),
-        (b"9223372036854775807 x1 -x1 >=", 1, InstanceLimit::Row),
-        (b"x1 >=\n9223372036854775807 x", 2, InstanceLimit::Row),
-    ];
-    for (text, line, which) in table {
-        assert!(rt; text.len() < 1000);
-        let given = fault_of(rt.alloc(), text);
-        assert_eq!(rt; given, Some(ReadFault::Limit { line, which }));
-    }
-}
-
+// Sixty-four objectives are taken, and the next one isn't, whatever follows its head.
 #[test]
 fn takes_sixty_four_objectives(rt: HostRuntime) -> Result<(), Fail> {
     let mut text = String::new(rt.alloc());
     for _ in 0..64 {
         text.push_str("min: ;\n")?;
     }
-    assert!(rt; text.len() < 1000);
-    assert!(rt; fault_of(rt.alloc(), text.as_bytes()).is_none());
-    text.push_str("min: x0")?;
-    assert!(rt; text.len() < 1000);
-    let which = InstanceLimit::Objectives;
-    assert_eq!(rt;
-        fault_of(rt.alloc(), text.as_bytes()),
-        Some(ReadFault::Limit { line: 65, which })
-    );
+    let table: [(&str, &str); 5] = [
+        ("", "taken"),
+        (">= 0 ;\n", "taken"),
+        ("min: x0", "65 Objectives"),
+        ("* note\n\nmin: ;\n", "67 Objectives"),
+        (">= 0 ;\nmin: ;\n", "66 ObjectiveAfterConstraint"),
+    ];
+    for (more, expected) in table {
+        let mut whole = String::new(rt.alloc());
+        whole.push_str(text.as_str())?;
+        whole.push_str(more)?;
+        assert!(rt; whole.len() < 1000);
+        let given = fault_of(rt.alloc(), whole.as_bytes())?;
+        assert_eq!(rt; given.as_str(), expected);
+    }
     Ok(())
 }

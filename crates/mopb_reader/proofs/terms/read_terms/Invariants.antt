@@ -2,11 +2,12 @@ use Rattle.std.proofs.Common.{◌≡◌, ◌<◌, ◌≤◌, ◌^◌, List, []}
 use Rattle.instance.specs.Shape.{terms_magnitude}
 use Rattle.mopb_reader.specs.Tokens.{Token}
 use Rattle.mopb_reader.specs.FirstFault.{Kind, limit_of, Progress}
-use Rattle.mopb_reader.specs.Symbols.{IsLeft, IsSound, count_left}
+use Rattle.mopb_reader.specs.Symbols.{IsLeft, IsSound}
 use Rattle.mopb_reader.specs.Streams.{plain}
 use Rattle.mopb_reader.specs.SymbolTable.{taken_behind, place_of, fault_inside}
 use Rattle.mopb_reader.specs.Grammar.{largest_of}
 use Rattle.mopb_reader.specs.Steps.{BeginsWithTerms}
+use Rattle.mopb_reader.proofs.Front.{count_left}
 use Rattle.mopb_reader.proofs.terms.read_terms.Given as goal
 
 abbrev pub invariant-loop-limit : goal.invariant-loop-limit
