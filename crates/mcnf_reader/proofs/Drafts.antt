@@ -2,13 +2,13 @@
 use Rattle.std.proofs.Common.{◌≡◌, ◌≢◌, ℕ, ◌+◌, ◌-◌, ◌<◌, ◌≤◌, ◌^◌, cond, max, List, [], ◌∷◌, ◌++◌, length, map, take, get_or, set, Some, ⊎_elim, refl, sym, ap, ◌∙◌, subst, append_assoc, append-nil, pos, arith, rules}
 use Rattle.std.specs.Prelude.{slice_get, slice_index}
 use Rattle.std.specs.Ordering.{ord_max, nat_cmp}
-use Rattle.std.specs.List.{range_with_len, sum_by, All}
+use Rattle.std.specs.List.{range_with_len, All}
 use Rattle.std.proofs.lemmas.Bool.{cases_eq, eq-eqb, ne_eqb}
 use Rattle.std.proofs.lemmas.Option.{slice_get-get_or, get_or_from_slice_get}
-use Rattle.std.proofs.lemmas.List.{ext_get_or, take_more, length-set, length_push, get_or-set_same, get_or-set_other}
+use Rattle.std.proofs.lemmas.List.{ext_get_or, take_more, length-set, get_or-set_same, get_or-set_other}
 use Rattle.std.proofs.lemmas.List.Elements.{All-head, All-tail, All-set}
 use Rattle.std.proofs.lemmas.List.FromFn.{length-map-range_with_len, get_or-map-range_with_len}
-use Rattle.std.proofs.lemmas.List.Sums.{sum_by_push, sum_by-set}
+use Rattle.std.proofs.lemmas.List.Sums.{sum_by_push}
 use Rattle.scut_base.specs.Literal.{Literal}
 use Rattle.instance.specs.declared.objective.Objective.{Objective}
 use Rattle.instance.specs.declared.objective.Soft.{Soft}
@@ -19,7 +19,7 @@ use Rattle.mcnf_reader.specs.declared.statement.Statement.{Statement}
 use Rattle.mcnf_reader.specs.declared.statement.Statement.TheVariants.{Nothing, Hard, Soft as SoftIn}
 use Rattle.mcnf_reader.specs.Grammar.{literals_of, largest_of, largest_variable, objective_of, objective_count, hard_clauses, soft_of, softs_of, objective_at}
 use Rattle.mcnf_reader.specs.LineLimits.{IsClauseWithin, IsStatementWithin}
-use Rattle.mcnf_reader.specs.Draft.{IsReady, IsDraftOf, AddsSoft, with_soft, objective_numbers, weight_of, clause_count, total_clauses}
+use Rattle.mcnf_reader.specs.Draft.{IsReady, IsDraftOf, AddsSoft, with_soft, objective_numbers, weight_of}
 
 -- one literal more
 pub largest_push : (lits : List Literal) (l : Literal) → largest_of (lits ++ l ∷ []) ≡ max (largest_of lits) l.var
@@ -54,10 +54,6 @@ pub objective_count_push : (xs : List Statement) (s : Statement) → objective_c
 objective_count_push [] s = omega arith
 objective_count_push (x ∷ xs) s = omega (arith, objective_count_push xs s)
 
-pub total_clauses_push : (xs : List Statement) (s : Statement) → total_clauses (xs ++ s ∷ []) ≡ total_clauses xs + clause_count s
-total_clauses_push [] s = omega arith
-total_clauses_push (x ∷ xs) s = omega (arith, total_clauses_push xs s)
-
 pub map_agree : {X Y : Type 0} (f g : X → Y) → ((x : X) → f x ≡ g x) → (xs : List X) → map f xs ≡ map g xs
 map_agree f g same [] = refl
 map_agree f g same (x ∷ xs) = ap (λ y. y ∷ map f xs) (same x) ∙ ap (λ ys. g x ∷ ys) (map_agree f g same xs)
@@ -84,13 +80,11 @@ draft_nothing d done so_far = record {
   variables_within = so_far.variables_within;
   number = omega (arith, so_far.number, objective_count_push done Nothing);
   number_within = so_far.number_within;
-  size = omega (arith, so_far.size, total_clauses_push done Nothing);
 }
 
 pub draft_hard : (d e : Draft) (done : List Statement) (lits : List Literal) → e ≡ record d { clauses = d.clauses ++ lits ∷ []; vars = max d.vars (largest_of lits) } → IsClauseWithin lits → IsDraftOf d done → IsDraftOf e (done ++ Hard lits ∷ [])
 draft_hard d e done lits same within so_far =
     let small : largest_of lits ≤ 2 ^ 24 = largest_within (2 ^ 24) lits within in
-    let more : length (d.clauses ++ lits ∷ []) ≡ length d.clauses + 1 = length_push d.clauses lits in
     subst (λ (x : Draft). IsDraftOf x (done ++ Hard lits ∷ [])) (sym same) (record {
       hard = ap (λ clauses. clauses ++ lits ∷ []) so_far.hard ∙ sym (hard_clauses-append done (Hard lits ∷ []));
       soft = so_far.soft ∙ same_objectives done (Hard lits) (λ k. refl);
@@ -99,7 +93,6 @@ draft_hard d e done lits same within so_far =
       variables_within = omega (arith, so_far.variables_within, small);
       number = omega (arith, so_far.number, objective_count_push done (Hard lits));
       number_within = so_far.number_within;
-      size = omega (arith, so_far.size, more, total_clauses_push done (Hard lits));
     })
 
 -- a list by places, with one of them changed
@@ -152,13 +145,6 @@ soft_weights done k weight lits some le =
 pub weight_at : (done : List Statement) (k : ℕ) → 0 < k → k ≤ 64 → slice_index (map (weight_of done) objective_numbers) (k - 1) ≡ weight_of done k
 weight_at done k some le = get_or-map-range_with_len (weight_of done) 1 64 (k - 1) k 0 (omega arith) (omega arith)
 
-soft_size : (os : List Objective) (i : ℕ) (o : Objective) (soft : Soft) → i < length os → get_or os i o ≡ o → sum_by (λ x. length x.softs) (set os i (with_soft o soft)) ≡ sum_by (λ x. length x.softs) os + 1
-soft_size os i o soft lt here =
-    let sums = sum_by-set (λ (x : Objective). length x.softs) os i (with_soft o soft) o lt in
-    let old : length (get_or os i o).softs ≡ length o.softs = ap (λ (x : Objective). length x.softs) here in
-    let new : length (with_soft o soft).softs ≡ length o.softs + 1 = length_push o.softs soft in
-    omega (arith, sums, old, new)
-
 pub draft_soft : (d e : Draft) (done : List Statement) (k weight : ℕ) (lits : List Literal) → IsReady d → IsStatementWithin d.sums (SoftIn k weight lits) → AddsSoft d e k weight lits → IsDraftOf d done → IsDraftOf e (done ++ SoftIn k weight lits ∷ [])
 draft_soft d e done k weight lits ready within added so_far =
     let s = SoftIn k weight lits in
@@ -169,7 +155,6 @@ draft_soft d e done k weight lits ready within added so_far =
     let read : slice_get d.objectives.items (k - 1) ≡ Some (objective_at done k) = slice_get-get_or d.objectives.items (k - 1) (objective_at done k) lt ∙ ap Some (rw so_far.soft (get_or-map-range_with_len (objective_at done) 1 64 (k - 1) k (objective_at done k) (omega arith) (omega arith))) in
     let here : get_or d.objectives.items (k - 1) (objective_at done k) ≡ objective_at done k = get_or_from_slice_get d.objectives.items (k - 1) (objective_at done k) (objective_at done k) read in
     let new = added.softs (objective_at done k) read in
-    let size : sum_by (λ o. length o.softs) e.objectives.items ≡ sum_by (λ o. length o.softs) d.objectives.items + 1 = rw new (soft_size d.objectives.items (k - 1) (objective_at done k) (record { weight = weight; lits = lits }) lt here) in
     let sum : slice_index d.sums (k - 1) ≡ weight_of done k = rw so_far.weights (weight_at done k some le) in
     record {
       hard = added.clauses ∙ so_far.hard ∙ sym (hard_clauses-append done (s ∷ []) ∙ append-nil (hard_clauses done));
@@ -179,7 +164,6 @@ draft_soft d e done k weight lits ready within added so_far =
       variables_within = omega (arith, added.vars, so_far.variables_within, small);
       number = omega (arith, added.count, so_far.number, objective_count_push done s);
       number_within = omega (arith, added.count, so_far.number_within, le);
-      size = omega (arith, ap length added.clauses, so_far.size, size, total_clauses_push done s);
     }
 
 pub ready_soft : (d e : Draft) (k weight : ℕ) (lits : List Literal) → IsReady d → IsStatementWithin d.sums (SoftIn k weight lits) → AddsSoft d e k weight lits → IsReady e

@@ -5,4 +5,6 @@ pub mod WordFaults
 pub mod Drafts
 pub mod StatementFaults
 pub mod Texts
+pub mod Counts
 pub mod Limits
+pub mod TextFaults

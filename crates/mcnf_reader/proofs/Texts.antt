@@ -97,7 +97,7 @@ one_reading (line ∷ lines) (x ∷ xs) (y ∷ ys) left right =
     let rest : xs ≡ ys = one_reading lines xs ys left.1 right.1 in
     ap (λ z. z ∷ xs) first ∙ ap (λ zs. y ∷ zs) rest
 
-abbrev instance_from : ℕ → List (List Literal) → List Linear → List Objective → InstanceValue
+abbrev pub instance_from : ℕ → List (List Literal) → List Linear → List Objective → InstanceValue
 instance_from vars clauses linear objectives = record { vars = vars; clauses = clauses; linear = linear; objectives = objectives }
 
 -- a text spells one instance at most

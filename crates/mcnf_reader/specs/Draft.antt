@@ -1,5 +1,5 @@
 -- What the statements read so far make.
-use Rattle.std.specs.Prelude.{◌≡◌, ℕ, ◌<◌, ◌≤◌, ◌+◌, ◌-◌, ◌^◌, max, Some, slice_get, slice_index, slice_set, List, [], ◌∷◌, ◌++◌, length, map, take, sum_by, All}
+use Rattle.std.specs.Prelude.{◌≡◌, ℕ, ◌<◌, ◌≤◌, ◌+◌, ◌-◌, ◌^◌, max, Some, slice_get, slice_index, slice_set, List, [], ◌∷◌, ◌++◌, length, map, take, All}
 use Rattle.std.specs.List.{range_with_len}
 use Rattle.scut_base.specs.Literal.{Literal}
 use Rattle.instance.specs.declared.objective.Objective.{Objective}
@@ -7,7 +7,6 @@ use Rattle.instance.specs.declared.objective.Soft.{Soft}
 use Rattle.instance.specs.Shape.{InstanceValue, weights_sum}
 use Rattle.mcnf_reader.specs.declared.draft.Draft.{Draft}
 use Rattle.mcnf_reader.specs.declared.statement.Statement.{Statement}
-use Rattle.mcnf_reader.specs.declared.statement.Statement.TheVariants.{Nothing, Hard, Soft as SoftIn}
 use Rattle.mcnf_reader.specs.Grammar.{hard_clauses, objective_at, softs_of, largest_of, largest_variable, objective_count}
 
 -- an objective with a soft clause more
@@ -21,17 +20,6 @@ objective_numbers = range_with_len 1 64
 -- the sum of an objective's weights
 abbrev pub weight_of : List Statement → ℕ → ℕ
 weight_of statements k = weights_sum (softs_of k statements)
-
--- 1 for a clause, 0 for nothing
-abbrev pub clause_count : Statement → ℕ
-clause_count Nothing = 0
-clause_count (Hard lits) = 1
-clause_count (SoftIn objective weight lits) = 1
-
--- how many of the statements are clauses
-abbrev pub total_clauses : List Statement → ℕ
-total_clauses [] = 0
-total_clauses (s ∷ statements) = clause_count s + total_clauses statements
 
 -- The draft has room for each objective, and no sum of weights is too large.
 pub record IsReady (d : Draft) : Type 0 where
@@ -47,7 +35,6 @@ pub record IsDraftOf (d : Draft) (statements : List Statement) : Type 0 where
   pub variables_within : d.vars ≤ 2 ^ 24
   pub number : d.count ≡ objective_count statements
   pub number_within : d.count ≤ 64
-  pub size : length d.clauses + sum_by (λ o. length o.softs) d.objectives.items ≤ total_clauses statements
 
 -- what a soft clause more makes of a draft
 pub record AddsSoft (d e : Draft) (k weight : ℕ) (lits : List Literal) : Type 0 where

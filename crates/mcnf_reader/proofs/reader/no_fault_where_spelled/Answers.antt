@@ -1,4 +1,4 @@
-use Rattle.mcnf_reader.proofs.Limits.{no_fault}
+use Rattle.mcnf_reader.proofs.TextFaults.{no_fault}
 use Rattle.mcnf_reader.proofs.reader.no_fault_where_spelled.Goals as goal
 
 pub returns : goal.returns

@@ -1,7 +1,7 @@
 use Rattle.std.proofs.Common.{length, ap, arith}
 use Rattle.std.proofs.lemmas.Result.{err_from_is_err_and}
 use Rattle.mcnf_reader.specs.Words.{lines_of}
-use Rattle.mcnf_reader.proofs.Limits.{lines_count}
+use Rattle.mcnf_reader.proofs.Counts.{lines_count}
 use Rattle.mcnf_reader.proofs.Texts.{read_none, read_on, read_all, next_wrong, number_below}
 use Rattle.mcnf_reader.proofs.reader.read_lines.Goals as goal
 

@@ -1,4 +1,4 @@
-use Rattle.mcnf_reader.proofs.Limits.{spelled_without_fault}
+use Rattle.mcnf_reader.proofs.TextFaults.{spelled_without_fault}
 use Rattle.mcnf_reader.proofs.reader.spelled_where_no_fault.Goals as goal
 
 pub returns : goal.returns
