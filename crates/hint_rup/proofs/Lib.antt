@@ -1,0 +1,4 @@
+mod ForcedLiterals
+mod Conflict
+mod Agreement
+mod HintLines
