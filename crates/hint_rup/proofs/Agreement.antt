@@ -1,5 +1,5 @@
 -- Partial assignments that agree with an assignment under which all constraints hold.
-use Rattle.std.specs.Prelude.{◌≡◌, ◌≢◌, ℕ, ◌+◌, ◌-◌, ◌<◌, ◌≤◌, ◌⊎◌, Bool, true, false, not, ◌&&◌, if◌then◌else◌, Option, Some, None, List, [], ◌∷◌, length, replicate, sum_by, All, ℤ, pos, ◌<ℤ◌, ◌-ℤ◌, int_lt, refl}
+use Rattle.std.specs.Prelude.{◌≡◌, ◌≢◌, ℕ, ◌+◌, ◌-◌, ◌<◌, ◌≤◌, ◌⊎◌, Bool, true, false, not, ◌&&◌, if◌then◌else◌, Option, Some, None, List, [], ◌∷◌, length, replicate, sum_by, All, ℤ, pos, ◌<ℤ◌, int_lt, refl}
 use Rattle.std.proofs.Common.{sym, ◌∙◌, ap, subst, get_or, take, drop, inl, inr, cond, arith}
 use Rattle.std.specs.Option.{is_none, option_map}
 use Rattle.std.specs.List.{filter}

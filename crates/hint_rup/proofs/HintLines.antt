@@ -1,6 +1,6 @@
 -- The lines of hints, from the first hint on.
 use Rattle.std.specs.Prelude.{◌≡◌, ℕ, ◌+◌, ◌<◌, ◌≤◌, Bool, Option, Some, None, List, [], ◌∷◌, length, All, IfSome, cond, replicate, refl}
-use Rattle.std.proofs.Common.{sym, ◌∙◌, ap, subst, get_or, drop, arith}
+use Rattle.std.proofs.Common.{◌∙◌, ap, subst, get_or, drop}
 use Rattle.std.specs.Option.{is_none, option_map}
 use Rattle.std.specs.List.{find}
 use Rattle.std.specs.FinMap.{get}

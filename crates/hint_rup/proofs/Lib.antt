@@ -2,3 +2,4 @@ mod ForcedLiterals
 mod Conflict
 mod Agreement
 mod HintLines
+pub mod HintedVariables

@@ -3,7 +3,7 @@ use Rattle.std.specs.Prelude.{◌≡◌, ℕ, Option, Some, None, option_map, Li
 use Rattle.std.specs.Option.{is_none}
 use Rattle.std.specs.List.{find}
 use Rattle.std.specs.FinMap.{get}
-use Rattle.pb_lin.specs.Constraint.{ConstraintValue}
+use Rattle.pb_lin.specs.Constraint.{ConstraintValue, TermsUpTo}
 use Rattle.pb_lin.specs.LineMap.{LineMap}
 use Rattle.hint_rup.specs.declared.hint.Hint.{Hint}
 use Rattle.hint_rup.specs.declared.hint.Hint.TheVariants.{Id, Negated, Denied}
@@ -41,3 +41,11 @@ abbrev pub IsAnswer : {T : Type 0} → Result T RupFault → Type 0 → Option �
 IsAnswer (Ok x) Conflict first = Conflict
 IsAnswer (Err (NoSuchId id)) Conflict first = (Conflict → ⊥) × (first ≡ Some id)
 IsAnswer (Err Open) Conflict first = (Conflict → ⊥) × (first ≡ None)
+
+-- no variable of a constraint is above n
+abbrev pub UpTo : ℕ → ConstraintValue → Type 0
+UpTo n c = TermsUpTo n c.terms
+
+-- no variable of a line is above n
+abbrev pub LinesUpTo : ℕ → LineMap → Type 0
+LinesUpTo n lines = (id : ℕ) (c : ConstraintValue) → get lines id ≡ Some c → UpTo n c

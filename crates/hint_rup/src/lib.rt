@@ -9,6 +9,8 @@ mod hint;
 mod hinted;
 mod propagation;
 
-
 pub use hint::{Hint, RupFault};
 pub use hinted::replay;
+
+#[cfg(test)]
+mod tests;

@@ -1,5 +1,5 @@
 // Propagation of one line.
-ghost use Rattle.std.specs.Prelude.{◌≡◌, ◌≤◌, ◌↔◌, ◌&&◌, pos, ◌<ℤ◌, int_lt, true, false, ℕ, length, IsTrue};
+ghost use Rattle.std.specs.Prelude.{◌≡◌, ◌≤◌, ◌↔◌, ◌&&◌, pos, ◌<ℤ◌, int_lt, true, false, length, IsTrue};
 ghost use Rattle.std.specs.Option.{is_none};
 ghost use Rattle.scut_base.specs.Assignment.{partial_truth};
 ghost use Rattle.pb_lin.specs.Constraint.{TermsUpTo, slack};
@@ -8,9 +8,9 @@ ghost use Rattle.hint_rup.specs.Propagation.{forced};
 use pb_lin::Constraint;
 use scut_base::{Lit, Partial};
 
-// Whether the line's slack is negative. If not, makes every open literal true whose coefficient exceeds
-// it. Costs two passes over the line.
-pub(crate) fn is_violated(scratch: &mut Partial, line: &Constraint) -> bool
+// Whether the line's slack is negative; where it isn't, makes every open literal true whose coefficient
+// exceeds it. Costs two passes over the line.
+pub(crate) fn propagates_to_conflict(scratch: &mut Partial, line: &Constraint) -> bool
     requires { TermsUpTo (length scratch.old) line.now.terms }
     ensures violated { IsTrue result ↔ slack scratch.old line.now <ℤ pos 0 }
     ensures forced { result ≡ false → scratch.new ≡ forced scratch.old line.now }

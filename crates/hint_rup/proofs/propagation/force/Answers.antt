@@ -1,6 +1,6 @@
-use Rattle.std.proofs.Common.{rules, ◌≡◌, ◌<◌, ◌≤◌, ◌∙◌, ap, sym, subst, get_or, length, length-set, true, false, arith, List, ℕ}
+use Rattle.std.proofs.Common.{◌≡◌, ◌<◌, ◌≤◌, ◌∙◌, ap, sym, subst, get_or, length, length-set, List, ℕ}
 use Rattle.scut_base.specs.Literal.{Literal}
-use Rattle.hint_rup.specs.Propagation.{is_forced, with_true}
+use Rattle.hint_rup.specs.Propagation.{is_forced}
 use Rattle.hint_rup.proofs.ForcedLiterals.{test_is, goes_on_set, goes_on_same, forced_by_all}
 use Rattle.hint_rup.proofs.propagation.force.Goals as goal
 use Rattle.hint_rup.proofs.propagation.force.Goals.{then-is_forced, else-is_forced}
