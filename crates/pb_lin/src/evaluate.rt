@@ -1,6 +1,6 @@
 // Constraints under assignments.
-ghost use Rattle.std.specs.Prelude.{◌≡◌, ◌≤◌, ◌<◌, ◌^◌, ◌↔◌, length, IsTrue};
-ghost use Rattle.pb_lin.specs.Constraint.{TermsUpTo, Holds, total, term_value, value, possible_value, slack};
+ghost use Rattle.std.specs.Prelude.{◌≡◌, ◌≤◌, ◌↔◌, length, IsTrue};
+ghost use Rattle.pb_lin.specs.Constraint.{TermsUpTo, Holds, term_value, possible_value, slack};
 
 use crate::Constraint;
 use scut_base::{Assignment, Lit, Partial};

@@ -1,6 +1,6 @@
 // Problems: constraints, and sums to be minimised.
-ghost use Rattle.std.specs.Prelude.{◌≡◌, ◌≤◌, ◌<◌, ◌^◌, length};
-ghost use Rattle.pb_lin.specs.Constraint.{TermsUpTo, total, value};
+ghost use Rattle.std.specs.Prelude.{◌≡◌, length};
+ghost use Rattle.pb_lin.specs.Constraint.{TermsUpTo};
 ghost use Rattle.pb_lin.specs.Problem.{IsCostRow, IsProblem, row_cost};
 
 use crate::Constraint;

@@ -1,0 +1,76 @@
+-- Literals that one constraint forces, one after another.
+use Rattle.std.specs.Prelude.{◌≡◌, ◌≢◌, ℕ, ◌+◌, ◌-◌, ◌<◌, ◌≤◌, Bool, true, false, cond, not, ◌&&◌, if◌then◌else◌, Option, Some, None, List, [], ◌∷◌, length, fold, All, pos, int_lt, refl}
+use Rattle.std.proofs.Common.{sym, ◌∙◌, ap, subst, get_or, take, take_all, arith}
+use Rattle.std.specs.Option.{is_none, option_map}
+use Rattle.std.specs.List.{filter}
+use Rattle.std.proofs.lemmas.List.{get_or-take, get_or_default, length-take-le, get_or-set_other}
+use Rattle.std.proofs.lemmas.List.Elements.{filter_more, All-filter, All-head, All-tail}
+use Rattle.std.proofs.lemmas.List.Sums.{fold-append}
+use Rattle.scut_base.specs.Literal.{Literal}
+use Rattle.scut_base.specs.Assignment.{partial_truth}
+use Rattle.pb_lin.specs.Constraint.{ConstraintValue, IsNormal, slack}
+use Rattle.hint_rup.specs.Propagation.{is_forced, with_true, forced}
+
+-- the partial assignment with the literals of these terms true
+abbrev pub with_all : List (Option Bool) → List (Literal × ℕ) → List (Option Bool)
+with_all p terms = fold (λ q t. with_true q t.0) p terms
+
+-- the same with those of the first terms that a constraint forces
+abbrev pub forced_of_first : List (Option Bool) → ConstraintValue → ℕ → List (Option Bool)
+forced_of_first p c i = with_all p (filter (is_forced p c) (take i c.terms))
+
+-- a term of another variable than the given one
+abbrev IsApart : ℕ → Literal × ℕ → Type 0
+IsApart var t = (0 < t.0.var) × (t.0.var ≢ var)
+
+truth_kept_one : (p : List (Option Bool)) (l m : Literal) → 0 < l.var → 0 < m.var → m.var ≢ l.var → partial_truth (with_true p m) l ≡ partial_truth p l
+truth_kept_one p l m at_one from_one apart =
+    let other : l.var - 1 ≢ m.var - 1 = λ same. apart (omega arith) in
+    ap (λ o. option_map (λ b. if l.neg then not b else b) o) (get_or-set_other p (m.var - 1) (l.var - 1) (Some (not m.neg)) None other)
+
+truth_kept : (p : List (Option Bool)) (l : Literal) (terms : List (Literal × ℕ)) → 0 < l.var → All (IsApart l.var) terms → partial_truth (with_all p terms) l ≡ partial_truth p l
+truth_kept p l [] at_one apart = refl
+truth_kept p l (t ∷ terms) at_one apart =
+    let first : IsApart l.var t = All-head (IsApart l.var) t terms apart in
+    truth_kept (with_true p t.0) l terms at_one (All-tail (IsApart l.var) t terms apart) ∙ truth_kept_one p l t.0 at_one first.0 first.1
+
+-- the terms before one are of other variables
+earlier_apart : (terms : List (Literal × ℕ)) (degree i : ℕ) (t : Literal × ℕ) → IsNormal terms degree → i < length terms → t ≡ get_or terms i t → All (IsApart t.0.var) (take i terms)
+earlier_apart terms degree i t normal within is = λ k d below.
+    let before : k < i = omega (arith, length-take-le i terms (omega arith)) in
+    let rise : (get_or terms k t).0.var < (get_or terms i t).0.var = normal.rising k i t before within in
+    let here : t.0.var ≡ (get_or terms i t).0.var = ap (λ (u : Literal × ℕ). u.0.var) is in
+    let positive : 0 < (get_or terms k t).0.var = normal.from_one k t (omega arith) in
+    let apart : IsApart t.0.var (get_or terms k t) = (positive, λ same. omega arith) in
+    subst (IsApart t.0.var) (sym (get_or-take i terms k d before ∙ get_or_default terms k d t (omega arith))) apart
+
+-- a test of a term is that of the definition
+pub test_is : (p q : List (Option Bool)) (c : ConstraintValue) (i : ℕ) (t : Literal × ℕ) (s : ℕ) (b : Bool) → IsNormal c.terms c.degree → i < length c.terms → t ≡ get_or c.terms i t → q ≡ forced_of_first p c i → slack p c ≡ pos s
+    → b ≡ (is_none (partial_truth q t.0) && int_lt (pos s) (pos t.1)) → b ≡ is_forced p c t
+test_is p q c i t s b normal within is so_far slack_is test =
+    let positive : 0 < t.0.var = subst (λ (u : Literal × ℕ). 0 < u.0.var) (sym is) (normal.from_one i t within) in
+    let apart : All (IsApart t.0.var) (filter (is_forced p c) (take i c.terms)) = All-filter (is_forced p c) (IsApart t.0.var) (take i c.terms) (earlier_apart c.terms c.degree i t normal within is) in
+    let kept : partial_truth q t.0 ≡ partial_truth p t.0 = ap (λ r. partial_truth r t.0) so_far ∙ truth_kept p t.0 (filter (is_forced p c) (take i c.terms)) positive apart in
+    test ∙ ap (λ o. is_none o && int_lt (pos s) (pos t.1)) kept ∙ ap (λ z. is_none (partial_truth p t.0) && int_lt z (pos t.1)) (sym slack_is)
+
+more_of : (p : List (Option Bool)) (c : ConstraintValue) (i : ℕ) (t : Literal × ℕ) → i < length c.terms → t ≡ get_or c.terms i t
+    → forced_of_first p c (i + 1) ≡ with_all (forced_of_first p c i) (cond (is_forced p c t) (t ∷ []) [])
+more_of p c i t within is =
+    ap (with_all p) (filter_more (is_forced p c) c.terms i t within) ∙ fold-append (λ q u. with_true q u.0) p (filter (is_forced p c) (take i c.terms)) (cond (is_forced p c (get_or c.terms i t)) (get_or c.terms i t ∷ []) [])
+    ∙ ap (λ u. with_all (forced_of_first p c i) (cond (is_forced p c u) (u ∷ []) [])) (sym is)
+
+-- a term that is forced, and one that isn't
+pub goes_on_set : (p q : List (Option Bool)) (c : ConstraintValue) (i : ℕ) (t : Literal × ℕ) → i < length c.terms → t ≡ get_or c.terms i t → q ≡ forced_of_first p c i → is_forced p c t ≡ true
+    → with_true q t.0 ≡ forced_of_first p c (i + 1)
+goes_on_set p q c i t within is so_far passes =
+    ap (λ r. with_true r t.0) so_far ∙ ap (λ b. with_all (forced_of_first p c i) (cond b (t ∷ []) [])) (sym passes) ∙ sym (more_of p c i t within is)
+
+pub goes_on_same : (p q : List (Option Bool)) (c : ConstraintValue) (i : ℕ) (t : Literal × ℕ) → i < length c.terms → t ≡ get_or c.terms i t → q ≡ forced_of_first p c i → is_forced p c t ≡ false
+    → q ≡ forced_of_first p c (i + 1)
+goes_on_same p q c i t within is so_far fails =
+    so_far ∙ ap (λ b. with_all (forced_of_first p c i) (cond b (t ∷ []) [])) (sym fails) ∙ sym (more_of p c i t within is)
+
+-- all terms
+pub forced_by_all : (p q : List (Option Bool)) (c : ConstraintValue) (i : ℕ) → length c.terms ≤ i → q ≡ forced_of_first p c i → q ≡ forced p c
+unfolding forced
+forced_by_all p q c i past so_far = so_far ∙ ap (λ ts. with_all p (filter (is_forced p c) ts)) (take_all i c.terms past)

@@ -1,0 +1,5 @@
+mod ForcedLiterals
+mod Conflict
+mod Agreement
+mod HintLines
+pub mod HintedVariables

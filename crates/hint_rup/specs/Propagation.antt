@@ -1,0 +1,28 @@
+-- Propagation of a list of constraints, each once.
+use Rattle.std.specs.Prelude.{ℕ, ◌-◌, Bool, not, ◌&&◌, Option, Some, List, [], ◌∷◌, fold, slice_set, pos, ◌<ℤ◌, int_lt, Any}
+use Rattle.std.specs.Option.{is_none}
+use Rattle.std.specs.List.{filter, zip}
+use Rattle.scut_base.specs.Literal.{Literal}
+use Rattle.scut_base.specs.Assignment.{partial_truth}
+use Rattle.pb_lin.specs.Constraint.{ConstraintValue, slack}
+
+-- whether the literal is open, with a coefficient above the slack
+abbrev pub is_forced : List (Option Bool) → ConstraintValue → Literal × ℕ → Bool
+is_forced p c t = is_none (partial_truth p t.0) && int_lt (slack p c) (pos t.1)
+
+-- the same with this literal true
+abbrev pub with_true : List (Option Bool) → Literal → List (Option Bool)
+with_true p l = slice_set p (l.var - 1) (Some (not l.neg))
+
+-- the same with every literal true that the constraint forces
+unfoldable pub forced : List (Option Bool) → ConstraintValue → List (Option Bool)
+forced p c = fold (λ q t. with_true q t.0) p (filter (is_forced p c) c.terms)
+
+-- the partial assignment before each constraint
+abbrev pub partials : List (Option Bool) → List ConstraintValue → List (List (Option Bool))
+partials p [] = []
+partials p (c ∷ cs) = p ∷ partials (forced p c) cs
+
+-- some constraint has a negative slack under the partial assignment that stands before it
+unfoldable pub Conflicts : List (Option Bool) → List ConstraintValue → Type 0
+Conflicts p cs = Any (λ x. slack x.0 x.1 <ℤ pos 0) (zip (partials p cs) cs)

@@ -1,0 +1,24 @@
+// Hints, and why they lead to no conflict.
+use thiserror::Error;
+
+/// A line to be propagated.
+#[derive(Clone, Copy, Debug, PartialEq, Eq)]
+pub enum Hint {
+    /// The line of this id.
+    Id(u64),
+    /// The negation of what is to be shown.
+    Negated,
+    /// What was denied besides, where something was.
+    Denied,
+}
+
+/// Why hints lead to no conflict.
+#[derive(Clone, Copy, Debug, PartialEq, Eq, Error)]
+pub enum RupFault {
+    /// A hint names no line: its id, or 0 where nothing was denied.
+    #[error("there is no line {0}")]
+    NoSuchId(u64),
+    /// All hints are used, and no line is violated.
+    #[error("the hints lead to no conflict")]
+    Open,
+}
