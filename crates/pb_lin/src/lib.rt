@@ -6,8 +6,16 @@
 #![tactic(auto)]
 
 mod constraint;
+mod cover;
 mod fault;
+mod lookup;
+mod normal;
+mod restriction;
+mod substitution;
 mod witness;
+
+#[cfg(test)]
+mod tests_b;
 
 pub use constraint::Constraint;
 pub use fault::LinFault;
