@@ -1,1 +1,7 @@
 pub mod Places
+pub mod Sums
+pub mod Truths
+pub mod Images
+pub mod Merges
+pub mod Distinct
+pub mod Coefficients

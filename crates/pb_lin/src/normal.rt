@@ -1,7 +1,7 @@
 // Sums brought to normal form.
-ghost use Rattle.std.specs.Prelude.{◌≡◌, ℕ, ◌+◌, ◌*◌, ◌<◌, ◌≤◌, ◌^◌, ◌↔◌, Bool, List, ℤ, pos, ◌-ℤ◌, ◌+ℤ◌, ◌≤ℤ◌, unsigned_abs, sum_by, All, AllPairs, IfOk, IsErrOf, IsTrue, MatchOption, option_to_list, [], ◌∷◌, ◌++◌};
+ghost use Rattle.std.specs.Prelude.{◌≡◌, ℕ, ◌+◌, ◌*◌, ◌<◌, ◌≤◌, ◌^◌, ◌↔◌, Bool, List, ℤ, pos, ◌-ℤ◌, ◌+ℤ◌, ◌≤ℤ◌, unsigned_abs, sum_by, All, AllPairs, IfOk, IsErrOf, IsTrue, option_to_list, [], ◌∷◌, ◌++◌};
 ghost use Rattle.std.specs.List.Sorted.{IsNonDecreasingBy};
-ghost use Rattle.pb_lin.specs.Constraint.{total, value, term_value, Holds};
+ghost use Rattle.pb_lin.specs.Constraint.{TermsUpTo, total, value, term_value};
 ghost use Rattle.pb_lin.specs.NormalForm.{HasExcess, IsNormalForm, magnitude, sum_value};
 ghost use Rattle.pb_lin.specs.Merge.{IsMerged};
 
@@ -99,7 +99,7 @@ fn merged(
     requires small { total terms.now ≤ 2 ^ 100 }
     ensures value { IfOk result (λ r. (a : List Bool) → value a r.0 + r.1 ≡ value a terms.now) }
     ensures total { IfOk result (λ r. total r.0 + r.1 ≤ total terms.now) }
-    ensures merged { IfOk result (λ r. (n : ℕ) × IsMerged r.0 n) }
+    ensures merged { IfOk result (λ r. IsMerged r.0) }
 {
     let mut merged = Items::new(alloc);
     let mut cancelled: u128 = 0;
@@ -112,12 +112,14 @@ fn merged(
 // Adds a term of no lower a variable, and gives what it and one of the opposite literal make
 // together at each assignment.
 fn take_in(merged: &mut Items<(Lit, u128)>, term: (Lit, u128)) -> Result<u128, NoMemory>
-    requires merged { IsMerged merged.old term.0.var }
+    requires merged { IsMerged merged.old }
+    requires upto { TermsUpTo term.0.var merged.old }
     requires positive { 0 < term.1 }
     requires small { total merged.old + term.1 ≤ 2 ^ 100 }
     ensures value { IfOk result (λ cancelled. (a : List Bool) → value a merged.new + cancelled ≡ value a merged.old + term_value a term) }
     ensures total { IfOk result (λ cancelled. total merged.new + cancelled ≤ total merged.old + term.1) }
-    ensures merged { IfOk result (λ _. IsMerged merged.new term.0.var) }
+    ensures merged { IfOk result (λ _. IsMerged merged.new) }
+    ensures upto { IfOk result (λ _. TermsUpTo term.0.var merged.new) }
 {
     let Some(last) = merged.pop() else {
         merged.push(term)?;

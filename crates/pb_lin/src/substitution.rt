@@ -1,5 +1,5 @@
 // Constraints under substitutions.
-ghost use Rattle.std.specs.Prelude.{◌≡◌, ℕ, ◌+◌, ◌*◌, ◌<◌, ◌≤◌, ◌^◌, ◌↔◌, not, Bool, List, All, AllPairs, IfOk, IsErrOf};
+ghost use Rattle.std.specs.Prelude.{◌≡◌, ℕ, ◌+◌, ◌*◌, ◌<◌, ◌≤◌, ◌^◌, ◌↔◌, not, if◌then◌else◌, Bool, List, All, AllPairs, IfOk, IsErrOf};
 ghost use Rattle.pb_lin.specs.Constraint.{size, total, value};
 ghost use Rattle.pb_lin.specs.Substitution.{IsUnder, image_true, true_under, value_under};
 
