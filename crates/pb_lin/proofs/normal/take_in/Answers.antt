@@ -35,7 +35,7 @@ joined-joined-requires-clause-positive c =
 
 pub returns-in_ok-push-4-clause-value : goal.returns-in_ok-push-4-clause-value
 returns-in_ok-push-4-clause-value c = λ a.
-    let joined : term_value a c.in-Some-joined.left + c.joined-joined.result.1 ≡ term_value a c.in-Some.last + term_value a c.args.term = subst (λ (o : Option (Literal × ℕ)). value a (option_to_list o) + c.joined-joined.result.1 ≡ term_value a c.in-Some.last + term_value a c.args.term) c.in-Some-joined.is (c.joined-joined.ensures.value a) in
+    let joined = subst (λ (o : Option (Literal × ℕ)). value a (option_to_list o) + c.joined-joined.result.1 ≡ term_value a c.in-Some.last + term_value a c.args.term) c.in-Some-joined.is (c.joined-joined.ensures.value a) in
     let old : value a c.args.merged.now ≡ value a c.pop.new.self + term_value a c.in-Some.last = ap (value a) c.in-Some.ensures ∙ sum_by_push (term_value a) c.pop.new.self c.in-Some.last in
     let new : value a c.push-in-Some-joined.new.self ≡ value a c.pop.new.self + term_value a c.in-Some-joined.left = ap (value a) c.in_ok-push-4.ensures.ok ∙ sum_by_push (term_value a) c.pop.new.self c.in-Some-joined.left in
     omega arith
