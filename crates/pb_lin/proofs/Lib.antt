@@ -5,3 +5,4 @@ pub mod Images
 pub mod Merges
 pub mod Distinct
 pub mod Coefficients
+pub mod Excess

@@ -1,9 +1,9 @@
 -- Sums with one term that counts, and signed sums.
-use Rattle.std.proofs.Common.{◌≡◌, ◌≢◌, ℕ, zero, suc, ◌+◌, ◌<◌, List, [], ◌∷◌, length, get_or, arith, sum_by, take, refl, ap, ◌∙◌, sym, map, fold, Bool, ℤ, pos, ◌+ℤ◌, ◌≤◌, filter, cond}
+use Rattle.std.proofs.Common.{◌≡◌, ◌≢◌, ℕ, zero, suc, ◌+◌, ◌<◌, List, [], ◌∷◌, length, get_or, arith, sum_by, take, refl, ap, ◌∙◌, sym, map, fold, Bool, ℤ, pos, ◌+ℤ◌, ◌≤◌, filter, cond, not}
 use Rattle.std.specs.List.{All}
 use Rattle.std.proofs.lemmas.List.{map_more}
-use Rattle.std.proofs.lemmas.List.Elements.{All-head, All-tail, All-cons}
-use Rattle.std.proofs.lemmas.Bool.{cond_both}
+use Rattle.std.proofs.lemmas.List.Elements.{All-head, All-tail}
+use Rattle.std.proofs.lemmas.List.Filters.{sum_by-filter_both}
 use Rattle.std.proofs.lemmas.List.Sums.{sum_by-cons, fold_push}
 use Rattle.scut_base.specs.Literal.{Literal}
 use Rattle.pb_lin.specs.NormalForm.{sum_value, signed_value}
@@ -46,16 +46,5 @@ pub filter_same : {X : Type 0} (p q : X → Bool) → ((x : X) → p x ≡ q x) 
 filter_same p q same [] = refl
 filter_same {X} p q same (x ∷ xs) = ap (λ (b : Bool). cond b (x ∷ filter p xs) (filter p xs)) (same x) ∙ ap (λ (ys : List X). cond (q x) (x ∷ ys) ys) (filter_same p q same xs)
 
-pub All-filter : {X : Type 0} (P : X → Type 0) (p : X → Bool) (xs : List X) → All P xs → All P (filter p xs)
-All-filter P p [] all = all
-All-filter {X} P p (x ∷ xs) all =
-    let rest = All-filter P p xs (All-tail P x xs all) in
-    cond_both (p x) (x ∷ filter p xs) (filter p xs) (All P) (λ _. All-cons P x (filter p xs) (All-head P x xs all) rest) (λ _. rest)
-
 pub sum_by-filter-le : {X : Type 0} (f : X → ℕ) (p : X → Bool) (xs : List X) → sum_by f (filter p xs) ≤ sum_by f xs
-sum_by-filter-le f p [] = omega arith
-sum_by-filter-le {X} f p (x ∷ xs) =
-    let rest = sum_by-filter-le f p xs in
-    let whole = sum_by-cons f x xs in
-    let kept = sum_by-cons f x (filter p xs) in
-    cond_both (p x) (x ∷ filter p xs) (filter p xs) (λ (ys : List X). sum_by f ys ≤ sum_by f (x ∷ xs)) (λ _. omega arith) (λ _. omega arith)
+sum_by-filter-le f p xs = let both = sum_by-filter_both p (λ x. not (p x)) (λ x. refl) f xs in omega arith

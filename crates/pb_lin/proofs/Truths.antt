@@ -7,11 +7,12 @@ use Rattle.std.proofs.lemmas.List.Folds.{list_any_none}
 use Rattle.scut_base.specs.Literal.{Literal}
 use Rattle.pb_lin.specs.Place.{IsPlace}
 use Rattle.std.specs.List.Sorted.{IsPermutation}
+use Rattle.std.proofs.lemmas.List.Elements.{All-filter}
 use Rattle.std.proofs.lemmas.List.Kept.{AllPairs-filter}
 use Rattle.std.proofs.lemmas.List.Sorted.{list_any-IsPermutation}
 use Rattle.pb_lin.specs.Constraint.{ConstraintValue, IsNormal}
 use Rattle.pb_lin.specs.Restriction.{is_set, is_among, met_value, restriction}
-use Rattle.pb_lin.proofs.Sums.{All-filter, filter_same, sum_by_same, sum_by-filter-le}
+use Rattle.pb_lin.proofs.Sums.{filter_same, sum_by_same, sum_by-filter-le}
 use Rattle.pb_lin.proofs.Places.{at_place}
 
 pub beq_same : (x y : Bool) → x ≡ y → beq x y ≡ true
@@ -54,8 +55,8 @@ restriction-IsPermutation c xs ys moved =
 
 pub IsNormal-restriction : (terms : List (Literal × ℕ)) (degree less : ℕ) (p : Literal × ℕ → Bool) → IsNormal terms degree → less ≤ degree → IsNormal (filter p terms) less
 IsNormal-restriction terms degree less p n le = record {
-  positive = All-filter (λ t. 0 < t.1) p terms n.positive;
-  from_one = All-filter (λ t. 0 < t.0.var) p terms n.from_one;
+  positive = All-filter p (λ t. 0 < t.1) terms n.positive;
+  from_one = All-filter p (λ t. 0 < t.0.var) terms n.from_one;
   rising = AllPairs-filter (λ s t. s.0.var < t.0.var) p terms n.rising;
   small = let part = sum_by-filter-le (λ (t : Literal × ℕ). t.1) p terms in let whole = n.small in omega arith;
 }

@@ -1,8 +1,9 @@
 // Sums brought to normal form.
 ghost use Rattle.std.specs.Prelude.{◌≡◌, ℕ, ◌+◌, ◌*◌, ◌<◌, ◌≤◌, ◌^◌, ◌↔◌, Bool, List, ℤ, pos, ◌-ℤ◌, ◌+ℤ◌, ◌≤ℤ◌, unsigned_abs, sum_by, All, AllPairs, IfOk, IsErrOf, IsTrue, option_to_list, [], ◌∷◌, ◌++◌};
+ghost use Rattle.std.specs.Int.{int_max};
 ghost use Rattle.std.specs.List.Sorted.{IsNonDecreasingBy};
 ghost use Rattle.pb_lin.specs.Constraint.{TermsUpTo, total, value, term_value};
-ghost use Rattle.pb_lin.specs.NormalForm.{HasExcess, IsNormalForm, magnitude, sum_value};
+ghost use Rattle.pb_lin.specs.NormalForm.{HasExcess, IsNormalForm, magnitude, signed_value, sum_value};
 ghost use Rattle.pb_lin.specs.Merge.{IsMerged};
 
 use crate::{Constraint, LinFault};
@@ -57,16 +58,28 @@ fn positive_terms(
 {
     let mut positive = Vec::new(alloc);
     let mut lowered: u128 = 0;
-    for term in terms {
-        let magnitude = term.0.unsigned_abs();
-        if term.0 > 0 {
-            positive.push((term.1, magnitude))?;
-        } else if term.0 < 0 {
-            positive.push((term.1.not(), magnitude))?;
-            lowered += magnitude;
+    for given in terms {
+        let (term, by) = positive_term(*given);
+        lowered += by;
+        if 0 < term.1 {
+            positive.push(term)?;
         }
     }
     Ok((positive, lowered))
+}
+
+// The same term with no negative coefficient, and what it is lowered by then.
+fn positive_term(term: (i128, Lit)) -> ((Lit, u128), u128)
+    ensures value { (a : List Bool) → pos (term_value a result.0) -ℤ pos result.1 ≡ signed_value a term }
+    ensures magnitude { result.0.1 ≡ unsigned_abs term.0 }
+    ensures lowered { result.1 ≤ unsigned_abs term.0 }
+{
+    let magnitude = term.0.unsigned_abs();
+    if term.0 < 0 {
+        ((term.1.not(), magnitude), magnitude)
+    } else {
+        ((term.1, magnitude), 0)
+    }
 }
 
 // The normal form of a sum of positive coefficients that is at least `least`.
@@ -84,9 +97,20 @@ pub(crate) fn gathered(
     let mut sorted = terms;
     sorted.sort_unstable_by_key(|term| term.0.var());
     let (merged, cancelled) = merged(alloc, sorted.as_slice())?;
-    let least = least - cancelled as i128;
-    let degree = if least < 0 { 0 } else { least as u128 };
-    Ok(Constraint::from_parts(merged, degree))
+    Ok(Constraint::from_parts(
+        merged,
+        degree_without(least, cancelled),
+    ))
+}
+
+// What is left of a degree, and no less than 0.
+fn degree_without(least: i128, cancelled: u128) -> u128
+    requires low { unsigned_abs least ≤ 2 ^ 100 }
+    requires small { cancelled ≤ 2 ^ 100 }
+    ensures { pos result ≡ int_max (least -ℤ pos cancelled) (pos 0) }
+{
+    let left = least - cancelled as i128;
+    if left < 0 { 0 } else { left as u128 }
 }
 
 // One term for each variable, and what the terms of opposite literals make together.

@@ -1,4 +1,5 @@
-use Rattle.std.proofs.Common.{ℕ, ◌≤◌, arith, ap, subst, ◌≡◌, sym}
+use Rattle.std.proofs.Common.{ℕ, ◌≤◌, arith, ap, slice_index_or}
+use Rattle.std.proofs.lemmas.List.{get_or_read}
 use Rattle.std.proofs.lemmas.List.Elements.{All-weaker}
 use Rattle.std.proofs.lemmas.List.Sums.{sum_by_more}
 use Rattle.scut_base.specs.Literal.{Literal}
@@ -21,5 +22,7 @@ loop-term-preserved c = record {
     omega arith;
   merged = c.in_ok-cancelled.ensures.merged;
   upto = λ k d h short.
-    let order = c.requires.order c.loop-term.term-index k d (omega arith) short in ?;
+    let order = c.requires.order c.loop-term.term-index k d (omega arith) short in
+    let here = ap (λ (t : Literal × ℕ). t.0.var) (get_or_read c.args.terms.now c.loop-term.term-index c.term-item.result c.loop-term-test.true c.term-item.is d) in
+    All-weaker (λ (t : Literal × ℕ). t.0.var ≤ c.term-item.result.0.var) (λ (t : Literal × ℕ). t.0.var ≤ (slice_index_or c.args.terms.now k d).0.var) (λ t below. omega arith) c.take_in.new.merged c.in_ok-cancelled.ensures.upto;
 }
