@@ -6,3 +6,4 @@ pub mod Merges
 pub mod Distinct
 pub mod Coefficients
 pub mod Excess
+pub mod Covers

@@ -6,6 +6,9 @@ use Rattle.std.proofs.lemmas.List.Elements.{All-head, All-tail}
 use Rattle.std.proofs.lemmas.List.Filters.{sum_by-filter_both}
 use Rattle.std.proofs.lemmas.List.Sums.{sum_by-cons, fold_push}
 use Rattle.scut_base.specs.Literal.{Literal}
+use Rattle.scut_base.specs.Assignment.{lit_true}
+use Rattle.std.proofs.lemmas.Bool.{cond_both}
+use Rattle.pb_lin.specs.Constraint.{term_value}
 use Rattle.pb_lin.specs.NormalForm.{sum_value, signed_value}
 
 pub sum_by_zero : {X : Type 0} (f : X → ℕ) (xs : List X) → All (λ x. f x ≡ 0) xs → sum_by f xs ≡ 0
@@ -48,3 +51,6 @@ filter_same {X} p q same (x ∷ xs) = ap (λ (b : Bool). cond b (x ∷ filter p 
 
 pub sum_by-filter-le : {X : Type 0} (f : X → ℕ) (p : X → Bool) (xs : List X) → sum_by f (filter p xs) ≤ sum_by f xs
 sum_by-filter-le f p xs = let both = sum_by-filter_both p (λ x. not (p x)) (λ x. refl) f xs in omega arith
+
+pub term_value-le : (a : List Bool) (t : Literal × ℕ) → term_value a t ≤ t.1
+term_value-le a t = cond_both (lit_true a t.0) t.1 0 (λ (n : ℕ). n ≤ t.1) (λ _. omega arith) (λ _. omega arith)

@@ -1,7 +1,8 @@
-use Rattle.std.proofs.Common.{ℕ, ◌≤◌, ◌<◌, ◌≡◌, arith, ap, subst, sym, ◌∙◌, rules, pos, ◌-ℤ◌}
+use Rattle.std.proofs.Common.{ℕ, ◌≤◌, ◌<◌, ◌≡◌, arith, ap, subst, sym, ◌∙◌, rules, ℤ, pos, ◌-ℤ◌}
 use Rattle.std.specs.List.{All}
+use Rattle.std.specs.Int.{int_max}
 use Rattle.std.specs.List.Sorted.{IsNonDecreasingBy}
-use Rattle.std.proofs.lemmas.Int.{ints, clamps}
+use Rattle.std.proofs.lemmas.Int.{ints, clamps, to_z-of_z}
 use Rattle.std.proofs.lemmas.List.Sorted.{IsNonDecreasingBy-from_sort_by_key, All-permutation, sum_by-IsPermutation}
 use Rattle.scut_base.specs.Literal.{Literal}
 use Rattle.pb_lin.specs.Constraint.{ConstraintValue, total, value, term_value}
@@ -47,5 +48,5 @@ returns c = record {
     let merged = c.in_ok-merged.ensures.value a in
     let terms = ap (λ (r : ConstraintValue). value a r.terms) c.from_parts.ensures in
     omega (arith, ints);
-  degree = ap (λ (r : ConstraintValue). pos r.degree) c.from_parts.ensures ∙ c.degree_without.ensures;
+  degree = ap (λ (r : ConstraintValue). pos r.degree) c.from_parts.ensures ∙ c.degree_without.ensures ∙ ap (λ (z : ℤ). int_max (z -ℤ pos c.in_ok-merged.cancelled) (pos 0)) (to_z-of_z _ _ c.ranges.least);
 }
