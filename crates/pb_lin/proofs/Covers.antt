@@ -224,3 +224,89 @@ common_true lt lf rt rf positive e = grind (arith, nat_tests)
 common_false : (lt lf rt rf : ℕ) → 0 < rf → rt ≡ 0 → not (best lt lf rt rf) ≡ true → 0 < lf
 unfolding best
 common_false lt lf rt rf positive none e = grind (arith, nat_tests)
+
+-- what a literal of the left side gains
+gain : (left right : Terms) (v : ℕ) (neg : Bool) (n : ℕ) → let l = literal_of v neg in coefficient left l ≡ n → 0 < n → coefficient left (opposite l) ≡ 0 → (coefficient right l ≡ 0) ⊎ (coefficient right (opposite l) ≡ 0) → (if best_true left right l then n else 0) ≡ (n - coefficient right l) + (if best_true left right l then coefficient right l else 0)
+unfolding best_true best_of literal_of
+gain left right v false n is positive none one =
+    let lt = coefficient left (literal_of v false) in
+    let lf = coefficient left (literal_of v true) in
+    let rt = coefficient right (literal_of v false) in
+    let rf = coefficient right (literal_of v true) in
+    subst (λ (m : ℕ). (if best lt lf rt rf then m else 0) ≡ (m - rt) + (if best lt lf rt rf then rt else 0)) is (gain_true lt lf rt rf (omega arith) none)
+gain left right v true n is positive none one =
+    let lt = coefficient left (literal_of v false) in
+    let lf = coefficient left (literal_of v true) in
+    let rt = coefficient right (literal_of v false) in
+    let rf = coefficient right (literal_of v true) in
+    subst (λ (m : ℕ). (if not (best lt lf rt rf) then m else 0) ≡ (m - rf) + (if not (best lt lf rt rf) then rf else 0)) is (gain_false lt lf rt rf (omega arith) none one)
+
+-- a literal of the right side that is true has a coefficient on the left side
+common : (left right : Terms) (v : ℕ) (neg : Bool) → let l = literal_of v neg in 0 < coefficient right l → coefficient right (opposite l) ≡ 0 → best_true left right l ≡ true → 0 < coefficient left l
+unfolding best_true best_of literal_of
+common left right v false positive none e = common_true (coefficient left (literal_of v false)) (coefficient left (literal_of v true)) (coefficient right (literal_of v false)) (coefficient right (literal_of v true)) positive e
+common left right v true positive none e = common_false (coefficient left (literal_of v false)) (coefficient left (literal_of v true)) (coefficient right (literal_of v false)) (coefficient right (literal_of v true)) positive none e
+
+-- the first n of those values
+best_list : Terms → Terms → ℕ → List Bool
+best_list left right n = map (λ i. best_of left right (i + 1)) (range_with_len 0 n)
+
+best_list_true : (left right : Terms) (n : ℕ) (l : Literal) → 0 < l.var → l.var ≤ n → lit_true (best_list left right n) l ≡ best_true left right l
+unfolding best_list best_true
+best_list_true left right n l from_one upto =
+    let value : value_of (best_list left right n) l.var ≡ best_of left right l.var =
+      get_or-map-range_with_len (λ i. best_of left right (i + 1)) 0 n (l.var - 1) (l.var - 1) false (omega arith) (omega arith)
+      ∙ ap (best_of left right) (omega arith) in
+    ap (λ (b : Bool). if l.neg then not b else b) value
+
+and_same : (b c : Bool) (n : ℕ) → (b ≡ true → c ≡ true) → (if b && c then n else 0) ≡ (if b then n else 0)
+and_same true true n h = refl
+and_same true false n h = let e = h refl in cc
+and_same false c n h = refl
+
+-- an assignment under which the left side is as far above the other as can be
+pub excess_reached : (left right : Terms) (ld rd : ℕ) → IsNormal left ld → IsNormal right rd → (a : List Bool) × (value a left ≡ greatest_excess left right + value a right)
+unfolding shared literal_of
+excess_reached left right ld rd nl nr = (a, total_is)
+  where
+    vars : Terms → ℕ
+    vars terms = sum_by (λ t. t.0.var) terms
+
+    a : List Bool
+    a = best_list left right (vars left + vars right)
+
+    on_left : (k : ℕ) (d : Literal × ℕ) → k < length left → term_value a (get_or left k d) ≡ ((get_or left k d).1 - coefficient right (get_or left k d).0) + (if lit_true a (get_or left k d).0 then coefficient right (get_or left k d).0 else 0)
+    on_left k d short =
+        let t = get_or left k d in
+        let within = get_or-le-sum_by (λ (s : Literal × ℕ). s.0.var) left k d short in
+        let same : lit_true a t.0 ≡ best_true left right t.0 = best_list_true left right (vars left + vars right) t.0 (nl.from_one k d short) (omega arith) in
+        subst (λ (b : Bool). (if b then t.1 else 0) ≡ (t.1 - coefficient right t.0) + (if b then coefficient right t.0 else 0)) (sym same)
+          (gain left right t.0.var t.0.neg t.1 (coefficient_of_term left nl.rising k d short) (nl.positive k d short) (coefficient_of_opposite left nl.rising k d short) (only_one right nr.rising t.0))
+
+    on_right : (k : ℕ) (d : Literal × ℕ) → k < length right → (if lit_true a (get_or right k d).0 && has left (get_or right k d).0 then (get_or right k d).1 else 0) ≡ term_value a (get_or right k d)
+    on_right k d short =
+        let t = get_or right k d in
+        let within = get_or-le-sum_by (λ (s : Literal × ℕ). s.0.var) right k d short in
+        let same : lit_true a t.0 ≡ best_true left right t.0 = best_list_true left right (vars left + vars right) t.0 (nr.from_one k d short) (omega arith) in
+        let is = coefficient_of_term right nr.rising k d short in
+        let positive = nr.positive k d short in
+        and_same (lit_true a t.0) (has left t.0) t.1 (λ e. has_from_coefficient left t.0 (common left right t.0.var t.0.neg (omega arith) (coefficient_of_opposite right nr.rising k d short) (sym same ∙ e)))
+
+    total_is : value a left ≡ greatest_excess left right + value a right
+    total_is =
+        let parts = sum_by_same_in (term_value a) (λ t. (t.1 - coefficient right t.0) + (if lit_true a t.0 then coefficient right t.0 else 0)) left on_left in
+        let both = sum_by-add (λ t. t.1 - coefficient right t.0) (λ t. if lit_true a t.0 then coefficient right t.0 else 0) left in
+        let shared' = shared_is (lit_true a) left right nl.rising in
+        let rest = sum_by_same_in (λ s. if lit_true a s.0 && has left s.0 then s.1 else 0) (term_value a) right on_right in
+        omega arith
+
+-- the test that decides it
+pub Covers-from_excess : (p q : ConstraintValue) → IsNormal p.terms p.degree → greatest_excess p.terms q.terms + q.degree ≤ p.degree → Covers p q
+Covers-from_excess p q n less a = let bound = excess_bound a p.terms q.terms n.rising in omega arith
+
+pub excess_from_Covers : (p q : ConstraintValue) → IsNormal p.terms p.degree → IsNormal q.terms q.degree → Covers p q → greatest_excess p.terms q.terms + q.degree ≤ p.degree
+excess_from_Covers p q np nq covers =
+    let reached = excess_reached p.terms q.terms p.degree q.degree np nq in
+    let here = covers reached.0 in
+    let is = reached.1 in
+    omega arith
