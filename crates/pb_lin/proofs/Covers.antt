@@ -133,7 +133,7 @@ excess_bound a left right up =
 
 -- ---- the assignment that reaches it
 
-sum_by_same_in : {X : Type 0} (f g : X → ℕ) (xs : List X) → All (λ x. f x ≡ g x) xs → sum_by f xs ≡ sum_by g xs
+pub sum_by_same_in : {X : Type 0} (f g : X → ℕ) (xs : List X) → All (λ x. f x ≡ g x) xs → sum_by f xs ≡ sum_by g xs
 sum_by_same_in f g [] all = refl
 sum_by_same_in f g (x ∷ xs) all =
     let one : f x ≡ g x = All-head (λ y. f y ≡ g y) x xs all in

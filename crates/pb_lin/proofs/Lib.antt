@@ -7,3 +7,4 @@ pub mod Distinct
 pub mod Coefficients
 pub mod Excess
 pub mod Covers
+pub mod Laws

@@ -1,6 +1,6 @@
 // Whether one constraint is so strong that another follows from it term by term.
 ghost use Rattle.std.specs.Prelude.{◌≡◌, ◌<◌, ◌≤◌, ◌^◌, ◌↔◌, AllPairs, IsTrue};
-ghost use Rattle.pb_lin.specs.Constraint.{Covers, total};
+ghost use Rattle.pb_lin.specs.Constraint.{ConstraintValue, Covers, Implies, total};
 ghost use Rattle.pb_lin.specs.Cover.{coefficient, greatest_excess};
 
 use crate::lookup::term_place;
@@ -16,6 +16,12 @@ impl Constraint {
     {
         greatest_excess(self.terms(), other.terms()) + other.degree() <= self.degree()
     }
+}
+
+/// Law: a constraint that covers another implies it.
+pub fn covering_implies()
+    ensures { (p q : ConstraintValue) → Covers p q → Implies p q }
+{
 }
 
 // The greatest value of the one left side above the other.

@@ -18,5 +18,9 @@ mod witness;
 mod tests_b;
 
 pub use constraint::Constraint;
+pub use cover::covering_implies;
 pub use fault::LinFault;
+pub use normal::{normal_form_holds, normal_form_is_unique};
+pub use restriction::restriction_holds;
+pub use substitution::substitution_holds;
 pub use witness::{Image, Witness};

@@ -2,7 +2,8 @@
 ghost use Rattle.std.specs.Prelude.{◌≡◌, ℕ, ◌+◌, ◌*◌, ◌<◌, ◌≤◌, ◌^◌, ◌↔◌, Bool, List, ℤ, pos, ◌-ℤ◌, ◌+ℤ◌, ◌≤ℤ◌, unsigned_abs, sum_by, All, AllPairs, IfOk, IsErrOf, IsTrue, option_to_list, [], ◌∷◌, ◌++◌};
 ghost use Rattle.std.specs.Int.{int_max};
 ghost use Rattle.std.specs.List.Sorted.{IsNonDecreasingBy};
-ghost use Rattle.pb_lin.specs.Constraint.{TermsUpTo, total, value, term_value};
+ghost use Rattle.scut_base.specs.Literal.{Literal};
+ghost use Rattle.pb_lin.specs.Constraint.{ConstraintValue, Holds, IsNormal, TermsUpTo, total, value, term_value};
 ghost use Rattle.pb_lin.specs.NormalForm.{HasExcess, IsNormalForm, magnitude, signed_value, sum_value};
 ghost use Rattle.pb_lin.specs.Merge.{IsMerged};
 
@@ -32,6 +33,19 @@ impl Constraint {
         let constraint = gathered(alloc, positive, degree + lowered as i128)?;
         Ok(constraint)
     }
+}
+
+/// Law: the normal form of a sum holds exactly where the sum is at least its degree.
+pub fn normal_form_holds()
+    ensures { (c : ConstraintValue) (terms : List (ℤ × Literal)) (degree : ℤ) → IsNormalForm c terms degree → (a : List Bool) → (Holds a c ↔ (degree ≤ℤ sum_value a terms)) }
+{
+}
+
+/// Law: constraints in normal form whose left sides differ by the same amount at every assignment
+/// have the same terms, and so the amount is 0.
+pub fn normal_form_is_unique()
+    ensures { (c d : ConstraintValue) → IsNormal c.terms c.degree → IsNormal d.terms d.degree → (m n : ℕ) → ((a : List Bool) → value a c.terms + m ≡ value a d.terms + n) → (c.terms ≡ d.terms) × (m ≡ n) }
+{
 }
 
 // Whether the magnitudes sum to at most 2^99.

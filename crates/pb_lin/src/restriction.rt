@@ -1,7 +1,9 @@
 // What is left of a constraint where some literals are true.
-ghost use Rattle.std.specs.Prelude.{◌≡◌, ◌≢◌, ◌<◌, ◌≤◌, ◌^◌, ◌↔◌, true, false, not, filter, sum_by, AllPairs, IfOk};
+ghost use Rattle.std.specs.Prelude.{◌≡◌, ◌≢◌, ◌<◌, ◌≤◌, ◌^◌, ◌↔◌, true, false, not, filter, sum_by, Bool, List, All, AllPairs, IfOk, IsTrue};
 ghost use Rattle.std.specs.List.Sorted.{IsPermutation};
-ghost use Rattle.pb_lin.specs.Constraint.{total};
+ghost use Rattle.scut_base.specs.Literal.{Literal};
+ghost use Rattle.scut_base.specs.Assignment.{lit_true};
+ghost use Rattle.pb_lin.specs.Constraint.{ConstraintValue, Holds, total};
 ghost use Rattle.pb_lin.specs.Restriction.{restriction, is_set, is_among, met_value};
 
 use crate::lookup::literal_place;
@@ -24,6 +26,13 @@ impl Constraint {
             self.degree().saturating_sub(met),
         ))
     }
+}
+
+/// Law: at an assignment under which the given literals are true, what is left holds exactly where
+/// the constraint does.
+pub fn restriction_holds()
+    ensures { (c : ConstraintValue) (truths : List Literal) (a : List Bool) → All (λ l. IsTrue (lit_true a l)) truths → (Holds a (restriction c truths) ↔ Holds a c) }
+{
 }
 
 // What becomes of a term.

@@ -1,7 +1,8 @@
 // Constraints under substitutions.
 ghost use Rattle.std.specs.Prelude.{◌≡◌, ℕ, ◌+◌, ◌*◌, ◌<◌, ◌≤◌, ◌^◌, ◌↔◌, not, if◌then◌else◌, Bool, List, All, AllPairs, IfOk, IsErrOf};
-ghost use Rattle.pb_lin.specs.Constraint.{size, total, value};
-ghost use Rattle.pb_lin.specs.Substitution.{IsUnder, image_true, true_under, value_under};
+ghost use Rattle.scut_base.specs.Assignment.{value_of};
+ghost use Rattle.pb_lin.specs.Constraint.{ConstraintValue, Holds, size, total, value};
+ghost use Rattle.pb_lin.specs.Substitution.{Images, IsUnder, image_true, true_under, value_under, variable_under};
 
 use crate::lookup::image_place;
 use crate::normal::{gathered, LARGEST};
@@ -25,6 +26,13 @@ impl Constraint {
         let constraint = gathered(alloc, terms, self.degree() as i128 - met as i128)?;
         Ok(constraint)
     }
+}
+
+/// Law: the constraint under a substitution holds exactly where the constraint does under the
+/// substituted assignment, which gives each of its variables the truth of what stands for it.
+pub fn substitution_holds()
+    ensures { (result c : ConstraintValue) (images : Images) → IsUnder result images c → (a b : List Bool) → All (λ t. value_of b t.0.var ≡ variable_under images a t.0.var) c.terms → (Holds a result ↔ Holds b c) }
+{
 }
 
 // The sum of the coefficients.
