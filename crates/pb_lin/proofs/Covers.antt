@@ -142,7 +142,7 @@ sum_by_same_in f g (x ∷ xs) all =
     let right = sum_by-cons g x xs in
     omega arith
 
-same_literal : (l m : Literal) → l ≡ m → is_same l m ≡ true
+pub same_literal : (l m : Literal) → l ≡ m → is_same l m ≡ true
 same_literal l m e = and_from (l.var == m.var) (beq l.neg m.neg) (eq-eqb l.var m.var (ap (λ (k : Literal). k.var) e)) (beq_same l.neg m.neg (ap (λ (k : Literal). k.neg) e))
 
 is_same-flip : (l m : Literal) → is_same l m ≡ is_same m l

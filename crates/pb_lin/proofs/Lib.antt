@@ -8,3 +8,4 @@ pub mod Coefficients
 pub mod Excess
 pub mod Covers
 pub mod Laws
+pub mod Unique
