@@ -185,13 +185,18 @@ coefficient_of_opposite terms up k d short = sum_by_zero (λ t. if is_same t.0 (
           (λ (other : j ≢ k). and_left (x.var == y.var) (beq x.neg y.neg) (ne_eqb x.var y.var (λ var. apart_terms terms up j k e other h short (var ∙ ap (λ (t : Literal × ℕ). t.0.var) same))))
           (cases_eq j k)
 
+-- the term of a literal with a coefficient
+pub term_of : (terms : Terms) (l : Literal) → 0 < coefficient terms l → (k : ℕ) × (d : Literal × ℕ) × (k < length terms) × ((get_or terms k d).0 ≡ l)
+unfolding has
+term_of terms l positive =
+    let found = Any-from_list_any (λ t. is_same l t.0) terms (has_from_coefficient terms l positive) in
+    (found.0, found.1, found.2, ap (λ (t : Literal × ℕ). t.0) found.3 ∙ sym (is_same-true l found.1.0 found.4))
+
 -- at most one of a variable's literals has a coefficient
 only_one : (terms : Terms) → AllPairs (λ x y. x.0.var < y.0.var) terms → (l : Literal) → (coefficient terms l ≡ 0) ⊎ (coefficient terms (opposite l) ≡ 0)
-unfolding has
 only_one terms up l = ⊎_elim (λ (zero : coefficient terms l ≡ 0). inl zero) (λ (some : coefficient terms l ≢ 0).
-    let found = Any-from_list_any (λ t. is_same l t.0) terms (has_from_coefficient terms l (omega arith)) in
-    let here : (get_or terms found.0 found.1).0 ≡ l = ap (λ (t : Literal × ℕ). t.0) found.3 ∙ sym (is_same-true l found.1.0 found.4) in
-    inr (subst (λ (m : Literal). coefficient terms (opposite m) ≡ 0) here (coefficient_of_opposite terms up found.0 found.1 found.2)))
+    let found = term_of terms l (omega arith) in
+    inr (subst (λ (m : Literal). coefficient terms (opposite m) ≡ 0) found.3 (coefficient_of_opposite terms up found.0 found.1 found.2)))
     (cases_eq (coefficient terms l) 0)
 
 -- the value of a variable that brings the left side furthest above the right one, by the coefficients of its literals

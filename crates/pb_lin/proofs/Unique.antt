@@ -2,13 +2,13 @@
 use Rattle.std.proofs.Common.{◌≡◌, ◌≢◌, ◌⊎◌, ℕ, ◌+◌, ◌-◌, ◌<◌, ◌≤◌, ◌==◌, Bool, true, false, if◌then◌else◌, List, [], ◌∷◌, suc, length, get_or, sum_by, arith, ⊎_elim, subst, sym, ap, ◌∙◌, refl}
 use Rattle.std.proofs.Math.Bool.{beq}
 use Rattle.std.specs.List.{All, AllPairs}
-use Rattle.std.proofs.lemmas.Bool.{cases_Bool, cases_order, and_left, ne_eqb, cond-true, cond-false}
+use Rattle.std.proofs.lemmas.Bool.{cases_Bool, cases_eq, cases_order, and_left, ne_eqb, cond-true, cond-false}
 use Rattle.std.proofs.lemmas.List.Elements.{All-head, All-tail, All-cons, All-weaker}
 use Rattle.std.proofs.lemmas.List.Sums.{sum_by-cons, get_or-le-sum_by}
 use Rattle.scut_base.specs.Literal.{Literal}
 use Rattle.pb_lin.specs.Constraint.{ConstraintValue, IsNormal, value}
 use Rattle.pb_lin.specs.Cover.{is_same, coefficient, greatest_excess}
-use Rattle.pb_lin.proofs.Covers.{Terms, coefficient_of_term, excess_reached, is_same-true, same_literal}
+use Rattle.pb_lin.proofs.Covers.{Terms, coefficient_of_term, excess_reached, is_same-true, term_of}
 use Rattle.pb_lin.proofs.Sums.{sum_by_zero}
 
 -- no literal of a variable below all
@@ -94,7 +94,13 @@ same_terms (x ∷ xs) (y ∷ ys) ux uy px py same =
 
 -- where nothing is gained, no coefficient is larger
 coefficient-le : (xs ys : Terms) → AllPairs (λ x y. x.0.var < y.0.var) xs → greatest_excess xs ys ≡ 0 → (l : Literal) → coefficient xs l ≤ coefficient ys l
-coefficient-le xs ys up none l = ?
+coefficient-le xs ys up none l = ⊎_elim (λ (zero : coefficient xs l ≡ 0). omega arith) (λ (some : coefficient xs l ≢ 0).
+    let found = term_of xs l (omega arith) in
+    let is = coefficient_of_term xs up found.0 found.1 found.2 in
+    let gained = get_or-le-sum_by (λ (t : Literal × ℕ). t.1 - coefficient ys t.0) xs found.0 found.1 found.2 in
+    let here = ap (coefficient xs) found.3 in
+    let there = ap (coefficient ys) found.3 in
+    omega arith) (cases_eq (coefficient xs l) 0)
 
 pub unique : (c d : ConstraintValue) → IsNormal c.terms c.degree → IsNormal d.terms d.degree → (m n : ℕ) → ((a : List Bool) → value a c.terms + m ≡ value a d.terms + n) → (c.terms ≡ d.terms) × (m ≡ n)
 unique c d nc nd m n same =
