@@ -104,7 +104,7 @@ unfolding shared one_shared
 shared_is g left [] up = sum_by_zero (λ t. if g t.0 then coefficient [] t.0 else 0) left (λ k d short. cond_both (g (get_or left k d).0) 0 0 (λ (n : ℕ). n ≡ 0) (λ _. refl) (λ _. refl))
 shared_is g left (s ∷ right) up =
     let each : (t : Literal × ℕ) → (if g t.0 then coefficient (s ∷ right) t.0 else 0) ≡ one_shared g s t + (if g t.0 then coefficient right t.0 else 0)
-          = λ t. split_cond (g t.0) (coefficient (s ∷ right) t.0) (if is_same s.0 t.0 then s.1 else 0) (coefficient right t.0) (sum_by-cons (λ r. if is_same r.0 t.0 then r.1 else 0) s right) in
+    = λ t. split_cond (g t.0) (coefficient (s ∷ right) t.0) (if is_same s.0 t.0 then s.1 else 0) (coefficient right t.0) (sum_by-cons (λ r. if is_same r.0 t.0 then r.1 else 0) s right) in
     let all = sum_by_same (λ t. if g t.0 then coefficient (s ∷ right) t.0 else 0) (λ t. one_shared g s t + (if g t.0 then coefficient right t.0 else 0)) each left in
     let both = sum_by-add (one_shared g s) (λ t. if g t.0 then coefficient right t.0 else 0) left in
     let one = one_shared_is g left s up in
@@ -153,8 +153,8 @@ has_from_coefficient : (terms : Terms) (l : Literal) → 0 < coefficient terms l
 unfolding has
 has_from_coefficient terms l positive = ⊎_elim (λ e. e) (λ (n : has terms l ≡ false).
     let none : coefficient terms l ≡ 0 = sum_by_zero (λ t. if is_same t.0 l then t.1 else 0) terms (λ k d short.
-      ⊎_elim (λ (e : is_same (get_or terms k d).0 l ≡ true). let found = list_any_at (λ t. is_same l t.0) terms k d short (is_same-flip l (get_or terms k d).0 ∙ e) in cc)
-        (λ (e : is_same (get_or terms k d).0 l ≡ false). cond-false _ _ _ e) (cases_Bool (is_same (get_or terms k d).0 l))) in
+    ⊎_elim (λ (e : is_same (get_or terms k d).0 l ≡ true). let found = list_any_at (λ t. is_same l t.0) terms k d short (is_same-flip l (get_or terms k d).0 ∙ e) in cc)
+    (λ (e : is_same (get_or terms k d).0 l ≡ false). cond-false _ _ _ e) (cases_Bool (is_same (get_or terms k d).0 l))) in
     absurd (omega arith)) (cases_Bool (has terms l))
 
 -- terms of other variables
@@ -164,8 +164,8 @@ apart_terms terms up = AllApart-from_pairs (λ x y. x.0.var ≢ y.0.var) terms (
 pub coefficient_of_term : (terms : Terms) → AllPairs (λ x y. x.0.var < y.0.var) terms → (k : ℕ) (d : Literal × ℕ) → k < length terms → coefficient terms (get_or terms k d).0 ≡ (get_or terms k d).1
 coefficient_of_term terms up k d short =
     sum_by_single (λ t. if is_same t.0 (get_or terms k d).0 then t.1 else 0) terms k d short (λ j e h apart.
-      let same : get_or terms k d ≡ get_or terms k e = get_or_default terms k d e short in
-      cond-false _ _ _ (and_left _ _ (ne_eqb _ _ (λ var. apart_terms terms up j k e apart h short (var ∙ ap (λ (t : Literal × ℕ). t.0.var) same)))))
+    let same : get_or terms k d ≡ get_or terms k e = get_or_default terms k d e short in
+    cond-false _ _ _ (and_left _ _ (ne_eqb _ _ (λ var. apart_terms terms up j k e apart h short (var ∙ ap (λ (t : Literal × ℕ). t.0.var) same)))))
     ∙ cond-true _ _ _ (same_literal (get_or terms k d).0 (get_or terms k d).0 refl)
 
 not_not : (b : Bool) → b ≢ not b
@@ -181,9 +181,9 @@ coefficient_of_opposite terms up k d short = sum_by_zero (λ t. if is_same t.0 (
         let x = (get_or terms j e).0 in
         let y = opposite (get_or terms k d).0 in
         ⊎_elim
-          (λ (is : j ≡ k). and_right (x.var == y.var) (beq x.neg y.neg) (beq_other x.neg y.neg (λ neg. not_not (get_or terms k d).0.neg (ap (λ (t : Literal × ℕ). t.0.neg) same ∙ sym (ap (λ (i : ℕ). (get_or terms i e).0.neg) is) ∙ neg))))
-          (λ (other : j ≢ k). and_left (x.var == y.var) (beq x.neg y.neg) (ne_eqb x.var y.var (λ var. apart_terms terms up j k e other h short (var ∙ ap (λ (t : Literal × ℕ). t.0.var) same))))
-          (cases_eq j k)
+        (λ (is : j ≡ k). and_right (x.var == y.var) (beq x.neg y.neg) (beq_other x.neg y.neg (λ neg. not_not (get_or terms k d).0.neg (ap (λ (t : Literal × ℕ). t.0.neg) same ∙ sym (ap (λ (i : ℕ). (get_or terms i e).0.neg) is) ∙ neg))))
+        (λ (other : j ≢ k). and_left (x.var == y.var) (beq x.neg y.neg) (ne_eqb x.var y.var (λ var. apart_terms terms up j k e other h short (var ∙ ap (λ (t : Literal × ℕ). t.0.var) same))))
+        (cases_eq j k)
 
 -- the term of a literal with a coefficient
 pub term_of : (terms : Terms) (l : Literal) → 0 < coefficient terms l → (k : ℕ) × (d : Literal × ℕ) × (k < length terms) × ((get_or terms k d).0 ≡ l)
@@ -260,8 +260,8 @@ best_list_true : (left right : Terms) (n : ℕ) (l : Literal) → 0 < l.var → 
 unfolding best_list best_true
 best_list_true left right n l from_one upto =
     let value : value_of (best_list left right n) l.var ≡ best_of left right l.var =
-      get_or-map-range_with_len (λ i. best_of left right (i + 1)) 0 n (l.var - 1) (l.var - 1) false (omega arith) (omega arith)
-      ∙ ap (best_of left right) (omega arith) in
+    get_or-map-range_with_len (λ i. best_of left right (i + 1)) 0 n (l.var - 1) (l.var - 1) false (omega arith) (omega arith)
+    ∙ ap (best_of left right) (omega arith) in
     ap (λ (b : Bool). if l.neg then not b else b) value
 
 and_same : (b c : Bool) (n : ℕ) → (b ≡ true → c ≡ true) → (if b && c then n else 0) ≡ (if b then n else 0)
@@ -286,7 +286,7 @@ excess_reached left right ld rd nl nr = (a, total_is)
         let within = get_or-le-sum_by (λ (s : Literal × ℕ). s.0.var) left k d short in
         let same : lit_true a t.0 ≡ best_true left right t.0 = best_list_true left right (vars left + vars right) t.0 (nl.from_one k d short) (omega arith) in
         subst (λ (b : Bool). (if b then t.1 else 0) ≡ (t.1 - coefficient right t.0) + (if b then coefficient right t.0 else 0)) (sym same)
-          (gain left right t.0.var t.0.neg t.1 (coefficient_of_term left nl.rising k d short) (nl.positive k d short) (coefficient_of_opposite left nl.rising k d short) (only_one right nr.rising t.0))
+        (gain left right t.0.var t.0.neg t.1 (coefficient_of_term left nl.rising k d short) (nl.positive k d short) (coefficient_of_opposite left nl.rising k d short) (only_one right nr.rising t.0))
 
     on_right : (k : ℕ) (d : Literal × ℕ) → k < length right → (if lit_true a (get_or right k d).0 && has left (get_or right k d).0 then (get_or right k d).1 else 0) ≡ term_value a (get_or right k d)
     on_right k d short =

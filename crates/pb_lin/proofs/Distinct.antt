@@ -35,19 +35,19 @@ unfolding place_before
 get_or-swap {X} xs i j k d si sj =
     ap (λ (ys : List X). get_or ys k d) (at_swap xs i j d si sj)
     ∙ ⊎_elim (λ (e : k ≡ j).
-        ap (λ (m : ℕ). get_or (set (set xs i (get_or xs j d)) j (get_or xs i d)) m d) e
-        ∙ get_or-set_same (set xs i (get_or xs j d)) j (get_or xs i d) d (omega (arith, length-set xs i (get_or xs j d)))
-        ∙ ap (λ (m : ℕ). get_or xs m d) (sym (cond-true (k == j) i (cond (k == i) j k) (eq-eqb k j e))))
-      (λ (n : k ≢ j). get_or-set_other (set xs i (get_or xs j d)) j k (get_or xs i d) d n ∙ ⊎_elim
-        (λ (e : k ≡ i).
-          ap (λ (m : ℕ). get_or (set xs i (get_or xs j d)) m d) e
-          ∙ get_or-set_same xs i (get_or xs j d) d si
-          ∙ ap (λ (m : ℕ). get_or xs m d) (sym (cond-false (k == j) i (cond (k == i) j k) (ne_eqb k j n) ∙ cond-true (k == i) j k (eq-eqb k i e))))
-        (λ (o : k ≢ i).
-          get_or-set_other xs i k (get_or xs j d) d o
-          ∙ ap (λ (m : ℕ). get_or xs m d) (sym (cond-false (k == j) i (cond (k == i) j k) (ne_eqb k j n) ∙ cond-false (k == i) j k (ne_eqb k i o))))
-        (cases_eq k i))
-      (cases_eq k j)
+    ap (λ (m : ℕ). get_or (set (set xs i (get_or xs j d)) j (get_or xs i d)) m d) e
+    ∙ get_or-set_same (set xs i (get_or xs j d)) j (get_or xs i d) d (omega (arith, length-set xs i (get_or xs j d)))
+    ∙ ap (λ (m : ℕ). get_or xs m d) (sym (cond-true (k == j) i (cond (k == i) j k) (eq-eqb k j e))))
+    (λ (n : k ≢ j). get_or-set_other (set xs i (get_or xs j d)) j k (get_or xs i d) d n ∙ ⊎_elim
+    (λ (e : k ≡ i).
+    ap (λ (m : ℕ). get_or (set xs i (get_or xs j d)) m d) e
+    ∙ get_or-set_same xs i (get_or xs j d) d si
+    ∙ ap (λ (m : ℕ). get_or xs m d) (sym (cond-false (k == j) i (cond (k == i) j k) (ne_eqb k j n) ∙ cond-true (k == i) j k (eq-eqb k i e))))
+    (λ (o : k ≢ i).
+    get_or-set_other xs i k (get_or xs j d) d o
+    ∙ ap (λ (m : ℕ). get_or xs m d) (sym (cond-false (k == j) i (cond (k == i) j k) (ne_eqb k j n) ∙ cond-false (k == i) j k (ne_eqb k i o))))
+    (cases_eq k i))
+    (cases_eq k j)
 
 place_before-lt : (i j k n : ℕ) → i < n → j < n → k < n → place_before i j k < n
 unfolding place_before
@@ -62,8 +62,8 @@ AllApart-swap {X} R xs i j si sj all k m d apart sk sm =
     let sk' : k < length xs = omega (arith, ap length (at_swap xs i j d si sj), length-set (set xs i (get_or xs j d)) j (get_or xs i d), length-set xs i (get_or xs j d)) in
     let sm' : m < length xs = omega (arith, ap length (at_swap xs i j d si sj), length-set (set xs i (get_or xs j d)) j (get_or xs i d), length-set xs i (get_or xs j d)) in
     subst (λ (x : X). R x (get_or (swap xs i j) m d)) (sym (get_or-swap xs i j k d si sj))
-      (subst (λ (y : X). R (get_or xs (place_before i j k) d) y) (sym (get_or-swap xs i j m d si sj))
-        (all (place_before i j k) (place_before i j m) d (place_before-apart i j k m apart) (place_before-lt i j k (length xs) si sj sk') (place_before-lt i j m (length xs) si sj sm')))
+    (subst (λ (y : X). R (get_or xs (place_before i j k) d) y) (sym (get_or-swap xs i j m d si sj))
+    (all (place_before i j k) (place_before i j m) d (place_before-apart i j k m apart) (place_before-lt i j k (length xs) si sj sk') (place_before-lt i j m (length xs) si sj sm')))
 
 pub AllApart-IsPermutation : {X : Type 0} (R : X → X → Type 0) (xs ys : List X) → IsPermutation xs ys → AllApart R xs → AllApart R ys
 AllApart-IsPermutation R xs ys moved all = IsPermutation-keeps xs (AllApart R) all (λ l i j si sj. AllApart-swap R l i j si sj) ys moved

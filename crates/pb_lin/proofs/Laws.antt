@@ -35,7 +35,7 @@ pub Holds-under : (result c : ConstraintValue) (images : Images) → IsUnder res
 Holds-under result c images is a b same =
     let holds = Holds-excess result (λ e. pos (value_under images e c.terms) -ℤ pos c.degree) is a in
     let values : value b c.terms ≡ value_under images a c.terms = sum_by_same_in (term_value b) (λ t. if true_under images a t.0 then t.1 else 0) c.terms (λ k d short.
-      ap (λ (v : Bool). if (if (get_or c.terms k d).0.neg then not v else v) then (get_or c.terms k d).1 else 0) (same k d short)) in
+    ap (λ (v : Bool). if (if (get_or c.terms k d).0.neg then not v else v) then (get_or c.terms k d).1 else 0) (same k d short)) in
     ((λ h. let k = holds.0 h in omega (arith, ints)), (λ h. holds.1 (omega (arith, ints))))
 
 -- ---- restrictions
@@ -80,8 +80,8 @@ term_parts a truths all t = parts_cond (is_set truths t.0.var) (is_among truths 
         let found = Any-from_list_any (λ l. l.var == t.0.var) truths set in
         let var : found.1.var ≡ t.0.var = eqb-true found.1.var t.0.var found.4 in
         let sign : beq found.1.neg t.0.neg ≡ false = ⊎_elim (λ (e : beq found.1.neg t.0.neg ≡ true).
-          let there = list_any_at (λ m. m.var == t.0.var && beq m.neg t.0.neg) truths found.0 found.1 found.2 (ap (λ (m : Literal). m.var == t.0.var && beq m.neg t.0.neg) found.3 ∙ and_from (found.1.var == t.0.var) (beq found.1.neg t.0.neg) found.4 e) in
-          cc) (λ (e : beq found.1.neg t.0.neg ≡ false). e) (cases_Bool (beq found.1.neg t.0.neg)) in
+        let there = list_any_at (λ m. m.var == t.0.var && beq m.neg t.0.neg) truths found.0 found.1 found.2 (ap (λ (m : Literal). m.var == t.0.var && beq m.neg t.0.neg) found.3 ∙ and_from (found.1.var == t.0.var) (beq found.1.neg t.0.neg) found.4 e) in
+        cc) (λ (e : beq found.1.neg t.0.neg ≡ false). e) (cases_Bool (beq found.1.neg t.0.neg)) in
         let true' : lit_true a found.1 ≡ true = subst (λ (l : Literal). lit_true a l ≡ true) found.3 (all found.0 found.1 found.2) in
         lost found.1.neg t.0.neg (value_of a t.0.var) sign (subst (λ (v : ℕ). (if found.1.neg then not (value_of a v) else value_of a v) ≡ true) var true')
 

@@ -17,13 +17,13 @@ All-last P xs x all = subst P (get_or_push xs x x (length xs) refl) (all (length
 pub AllPairs-front : {X : Type 0} (R : X → X → Type 0) (xs : List X) (x : X) → AllPairs R (xs ++ x ∷ []) → AllPairs R xs
 AllPairs-front {X} R xs x all i j d less short =
     subst (λ (y : X). R y (get_or xs j d)) (get_or_append_left xs (x ∷ []) d i (omega arith))
-      (subst (R (get_or (xs ++ x ∷ []) i d)) (get_or_append_left xs (x ∷ []) d j short) (all i j d less (omega (arith, length_push xs x))))
+    (subst (R (get_or (xs ++ x ∷ []) i d)) (get_or_append_left xs (x ∷ []) d j short) (all i j d less (omega (arith, length_push xs x))))
 
 -- each is below the last
 pub AllPairs-last : {X : Type 0} (R : X → X → Type 0) (xs : List X) (x : X) → AllPairs R (xs ++ x ∷ []) → All (λ y. R y x) xs
 AllPairs-last {X} R xs x all k d short =
     subst (λ (y : X). R y x) (get_or_append_left xs (x ∷ []) d k short)
-      (subst (R (get_or (xs ++ x ∷ []) k d)) (get_or_push xs x d (length xs) refl) (all k (length xs) d short (omega (arith, length_push xs x))))
+    (subst (R (get_or (xs ++ x ∷ []) k d)) (get_or_push xs x d (length xs) refl) (all k (length xs) d short (omega (arith, length_push xs x))))
 
 pub merged_front : (rest : List (Literal × ℕ)) (x : Literal × ℕ) → IsMerged (rest ++ x ∷ []) → IsMerged rest
 merged_front rest x m = record {

@@ -23,6 +23,7 @@ at_place {X} n xs number i up place k d short e = ⊎_elim (λ (h : k ≡ i). h)
   where
     before : k < i → ⊥
     before h = let b : n (get_or xs k d) < number = place.below k d h in omega arith
+
     behind : i < k → ⊥
     behind h =
         let more : n (get_or xs i d) < n (get_or xs k d) = up i k d h short in

@@ -49,9 +49,9 @@ met_value-le truths t = cond_both (is_among truths t.0) t.1 0 (λ (n : ℕ). n �
 pub restriction-IsPermutation : (c : ConstraintValue) (xs ys : List Literal) → IsPermutation xs ys → restriction c ys ≡ restriction c xs
 restriction-IsPermutation c xs ys moved =
     ap (λ (ts : List (Literal × ℕ)). record { terms = ts; degree = c.degree - sum_by (met_value ys) c.terms })
-      (filter_same (λ t. not (is_set ys t.0.var)) (λ t. not (is_set xs t.0.var)) (λ t. ap not (sym (list_any-IsPermutation (λ l. l.var == t.0.var) xs ys moved))) c.terms)
+    (filter_same (λ t. not (is_set ys t.0.var)) (λ t. not (is_set xs t.0.var)) (λ t. ap not (sym (list_any-IsPermutation (λ l. l.var == t.0.var) xs ys moved))) c.terms)
     ∙ ap (λ (n : ℕ). record { terms = filter (λ t. not (is_set xs t.0.var)) c.terms; degree = c.degree - n })
-      (sum_by_same (met_value ys) (met_value xs) (λ t. ap (λ (b : Bool). if b then t.1 else 0) (sym (list_any-IsPermutation (λ m. m.var == t.0.var && beq m.neg t.0.neg) xs ys moved))) c.terms)
+    (sum_by_same (met_value ys) (met_value xs) (λ t. ap (λ (b : Bool). if b then t.1 else 0) (sym (list_any-IsPermutation (λ m. m.var == t.0.var && beq m.neg t.0.neg) xs ys moved))) c.terms)
 
 pub IsNormal-restriction : (terms : List (Literal × ℕ)) (degree less : ℕ) (p : Literal × ℕ → Bool) → IsNormal terms degree → less ≤ degree → IsNormal (filter p terms) less
 IsNormal-restriction terms degree less p n le = record {

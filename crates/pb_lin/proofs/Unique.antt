@@ -46,11 +46,11 @@ same_terms (x ∷ xs) [] ux uy px py same =
 same_terms (x ∷ xs) (y ∷ ys) ux uy px py same =
     let first : x ≡ y = first_same in
     let rest = same_terms xs ys (rest_rising x xs ux) (rest_rising y ys uy) (All-tail (λ t. 0 < t.1) x xs px) (All-tail (λ t. 0 < t.1) y ys py) (λ l.
-      let here = same l in
-      let left = coefficient-cons x xs l in
-      let right = coefficient-cons y ys l in
-      let one : (if is_same x.0 l then x.1 else 0) ≡ (if is_same y.0 l then y.1 else 0) = ap (λ (t : Literal × ℕ). if is_same t.0 l then t.1 else 0) first in
-      omega arith) in
+    let here = same l in
+    let left = coefficient-cons x xs l in
+    let right = coefficient-cons y ys l in
+    let one : (if is_same x.0 l then x.1 else 0) ≡ (if is_same y.0 l then y.1 else 0) = ap (λ (t : Literal × ℕ). if is_same t.0 l then t.1 else 0) first in
+    omega arith) in
     ap (λ (t : Literal × ℕ). t ∷ xs) first ∙ ap (λ (ts : Terms). y ∷ ts) rest
   where
     x_here : coefficient (x ∷ xs) x.0 ≡ x.1
@@ -111,8 +111,10 @@ unique c d nc nd m n same =
     let sr = same right.0 in
     let sl = same left.0 in
     let no_gain : greatest_excess c.terms d.terms ≡ 0 = omega arith in
-    let no_loss : greatest_excess d.terms c.terms ≡ 0 = omega arith in
-    (same_terms c.terms d.terms nc.rising nd.rising nc.positive nd.positive (λ k.
-      let below = coefficient-le c.terms d.terms nc.rising no_gain k in
-      let above = coefficient-le d.terms c.terms nd.rising no_loss k in
-      omega arith), omega arith)
+    let no_loss : greatest_excess d.terms c.terms ≡ 0 = omega arith in (
+      same_terms c.terms d.terms nc.rising nd.rising nc.positive nd.positive (λ k.
+          let below = coefficient-le c.terms d.terms nc.rising no_gain k in
+          let above = coefficient-le d.terms c.terms nd.rising no_loss k in
+          omega arith),
+      omega arith,
+    )

@@ -3,8 +3,8 @@ ghost use Rattle.std.specs.Prelude.{◌≡◌, ◌<◌, ◌≤◌, ◌^◌, ◌�
 ghost use Rattle.pb_lin.specs.Constraint.{ConstraintValue, Covers, Implies, total};
 ghost use Rattle.pb_lin.specs.Cover.{coefficient, greatest_excess};
 
-use crate::lookup::term_place;
 use crate::Constraint;
+use crate::lookup::term_place;
 use scut_base::Lit;
 
 impl Constraint {
@@ -21,8 +21,7 @@ impl Constraint {
 /// Law: a constraint that covers another implies it.
 pub fn covering_implies()
     ensures { (p q : ConstraintValue) → Covers p q → Implies p q }
-{
-}
+{}
 
 // The greatest value of the one left side above the other.
 fn greatest_excess(left: &[(Lit, u128)], right: &[(Lit, u128)]) -> u128

@@ -12,10 +12,9 @@ mod lookup;
 mod normal;
 mod restriction;
 mod substitution;
-mod witness;
-
 #[cfg(test)]
 mod tests_b;
+mod witness;
 
 pub use constraint::Constraint;
 pub use cover::covering_implies;

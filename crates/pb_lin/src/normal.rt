@@ -38,15 +38,13 @@ impl Constraint {
 /// Law: the normal form of a sum holds exactly where the sum is at least its degree.
 pub fn normal_form_holds()
     ensures { (c : ConstraintValue) (terms : List (ℤ × Literal)) (degree : ℤ) → IsNormalForm c terms degree → (a : List Bool) → (Holds a c ↔ (degree ≤ℤ sum_value a terms)) }
-{
-}
+{}
 
 /// Law: constraints in normal form whose left sides differ by the same amount at every assignment
 /// have the same terms, and so the amount is 0.
 pub fn normal_form_is_unique()
     ensures { (c d : ConstraintValue) → IsNormal c.terms c.degree → IsNormal d.terms d.degree → (m n : ℕ) → ((a : List Bool) → value a c.terms + m ≡ value a d.terms + n) → (c.terms ≡ d.terms) × (m ≡ n) }
-{
-}
+{}
 
 // Whether the magnitudes sum to at most 2^99.
 fn is_small(terms: &[(i128, Lit)], degree: i128) -> bool
@@ -111,10 +109,7 @@ pub(crate) fn gathered(
     let mut sorted = terms;
     sorted.sort_unstable_by_key(|term| term.0.var());
     let (merged, cancelled) = merged(alloc, sorted.as_slice())?;
-    Ok(Constraint::from_parts(
-        merged,
-        degree_without(least, cancelled),
-    ))
+    Ok(Constraint::from_parts(merged, degree_without(least, cancelled)))
 }
 
 // What is left of a degree, and no less than 0.
@@ -128,10 +123,7 @@ fn degree_without(least: i128, cancelled: u128) -> u128
 }
 
 // One term for each variable, and what the terms of opposite literals make together.
-fn merged(
-    alloc: Global,
-    terms: &[(Lit, u128)],
-) -> Result<(Items<(Lit, u128)>, u128), NoMemory>
+fn merged(alloc: Global, terms: &[(Lit, u128)]) -> Result<(Items<(Lit, u128)>, u128), NoMemory>
     requires order { IsNonDecreasingBy (λ t. t.0.var) terms.now }
     requires positive { All (λ t. 0 < t.1) terms.now }
     requires small { total terms.now ≤ 2 ^ 100 }

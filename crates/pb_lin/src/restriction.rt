@@ -6,8 +6,8 @@ ghost use Rattle.scut_base.specs.Assignment.{lit_true};
 ghost use Rattle.pb_lin.specs.Constraint.{ConstraintValue, Holds, total};
 ghost use Rattle.pb_lin.specs.Restriction.{restriction, is_set, is_among, met_value};
 
-use crate::lookup::literal_place;
 use crate::Constraint;
+use crate::lookup::literal_place;
 use scut_base::{Items, Lit, NoMemory};
 use std::alloc::Global;
 
@@ -21,10 +21,7 @@ impl Constraint {
     {
         let sorted = sorted_literals(alloc, truths)?;
         let (terms, met) = rest_of(alloc, self.terms(), sorted.as_slice())?;
-        Ok(Constraint::from_parts(
-            terms,
-            self.degree().saturating_sub(met),
-        ))
+        Ok(Constraint::from_parts(terms, self.degree().saturating_sub(met)))
     }
 }
 
@@ -32,8 +29,7 @@ impl Constraint {
 /// the constraint does.
 pub fn restriction_holds()
     ensures { (c : ConstraintValue) (truths : List Literal) (a : List Bool) → All (λ l. IsTrue (lit_true a l)) truths → (Holds a (restriction c truths) ↔ Holds a c) }
-{
-}
+{}
 
 // What becomes of a term.
 #[derive(Clone, Copy, Debug, PartialEq, Eq)]

@@ -5,7 +5,7 @@ ghost use Rattle.pb_lin.specs.Constraint.{ConstraintValue, Holds, size, total, v
 ghost use Rattle.pb_lin.specs.Substitution.{Images, IsUnder, image_true, true_under, value_under, variable_under};
 
 use crate::lookup::image_place;
-use crate::normal::{gathered, LARGEST};
+use crate::normal::{LARGEST, gathered};
 use crate::{Constraint, Image, LinFault, Witness};
 use scut_base::{Lit, NoMemory};
 use std::alloc::Global;
@@ -32,8 +32,7 @@ impl Constraint {
 /// substituted assignment, which gives each of its variables the truth of what stands for it.
 pub fn substitution_holds()
     ensures { (result c : ConstraintValue) (images : Images) → IsUnder result images c → (a b : List Bool) → All (λ t. value_of b t.0.var ≡ variable_under images a t.0.var) c.terms → (Holds a result ↔ Holds b c) }
-{
-}
+{}
 
 // The sum of the coefficients.
 fn total(terms: &[(Lit, u128)]) -> u128

@@ -37,9 +37,15 @@ fn a_sum_is_merged_cancelled_and_brought_to_positive_coefficients(rt: HostRuntim
     assert!(rt; is(&cancelled, &[(2, -1), (2, 2)], 1), "cancelled");
     // -3x1 - 2~x2 >= -4 is 3~x1 + 2x2 >= 1
     let negative = normal(rt.alloc(), &[(-3, 1), (-2, -2)], -4).expect(&rt, "a normal form");
-    assert!(rt; is(&negative, &[(3, -1), (2, 2)], 1), "negative coefficients");
+    assert!(rt;
+        is(&negative, &[(3, -1), (2, 2)], 1),
+        "negative coefficients"
+    );
     // 6x1 - 6x1 + 0x2 + 4x3 + 4~x3 >= 4 is 0 >= 0
-    let gone = normal(rt.alloc(), &[(6, 1), (-6, 1), (0, 2), (4, 3), (4, -3)], 4).expect(&rt, "a normal form");
+    let gone = normal(rt.alloc(), &[(6, 1), (-6, 1), (0, 2), (4, 3), (4, -3)], 4).expect(
+        &rt,
+        "a normal form",
+    );
     assert!(rt; is(&gone, &[], 0), "nothing is left");
     // x1 >= -5 is x1 >= 0
     let low = normal(rt.alloc(), &[(1, 1)], -5).expect(&rt, "a normal form");
@@ -57,7 +63,10 @@ fn a_sum_overflows_above_its_largest_magnitude(rt: HostRuntime) {
     let above = Constraint::normal(rt.alloc(), &terms, half);
     assert!(rt; matches!(above, Err(LinFault::Overflow)), "above the edge");
     let far = Constraint::normal(rt.alloc(), &[(i128::MIN, lit(1))], i128::MIN);
-    assert!(rt; matches!(far, Err(LinFault::Overflow)), "magnitudes that pass 2^128");
+    assert!(rt;
+        matches!(far, Err(LinFault::Overflow)),
+        "magnitudes that pass 2^128"
+    );
 }
 
 #[test]
@@ -88,12 +97,17 @@ fn a_restriction_drops_the_variables_and_lowers_the_degree(rt: HostRuntime) {
 #[test]
 fn a_substitution_replaces_by_truths_and_literals(rt: HostRuntime) {
     // 3x1 + 2~x2 + 4x3 + 5x4 >= 9 where x1 is 1, x2 is 0, x3 is ~x4: 4~x4 + 5x4 >= 4, so x4 >= 0
-    let one = normal(rt.alloc(), &[(3, 1), (2, -2), (4, 3), (5, 4)], 9).expect(&rt, "a normal form");
+    let one = normal(rt.alloc(), &[(3, 1), (2, -2), (4, 3), (5, 4)], 9).expect(
+        &rt,
+        "a normal form",
+    );
     let mut images = Items::new(rt.alloc());
     images.push((1, Image::One)).expect(&rt, "memory");
     images.push((2, Image::Zero)).expect(&rt, "memory");
     images.push((3, Image::Lit(lit(-4)))).expect(&rt, "memory");
-    let under = one.under(rt.alloc(), &Witness::from_images(images)).expect(&rt, "memory");
+    let under = one
+        .under(rt.alloc(), &Witness::from_images(images))
+        .expect(&rt, "memory");
     assert!(rt; is(&under, &[(1, 4)], 0), "a literal cancels");
 }
 
@@ -105,5 +119,8 @@ fn a_substitution_overflows_above_its_largest_size(rt: HostRuntime) {
     let same = edge.under(rt.alloc(), &none).expect(&rt, "memory");
     assert!(rt; is(&same, &[(1 << 98, -1)], 1 << 98), "at the edge");
     let above = normal(rt.alloc(), &[(-(1 << 98), 1)], 1).expect(&rt, "a normal form");
-    assert!(rt; matches!(above.under(rt.alloc(), &none), Err(LinFault::Overflow)), "above the edge");
+    assert!(rt;
+        matches!(above.under(rt.alloc(), &none), Err(LinFault::Overflow)),
+        "above the edge"
+    );
 }

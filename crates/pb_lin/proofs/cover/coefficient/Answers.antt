@@ -17,8 +17,8 @@ pub returns : goal.returns
 returns c =
     let place = subst (λ (v : ℕ). IsPlace {X = Literal × ℕ} (λ t. t.0.var) c.args.terms.now v c.term_place-place.result) c.var.ensures.value c.term_place-place.ensures in
     sym (coefficient_none c.args.terms.now c.args.literal c.term_place-place.result c.requires place (elim c.else-place-terms.branch [
-      else-place-terms-via-then-place-terms+else-eq w ↦ λ d short.
-        let same = get_or_default c.args.terms.now c.term_place-place.result w.index-terms-place.result d short in
-        subst (λ (t : Literal × ℕ). is_same t.0 c.args.literal ≡ false) same (sym w.eq.ensures ∙ w.if-eq.false)
-    | else-place-terms-via-else-place-terms w ↦ λ d short. absurd (omega arith)
+      | else-place-terms-via-then-place-terms+else-eq w ↦ λ d short.
+          let same = get_or_default c.args.terms.now c.term_place-place.result w.index-terms-place.result d short in
+          subst (λ (t : Literal × ℕ). is_same t.0 c.args.literal ≡ false) same (sym w.eq.ensures ∙ w.if-eq.false)
+      | else-place-terms-via-else-place-terms w ↦ λ d short. absurd (omega arith)
     ]))

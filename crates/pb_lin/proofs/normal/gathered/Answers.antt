@@ -33,20 +33,20 @@ from_parts-requires c = record {
   from_one = c.in_ok-merged.ensures.merged.from_one;
   rising = c.in_ok-merged.ensures.merged.rising;
   small =
-    let same = sum_by-IsPermutation {X = Literal × ℕ} (λ t. t.1) _ _ c.sort_unstable_by_key.ensures.permutation in
-    let here = ap total c.as_slice.ensures.value in
-    let less = c.in_ok-merged.ensures.total in
-    omega (arith, ints, clamps);
+      let same = sum_by-IsPermutation {X = Literal × ℕ} (λ t. t.1) _ _ c.sort_unstable_by_key.ensures.permutation in
+      let here = ap total c.as_slice.ensures.value in
+      let less = c.in_ok-merged.ensures.total in
+      omega (arith, ints, clamps);
 }
 
 pub returns : goal.returns
 returns c = record {
   least = c.args.least -ℤ pos c.in_ok-merged.cancelled;
   same = λ a.
-    let same = sum_by-IsPermutation {X = Literal × ℕ} (term_value a) _ _ c.sort_unstable_by_key.ensures.permutation in
-    let here = ap (value a) c.as_slice.ensures.value in
-    let merged = c.in_ok-merged.ensures.value a in
-    let terms = ap (λ (r : ConstraintValue). value a r.terms) c.from_parts.ensures in
-    omega (arith, ints);
+      let same = sum_by-IsPermutation {X = Literal × ℕ} (term_value a) _ _ c.sort_unstable_by_key.ensures.permutation in
+      let here = ap (value a) c.as_slice.ensures.value in
+      let merged = c.in_ok-merged.ensures.value a in
+      let terms = ap (λ (r : ConstraintValue). value a r.terms) c.from_parts.ensures in
+      omega (arith, ints);
   degree = ap (λ (r : ConstraintValue). pos r.degree) c.from_parts.ensures ∙ c.degree_without.ensures ∙ ap (λ (z : ℤ). int_max (z -ℤ pos c.in_ok-merged.cancelled) (pos 0)) (to_z-of_z _ _ c.ranges.least);
 }

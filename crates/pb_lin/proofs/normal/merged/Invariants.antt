@@ -9,5 +9,5 @@ invariant-loop-term l = record {
   value : (a : List Bool) → value a l.merged + l.cancelled ≡ value a (take l.term-index l.terms);
   total : total l.merged + l.cancelled ≤ total (take l.term-index l.terms);
   merged : IsMerged l.merged;
-  upto : (k : ℕ) (d : Literal × ℕ) → l.term-index ≤ k → k < length l.terms → TermsUpTo (slice_index_or l.terms k d).0.var l.merged
+  upto : (k : ℕ) (d : Literal × ℕ) → l.term-index ≤ k → k < length l.terms → TermsUpTo (slice_index_or l.terms k d).0.var l.merged;
 }

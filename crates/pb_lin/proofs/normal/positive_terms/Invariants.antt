@@ -8,5 +8,5 @@ invariant-loop-given l = record {
   value : (a : List Bool) → pos (value a l.positive.items) -ℤ pos l.lowered ≡ sum_value a (take l.given-index l.terms);
   positive : All (λ t. 0 < t.1) l.positive.items;
   total : total l.positive.items ≤ sum_by (λ t. unsigned_abs t.0) (take l.given-index l.terms);
-  lowered : l.lowered ≤ sum_by (λ t. unsigned_abs t.0) (take l.given-index l.terms)
+  lowered : l.lowered ≤ sum_by (λ t. unsigned_abs t.0) (take l.given-index l.terms);
 }

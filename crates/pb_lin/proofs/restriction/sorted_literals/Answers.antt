@@ -9,5 +9,5 @@ pub returns-clause-rising : goal.returns-clause-rising
 returns-clause-rising c =
     let distinct = subst (AllPairs {X = Literal} (λ l m. l.var ≢ m.var)) (sym c.in_ok-sorted.ensures.items) c.requires in
     rising_from_distinct {X = Literal} (λ l. l.var) _
-      (IsNonDecreasingBy-from_sort_by_key (λ l. l.var) _ c.sort_unstable_by_key.ensures.sorted (λ a r q k. search rules))
-      (AllApart-IsPermutation {X = Literal} (λ l m. l.var ≢ m.var) _ _ c.sort_unstable_by_key.ensures.permutation (AllApart-from_pairs {X = Literal} (λ l m. l.var ≢ m.var) _ (λ x y other e. other (sym e)) distinct))
+    (IsNonDecreasingBy-from_sort_by_key (λ l. l.var) _ c.sort_unstable_by_key.ensures.sorted (λ a r q k. search rules))
+    (AllApart-IsPermutation {X = Literal} (λ l m. l.var ≢ m.var) _ _ c.sort_unstable_by_key.ensures.permutation (AllApart-from_pairs {X = Literal} (λ l m. l.var ≢ m.var) _ (λ x y other e. other (sym e)) distinct))

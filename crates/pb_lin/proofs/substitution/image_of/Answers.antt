@@ -21,7 +21,7 @@ pub returns-else-place-images : goal.returns-else-place-images
 returns-else-place-images c = λ a.
     let place = subst (λ (v : ℕ). IsPlace {X = ℕ × Image} (λ i. i.0) c.args.images.now v c.image_place-place.result) c.var.ensures.value c.image_place-place.ensures in
     let apart : All (λ (i : ℕ × Image). i.0 ≢ c.args.literal.var) c.args.images.now = none_at_place (λ i. i.0) c.args.images.now c.args.literal.var c.image_place-place.result c.requires place (elim c.else-place-images.branch [
-      else-place-images-via-then-place-images+else-images-place w ↦ λ d short e. let v = ap (λ (i : ℕ × Image). i.0) (get_or_default c.args.images.now c.image_place-place.result w.index-images-place.result d short) in omega arith
-    | else-place-images-via-else-place-images w ↦ λ d short e. omega arith
+      | else-place-images-via-then-place-images+else-images-place w ↦ λ d short e. let v = ap (λ (i : ℕ × Image). i.0) (get_or_default c.args.images.now c.image_place-place.result w.index-images-place.result d short) in omega arith
+      | else-place-images-via-else-place-images w ↦ λ d short e. omega arith
     ]) in
     ap (λ (b : Bool). if c.args.literal.neg then not b else b) (sym (variable_under_none c.args.images.now a c.args.literal.var apart))

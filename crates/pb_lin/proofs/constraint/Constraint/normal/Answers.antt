@@ -8,5 +8,5 @@ pub returns-clause-normal_form : goal.returns-clause-normal_form
 returns-clause-normal_form c =
     let small : magnitude c.args.terms.now c.args.degree ≤ 2 ^ 99 = search rules in
     HasExcess-same _ _ _ c.in_ok-constraint.ensures (λ a.
-      let value = c.in_ok-positive.ensures.value a in
-      let lowered = c.in_ok-positive.ensures.lowered in omega (arith, ints))
+    let value = c.in_ok-positive.ensures.value a in
+    let lowered = c.in_ok-positive.ensures.lowered in omega (arith, ints))

@@ -9,9 +9,9 @@ use Rattle.pb_lin.proofs.constraint.Constraint.under.Goals as goal
 pub returns-clause-under : goal.returns-clause-under
 returns-clause-under c =
     HasExcess-same _ _ _ c.in_ok-constraint.ensures (λ a.
-      let value = c.in_ok-terms.ensures.value a in
-      let images = ap (λ (is : Images). value_under is a c.terms-2.result.now) c.images.ensures.value in
-      let terms = ap (value_under c.args.w.now a) c.terms-2.ensures.value in
-      let less = c.in_ok-terms.ensures.total in
-      let all = ap total c.terms-2.ensures.value in
-      omega (arith, ints))
+    let value = c.in_ok-terms.ensures.value a in
+    let images = ap (λ (is : Images). value_under is a c.terms-2.result.now) c.images.ensures.value in
+    let terms = ap (value_under c.args.w.now a) c.terms-2.ensures.value in
+    let less = c.in_ok-terms.ensures.total in
+    let all = ap total c.terms-2.ensures.value in
+    omega (arith, ints))
