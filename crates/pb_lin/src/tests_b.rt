@@ -85,13 +85,16 @@ fn a_constraint_covers_another_up_to_the_edge(rt: HostRuntime) {
 
 #[test]
 fn a_restriction_drops_the_variables_and_lowers_the_degree(rt: HostRuntime) {
+    // 3x1 + 2~x2 + 4x5 >= 6
     let one = normal(rt.alloc(), &[(3, 1), (2, -2), (4, 5)], 6).expect(&rt, "a normal form");
-    let truths = [lit(7), lit(2), lit(1)];
-    let rest = one.restricted(rt.alloc(), &truths).expect(&rt, "memory");
-    assert!(rt; is(&rest, &[(4, 5)], 3), "one is met and one is lost");
-    let all = [lit(5), lit(1)];
-    let met = one.restricted(rt.alloc(), &all).expect(&rt, "memory");
-    assert!(rt; is(&met, &[(2, -2)], 0), "a degree that falls below 0");
+    let met = one.restricted(rt.alloc(), &[lit(1)]).expect(&rt, "memory");
+    assert!(rt; is(&met, &[(2, -2), (4, 5)], 3), "a literal that is met");
+    let lost = met.restricted(rt.alloc(), &[lit(2)]).expect(&rt, "memory");
+    assert!(rt; is(&lost, &[(4, 5)], 3), "a literal that is lost");
+    let below = lost.restricted(rt.alloc(), &[lit(5)]).expect(&rt, "memory");
+    assert!(rt; is(&below, &[], 0), "a degree that falls below 0");
+    let same = lost.restricted(rt.alloc(), &[lit(7)]).expect(&rt, "memory");
+    assert!(rt; is(&same, &[(4, 5)], 3), "a variable that isn't there");
 }
 
 #[test]
