@@ -6,3 +6,6 @@ pub mod Restriction
 pub mod Substitution
 pub mod Problem
 pub mod LineMap
+pub mod Place
+pub mod Merge
+pub mod Cover

@@ -1,6 +1,6 @@
 // Constraints under assignments.
 ghost use Rattle.std.specs.Prelude.{◌≡◌, ◌≤◌, ◌↔◌, length, IsTrue};
-ghost use Rattle.pb_lin.specs.Constraint.{TermsUpTo, Holds, term_value, possible_value, slack};
+ghost use Rattle.pb_lin.specs.Constraint.{IsNormal, TermsUpTo, Holds, total, term_value, possible_value, slack};
 
 use crate::Constraint;
 use scut_base::{Assignment, Lit, Partial};
@@ -29,6 +29,18 @@ impl Constraint {
             value += term_value(term, a);
         }
         self.degree() <= value
+    }
+
+    // The sum of the coefficients.
+    pub(crate) fn total(&self) -> u128
+        ensures value { result ≡ total self.now.terms }
+        ensures normal { IsNormal self.now.terms self.now.degree }
+    {
+        let mut total = 0;
+        for term in self.terms() {
+            total += term.1;
+        }
+        total
     }
 }
 

@@ -6,19 +6,28 @@
 #![tactic(auto)]
 
 mod constraint;
+mod cover;
 mod evaluate;
 mod fault;
 mod lines;
+mod lookup;
 mod negation;
+mod normal;
 mod problem;
+mod restriction;
+mod substitution;
 mod witness;
 
 pub use constraint::Constraint;
+pub use cover::covering_implies;
 pub use fault::LinFault;
 pub use lines::Lines;
 pub use negation::negation_holds_elsewhere;
+pub use normal::{normal_form_holds, normal_form_is_unique};
 pub use problem::{CostRow, PbProblem, row_cost};
+pub use restriction::restriction_holds;
+pub use substitution::substitution_holds;
 pub use witness::{Image, Witness};
 
 #[cfg(test)]
-mod tests_a;
+mod tests;

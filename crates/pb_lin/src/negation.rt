@@ -26,18 +26,6 @@ impl Constraint {
         let terms = opposite_terms(alloc, self.terms())?;
         Ok(Constraint::from_parts(terms, degree))
     }
-
-    // The sum of the coefficients.
-    fn total(&self) -> u128
-        ensures value { result ≡ total self.now.terms }
-        ensures normal { IsNormal self.now.terms self.now.degree }
-    {
-        let mut total = 0;
-        for term in self.terms() {
-            total += term.1;
-        }
-        total
-    }
 }
 
 // The terms with each literal negated.

@@ -1,0 +1,16 @@
+-- How far one left side can be above another.
+use Rattle.std.specs.Prelude.{ℕ, ◌-◌, ◌==◌, ◌&&◌, Bool, if◌then◌else◌, List, sum_by}
+use Rattle.std.proofs.Math.Bool.{beq}
+use Rattle.scut_base.specs.Literal.{Literal}
+
+-- whether both are of one variable and one sign
+abbrev pub is_same : Literal → Literal → Bool
+is_same l m = l.var == m.var && beq l.neg m.neg
+
+-- the coefficient of a literal, or 0
+abbrev pub coefficient : List (Literal × ℕ) → Literal → ℕ
+coefficient terms l = sum_by (λ t. if is_same t.0 l then t.1 else 0) terms
+
+-- the greatest value of the one left side above the other
+abbrev pub greatest_excess : List (Literal × ℕ) → List (Literal × ℕ) → ℕ
+greatest_excess left right = sum_by (λ t. t.1 - coefficient right t.0) left

@@ -1,0 +1,3 @@
+// Tests of constraints.
+mod evaluation;
+mod normal_forms;
