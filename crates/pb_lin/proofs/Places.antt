@@ -1,5 +1,6 @@
 -- Places in lists whose numbers rise: the first element whose number isn't below a given one.
-use Rattle.std.proofs.Common.{◌≡◌, ◌≢◌, ◌⊎◌, ℕ, ◌<◌, ◌≤◌, List, length, get_or, arith, true, false, ltb, ⊎_elim, subst}
+use Rattle.std.proofs.Common.{◌≡◌, ◌≢◌, ◌⊎◌, ℕ, ◌<◌, ◌≤◌, List, length, get_or, arith, true, false, ltb, ⊎_elim, inl, inr, ap, ◌∙◌, subst}
+use Rattle.std.proofs.lemmas.List.{get_or_default}
 use Rattle.std.specs.List.{All, AllPairs}
 use Rattle.std.specs.List.Sorted.{IsNonDecreasingBy, IsPartitionPoint}
 use Rattle.std.proofs.lemmas.Bool.{cases_lt, cases_order, ltb-true, ltb-false}
@@ -35,3 +36,21 @@ pub none_at_place : {X : Type 0} (n : X → ℕ) (xs : List X) (number i : ℕ) 
 none_at_place {X} n xs number i up place other k d short e =
     let same : k ≡ i = at_place n xs number i up place k d short e in
     other d (subst (λ (j : ℕ). j < length xs) same short) (subst (λ (j : ℕ). n (get_or xs j d) ≡ number) same e)
+
+-- all before are below the number, and the one that is there isn't
+pub IsPlace-from_step : {X : Type 0} (n : X → ℕ) (xs : List X) (number i : ℕ) (x : X) → AllPairs (λ y z. n y < n z) xs → i < length xs → ((k : ℕ) (d : X) → k < i → n (get_or xs k d) < number) → x ≡ get_or xs i x → number ≤ n x → IsPlace n xs number i
+IsPlace-from_step {X = X} n xs number i x rising short below is least = record {
+  bound = omega arith;
+  below = below;
+  above = λ k d from within. by k d from within (cases_lt i k);
+}
+  where
+    by : (k : ℕ) (d : X) → i ≤ k → k < length xs → (i < k) ⊎ (k ≤ i) → number ≤ n (get_or xs k d)
+    by k d from within (inl more) =
+      let here : n x ≡ n (get_or xs i d) = ap n (is ∙ get_or_default xs i x d short) in
+      let rise : n (get_or xs i d) < n (get_or xs k d) = rising i k d more within in
+      omega arith
+    by k d from within (inr less) =
+      let here : n x ≡ n (get_or xs i d) = ap n (is ∙ get_or_default xs i x d short) in
+      let same : i ≡ k = omega arith in
+      subst (λ (m : ℕ). number ≤ n (get_or xs m d)) same (omega arith)

@@ -1,5 +1,7 @@
 // Places in lists whose variables rise.
-ghost use Rattle.std.specs.Prelude.{ℕ, ◌<◌, ◌≤◌, AllPairs};
+ghost use Rattle.std.specs.Prelude.{ℕ, ◌<◌, ◌≤◌, AllPairs, length};
+ghost use Rattle.std.specs.List.{slice_index_or};
+ghost use Rattle.scut_base.specs.Literal.{Literal};
 ghost use Rattle.pb_lin.specs.Place.{IsPlace};
 
 use crate::Image;
@@ -13,12 +15,18 @@ pub(crate) fn literal_place(literals: &[Lit], var: u64) -> usize
     literals.partition_point(|literal| literal.var() < var)
 }
 
-// The first place whose variable isn't below the given one.
-pub(crate) fn term_place(terms: &[(Lit, u128)], var: u64) -> usize
-    requires { AllPairs (λ s t. s.0.var < t.0.var) terms.now }
+// The first place whose variable isn't below the given one, where all before `from` are.
+pub(crate) fn place_from(terms: &[(Lit, u128)], from: usize, var: u64) -> usize
+    requires rising { AllPairs (λ s t. s.0.var < t.0.var) terms.now }
+    requires within { from ≤ length terms.now }
+    requires below { (k : ℕ) (d : Literal × ℕ) → k < from → (slice_index_or terms.now k d).0.var < var }
     ensures { IsPlace (λ t. t.0.var) terms.now var result }
 {
-    terms.partition_point(|term| term.0.var() < var)
+    let mut place = from;
+    while place < terms.len() && terms[place].0.var() < var {
+        place += 1;
+    }
+    place
 }
 
 // The first place whose variable isn't below the given one.
