@@ -41,7 +41,8 @@ impl Lines {
         self.lines.get(&id)
     }
 
-    /// Gives an id this constraint, in place of the one that it had. Constant time on average.
+    /// Gives an id this constraint, in place of the one that it had. `NoMemory` where memory was
+    /// refused, and then nothing changes. Constant time on average.
     pub fn put(&mut self, id: u64, c: Constraint) -> Result<(), NoMemory>
         ensures ok { OnOk result (self.new ≡ insert self.old id c) }
         ensures err { OnErr result (self.new ≡ self.old) }
