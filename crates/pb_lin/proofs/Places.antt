@@ -47,10 +47,10 @@ IsPlace-from_step {X = X} n xs number i x rising short below is least = record {
   where
     by : (k : ℕ) (d : X) → i ≤ k → k < length xs → (i < k) ⊎ (k ≤ i) → number ≤ n (get_or xs k d)
     by k d from within (inl more) =
-      let here : n x ≡ n (get_or xs i d) = ap n (is ∙ get_or_default xs i x d short) in
-      let rise : n (get_or xs i d) < n (get_or xs k d) = rising i k d more within in
-      omega arith
+        let here : n x ≡ n (get_or xs i d) = ap n (is ∙ get_or_default xs i x d short) in
+        let rise : n (get_or xs i d) < n (get_or xs k d) = rising i k d more within in
+        omega arith
     by k d from within (inr less) =
-      let here : n x ≡ n (get_or xs i d) = ap n (is ∙ get_or_default xs i x d short) in
-      let same : i ≡ k = omega arith in
-      subst (λ (m : ℕ). number ≤ n (get_or xs m d)) same (omega arith)
+        let here : n x ≡ n (get_or xs i d) = ap n (is ∙ get_or_default xs i x d short) in
+        let same : i ≡ k = omega arith in
+        subst (λ (m : ℕ). number ≤ n (get_or xs m d)) same (omega arith)

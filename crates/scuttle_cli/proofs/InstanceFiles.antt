@@ -53,7 +53,6 @@ abbrev HasLines : List (ℕ × Token) → Type 0
 HasLines [] = Unit {0}
 HasLines (t ∷ tokens) = (0 < t.0) × HasLines tokens
 
-
 opb_line : (last : ℕ) (p : Progress) (tokens : List (ℕ × Token)) (line : ℕ) (which : InstanceLimit) → 0 < last → HasLines tokens → fault_from last p tokens ≡ Some (Limit line which) → 0 < line
 opb_line last p [] line which some lines e = by (end_fault p.place) e
   where

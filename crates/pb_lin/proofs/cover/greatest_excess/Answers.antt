@@ -23,9 +23,9 @@ loop-term-preserved c = record {
   excess = grind (arith, common_steps);
   within = c.place_from-place.ensures.bound;
   below = λ j k d from within before.
-    let here = get_or_default c.args.left.now c.loop-term.term-index c.term-item.result d c.loop-term-test.true in
-    let same = ap (λ (t : Literal × ℕ). t.0.var) (c.term-item.is ∙ here) in
-    let lower = c.place_from-place.ensures.below k d before in
-    let rise = c.requires.rising c.loop-term.term-index j d (omega arith) within in
-    omega (arith, c.var.ensures.value);
+      let here = get_or_default c.args.left.now c.loop-term.term-index c.term-item.result d c.loop-term-test.true in
+      let same = ap (λ (t : Literal × ℕ). t.0.var) (c.term-item.is ∙ here) in
+      let lower = c.place_from-place.ensures.below k d before in
+      let rise = c.requires.rising c.loop-term.term-index j d (omega arith) within in
+      omega (arith, c.var.ensures.value);
 }
