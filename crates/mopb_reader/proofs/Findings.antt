@@ -46,10 +46,6 @@ pub digits_refused : (kind : Kind) (sum m : ℕ) (p : Progress) (limit : Instanc
 digits_refused kind sum m p limit first next value old new fault is_number is counted taken last judged =
     fault_along _ (fault_inside new p (taken_behind (Coefficient kind m) next)) (at_line new.line fault) (behind_digits kind sum m p limit first next value old new is_number is counted taken last) (refused new p (taken_behind (Coefficient kind m) next) fault judged)
 
-pub digits_read : (kind : Kind) (sum m n : ℕ) (p : Progress) (limit : InstanceLimit) (first next : Option Symbol) (value : Option ℕ) (old new : Stream) → first ≡ Some (Number value) → limit ≡ limit_of kind → value_counted limit sum value (Coefficient kind) ≡ Ok (Coefficient kind (sum + m)) → IsTaken next new old → new.last ≡ old.last → taken_behind (Coefficient kind (sum + m)) next ≡ Ok (Term kind (sum + m)) → n ≡ m → fault_inside old p (taken_behind (BehindSign kind sum) first) ≡ fault_at new p (Term kind (sum + n))
-digits_read kind sum m n p limit first next value old new is_number is counted taken last judged same =
-    behind_digits kind sum (sum + m) p limit first next value old new is_number is counted taken last ∙ ap (fault_inside new p) judged ∙ ap (λ k. fault_at new p (Term kind (sum + k))) (sym same)
-
 -- a literal behind a sign, or none
 chosen : (b : Bool) (next other : Next) (place : Place) (fault : PlaceFault) → cond b (Ok place) other ≡ Err fault → cond b next other ≡ Err fault
 chosen true next other place fault e = absurd cc

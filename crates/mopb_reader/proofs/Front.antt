@@ -1,5 +1,5 @@
 -- What the tokens that were taken spell.
-use Rattle.std.proofs.Common.{◌≡◌, ◌≢◌, ℕ, length, ◌+◌, ◌<◌, ◌≤◌, ◌^◌, Bool, true, false, max, List, [], ◌∷◌, ◌++◌, Option, Some, None, inl, inr, refl, sym, ap, ◌∙◌, subst, append_assoc, append-nil, ℤ, to_z, of_z, arith}
+use Rattle.std.proofs.Common.{◌≡◌, ◌≢◌, ℕ, length, ◌+◌, ◌<◌, ◌^◌, Bool, true, false, max, List, [], ◌∷◌, ◌++◌, Option, Some, None, inl, inr, refl, sym, ap, ◌∙◌, subst, append_assoc, append-nil, ℤ, to_z, of_z, arith}
 use Rattle.std.specs.Prelude.{unsigned_abs}
 use Rattle.std.proofs.lemmas.Int.{ints}
 use Rattle.std.specs.Int.{w64}
@@ -9,25 +9,11 @@ use Rattle.instance.specs.Shape.{terms_magnitude}
 use Rattle.scut_base.specs.Literal.{Literal as Lit}
 use Rattle.scut_base.specs.Number.{signed_value}
 use Rattle.mopb_reader.specs.Tokens.{Token, Plus, Minus, Digits, Positive, Negative}
-use Rattle.mopb_reader.specs.Symbols.{Shows, IsLeft, IsSound, begins_term, begins_literal}
+use Rattle.mopb_reader.specs.Symbols.{Shows, IsLeft, begins_term, begins_literal}
 use Rattle.mopb_reader.specs.Grammar.{SpellsLiteral, SpellsUnsigned, SpellsTerm, SpellsTerms, MayFollowTerm, largest_of}
 use Rattle.mopb_reader.specs.Steps.{BeginsWith, BeginsWithTerms}
 use Rattle.mopb_reader.specs.declared.symbol.Symbol.{Symbol}
 use Rattle.mopb_reader.specs.declared.symbol.Symbol.TheVariants.{Sign, Number, Literal, Misspelled, Min, Relation, Semicolon, Unknown}
-
--- a variable that is shown is at least 1
-pub shown_sound : (symbol : Symbol) (token : Token) → Shows symbol token → IsSound (Some symbol)
-shown_sound (Literal (Some var) false) token shows = omega (arith, shows.2.0, shows.3)
-shown_sound (Literal (Some var) true) token shows = omega (arith, shows.2.0, shows.3)
-shown_sound symbol token shows = tt
-
--- a literal
-pub literal_front : (symbol : Option Symbol) (var : ℕ) (neg : Bool) (l : Lit) (rest left : List Token) → symbol ≡ Some (Literal (Some var) neg) → l.var ≡ var → l.neg ≡ neg → IsLeft symbol rest left → (token : Token) × (left ≡ token ∷ rest) × SpellsLiteral token l
-literal_front symbol var neg l rest left e v n is_left = by neg n (subst (λ (s : Option Symbol). IsLeft s rest left) e is_left)
-  where
-    by : (b : Bool) → l.neg ≡ b → IsLeft (Some (Literal (Some var) b)) rest left → (token : Token) × (left ≡ token ∷ rest) × SpellsLiteral token l
-    by false same found = (Positive found.2.0, found.1 ∙ ap (λ t. t ∷ rest) found.2.1, (found.2.2.0 ∙ sym v, same))
-    by true same found = (Negative found.2.0, found.1 ∙ ap (λ t. t ∷ rest) found.2.1, (found.2.2.0 ∙ sym v, same))
 
 -- digits and a literal
 pub unsigned_digits : (minus : Bool) (first : Option Symbol) (value : Option ℕ) (magnitude : ℕ) (term : ℤ × Lit) (left middle rest : List Token) → first ≡ Some (Number value) → value ≡ Some magnitude → term.0 ≡ signed_value minus magnitude → IsLeft first middle left → (token : Token) × (middle ≡ token ∷ rest) × SpellsLiteral token term.1 → BeginsWith (SpellsUnsigned minus) left rest term
@@ -73,23 +59,10 @@ term_plain left rest term unsigned = (unsigned.0, unsigned.1, plain unsigned.0 t
 pub literal_is : (k l : Lit) (left rest : List Token) → k ≡ l → (token : Token) × (left ≡ token ∷ rest) × SpellsLiteral token l → (token : Token) × (left ≡ token ∷ rest) × SpellsLiteral token k
 literal_is k l left rest e found = (found.0, found.1, subst (SpellsLiteral found.0) (sym e) found.2)
 
--- a token more is taken
-pub left_fewer : (symbol : Option Symbol) (rest left : List Token) → IsLeft symbol rest left → length rest ≤ length left
-left_fewer None rest left is_left = omega (arith, ap length is_left.1)
-left_fewer (Some symbol) rest left is_left = omega (arith, ap length is_left.1)
-
 -- how many tokens are left, with the one that was taken
 abbrev pub count_left : Option Symbol → List Token → ℕ
 count_left None rest = length rest
 count_left (Some symbol) rest = length rest + 1
-
-pub left_count : (symbol : Option Symbol) (rest left : List Token) → IsLeft symbol rest left → count_left symbol rest ≤ length left
-left_count None rest left is_left = omega (arith, ap length is_left.1)
-left_count (Some symbol) rest left is_left = omega (arith, ap length is_left.1)
-
-pub term_count : (symbol : Option Symbol) (rest : List Token) → begins_term symbol ≡ true → count_left symbol rest ≡ length rest + 1
-term_count None rest begins = absurd cc
-term_count (Some symbol) rest begins = refl
 
 -- what may stand behind a term, with more behind that
 follow : (others front : List Token) → MayFollowTerm others → MayFollowTerm front → MayFollowTerm (others ++ front)
@@ -127,10 +100,6 @@ may_follow (Some symbol) rest now [] middle term is_left begins no_literal cut o
 may_follow (Some symbol) rest now (x ∷ more) middle term is_left begins no_literal cut one =
     let same : is_left.0 ≡ x = same_first is_left.0 x rest (more ++ middle) (sym is_left.1 ∙ cut) in
     subst (λ (t : Token). MayFollowTerm (t ∷ more)) same (shown_may symbol is_left.0 more is_left.2 begins no_literal)
-
--- no term yet
-pub no_terms : (first : Option Symbol) (rest left : List Token) → IsLeft first rest left → BeginsWithTerms left rest first []
-no_terms first rest left is_left = record { front = []; after = left; cut = refl; next = is_left; spelled = refl }
 
 -- a literal begins behind no term alone
 not_literal : (symbol : Option Symbol) (items : List (ℤ × Lit)) → (begins_literal symbol ≡ true → items ≡ []) → items ≢ [] → begins_literal symbol ≡ false

@@ -9,8 +9,8 @@ use Rattle.instance.specs.declared.fault.PlaceFault.TheVariants.{Bad}
 use Rattle.instance.specs.Reading.{at_line}
 use Rattle.mopb_reader.specs.Tokens.{Token, Plus, Minus, Digits, Positive, Negative, Min as Opening, AtLeast, AtMost, Equal, Semicolon as End, Other}
 use Rattle.mopb_reader.specs.FirstFault.{Kind, Objective, Constraint, limit_of, Place, Start, Head, Sign as BehindSign, Coefficient, Term, Relation as BehindRelation, BoundSign, Bound, missing_at, Next, counted, indexed, behind_bare, behind, is_misspelled, Progress, moved, step, fault_or, end_in, end_fault, fault_from}
-use Rattle.mopb_reader.specs.Symbols.{ValueIs, Shows, IsLeft}
-use Rattle.mopb_reader.specs.Streams.{Stream, plain, IsTaken}
+use Rattle.mopb_reader.specs.Symbols.{ValueIs, Shows}
+use Rattle.mopb_reader.specs.Streams.{Stream, IsTaken}
 use Rattle.mopb_reader.specs.SymbolTable.{value_counted, variable_judged, bare_judged, symbol_behind, taken_behind, symbol_step, placed, fault_at, fault_behind, fault_inside}
 use Rattle.mopb_reader.specs.declared.symbol.Symbol.{Symbol}
 use Rattle.mopb_reader.specs.declared.symbol.Symbol.TheVariants.{Sign, Number, Literal, Misspelled, Min, Relation, Semicolon, Unknown}
@@ -29,9 +29,6 @@ counted_value limit sum behind (Some value) ds is = rw (is.0, below value (2 ^ 6
 pub indexed_value : (next : Next) (var : Option ℕ) (ds : List ℕ) → ValueIs var ds → indexed (natural_value ds) next ≡ variable_judged var next
 indexed_value next None ds wide = rw (not_below (natural_value ds) (2 ^ 63) wide) refl
 indexed_value next (Some var) ds is = rw (is.0, below var (2 ^ 63) is.1) refl
-
-one_counted : (limit : InstanceLimit) (sum : ℕ) (behind : ℕ → Place) → counted limit sum 1 behind ≡ value_counted limit sum (Some 1) behind
-one_counted limit sum behind = refl
 
 pub bare_value : (kind : Kind) (sum : ℕ) (var : Option ℕ) (ds : List ℕ) → ValueIs var ds → behind_bare kind sum (natural_value ds) ≡ bare_judged kind sum var
 bare_value kind sum var ds is = indexed_value (value_counted (limit_of kind) sum (Some 1) (Term kind)) var ds is
@@ -117,10 +114,6 @@ took_first symbol new old p taken last =
     ap (fault_from old.last (placed p Start)) taken.1
     ∙ ap (λ next. fault_or next new.line (λ q. fault_from old.last q new.left)) (step_start p symbol taken.0 taken.2)
     ∙ ap (λ (n : ℕ). fault_or (symbol_step p symbol) new.line (λ q. fault_from n q new.left)) (sym last)
-
-pub taken_left : (symbol : Option Symbol) (new old : Stream) → IsTaken symbol new old → IsLeft symbol (plain new.left) (plain old.left)
-taken_left None new old taken = (ap plain taken.0, ap plain taken.1)
-taken_left (Some symbol) new old taken = (taken.0, ap plain taken.1, taken.2)
 
 pub step_other : (p : Progress) (symbol : Symbol) → symbol ≢ Min → symbol_step p symbol ≡ moved p true (symbol_behind Start symbol)
 step_other p Min other = absurd (other refl)

@@ -1,24 +1,15 @@
 -- What a statement's tokens spell.
-use Rattle.std.proofs.Common.{◌≡◌, ℕ, ◌<◌, ◌≤◌, ◌^◌, Bool, true, false, List, [], ◌∷◌, ◌++◌, Option, Some, refl, sym, ap, ◌∙◌, subst, append_assoc, ℤ, pos}
-use Rattle.scut_base.specs.Number.{signed_value}
-use Rattle.instance.specs.Shape.{objective_magnitude, row_magnitude}
+use Rattle.std.proofs.Common.{◌≡◌, ℕ, ◌<◌, ◌≤◌, ◌^◌, Bool, true, false, List, [], ◌∷◌, ◌++◌, Option, Some, refl, sym, ap, ◌∙◌, subst, append_assoc, ℤ}
+use Rattle.instance.specs.Shape.{row_magnitude}
 use Rattle.instance.specs.declared.row.Rel.{Rel}
 use Rattle.instance.specs.declared.row.Rel.TheVariants.{AtLeast as HoldsAtLeast, AtMost as HoldsAtMost, Equal as HoldsEqual}
 use Rattle.instance.specs.declared.row.Linear.{Linear}
-use Rattle.instance.specs.declared.objective.Objective.{Objective}
-use Rattle.instance.specs.declared.objective.Sense.TheVariants.{Min as Minimised}
 use Rattle.mopb_reader.specs.Tokens.{Token, Plus, Minus, Digits, Semicolon as End}
 use Rattle.mopb_reader.specs.Symbols.{IsLeft, relation_token}
 use Rattle.mopb_reader.specs.Grammar.{SpellsMagnitude, SpellsBound, SpellsRelation, largest_of}
-use Rattle.mopb_reader.specs.Steps.{BeginsWith, BeginsWithTerms, IsReadObjective, IsReadRow}
+use Rattle.mopb_reader.specs.Steps.{BeginsWith, BeginsWithTerms, IsReadRow}
 use Rattle.mopb_reader.specs.declared.symbol.Symbol.{Symbol}
-use Rattle.mopb_reader.specs.declared.symbol.Symbol.TheVariants.{Sign, Number, Relation, Semicolon}
-
--- digits as a bound
-pub magnitude_front : (minus : Bool) (symbol : Option Symbol) (value : Option ℕ) (magnitude : ℕ) (bound : ℤ) (rest left : List Token) → symbol ≡ Some (Number value) → value ≡ Some magnitude → bound ≡ signed_value minus magnitude → IsLeft symbol rest left → (token : Token) × (left ≡ token ∷ rest) × SpellsMagnitude minus (token ∷ []) bound
-magnitude_front minus symbol value magnitude bound rest left is_number is_value same is_left =
-    let found : IsLeft (Some (Number (Some magnitude))) rest left = subst (λ (s : Option Symbol). IsLeft s rest left) (is_number ∙ ap (λ v. Some (Number v)) is_value) is_left in
-    (Digits found.2.0, found.1 ∙ ap (λ t. t ∷ rest) found.2.1, same ∙ ap (signed_value minus) (sym found.2.2.0))
+use Rattle.mopb_reader.specs.declared.symbol.Symbol.TheVariants.{Sign, Relation, Semicolon}
 
 pub bound_signed : (first : Option Symbol) (minus : Bool) (bound : ℤ) (left middle rest : List Token) → first ≡ Some (Sign minus) → IsLeft first middle left → (token : Token) × (middle ≡ token ∷ rest) × SpellsMagnitude minus (token ∷ []) bound → BeginsWith SpellsBound left rest bound
 bound_signed first minus bound left middle rest e is_left found = by minus (subst (λ (s : Option Symbol). IsLeft s middle left) e is_left) found
@@ -44,17 +35,6 @@ ends : (symbol : Option Symbol) (rest left : List Token) → symbol ≡ Some Sem
 ends symbol rest left e is_left =
     let found : IsLeft (Some Semicolon) rest left = subst (λ (s : Option Symbol). IsLeft s rest left) e is_left in
     found.1 ∙ ap (λ t. t ∷ rest) found.2
-
--- an objective
-pub objective_read : (o : Objective) (tokens rest : List Token) (next : Option Symbol) (vars : ℕ) → BeginsWithTerms tokens rest next o.terms → next ≡ Some Semicolon → o.sense ≡ Minimised → o.softs ≡ [] → o.offset ≡ pos 0 → objective_magnitude o < 2 ^ 63 → vars ≡ largest_of o.terms → vars ≤ 2 ^ 24 → IsReadObjective tokens rest o vars
-objective_read o tokens rest next vars terms last sense softs offset small largest within = record {
-  front = terms.front;
-  cut = terms.cut ∙ ap (λ ts. terms.front ++ ts) (ends next rest terms.after last terms.next);
-  spelled = record { after = terms.front; begins = refl; terms = terms.spelled; sense = sense; softs = softs; offset = offset };
-  magnitude = small;
-  largest = largest;
-  within = within;
-}
 
 -- a row
 pub row_read : (row : Linear) (left behind middle rest : List Token) (next last : Option Symbol) (vars : ℕ) → BeginsWithTerms left behind next row.terms → next ≡ Some (Relation row.rel) → BeginsWith SpellsBound behind middle row.bound → last ≡ Some Semicolon → IsLeft last rest middle → row_magnitude row < 2 ^ 63 → vars ≡ largest_of row.terms → vars ≤ 2 ^ 24 → IsReadRow left rest row vars
