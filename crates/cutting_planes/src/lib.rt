@@ -5,8 +5,16 @@
 //! knows no proof and keeps no state.
 #![tactic(auto)]
 
+mod evaluation;
 mod fault;
+mod scale;
+mod size;
+mod stack;
+mod steps;
+mod sum;
 mod token;
+mod weaken;
 
+pub use evaluation::evaluate;
 pub use fault::PolFault;
 pub use token::PolToken;
