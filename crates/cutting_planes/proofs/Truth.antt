@@ -1,6 +1,7 @@
 -- What the tokens make is implied by what they may name.
-use Rattle.std.specs.Prelude.{◌≡◌, ℕ, ◌<◌, Bool, true, false, if◌then◌else◌, List, [], ◌∷◌, ℤ, pos, int_lt, unsigned_abs, Option, Some, None, Ok, Err, MatchOption, IfSome, IfOk, refl}
-use Rattle.std.proofs.Common.{sym, subst, arith, negsuc}
+use Rattle.std.specs.Prelude.{◌≡◌, ℕ, ◌<◌, Bool, true, false, if◌then◌else◌, List, [], ◌∷◌, ℤ, pos, int_lt, unsigned_abs, Option, Some, None, Ok, Err, MatchOption, IfSome, IfOk, refl, option_copied}
+use Rattle.std.proofs.Common.{sym, subst, arith, negsuc, zero, suc, ◌∙◌, ap, ◌+◌, ◌≤◌, length, get_or, drop, drop-cons, Bor, ◌⊎◌, inl, inr}
+use Rattle.std.proofs.lemmas.List.{drop_all}
 use Rattle.std.specs.FinMap.{get}
 use Rattle.pb_lin.specs.Constraint.{ConstraintValue, Holds, size}
 use Rattle.cutting_planes.specs.Rules.{literal_axiom, IsSum, multiplied, divided, saturated, weakened}
@@ -25,11 +26,13 @@ pushed_holds a (Some c) stack new named_holds step all = all_along a new stack c
 
 some_holds : (a : List Bool) (named : Option ConstraintValue) → IfSome named (Holds a) → (c : ConstraintValue) → named ≡ Some c → Holds a c
 some_holds a None holds c e = cc
-some_holds a (Some d) holds c e = subst (λ (x : ConstraintValue). Holds a x) (cc) holds
+some_holds a (Some d) holds c e = let same : d ≡ c = cc in subst (λ (x : ConstraintValue). Holds a x) same holds
 
 -- a divisor that isn't faulty is positive
 from_one : (k : ℤ) → factor_fault k None ≡ None → 0 < unsigned_abs k
-from_one k e = ?
+from_one (pos zero) e = cc
+from_one (pos (suc n)) e = omega arith
+from_one (negsuc n) e = cc
 
 step_holds : (a : List Bool) (given : Given) → HoldsGiven a given → (token : PolToken) (stack new : List ConstraintValue) → token_fault given token stack ≡ None → IsStep given token stack new → HoldAll a stack → HoldAll a new
 step_holds a given holds (Id id) stack new e step all = pushed_holds a (get given.lines id) stack new (holds.lines id) step all
@@ -50,7 +53,7 @@ step_holds a given holds (Weaken var) (c ∷ stack) new e step all = all_along a
 
 last_holds : (a : List Bool) (stack : List ConstraintValue) (c : ConstraintValue) → Ok c ≡ final_answer stack → HoldAll a stack → Holds a c
 last_holds a [] c e all = cc
-last_holds a (d ∷ []) c e all = subst (λ (x : ConstraintValue). Holds a x) (cc) all.0
+last_holds a (d ∷ []) c e all = let same : d ≡ c = cc in subst (λ (x : ConstraintValue). Holds a x) same all.0
 last_holds a (d ∷ f ∷ stack) c e all = cc
 
 by_fault : {P R : Type 0} {Q : PolFault → Type 0} (fault : Option PolFault) → MatchOption fault P Q → (fault ≡ None → P → R) → ((f : PolFault) → Q f → R) → R
@@ -76,3 +79,40 @@ value_from_run given tokens (Err (NoSuchId id)) value = value
 value_from_run given tokens (Err Stack) value = value
 value_from_run given tokens (Err BadFactor) value = value
 value_from_run given tokens (Err Overflow) value = value
+
+-- the value on the stack after n tokens is the value of all
+abbrev pub Continues : Given → List PolToken → List ConstraintValue → ℕ → Type 0
+Continues given tokens stack n = (answer : Answer) → IsValueOn given stack (drop n tokens) answer → IsValueOn given [] tokens answer
+
+abbrev IsFault : Answer → PolFault → Type 0
+IsFault answer f = answer ≡ Err f
+
+next_token : (tokens : List PolToken) (n : ℕ) (token : PolToken) → n < length tokens → token ≡ get_or tokens n token → drop n tokens ≡ token ∷ drop (n + 1) tokens
+next_token tokens n token within is =
+    let more : suc n ≡ n + 1 = omega arith in
+    drop-cons tokens n token within ∙ ap (λ (t : PolToken). t ∷ drop (suc n) tokens) (sym is) ∙ ap (λ (k : ℕ). token ∷ drop k tokens) more
+
+pub run_more : (given : Given) (tokens : List PolToken) (stack next : List ConstraintValue) (n : ℕ) (token : PolToken) → n < length tokens → token ≡ get_or tokens n token → (token_fault given token stack ≡ None) × IsStep given token stack next → Continues given tokens stack n → Continues given tokens next (n + 1)
+run_more given tokens stack next n token within is step continues = λ answer value.
+    let on : IsValueOn given stack (token ∷ drop (n + 1) tokens) answer =
+    subst (λ (fault : Option PolFault). MatchOption fault ((new : List ConstraintValue) × IsStep given token stack new × IsValueOn given new (drop (n + 1) tokens) answer) (IsFault answer)) (sym step.0) (next, step.1, value) in
+    continues answer (subst (λ (ts : List PolToken). IsValueOn given stack ts answer) (sym (next_token tokens n token within is)) on)
+
+fault_ends : (given : Given) (tokens : List PolToken) (stack : List ConstraintValue) (n : ℕ) (token : PolToken) (f : PolFault) → n < length tokens → token ≡ get_or tokens n token → token_fault given token stack ≡ Some f → Continues given tokens stack n → IsValueOn given [] tokens (Err f)
+fault_ends given tokens stack n token f within is faulty continues =
+    let on : IsValueOn given stack (token ∷ drop (n + 1) tokens) (Err f) =
+    subst (λ (fault : Option PolFault). MatchOption fault ((new : List ConstraintValue) × IsStep given token stack new × IsValueOn given new (drop (n + 1) tokens) (Err f)) (IsFault (Err f))) (sym faulty) refl in
+    continues (Err f) (subst (λ (ts : List PolToken). IsValueOn given stack ts (Err f)) (sym (next_token tokens n token within is)) on)
+
+pub run_fault : (given : Given) (tokens : List PolToken) (stack : List ConstraintValue) (n : ℕ) (token : PolToken) (f : PolFault) → n < length tokens → token ≡ get_or tokens n token → (f ≡ NoMemory) ⊎ (token_fault given token stack ≡ Some f) → Continues given tokens stack n → IsPolValue given tokens (Err f)
+run_fault given tokens stack n token f within is (inl refused) continues = subst (λ (g : PolFault). IsPolValue given tokens (Err g)) (sym refused) tt
+run_fault given tokens stack n token f within is (inr faulty) continues = value_from_run given tokens (Err f) (fault_ends given tokens stack n token f within is faulty continues)
+
+pub run_end : (given : Given) (tokens : List PolToken) (stack : List ConstraintValue) (n : ℕ) (answer : Answer) → length tokens ≤ n → answer ≡ final_answer stack → Continues given tokens stack n → IsPolValue given tokens answer
+run_end given tokens stack n answer past is continues =
+    value_from_run given tokens answer (continues answer (subst (λ (ts : List PolToken). IsValueOn given stack ts answer) (sym (drop_all n tokens past)) is))
+
+-- a look-up that gives a reference
+pub copied_from_lookup : (found : Option (Bor ConstraintValue)) (held : Option ConstraintValue) → MatchOption found (held ≡ None) (λ c. held ≡ Some c.now) → option_copied found ≡ held
+copied_from_lookup None held e = sym e
+copied_from_lookup (Some c) held e = sym e

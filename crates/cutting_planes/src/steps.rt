@@ -1,6 +1,7 @@
 // What tokens do to a stack.
-ghost use Rattle.std.specs.Prelude.{◌≡◌, None, Some, MatchResult, ◌⊎◌, option_copied};
-ghost use Rattle.cutting_planes.specs.Stack.{Given, token_fault, named_fault, IsPushed, IsStep};
+ghost use Rattle.std.specs.Prelude.{option_copied};
+ghost use Rattle.cutting_planes.specs.Applied.{IsApplied, IsPushedIfNamed};
+ghost use Rattle.cutting_planes.specs.Stack.{Given};
 
 use crate::scale::{divided, multiplied, saturated};
 use crate::stack::ConstraintStack;
@@ -20,7 +21,7 @@ pub fn apply(
     negated: Option<&Constraint>,
     denied: Option<&Constraint>,
 ) -> Result<(), PolFault>
-    ensures { let given : Given = record { lines = lines.now; negated = option_copied negated.entry; denied = option_copied denied.entry } in MatchResult result (λ _. (token_fault given token stack.old ≡ None) × IsStep given token stack.old stack.new) (λ f. (f ≡ PolFault.NoMemory) ⊎ (token_fault given token stack.old ≡ Some f)) }
+    ensures { let given : Given = record { lines = lines.now; negated = option_copied negated.entry; denied = option_copied denied.entry } in IsApplied given token stack.old stack.new result }
 {
     match token {
         PolToken::Id(id) => push_named(alloc, stack, lines.get(id), id),
@@ -42,7 +43,7 @@ fn push_named(
     c: Option<&Constraint>,
     id: u64,
 ) -> Result<(), PolFault>
-    ensures { MatchResult result (λ _. (named_fault (option_copied c.entry) id ≡ None) × IsPushed (option_copied c.entry) stack.old stack.new) (λ f. (f ≡ PolFault.NoMemory) ⊎ (named_fault (option_copied c.entry) id ≡ Some f)) }
+    ensures { IsPushedIfNamed (option_copied c.entry) id stack.old stack.new result }
 {
     match c {
         Some(c) => {
@@ -54,14 +55,14 @@ fn push_named(
 }
 
 fn push_axiom(alloc: Global, stack: &mut ConstraintStack, lit: Lit) -> Result<(), PolFault>
-    ensures { (given : Given) → MatchResult result (λ _. (token_fault given (PolToken.Axiom lit) stack.old ≡ None) × IsStep given (PolToken.Axiom lit) stack.old stack.new) (λ f. (f ≡ PolFault.NoMemory) ⊎ (token_fault given (PolToken.Axiom lit) stack.old ≡ Some f)) }
+    ensures { (given : Given) → IsApplied given (PolToken.Axiom lit) stack.old stack.new result }
 {
     stack.push(literal_axiom(alloc, lit)?)?;
     Ok(())
 }
 
 fn add(alloc: Global, stack: &mut ConstraintStack) -> Result<(), PolFault>
-    ensures { (given : Given) → MatchResult result (λ _. (token_fault given PolToken.Add stack.old ≡ None) × IsStep given PolToken.Add stack.old stack.new) (λ f. (f ≡ PolFault.NoMemory) ⊎ (token_fault given PolToken.Add stack.old ≡ Some f)) }
+    ensures { (given : Given) → IsApplied given PolToken.Add stack.old stack.new result }
 {
     let q = stack.pop().ok_or(PolFault::Stack)?;
     let p = stack.pop().ok_or(PolFault::Stack)?;
@@ -70,7 +71,7 @@ fn add(alloc: Global, stack: &mut ConstraintStack) -> Result<(), PolFault>
 }
 
 fn multiply(stack: &mut ConstraintStack, factor: i128) -> Result<(), PolFault>
-    ensures { (given : Given) → MatchResult result (λ _. (token_fault given (PolToken.Mul factor) stack.old ≡ None) × IsStep given (PolToken.Mul factor) stack.old stack.new) (λ f. (f ≡ PolFault.NoMemory) ⊎ (token_fault given (PolToken.Mul factor) stack.old ≡ Some f)) }
+    ensures { (given : Given) → IsApplied given (PolToken.Mul factor) stack.old stack.new result }
 {
     let c = stack.pop().ok_or(PolFault::Stack)?;
     stack.push(multiplied(c, factor)?)?;
@@ -78,7 +79,7 @@ fn multiply(stack: &mut ConstraintStack, factor: i128) -> Result<(), PolFault>
 }
 
 fn divide(stack: &mut ConstraintStack, divisor: i128) -> Result<(), PolFault>
-    ensures { (given : Given) → MatchResult result (λ _. (token_fault given (PolToken.Div divisor) stack.old ≡ None) × IsStep given (PolToken.Div divisor) stack.old stack.new) (λ f. (f ≡ PolFault.NoMemory) ⊎ (token_fault given (PolToken.Div divisor) stack.old ≡ Some f)) }
+    ensures { (given : Given) → IsApplied given (PolToken.Div divisor) stack.old stack.new result }
 {
     let c = stack.pop().ok_or(PolFault::Stack)?;
     stack.push(divided(c, divisor)?)?;
@@ -86,7 +87,7 @@ fn divide(stack: &mut ConstraintStack, divisor: i128) -> Result<(), PolFault>
 }
 
 fn saturate(stack: &mut ConstraintStack) -> Result<(), PolFault>
-    ensures { (given : Given) → MatchResult result (λ _. (token_fault given PolToken.Saturate stack.old ≡ None) × IsStep given PolToken.Saturate stack.old stack.new) (λ f. (f ≡ PolFault.NoMemory) ⊎ (token_fault given PolToken.Saturate stack.old ≡ Some f)) }
+    ensures { (given : Given) → IsApplied given PolToken.Saturate stack.old stack.new result }
 {
     let c = stack.pop().ok_or(PolFault::Stack)?;
     stack.push(saturated(c))?;
@@ -94,7 +95,7 @@ fn saturate(stack: &mut ConstraintStack) -> Result<(), PolFault>
 }
 
 fn weaken(stack: &mut ConstraintStack, var: u64) -> Result<(), PolFault>
-    ensures { (given : Given) → MatchResult result (λ _. (token_fault given (PolToken.Weaken var) stack.old ≡ None) × IsStep given (PolToken.Weaken var) stack.old stack.new) (λ f. (f ≡ PolFault.NoMemory) ⊎ (token_fault given (PolToken.Weaken var) stack.old ≡ Some f)) }
+    ensures { (given : Given) → IsApplied given (PolToken.Weaken var) stack.old stack.new result }
 {
     let c = stack.pop().ok_or(PolFault::Stack)?;
     stack.push(weakened(c, var))?;

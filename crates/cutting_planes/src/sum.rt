@@ -1,6 +1,7 @@
 // Sums of constraints.
 ghost use Rattle.std.specs.Prelude.{◌≡◌, ◌+◌, ◌≤◌, ◌<◌, ◌^◌, ◌++◌, ◌∷◌, [], ℕ, Bool, List, None, Some, IfOk, OnOk, OnErr, IfErr, ◌⊎◌, length, drop};
 ghost use Rattle.pb_lin.specs.Constraint.{size, term_value};
+ghost use Rattle.cutting_planes.specs.Applied.{IsFaultOr};
 ghost use Rattle.cutting_planes.specs.Rules.{IsSum};
 ghost use Rattle.cutting_planes.specs.Stack.{size_fault};
 
@@ -14,7 +15,7 @@ use std::alloc::Global;
 pub fn sum(alloc: Global, p: &Constraint, q: &Constraint) -> Result<Constraint, PolFault>
     ensures value { IfOk result (λ r. IsSum r p.now q.now) }
     ensures faultless { OnOk result (size_fault (size p.now + size q.now) ≡ None) }
-    ensures fault { IfErr result (λ f. (f ≡ PolFault.NoMemory) ⊎ (size_fault (size p.now + size q.now) ≡ Some f)) }
+    ensures fault { IfErr result (IsFaultOr (size_fault (size p.now + size q.now))) }
 {
     if size_of(p) + size_of(q) > SIZE_LIMIT {
         return Err(PolFault::Overflow);
