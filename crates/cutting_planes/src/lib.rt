@@ -7,6 +7,7 @@
 
 mod evaluation;
 mod fault;
+mod laws;
 mod scale;
 mod size;
 mod stack;
@@ -17,4 +18,11 @@ mod weaken;
 
 pub use evaluation::evaluate;
 pub use fault::PolFault;
+pub use laws::{
+    multiples_are_implied, quotients_are_implied, saturation_is_implied, sums_keep_truth,
+    weakening_is_implied,
+};
 pub use token::PolToken;
+
+#[cfg(test)]
+mod tests;

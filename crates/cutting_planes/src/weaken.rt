@@ -12,9 +12,8 @@ use std::alloc::Global;
 pub fn weakened(c: Constraint, var: u64) -> Constraint
     ensures { result ≡ weakened var c }
 {
-    let degree = c
-        .degree
-        .saturating_sub(coefficient_in(c.terms.as_slice(), var));
+    let lost = coefficient_in(c.terms.as_slice(), var);
+    let degree = c.degree.saturating_sub(lost);
     Constraint::from_parts(terms_elsewhere(c.terms, var), degree)
 }
 

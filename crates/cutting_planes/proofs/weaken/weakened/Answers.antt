@@ -8,4 +8,4 @@ pub from_parts-requires : goal.from_parts-requires
 from_parts-requires c =
     let whole : ConstraintValue = record { terms = c.c.inside.terms; degree = c.c.inside.degree } in
     let normal : IsNormal (weakened c.args.var whole).terms (weakened c.args.var whole).degree = normal-weakened c.args.var whole c.c.invariant in
-    rw (c.terms_elsewhere.ensures, c.saturating_sub-degree.ensures, c.coefficient_in.ensures, c.as_slice.ensures) normal
+    rw (c.terms_elsewhere.ensures, c.saturating_sub-degree.ensures, c.coefficient_in-lost.ensures, c.as_slice.ensures) normal
