@@ -1,11 +1,11 @@
 -- What the tokens make is implied by what they may name.
-use Rattle.std.specs.Prelude.{◌≡◌, ℕ, ◌<◌, Bool, true, false, if◌then◌else◌, List, [], ◌∷◌, ℤ, pos, int_lt, unsigned_abs, Option, Some, None, Ok, Err, MatchOption, IfSome, IfOk, refl, option_copied}
+use Rattle.std.specs.Prelude.{◌≡◌, ℕ, ◌<◌, Bool, List, [], ◌∷◌, ℤ, pos, unsigned_abs, Option, Some, None, Ok, Err, MatchOption, IfSome, IfOk, refl, option_copied}
 use Rattle.std.proofs.Common.{sym, subst, arith, negsuc, zero, suc, ◌∙◌, ap, ◌+◌, ◌≤◌, length, get_or, drop, drop-cons, Bor, ◌⊎◌, inl, inr}
 use Rattle.std.proofs.lemmas.List.{drop_all}
 use Rattle.std.specs.FinMap.{get}
-use Rattle.pb_lin.specs.Constraint.{ConstraintValue, Holds, size}
-use Rattle.cutting_planes.specs.Rules.{literal_axiom, IsSum, multiplied, divided, saturated, weakened}
-use Rattle.cutting_planes.specs.Stack.{Given, HoldsGiven, factor_fault, size_fault, token_fault, IsPushed, IsStep, Answer, final_answer, IsValueOn, IsPolValue}
+use Rattle.pb_lin.specs.Constraint.{ConstraintValue, Holds}
+use Rattle.cutting_planes.specs.Rules.{literal_axiom, multiplied, divided, saturated, weakened}
+use Rattle.cutting_planes.specs.Stack.{Given, HoldsGiven, factor_fault, token_fault, IsPushed, IsStep, Answer, final_answer, IsValueOn, IsPolValue}
 use Rattle.cutting_planes.specs.declared.token.PolToken.{PolToken}
 use Rattle.cutting_planes.specs.declared.token.PolToken.TheVariants.{Id, Axiom, Negated, Denied, Add, Mul, Div, Saturate, Weaken}
 use Rattle.cutting_planes.specs.declared.fault.PolFault.{PolFault}

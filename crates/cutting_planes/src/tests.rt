@@ -203,21 +203,23 @@ fn the_stack_is_judged_before_the_factor(rt: HostRuntime) -> Result<(), Fail> {
 #[test]
 fn a_size_is_judged_before_terms_cancel(rt: HostRuntime) -> Result<(), Fail> {
     let alloc = rt.alloc();
-    let large = PolToken::Mul(1 << 100);
     let overflow = Some(PolFault::Overflow);
-    assert_eq!(rt; value(alloc, &[PolToken::Id(1), large]).err(), overflow);
+    assert_eq!(rt;
+        value(alloc, &[PolToken::Id(1), PolToken::Mul(1 << 100)]).err(),
+        overflow
+    );
     assert_eq!(rt;
         value(alloc, &[PolToken::Id(1), PolToken::Mul(i128::MAX)]).err(),
         overflow
     );
-    let (axiom, opposite) = (
+    let at_limit = [PolToken::Axiom(positive(1)), PolToken::Mul(1 << 100)];
+    assert!(rt; value(alloc, &at_limit).is_ok());
+    let above = [
         PolToken::Axiom(positive(1)),
+        PolToken::Mul(1 << 100),
         PolToken::Axiom(Lit::new(1, true)),
-    );
-    assert!(rt; value(alloc, &[axiom, large]).is_ok());
-    assert_eq!(rt;
-        value(alloc, &[axiom, large, opposite, PolToken::Add]).err(),
-        overflow
-    );
+        PolToken::Add,
+    ];
+    assert_eq!(rt; value(alloc, &above).err(), overflow);
     Ok(())
 }

@@ -1,4 +1,3 @@
-use Rattle.std.proofs.Common.{Option}
 use Rattle.std.specs.Prelude.{option_copied}
 use Rattle.cutting_planes.proofs.Truth.{Continues}
 use Rattle.cutting_planes.proofs.evaluation.evaluate.Given as goal

@@ -1,4 +1,4 @@
-use Rattle.std.proofs.Common.{◌≡◌, ◌∙◌, ◌<◌, ◌≤◌, ◌*◌, ◌^◌, min, ℕ, length, get_or, refl, sym, subst, arith}
+use Rattle.std.proofs.Common.{min, arith}
 use Rattle.cutting_planes.proofs.Terms.{change_more}
 use Rattle.cutting_planes.proofs.scale.cut_terms.Goals as goal
 

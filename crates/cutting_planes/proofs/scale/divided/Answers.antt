@@ -1,4 +1,3 @@
-use Rattle.std.proofs.Common.{◌≡◌, map, subst, sym, rules}
 use Rattle.pb_lin.specs.Constraint.{ConstraintValue, IsNormal}
 use Rattle.cutting_planes.specs.Rules.{divided}
 use Rattle.cutting_planes.proofs.Terms.{normal-divided}

@@ -1,4 +1,4 @@
-use Rattle.std.proofs.Common.{◌≡◌, ◌∙◌, ◌<◌, ◌≤◌, ◌*◌, ◌^◌, ℕ, length, get_or, refl, sym, subst, arith}
+use Rattle.std.proofs.Common.{◌≡◌, ◌∙◌, ◌≤◌, ◌^◌, get_or, sym, subst, arith}
 use Rattle.pb_lin.specs.Constraint.{total}
 use Rattle.cutting_planes.specs.Rules.{rounded_up}
 use Rattle.cutting_planes.proofs.Terms.{Terms, coefficient-le-total, change_more}

@@ -1,4 +1,4 @@
-use Rattle.std.proofs.Common.{◌≡◌, ◌<◌, ◌≤◌, ◌^◌, ◌∙◌, map, min, [], sym, subst, arith}
+use Rattle.std.proofs.Common.{◌∙◌, sym, subst, arith}
 use Rattle.pb_lin.specs.Constraint.{ConstraintValue, IsNormal}
 use Rattle.cutting_planes.proofs.Terms.{Terms, normal-cut, normal-nil}
 use Rattle.cutting_planes.proofs.scale.saturated.Goals as goal

@@ -1,7 +1,4 @@
-use Rattle.std.proofs.Common.{rules, ◌≡◌, ◌+◌, ◌-◌, ◌≤◌, ◌<◌, ◌^◌, ◌++◌, ◌∷◌, [], ℕ, length, ◌⊎◌, inl, inr, arith, ap, ◌∙◌}
-use Rattle.scut_base.specs.Literal.{Literal}
-use Rattle.pb_lin.specs.Constraint.{IsNormal, size}
-use Rattle.cutting_planes.specs.Rules.{IsSum}
+use Rattle.std.proofs.Common.{rules, ◌≡◌, ◌++◌, [], length, ◌⊎◌, inl, inr, arith, ap, ◌∙◌}
 use Rattle.cutting_planes.proofs.Terms.{Terms}
 use Rattle.cutting_planes.proofs.Merge.{merge_start, step_left, step_right, step_joined, step_end, IsJoined}
 use Rattle.cutting_planes.proofs.sum.small_sum.Goals as goal

@@ -1,4 +1,3 @@
-use Rattle.std.proofs.Common.{◌≡◌}
 use Rattle.pb_lin.specs.Constraint.{ConstraintValue, IsNormal}
 use Rattle.cutting_planes.specs.Rules.{weakened}
 use Rattle.cutting_planes.proofs.Terms.{normal-weakened}
