@@ -1,0 +1,4 @@
+pub mod Terms
+pub mod Rising
+pub mod Merge
+pub mod Truth

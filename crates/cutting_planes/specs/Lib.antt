@@ -2,3 +2,4 @@ pub use Rattle.pb_lin.specs.Constraint
 pub use Rattle.pb_lin.specs.LineMap
 pub mod Rules
 pub mod Stack
+pub mod Applied
