@@ -1,5 +1,5 @@
 -- The coefficient of a literal, by the place of its variable.
-use Rattle.std.proofs.Common.{◌≡◌, ◌≢◌, ℕ, ◌<◌, Bool, true, false, List, length, get_or, ⊎_elim, subst, sym, if◌then◌else◌}
+use Rattle.std.proofs.Common.{◌≡◌, ℕ, ◌<◌, true, false, List, length, get_or, ⊎_elim, subst, sym, if◌then◌else◌}
 use Rattle.std.specs.List.{AllPairs}
 use Rattle.std.proofs.lemmas.Bool.{ne_eqb, and_left, cases_eq, cond-true, cond-false}
 use Rattle.scut_base.specs.Literal.{Literal}

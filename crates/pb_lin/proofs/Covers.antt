@@ -1,8 +1,8 @@
 -- How far one left side can be above another: the greatest excess bounds it, and an assignment reaches it.
-use Rattle.std.proofs.Common.{◌≡◌, ◌≢◌, ◌⊎◌, ℕ, ◌+◌, ◌-◌, ◌<◌, ◌≤◌, ◌==◌, ◌&&◌, ◌||◌, Bool, true, false, not, cond, if◌then◌else◌, List, [], ◌∷◌, suc, length, get_or, map, sum_by, arith, ⊎_elim, subst, sym, ap, ◌∙◌, refl, ltb, inl, inr}
+use Rattle.std.proofs.Common.{◌≡◌, ◌≢◌, ◌⊎◌, ℕ, ◌+◌, ◌-◌, ◌<◌, ◌≤◌, ◌==◌, ◌&&◌, ◌||◌, Bool, true, false, not, if◌then◌else◌, List, [], ◌∷◌, suc, length, get_or, map, sum_by, arith, ⊎_elim, subst, sym, ap, ◌∙◌, refl, ltb, inl, inr}
 use Rattle.std.proofs.Math.Bool.{beq}
 use Rattle.std.specs.List.{All, AllPairs, list_any, range_with_len}
-use Rattle.std.proofs.lemmas.Bool.{and_left, and_right, and_from, and_parts, ne_eqb, eq-eqb, eqb-true, cases_Bool, cases_lt, cases_eq, cond-true, cond-false, cond_both, lt-ltb, le-ltb}
+use Rattle.std.proofs.lemmas.Bool.{and_left, and_right, and_from, and_parts, ne_eqb, eq-eqb, eqb-true, cases_Bool, cases_eq, cond-true, cond-false, cond_both}
 use Rattle.std.proofs.lemmas.Bool.Decides.{nat_tests}
 use Rattle.std.proofs.lemmas.List.{get_or_default}
 use Rattle.std.proofs.lemmas.List.Elements.{All-head, All-tail}
@@ -11,7 +11,7 @@ use Rattle.std.proofs.lemmas.List.FromFn.{get_or-map-range_with_len}
 use Rattle.std.proofs.lemmas.List.Sums.{sum_by-cons, sum_by-le-sum_by, get_or-le-sum_by}
 use Rattle.scut_base.specs.Literal.{Literal}
 use Rattle.scut_base.specs.Assignment.{value_of, lit_true}
-use Rattle.pb_lin.specs.Constraint.{ConstraintValue, IsNormal, Covers, term_value, value, total, opposite}
+use Rattle.pb_lin.specs.Constraint.{ConstraintValue, IsNormal, Covers, term_value, value, opposite}
 use Rattle.pb_lin.specs.Cover.{is_same, coefficient, greatest_excess}
 use Rattle.pb_lin.proofs.Distinct.{AllApart, AllApart-from_pairs}
 use Rattle.pb_lin.proofs.Sums.{sum_by_zero, sum_by_single, sum_by_same}

@@ -1,5 +1,5 @@
 -- Where normal forms, restrictions and substitutions hold.
-use Rattle.std.proofs.Common.{◌≡◌, ◌≢◌, ◌⊎◌, ◌↔◌, ℕ, ◌+◌, ◌-◌, ◌<◌, ◌≤◌, ◌==◌, ◌&&◌, Bool, true, false, not, cond, if◌then◌else◌, List, [], ◌∷◌, length, get_or, filter, sum_by, arith, ⊎_elim, subst, sym, ap, ◌∙◌, refl, ℤ, pos, ◌-ℤ◌, ◌≤ℤ◌}
+use Rattle.std.proofs.Common.{◌≡◌, ◌↔◌, ℕ, ◌+◌, ◌==◌, ◌&&◌, Bool, true, false, not, cond, if◌then◌else◌, List, [], ◌∷◌, get_or, filter, sum_by, arith, ⊎_elim, subst, sym, ap, ◌∙◌, refl, ℤ, pos, ◌-ℤ◌, ◌≤ℤ◌}
 use Rattle.std.proofs.Math.Bool.{beq}
 use Rattle.std.specs.List.{All}
 use Rattle.std.proofs.lemmas.Int.{ints, clamps}
@@ -8,7 +8,7 @@ use Rattle.std.proofs.lemmas.List.Folds.{Any-from_list_any, list_any_at}
 use Rattle.std.proofs.lemmas.List.Sums.{sum_by-cons}
 use Rattle.scut_base.specs.Literal.{Literal}
 use Rattle.scut_base.specs.Assignment.{value_of, lit_true}
-use Rattle.pb_lin.specs.Constraint.{ConstraintValue, IsNormal, Holds, Covers, Implies, term_value, value}
+use Rattle.pb_lin.specs.Constraint.{ConstraintValue, Holds, Covers, Implies, term_value, value}
 use Rattle.pb_lin.specs.NormalForm.{HasExcess, IsNormalForm, sum_value}
 use Rattle.pb_lin.specs.Restriction.{is_set, is_among, met_value, restriction}
 use Rattle.pb_lin.specs.Substitution.{Images, IsUnder, variable_under, true_under, value_under}

@@ -1,5 +1,5 @@
 -- Sums with one term that counts, and signed sums.
-use Rattle.std.proofs.Common.{◌≡◌, ◌≢◌, ℕ, zero, suc, ◌+◌, ◌<◌, List, [], ◌∷◌, length, get_or, arith, sum_by, take, refl, ap, ◌∙◌, sym, map, fold, Bool, ℤ, pos, ◌+ℤ◌, ◌≤◌, filter, cond, not}
+use Rattle.std.proofs.Common.{◌≡◌, ◌≢◌, ℕ, zero, suc, ◌+◌, ◌<◌, List, [], ◌∷◌, length, get_or, arith, sum_by, take, refl, ap, ◌∙◌, map, fold, Bool, ℤ, pos, ◌+ℤ◌, ◌≤◌, filter, cond, not}
 use Rattle.std.specs.List.{All}
 use Rattle.std.proofs.lemmas.List.{map_more}
 use Rattle.std.proofs.lemmas.List.Elements.{All-head, All-tail}

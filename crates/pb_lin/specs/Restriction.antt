@@ -1,7 +1,7 @@
 -- A constraint with some literals true.
 use Rattle.std.specs.Prelude.{ℕ, ◌-◌, ◌==◌, ◌&&◌, Bool, not, if◌then◌else◌, List, sum_by}
 use Rattle.std.proofs.Math.Bool.{beq}
-use Rattle.std.specs.List.{filter, list_any, AllPairs}
+use Rattle.std.specs.List.{filter, list_any}
 use Rattle.scut_base.specs.Literal.{Literal}
 use Rattle.pb_lin.specs.Constraint.{ConstraintValue}
 

@@ -1,5 +1,5 @@
 -- Substitutions of variables by truth values and literals.
-use Rattle.std.specs.Prelude.{ℕ, ◌-◌, ◌<◌, ◌==◌, Bool, true, false, not, if◌then◌else◌, List, [], ◌∷◌, sum_by, All, AllPairs, ℤ, pos, ◌-ℤ◌, Option, Some, None}
+use Rattle.std.specs.Prelude.{ℕ, ◌<◌, ◌==◌, Bool, true, false, not, if◌then◌else◌, List, [], ◌∷◌, sum_by, All, AllPairs, pos, ◌-ℤ◌}
 use Rattle.scut_base.specs.Literal.{Literal}
 use Rattle.scut_base.specs.Assignment.{lit_true}
 use Rattle.pb_lin.specs.Constraint.{ConstraintValue}

@@ -1,16 +1,15 @@
 -- Where the front is written.
-use Rattle.std.proofs.Common.{◌≡◌, ℕ, zero, suc, ◌≤◌, ◌<◌, ◌^◌, List, length, refl, sym, ◌∙◌, ap, subst, arith}
+use Rattle.std.proofs.Common.{◌≡◌, ℕ, zero, List, sym, ◌∙◌, ap, subst, arith}
 use Rattle.std.specs.Prelude.{Option, Some, None}
-use Rattle.scut_base.specs.Files.{Files, content, IsTold}
+use Rattle.scut_base.specs.Files.{Files, content}
 use Rattle.scut_base.specs.FileLaws.{told_by_content}
 use Rattle.scut_base.specs.Faults.{Faults}
 use Rattle.instance.specs.Shape.{InstanceValue}
-use Rattle.instance.specs.declared.fault.InstanceLimit.{InstanceLimit}
 use Rattle.instance.specs.declared.fault.InstanceLimit.TheVariants.{Bytes, Vars}
 use Rattle.instance.specs.declared.fault.ReadFault.{ReadFault}
 use Rattle.scuttle_cli.specs.Command.{Request, FrontOf}
-use Rattle.scuttle_cli.specs.InstanceFile.{SpellsIn, HasFault, fault_in}
-use Rattle.scuttle_cli.specs.Outcome.{IsCausedBy, IsCausedByFile, IsCausedByInput, HasText, HasFewVariables, HasManyVariables, HasOwnCause, HasOwnCauseOf, IsUsageWhere, IsCompleteUnlessNoMemory, Completes, CompletesOf}
+use Rattle.scuttle_cli.specs.InstanceFile.{HasFault}
+use Rattle.scuttle_cli.specs.Outcome.{IsCausedBy, IsCausedByFile, IsCausedByInput, HasText, HasFewVariables, HasManyVariables, HasOwnCause, HasOwnCauseOf, IsUsageWhere, Completes, CompletesOf}
 use Rattle.scuttle_cli.specs.declared.status.Status.{Status}
 use Rattle.scuttle_cli.specs.declared.status.Status.TheVariants.{Complete, Usage, BadInput, TooLarge, NoMemory, ShelfFailed}
 use Rattle.scuttle_cli.proofs.InstanceFiles.{no_fault_spelled, one_in}

@@ -1,20 +1,20 @@
 -- What the command leaves in its files, and why it was refused.
-use Rattle.std.proofs.Common.{◌≡◌, ℕ, zero, suc, ◌<◌, ◌^◌, ◌++◌, ◌∷◌, List, [], length, true, refl, ◌∙◌, ap, subst, inl, inr, arith}
-use Rattle.std.specs.Prelude.{Option, Some, Err}
+use Rattle.std.proofs.Common.{◌≡◌, ℕ, zero, ◌<◌, ◌^◌, ◌++◌, ◌∷◌, List, [], length, true, refl, ◌∙◌, ap, inl, inr, arith}
+use Rattle.std.specs.Prelude.{Option}
 use Rattle.std.specs.List.{concat, flat_map}
 use Rattle.std.proofs.lemmas.List.{append-nil, append_assoc}
-use Rattle.scut_base.specs.Files.{Files, content, with_file, IsTold, IsTouched, IsPrefixOf}
+use Rattle.scut_base.specs.Files.{Files, with_file, IsTold, IsTouched, IsPrefixOf}
 use Rattle.scut_base.specs.declared.shelf.ShelfFault.{ShelfFault}
 use Rattle.scut_base.specs.declared.shelf.ShelfFault.TheVariants.{Failed, NoMemory as ShelfNoMemory}
 use Rattle.front_set.specs.declared.entry.Entry.{Entry}
 use Rattle.front_set.specs.ListText.{list_text, entry_text, head_line}
 use Rattle.instance.specs.Shape.{InstanceValue}
 use Rattle.instance.specs.Reading.{IsFaultOf}
-use Rattle.instance.specs.declared.fault.InstanceLimit.TheVariants.{Bytes, Vars, Weights, Row, Objectives}
+use Rattle.instance.specs.declared.fault.InstanceLimit.TheVariants.{Bytes, Vars}
 use Rattle.instance.specs.declared.fault.ReadFault.{ReadFault}
 use Rattle.instance.specs.declared.fault.ReadFault.TheVariants.{Bad, Limit, NoMemory as ReadNoMemory}
 use Rattle.instance.specs.ParetoFront.{IsFront}
-use Rattle.scuttle_cli.specs.InstanceFile.{SpellsIn, HasFault, fault_in}
+use Rattle.scuttle_cli.specs.InstanceFile.{SpellsIn, fault_in}
 use Rattle.scuttle_cli.proofs.InstanceFiles.{limit_has_line}
 use Rattle.scuttle_cli.specs.Lines.{entry_lines, list_lines}
 use Rattle.scuttle_cli.specs.Reading.{IsWhole}

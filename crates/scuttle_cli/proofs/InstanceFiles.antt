@@ -1,25 +1,24 @@
 -- What the text of an instance file spells, whichever reader takes it.
-use Rattle.std.proofs.Common.{◌≡◌, ℕ, zero, ◌+◌, ◌<◌, List, [], ◌∷◌, ◌++◌, length, map, Bool, true, false, if◌then◌else◌, refl, sym, ◌∙◌, ap, arith}
-use Rattle.std.specs.Prelude.{◌==◌, Option, Some, None, Result, Ok, Err, MatchBool}
+use Rattle.std.proofs.Common.{◌≡◌, ℕ, zero, ◌+◌, ◌<◌, List, [], ◌∷◌, ◌++◌, length, map, Bool, true, false, if◌then◌else◌, arith}
+use Rattle.std.specs.Prelude.{◌==◌, Option, Some, None, Ok, Err, MatchBool}
 use Rattle.std.specs.Option.{option_or, option_map}
 use Rattle.std.proofs.lemmas.List.Splits.{length-slice_split}
 use Rattle.instance.specs.Shape.{InstanceValue}
 use Rattle.instance.specs.declared.fault.PlaceFault.{PlaceFault}
 use Rattle.instance.specs.declared.fault.PlaceFault.TheVariants.{Bad as BadPlace, Limit as LimitThere, NoMemory as PlaceNoMemory}
 use Rattle.instance.specs.declared.fault.InstanceLimit.{InstanceLimit}
-use Rattle.instance.specs.declared.fault.ReadFault.{ReadFault}
 use Rattle.instance.specs.declared.fault.ReadFault.TheVariants.{Bad, Limit, NoMemory}
 use Rattle.instance.specs.Reading.{at_line}
 use Rattle.mcnf_reader.specs.Words.{lines_of, words_of}
 use Rattle.mcnf_reader.specs.FirstFault.{line_fault, fault_behind, first_fault as mcnf_fault}
 use Rattle.mcnf_reader.specs.Grammar.{Spells as SpellsMcnf}
 use Rattle.mcnf_reader.proofs.Texts.{one_spelled as one_mcnf}
-use Rattle.mcnf_reader.proofs.Limits.{no_fault as mcnf_no_fault}
+use Rattle.mcnf_reader.proofs.TextFaults.{no_fault as mcnf_no_fault}
 use Rattle.mopb_reader.specs.Grammar.{Spells as SpellsOpb}
 use Rattle.mopb_reader.proofs.Texts.{one_spelled as one_opb}
 use Rattle.mopb_reader.proofs.Faultless.{spelled_faultless as opb_no_fault}
 use Rattle.mopb_reader.specs.Tokens.{Token}
-use Rattle.mopb_reader.specs.FirstFault.{Progress, Progressed, Place, step, end_fault, end_in, fault_or, fault_from, numbered_tokens, tokens_in_line, nothing_yet, lines_of as opb_lines_of, first_fault as opb_fault}
+use Rattle.mopb_reader.specs.FirstFault.{Progress, Progressed, step, end_fault, end_in, fault_or, fault_from, numbered_tokens, tokens_in_line, nothing_yet, lines_of as opb_lines_of, first_fault as opb_fault}
 use Rattle.scuttle_cli.specs.InstanceFile.{is_mcnf_name, SpellsIn, fault_in}
 
 -- A fault of a place has the line that it is given.

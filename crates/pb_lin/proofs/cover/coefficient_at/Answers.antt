@@ -1,4 +1,4 @@
-use Rattle.std.proofs.Common.{ℕ, Bool, false, arith, ap, sym, ◌∙◌, subst, ◌≡◌}
+use Rattle.std.proofs.Common.{ℕ, false, arith, ap, sym, ◌∙◌, subst, ◌≡◌}
 use Rattle.std.proofs.lemmas.List.{get_or_default}
 use Rattle.scut_base.specs.Literal.{Literal}
 use Rattle.pb_lin.specs.Cover.{is_same}

@@ -1,4 +1,4 @@
-use Rattle.std.proofs.Common.{ℕ, ◌≤◌, ◌<◌, ◌≡◌, arith, ap, subst, sym, ◌∙◌, rules, ℤ, pos, ◌-ℤ◌}
+use Rattle.std.proofs.Common.{ℕ, ◌<◌, arith, ap, subst, sym, ◌∙◌, rules, ℤ, pos, ◌-ℤ◌}
 use Rattle.std.specs.List.{All}
 use Rattle.std.specs.Int.{int_max}
 use Rattle.std.specs.List.Sorted.{IsNonDecreasingBy}

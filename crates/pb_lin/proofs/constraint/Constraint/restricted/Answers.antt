@@ -1,7 +1,7 @@
-use Rattle.std.proofs.Common.{◌≡◌, ℕ, ◌-◌, ◌==◌, not, filter, sum_by, List, arith, ap, subst, sym, ◌∙◌}
+use Rattle.std.proofs.Common.{◌≡◌, ℕ, ◌-◌, not, filter, sum_by, List, arith, ap, subst, sym, ◌∙◌}
 use Rattle.scut_base.specs.Literal.{Literal}
 use Rattle.pb_lin.specs.Constraint.{IsNormal}
-use Rattle.pb_lin.specs.Restriction.{is_set, met_value, restriction}
+use Rattle.pb_lin.specs.Restriction.{is_set, met_value}
 use Rattle.pb_lin.proofs.Truths.{IsNormal-restriction, restriction-IsPermutation}
 use Rattle.pb_lin.proofs.constraint.Constraint.restricted.Goals as goal
 

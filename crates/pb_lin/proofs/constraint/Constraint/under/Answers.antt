@@ -1,6 +1,5 @@
-use Rattle.std.proofs.Common.{arith, ap, List, Bool, ℕ}
+use Rattle.std.proofs.Common.{arith, ap}
 use Rattle.std.proofs.lemmas.Int.{ints}
-use Rattle.scut_base.specs.Literal.{Literal}
 use Rattle.pb_lin.specs.Constraint.{total}
 use Rattle.pb_lin.specs.Substitution.{Images, value_under}
 use Rattle.pb_lin.proofs.Excess.{HasExcess-same}
