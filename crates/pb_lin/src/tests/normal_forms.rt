@@ -1,6 +1,6 @@
 // Normal forms, restrictions, substitutions and covers, on values worked out by hand.
 use crate::{Constraint, Image, LinFault, Witness};
-use scut_base::{Items, Lit};
+use scut_base::{Duplicate, Items, Lit};
 use std::alloc::Global;
 use std::test::Fail;
 
@@ -95,6 +95,8 @@ fn a_restriction_drops_the_variables_and_lowers_the_degree(rt: HostRuntime) {
     assert!(rt; is(&below, &[], 0), "a degree that falls below 0");
     let same = lost.restricted(rt.alloc(), &[lit(7)]).expect(&rt, "memory");
     assert!(rt; is(&same, &[(4, 5)], 3), "a variable that isn't there");
+    let copy = met.copy(rt.alloc()).expect(&rt, "memory");
+    assert!(rt; is(&copy, &[(2, -2), (4, 5)], 3), "a copy");
 }
 
 #[test]
@@ -108,10 +110,12 @@ fn a_substitution_replaces_by_truths_and_literals(rt: HostRuntime) {
     images.push((1, Image::One)).expect(&rt, "memory");
     images.push((2, Image::Zero)).expect(&rt, "memory");
     images.push((3, Image::Lit(lit(-4)))).expect(&rt, "memory");
-    let under = one
-        .under(rt.alloc(), &Witness::from_images(images))
-        .expect(&rt, "memory");
+    let witness = Witness::from_images(images);
+    let under = one.under(rt.alloc(), &witness).expect(&rt, "memory");
     assert!(rt; is(&under, &[(1, 4)], 0), "a literal cancels");
+    let copied = witness.copy(rt.alloc()).expect(&rt, "memory");
+    let again = one.under(rt.alloc(), &copied).expect(&rt, "memory");
+    assert!(rt; is(&again, &[(1, 4)], 0), "a copied witness");
 }
 
 #[test]
