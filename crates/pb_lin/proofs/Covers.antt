@@ -284,30 +284,30 @@ excess_reached left right ld rd nl nr = (a, total_is)
     on_left k d short =
         let t = get_or left k d in
         let within = get_or-le-sum_by (λ (s : Literal × ℕ). s.0.var) left k d short in
-        let same : lit_true a t.0 ≡ best_true left right t.0 = best_list_true left right (vars left + vars right) t.0 (nl.from_one k d short) (omega arith) in
+        let same : lit_true a t.0 ≡ best_true left right t.0 = best_list_true left right (vars left + vars right) t.0 (nl.merged.from_one k d short) (omega arith) in
         subst (λ (b : Bool). (if b then t.1 else 0) ≡ (t.1 - coefficient right t.0) + (if b then coefficient right t.0 else 0)) (sym same)
-        (gain left right t.0.var t.0.neg t.1 (coefficient_of_term left nl.rising k d short) (nl.positive k d short) (coefficient_of_opposite left nl.rising k d short) (only_one right nr.rising t.0))
+        (gain left right t.0.var t.0.neg t.1 (coefficient_of_term left nl.merged.rising k d short) (nl.merged.positive k d short) (coefficient_of_opposite left nl.merged.rising k d short) (only_one right nr.merged.rising t.0))
 
     on_right : (k : ℕ) (d : Literal × ℕ) → k < length right → (if lit_true a (get_or right k d).0 && has left (get_or right k d).0 then (get_or right k d).1 else 0) ≡ term_value a (get_or right k d)
     on_right k d short =
         let t = get_or right k d in
         let within = get_or-le-sum_by (λ (s : Literal × ℕ). s.0.var) right k d short in
-        let same : lit_true a t.0 ≡ best_true left right t.0 = best_list_true left right (vars left + vars right) t.0 (nr.from_one k d short) (omega arith) in
-        let is = coefficient_of_term right nr.rising k d short in
-        let positive = nr.positive k d short in
-        and_same (lit_true a t.0) (has left t.0) t.1 (λ e. has_from_coefficient left t.0 (common left right t.0.var t.0.neg (omega arith) (coefficient_of_opposite right nr.rising k d short) (sym same ∙ e)))
+        let same : lit_true a t.0 ≡ best_true left right t.0 = best_list_true left right (vars left + vars right) t.0 (nr.merged.from_one k d short) (omega arith) in
+        let is = coefficient_of_term right nr.merged.rising k d short in
+        let positive = nr.merged.positive k d short in
+        and_same (lit_true a t.0) (has left t.0) t.1 (λ e. has_from_coefficient left t.0 (common left right t.0.var t.0.neg (omega arith) (coefficient_of_opposite right nr.merged.rising k d short) (sym same ∙ e)))
 
     total_is : value a left ≡ greatest_excess left right + value a right
     total_is =
         let parts = sum_by_same_in (term_value a) (λ t. (t.1 - coefficient right t.0) + (if lit_true a t.0 then coefficient right t.0 else 0)) left on_left in
         let both = sum_by-add (λ t. t.1 - coefficient right t.0) (λ t. if lit_true a t.0 then coefficient right t.0 else 0) left in
-        let shared' = shared_is (lit_true a) left right nl.rising in
+        let shared' = shared_is (lit_true a) left right nl.merged.rising in
         let rest = sum_by_same_in (λ s. if lit_true a s.0 && has left s.0 then s.1 else 0) (term_value a) right on_right in
         omega arith
 
 -- the test that decides it
 pub Covers-from_excess : (p q : ConstraintValue) → IsNormal p.terms p.degree → greatest_excess p.terms q.terms + q.degree ≤ p.degree → Covers p q
-Covers-from_excess p q n less a = let bound = excess_bound a p.terms q.terms n.rising in omega arith
+Covers-from_excess p q n less a = let bound = excess_bound a p.terms q.terms n.merged.rising in omega arith
 
 pub excess_from_Covers : (p q : ConstraintValue) → IsNormal p.terms p.degree → IsNormal q.terms q.degree → Covers p q → greatest_excess p.terms q.terms + q.degree ≤ p.degree
 excess_from_Covers p q np nq covers =

@@ -1,13 +1,18 @@
-mod LineEntries
-mod OppositeTerms
 pub mod Places
+pub mod AtPlace
 pub mod Sums
-pub mod Truths
-pub mod Images
-pub mod Merges
 pub mod Distinct
+pub mod Truths
 pub mod Coefficients
-pub mod Excess
 pub mod Covers
-pub mod Laws
 pub mod Unique
+pub mod OppositeTerms
+pub mod Terms
+pub mod Ones
+pub mod Merges
+pub mod Excess
+pub mod Images
+pub mod Variables
+pub mod Laws
+pub mod LineEntries
+pub mod Ids

@@ -1,13 +1,14 @@
 -- The entries of a hash map as a finite map.
-use Rattle.std.specs.Prelude.{◌≡◌, ℕ, cond, List, [], ◌∷◌, Some, None, nat_eq, refl}
-use Rattle.std.proofs.Common.{sym, ◌∙◌, ap}
+use Rattle.std.specs.Prelude.{◌≡◌, ℕ, ◌+◌, false, cond, List, [], ◌∷◌, Option, Some, None, MatchOption, nat_eq, length, is_some, refl}
+use Rattle.std.proofs.Common.{sym, ◌∙◌, ap, arith}
 use Rattle.std.specs.Ordering.{nat_cmp, eq_by_cmp}
 use Rattle.std.specs.Cmp.{nat_cmp_total, unsigned_tied}
 use Rattle.std.proofs.lemmas.Cmp.{eq_by_cmp_equiv}
-use Rattle.std.specs.Map.{lookup}
-use Rattle.std.specs.FinMap.{get, find, insert, remove, empty, get-insert, get-remove, get-from_entries, same_map, nat_cmp-IsAntisymmetric}
+use Rattle.std.specs.List.{AllByRecursion, IsDistinct}
+use Rattle.std.specs.Map.{lookup, keys_of}
+use Rattle.std.specs.FinMap.{get, find, insert, remove, empty, get-insert, get-remove, get-from_entries, same_map, nat_cmp-IsAntisymmetric, len, len-empty, len-insert}
 use Rattle.pb_lin.specs.Constraint.{ConstraintValue}
-use Rattle.pb_lin.specs.LineMap.{lines_of}
+use Rattle.pb_lin.specs.LineMap.{lines_of, NoneAbove, IsNextAbove}
 
 find_is_lookup : (q : ℕ) (es : List (ℕ × ConstraintValue)) → find nat_cmp q es ≡ lookup (nat_eq q) es
 find_is_lookup q [] = refl
@@ -38,3 +39,28 @@ lines_removed es fs id updates =
     same_map nat_cmp_total nat_cmp-IsAntisymmetric _ _ (λ q.
     get_line fs q ∙ updates q ∙ ap (λ t. cond t None (lookup (nat_eq q) es)) (sym (turned q id)) ∙ ap (cond (eq_by_cmp nat_cmp q id) None) (sym (get_line es q))
     ∙ sym (get-remove nat_cmp_total (lines_of es) id q))
+
+-- ---- how many entries
+
+below_none : (x : ℕ) (es : List (ℕ × ConstraintValue)) → AllByRecursion (λ y. nat_eq x y ≡ false) (keys_of es) → lookup (nat_eq x) es ≡ None
+below_none x [] apart = refl
+below_none x (e ∷ es) apart = ap (λ t. cond t (Some e.1) (lookup (nat_eq x) es)) apart.0 ∙ below_none x es apart.1
+
+-- entries of distinct ids are as many as the map has
+pub len_lines : (es : List (ℕ × ConstraintValue)) → IsDistinct nat_eq (keys_of es) → len (lines_of es) ≡ length es
+unfolding lines_of IsDistinct
+len_lines [] distinct = len-empty nat_cmp ConstraintValue
+len_lines (e ∷ es) distinct =
+    let fresh : is_some (get (lines_of es) e.0) ≡ false = ap is_some (get_line es e.0 ∙ below_none e.0 es distinct.0) in
+    len-insert nat_cmp_total (lines_of es) e.0 e.1 ∙ ap (λ b. cond b (len (lines_of es)) (len (lines_of es) + 1)) fresh
+    ∙ ap (λ n. n + 1) (len_lines es distinct.1) ∙ omega arith
+
+-- ---- the next id, as the map sees it
+
+pub next_by : (o : Option ℕ) (held held' : ℕ → Option ConstraintValue) (id : ℕ) → ((k : ℕ) → held k ≡ held' k) → MatchOption o (NoneAbove held id) (IsNextAbove held id) → MatchOption o (NoneAbove held' id) (IsNextAbove held' id)
+next_by None held held' id same none = λ k above. sym (same k) ∙ none k above
+next_by (Some next) held held' id same is = record {
+  above = is.above;
+  live = ap is_some (sym (same next)) ∙ is.live;
+  least = λ k above below. sym (same k) ∙ is.least k above below;
+}

@@ -5,7 +5,7 @@ use Rattle.std.proofs.lemmas.List.{get_or_append_left, get_or_push, length_push}
 use Rattle.std.proofs.lemmas.List.Elements.{All-push, All-weaker}
 use Rattle.std.proofs.lemmas.List.Quantifiers.{all_pairs_push}
 use Rattle.scut_base.specs.Literal.{Literal}
-use Rattle.pb_lin.specs.Merge.{IsMerged}
+use Rattle.pb_lin.specs.Constraint.{IsMerged}
 
 pub All-front : {X : Type 0} (P : X → Type 0) (xs : List X) (x : X) → All P (xs ++ x ∷ []) → All P xs
 All-front P xs x all k d short = subst P (get_or_append_left xs (x ∷ []) d k short) (all k d (omega (arith, length_push xs x)))

@@ -49,9 +49,11 @@ rising-opposite terms rising = λ i j d before within.
 pub normal-opposite : (terms opposites : List (Literal × ℕ)) (degree degree' : ℕ) → IsNormal terms degree → opposites ≡ map opposite_term terms → total terms + degree' ≤ 2 ^ 100 → IsNormal opposites degree'
 normal-opposite terms opposites degree degree' normal is fits =
     let turned : IsNormal (map opposite_term terms) degree' = record {
-      positive = All-map (λ t. 0 < t.1) opposite_term terms normal.positive;
-      from_one = All-map (λ t. 0 < t.0.var) opposite_term terms normal.from_one;
-      rising = rising-opposite terms normal.rising;
+      merged = record {
+        positive = All-map (λ t. 0 < t.1) opposite_term terms normal.merged.positive;
+        from_one = All-map (λ t. 0 < t.0.var) opposite_term terms normal.merged.from_one;
+        rising = rising-opposite terms normal.merged.rising;
+      };
       small = let same : total (map opposite_term terms) ≡ total terms = total-opposite terms in omega arith;
     } in
     subst (λ (ts : List (Literal × ℕ)). IsNormal ts degree') (sym is) turned

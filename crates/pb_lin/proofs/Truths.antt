@@ -55,8 +55,10 @@ restriction-IsPermutation c xs ys moved =
 
 pub IsNormal-restriction : (terms : List (Literal × ℕ)) (degree less : ℕ) (p : Literal × ℕ → Bool) → IsNormal terms degree → less ≤ degree → IsNormal (filter p terms) less
 IsNormal-restriction terms degree less p n le = record {
-  positive = All-filter p (λ t. 0 < t.1) terms n.positive;
-  from_one = All-filter p (λ t. 0 < t.0.var) terms n.from_one;
-  rising = AllPairs-filter (λ s t. s.0.var < t.0.var) p terms n.rising;
+  merged = record {
+    positive = All-filter p (λ t. 0 < t.1) terms n.merged.positive;
+    from_one = All-filter p (λ t. 0 < t.0.var) terms n.merged.from_one;
+    rising = AllPairs-filter (λ s t. s.0.var < t.0.var) p terms n.merged.rising;
+  };
   small = let part = sum_by-filter-le (λ (t : Literal × ℕ). t.1) p terms in let whole = n.small in omega arith;
 }

@@ -1,12 +1,15 @@
 -- Terms in normal form are fixed by their values.
-use Rattle.std.proofs.Common.{◌≡◌, ◌≢◌, ◌⊎◌, ℕ, ◌+◌, ◌-◌, ◌<◌, ◌≤◌, ◌==◌, Bool, true, false, if◌then◌else◌, List, [], ◌∷◌, suc, get_or, arith, ⊎_elim, sym, ap, ◌∙◌, refl}
+use Rattle.std.proofs.Common.{◌≡◌, ◌≢◌, ◌⊎◌, ℕ, ◌+◌, ◌-◌, ◌<◌, ◌≤◌, ◌==◌, Bool, true, false, if◌then◌else◌, List, [], ◌∷◌, suc, get_or, arith, ⊎_elim, sym, ap, ◌∙◌, refl, ℤ, pos, negsuc, ◌-ℤ◌}
 use Rattle.std.proofs.Math.Bool.{beq}
 use Rattle.std.specs.List.{All, AllPairs}
+use Rattle.std.specs.Int.{int_max}
+use Rattle.std.proofs.lemmas.Int.{ints, clamps}
 use Rattle.std.proofs.lemmas.Bool.{cases_Bool, cases_eq, cases_order, and_left, ne_eqb, cond-false}
 use Rattle.std.proofs.lemmas.List.Elements.{All-head, All-tail, All-cons, All-weaker}
 use Rattle.std.proofs.lemmas.List.Sums.{sum_by-cons, get_or-le-sum_by}
 use Rattle.scut_base.specs.Literal.{Literal}
 use Rattle.pb_lin.specs.Constraint.{ConstraintValue, IsNormal, value}
+use Rattle.pb_lin.specs.NormalForm.{HasExcess}
 use Rattle.pb_lin.specs.Cover.{is_same, coefficient, greatest_excess}
 use Rattle.pb_lin.proofs.Covers.{Terms, coefficient_of_term, excess_reached, is_same-true, term_of}
 use Rattle.pb_lin.proofs.Sums.{sum_by_zero}
@@ -112,9 +115,33 @@ unique c d nc nd m n same =
     let sl = same left.0 in
     let no_gain : greatest_excess c.terms d.terms ≡ 0 = omega arith in
     let no_loss : greatest_excess d.terms c.terms ≡ 0 = omega arith in (
-      same_terms c.terms d.terms nc.rising nd.rising nc.positive nd.positive (λ k.
-          let below = coefficient-le c.terms d.terms nc.rising no_gain k in
-          let above = coefficient-le d.terms c.terms nd.rising no_loss k in
+      same_terms c.terms d.terms nc.merged.rising nd.merged.rising nc.merged.positive nd.merged.positive (λ k.
+          let below = coefficient-le c.terms d.terms nc.merged.rising no_gain k in
+          let above = coefficient-le d.terms c.terms nd.merged.rising no_loss k in
           omega arith),
       omega arith,
     )
+
+-- ---- the same excess
+
+abbrev HasLeast : ConstraintValue → (List Bool → ℤ) → ℤ → Type 0
+HasLeast c excess least = ((a : List Bool) → pos (value a c.terms) -ℤ least ≡ excess a) × (pos c.degree ≡ int_max least (pos 0))
+
+equal_from : (c d : ConstraintValue) → IsNormal c.terms c.degree → IsNormal d.terms d.degree → (m n : ℕ) → ((a : List Bool) → value a c.terms + m ≡ value a d.terms + n) → (m ≡ n → c.degree ≡ d.degree) → c ≡ d
+equal_from c d nc nd m n same degrees =
+    let is = unique c d nc nd m n same in
+    ap (λ (ts : Terms). let r : ConstraintValue = record { terms = ts; degree = c.degree } in r) is.0
+    ∙ ap (λ (k : ℕ). let r : ConstraintValue = record { terms = d.terms; degree = k } in r) (degrees is.1)
+
+by_least : (c d : ConstraintValue) → IsNormal c.terms c.degree → IsNormal d.terms d.degree → (excess : List Bool → ℤ) (x y : ℤ) → HasLeast c excess x → HasLeast d excess y → c ≡ d
+by_least c d nc nd excess (pos x) (pos y) hc hd =
+    equal_from c d nc nd y x (λ a. let l = hc.0 a in let r = hd.0 a in omega (arith, ints)) (λ e. let l = hc.1 in let r = hd.1 in omega (arith, ints, clamps))
+by_least c d nc nd excess (pos x) (negsuc y) hc hd =
+    equal_from c d nc nd 0 (x + y + 1) (λ a. let l = hc.0 a in let r = hd.0 a in omega (arith, ints)) (λ e. absurd (omega arith))
+by_least c d nc nd excess (negsuc x) (pos y) hc hd =
+    equal_from c d nc nd (y + x + 1) 0 (λ a. let l = hc.0 a in let r = hd.0 a in omega (arith, ints)) (λ e. absurd (omega arith))
+by_least c d nc nd excess (negsuc x) (negsuc y) hc hd =
+    equal_from c d nc nd x y (λ a. let l = hc.0 a in let r = hd.0 a in omega (arith, ints)) (λ e. let l = hc.1 in let r = hd.1 in omega (arith, ints, clamps))
+
+pub equal_excess : (c d : ConstraintValue) → IsNormal c.terms c.degree → IsNormal d.terms d.degree → (excess : List Bool → ℤ) → HasExcess c excess → HasExcess d excess → c ≡ d
+equal_excess c d nc nd excess hc hd = by_least c d nc nd excess hc.least hd.least (hc.same, hc.degree) (hd.same, hd.degree)

@@ -1,5 +1,5 @@
 -- Constraints: a sum of positive coefficients on literals that is at least its degree.
-use Rattle.std.specs.Prelude.{ℕ, ◌+◌, ◌-◌, ◌^◌, ◌<◌, ◌≤◌, Bool, false, not, Option, Some, if◌then◌else◌, List, map, sum_by, All, AllPairs, ℤ, pos, ◌-ℤ◌}
+use Rattle.std.specs.Prelude.{◌≡◌, ℕ, ◌+◌, ◌-◌, ◌^◌, ◌<◌, ◌≤◌, Bool, false, not, Option, Some, if◌then◌else◌, List, map, sum_by, All, AllPairs, ℤ, pos, ◌-ℤ◌}
 use Rattle.scut_base.specs.Literal.{Literal}
 use Rattle.scut_base.specs.Assignment.{lit_true, partial_truth}
 
@@ -16,16 +16,40 @@ total terms = sum_by (λ t. t.1) terms
 abbrev pub size : ConstraintValue → ℕ
 size c = total c.terms + c.degree
 
--- Normal form: positive coefficients on literals of distinct variables, in rising order of variables, of a size of at most 2^100.
-pub record IsNormal (terms : List (Literal × ℕ)) (degree : ℕ) : Type 0 where
+-- positive coefficients on literals of distinct variables, in rising order of variables
+pub record IsMerged (terms : List (Literal × ℕ)) : Type 0 where
   pub positive : All (λ t. 0 < t.1) terms
   pub from_one : All (λ t. 0 < t.0.var) terms
   pub rising : AllPairs (λ s t. s.0.var < t.0.var) terms
+
+-- normal form: merged terms, and a size of at most 2^100
+pub record IsNormal (terms : List (Literal × ℕ)) (degree : ℕ) : Type 0 where
+  pub merged : IsMerged terms
   pub small : total terms + degree ≤ 2 ^ 100
+
+-- a variable from 1 to n
+abbrev pub IsVariable : ℕ → ℕ → Type 0
+IsVariable n var = (0 < var) × (var ≤ n)
 
 -- no variable of the terms is above n
 abbrev pub TermsUpTo : ℕ → List (Literal × ℕ) → Type 0
 TermsUpTo n terms = All (λ t. t.0.var ≤ n) terms
+
+-- no variable of the constraint is above n
+abbrev pub UpTo : ℕ → ConstraintValue → Type 0
+UpTo n c = TermsUpTo n c.terms
+
+-- all coefficients are 1
+abbrev pub AreOnes : List (Literal × ℕ) → Type 0
+AreOnes terms = All (λ t. t.1 ≡ 1) terms
+
+-- the literals of the terms
+abbrev pub literals : List (Literal × ℕ) → List Literal
+literals terms = map (λ t. t.0) terms
+
+-- each literal with the coefficient 1
+abbrev pub ones : List Literal → List (Literal × ℕ)
+ones lits = map (λ l. (l, 1)) lits
 
 -- the coefficient where the literal is true, and else 0
 abbrev pub term_value : List Bool → Literal × ℕ → ℕ
@@ -50,9 +74,13 @@ Covers p q = (a : List Bool) → value a p.terms + q.degree ≤ value a q.terms 
 abbrev pub opposite : Literal → Literal
 opposite l = record { var = l.var; neg = not l.neg }
 
+-- each coefficient on the opposite literal
+abbrev pub opposite_terms : List (Literal × ℕ) → List (Literal × ℕ)
+opposite_terms terms = map (λ t. (opposite t.0, t.1)) terms
+
 -- the constraint that holds exactly where this one doesn't
 abbrev pub negation : ConstraintValue → ConstraintValue
-negation c = record { terms = map (λ t. (opposite t.0, t.1)) c.terms; degree = (total c.terms + 1) - c.degree }
+negation c = record { terms = opposite_terms c.terms; degree = (total c.terms + 1) - c.degree }
 
 -- a coefficient by the truth of its literal: 0 where it is false
 abbrev pub unless_false : Option Bool → ℕ → ℕ

@@ -1,25 +1,26 @@
 -- Constraints by their ids.
-use Rattle.std.specs.Prelude.{ℕ, Bool, List, refl}
+use Rattle.std.specs.Prelude.{◌≡◌, ℕ, ◌<◌, List, Option, Some, None, IsSome}
 use Rattle.std.specs.Ordering.{nat_cmp}
-use Rattle.std.specs.Coded.{Coded, code_by, coded×, coded_ℕ, coded_bool, coded_list}
-use Rattle.std.specs.FinMap.{FinMap, code, from_entries}
-use Rattle.scut_base.specs.Literal.{Literal}
-use Rattle.pb_lin.specs.Constraint.{ConstraintValue}
+use Rattle.std.specs.FinMap.{FinMap, from_entries, get}
+use Rattle.pb_lin.specs.Constraint.{ConstraintValue, UpTo}
 
 -- a finite map from ids to constraints
 abbrev pub LineMap : Type 0
 LineMap = FinMap {K = ℕ} nat_cmp ConstraintValue
 
--- What proofs tell maps apart by: the fields of their constraints.
+-- no variable of a line is above n
+abbrev pub LinesUpTo : ℕ → LineMap → Type 0
+LinesUpTo n lines = (id : ℕ) (c : ConstraintValue) → get lines id ≡ Some c → UpTo n c
 
-abbrev coded_literal : Coded Literal
-coded_literal = code_by (ℕ × Bool) (coded× coded_ℕ coded_bool) (λ l. (l.var, l.neg)) (λ t. record { var = t.0; neg = t.1 }) (λ _. refl)
+-- nothing is held above `id`
+abbrev pub NoneAbove : (ℕ → Option ConstraintValue) → ℕ → Type 0
+NoneAbove held id = (k : ℕ) → id < k → held k ≡ None
 
-abbrev coded_constraint : Coded ConstraintValue
-coded_constraint = code_by (List (Literal × ℕ) × ℕ) (coded× (coded_list (coded× coded_literal coded_ℕ)) coded_ℕ) (λ c. (c.terms, c.degree)) (λ t. record { terms = t.0; degree = t.1 }) (λ _. refl)
-
-abbrev pub line_code : Coded LineMap
-line_code = code coded_ℕ coded_constraint
+-- the least id above `id` at which something is held
+pub record IsNextAbove (held : ℕ → Option ConstraintValue) (id next : ℕ) : Type 0 where
+  pub above : id < next
+  pub live : IsSome (held next)
+  pub least : (k : ℕ) → id < k → k < next → held k ≡ None
 
 -- the map of a list of entries
 unfoldable pub lines_of : List (ℕ × ConstraintValue) → LineMap

@@ -17,7 +17,8 @@ sum_value a terms = fold (λ s x. s +ℤ x) (pos 0) (map (signed_value a) terms)
 abbrev pub magnitude : List (ℤ × Literal) → ℤ → ℕ
 magnitude terms degree = sum_by (λ t. unsigned_abs t.0) terms + unsigned_abs degree
 
--- What a left side is above a degree is at every assignment what this one's is above `least`; the degree is that, or 0 where that is below 0.
+-- The constraint's excess: at every assignment its left side minus `least` is `excess`, and its degree is `least`, or 0 where that is below 0.
+-- So the left side is at least the degree exactly where the excess is at least 0.
 pub record HasExcess (c : ConstraintValue) (excess : List Bool → ℤ) : Type 0 where
   pub least : ℤ
   pub same : (a : List Bool) → pos (value a c.terms) -ℤ least ≡ excess a

@@ -1,6 +1,9 @@
-// Constraints in normal form.
-ghost use Rattle.std.specs.Prelude.{◌≡◌, length};
-ghost use Rattle.pb_lin.specs.Constraint.{IsNormal};
+// Constraints in normal form, and how they are stored.
+ghost use Rattle.std.specs.Prelude.{◌≡◌, ◌+◌, ◌<◌, ◌≤◌, ◌^◌, ◌↔◌, Some, [], length, map, slice_get, AllPairs, IsTrue, IfOk};
+ghost use Rattle.std.specs.List.{slice_index_or};
+ghost use Rattle.scut_base.specs.Literal.{Literal};
+ghost use Rattle.pb_lin.specs.Constraint.{IsNormal, AreOnes, literals, ones};
+ghost use Rattle.pb_lin.specs.Stored.{terms_of};
 
 use scut_base::{Duplicate, Items, Lit, NoMemory};
 use std::alloc::Global;
@@ -8,52 +11,200 @@ use std::marker::Model;
 
 /// A sum of positive coefficients on literals of distinct variables, in rising order of variables,
 /// that is at least its degree. Coefficients and degree sum to at most 2^100.
+///
+/// Takes 8 bytes a literal where all coefficients are 1, and else 24.
 #[derive(Debug, Drop)]
 pub struct Constraint {
-    pub terms: Items<(Lit, u128)>,
-    pub degree: u128,
+    pub(crate) lits: Items<Lit>,
+    // Empty where all are 1.
+    pub(crate) coefs: Items<u128>,
+    pub(crate) degree: u128,
 }
 
 impl Model for Constraint {
-    ghost use Rattle.pb_lin.specs.Constraint.{ConstraintValue, IsNormal};
+    ghost use Rattle.pb_lin.specs.Constraint.{ConstraintValue};
+    ghost use Rattle.pb_lin.specs.Stored.{IsStored, terms_of};
 
     ghost Value = { ConstraintValue };
 
-    ghost view = { λ c. record { terms = c.terms; degree = c.degree } };
+    ghost view = { λ c. record { terms = terms_of c.lits c.coefs; degree = c.degree } };
 
-    ghost invariant = { λ c. IsNormal c.terms c.degree };
+    ghost invariant = { λ c. IsStored c.lits c.coefs c.degree };
 }
 
 impl Constraint {
-    /// The constraint of these parts, which are in normal form. Takes no memory.
-    pub fn from_parts(terms: Items<(Lit, u128)>, degree: u128) -> Constraint
-        requires { IsNormal terms degree }
-        ensures { result ≡ record { terms = terms; degree = degree } }
+    /// The constraint of these terms, which are in normal form. Costs two passes over them.
+    pub fn from_terms(
+        alloc: Global,
+        terms: &[(Lit, u128)],
+        degree: u128,
+    ) -> Result<Constraint, NoMemory>
+        requires { IsNormal terms.now degree }
+        ensures { IfOk result (λ c. c ≡ record { terms = terms.now; degree = degree }) }
     {
-        Constraint { terms, degree }
+        let lits = literals_of(alloc, terms)?;
+        let coefs = stored_coefficients(alloc, terms)?;
+        Ok(Constraint {
+            lits,
+            coefs,
+            degree,
+        })
     }
 
-    /// The coefficients with their literals, in rising order of variables.
-    pub fn terms(&self) -> &[(Lit, u128)]
-        ensures value { result.now ≡ self.now.terms }
+    /// That at least one of these literals, whose variables rise, is true. Takes no memory, and
+    /// constant time.
+    pub fn clause(lits: Items<Lit>) -> Constraint
+        requires { AllPairs (λ l m. l.var < m.var) lits }
+        ensures { result ≡ record { terms = ones lits; degree = 1 } }
+    {
+        let _fits = lits.len();
+        Constraint::at_least(lits, 1)
+    }
+
+    /// That at least `degree` of these literals, whose variables rise, are true. Takes no memory,
+    /// and constant time.
+    pub fn at_least(lits: Items<Lit>, degree: u128) -> Constraint
+        requires rising { AllPairs (λ l m. l.var < m.var) lits }
+        requires small { length lits + degree ≤ 2 ^ 100 }
+        ensures { result ≡ record { terms = ones lits; degree = degree } }
+    {
+        // A literal's variable is at least 1; of those that rise, the first tells it of all.
+        let _first = first_variable(lits.as_slice());
+        let lits = lits.into_vec();
+        let alloc = *lits.allocator();
+        Constraint {
+            lits: Items::from_vec(lits),
+            coefs: Items::new(alloc),
+            degree,
+        }
+    }
+
+    /// The number of terms.
+    pub fn len(&self) -> usize
+        ensures value { result ≡ length self.now.terms }
         ensures normal { IsNormal self.now.terms self.now.degree }
     {
-        self.terms.as_slice()
+        self.lits.len()
     }
 
     /// The least value of the sum at which the constraint holds.
     pub fn degree(&self) -> u128
-        ensures { result ≡ self.now.degree }
+        ensures value { result ≡ self.now.degree }
+        ensures normal { IsNormal self.now.terms self.now.degree }
     {
         self.degree
+    }
+
+    /// The literals, in rising order of variables.
+    pub fn literals(&self) -> &[Lit]
+        ensures value { result.now ≡ literals self.now.terms }
+        ensures normal { IsNormal self.now.terms self.now.degree }
+    {
+        self.lits.as_slice()
+    }
+
+    /// The literal at a place, counted from 0, with its coefficient.
+    pub fn term(&self, at: usize) -> (Lit, u128)
+        requires { at < length self.now.terms }
+        ensures { slice_get self.now.terms at ≡ Some result }
+    {
+        (*self.lits.at(at), coefficient(self.coefs.as_slice(), at))
+    }
+
+    /// A copy of the terms, each literal with its coefficient. Takes 32 bytes a term, and one pass.
+    pub fn to_terms(&self, alloc: Global) -> Result<Items<(Lit, u128)>, NoMemory>
+        ensures value { IfOk result (λ terms. terms ≡ self.now.terms) }
+        ensures normal { IsNormal self.now.terms self.now.degree }
+    {
+        let mut terms = Items::from_vec(Vec::with_capacity(alloc, self.len())?);
+        for at in 0..self.len() {
+            terms.push(self.term(at))?;
+        }
+        Ok(terms)
+    }
+
+    /// Whether all coefficients are 1. Takes constant time.
+    pub fn is_cardinality(&self) -> bool
+        ensures { IsTrue result ↔ AreOnes self.now.terms }
+    {
+        self.coefs.is_empty()
+    }
+
+    /// Whether all coefficients and the degree are 1, also without terms. Takes constant time.
+    pub fn is_clause(&self) -> bool
+        ensures { IsTrue result ↔ (AreOnes self.now.terms × (self.now.degree ≡ 1)) }
+    {
+        self.coefs.is_empty() && self.degree == 1
     }
 }
 
 impl Duplicate for Constraint {
     fn copy(&self, alloc: Global) -> Result<Constraint, NoMemory> {
         Ok(Constraint {
-            terms: Items::from_vec(Vec::from_slice(alloc, self.terms.as_slice())?),
+            lits: Items::from_vec(Vec::from_slice(alloc, self.lits.as_slice())?),
+            coefs: Items::from_vec(Vec::from_slice(alloc, self.coefs.as_slice())?),
             degree: self.degree,
         })
     }
+}
+
+// The coefficient at a place, which is 1 past the end.
+fn coefficient(coefs: &[u128], at: usize) -> u128
+    ensures { result ≡ slice_index_or coefs.now at 1 }
+{
+    if at < coefs.len() {
+        return coefs[at];
+    }
+    1
+}
+
+// The first literal's variable, and 1 where there is none.
+fn first_variable(lits: &[Lit]) -> u64
+    ensures { (d : Literal) → 0 < length lits.now → 0 < (slice_index_or lits.now 0 d).var }
+{
+    if lits.is_empty() {
+        return 1;
+    }
+    lits[0].var()
+}
+
+// The literals of the terms.
+fn literals_of(alloc: Global, terms: &[(Lit, u128)]) -> Result<Items<Lit>, NoMemory>
+    ensures { IfOk result (λ lits. lits ≡ literals terms.now) }
+{
+    let mut lits = Items::from_vec(Vec::with_capacity(alloc, terms.len())?);
+    for term in terms {
+        lits.push(term.0)?;
+    }
+    Ok(lits)
+}
+
+// The coefficients of the terms, or none where all are 1.
+fn stored_coefficients(alloc: Global, terms: &[(Lit, u128)]) -> Result<Items<u128>, NoMemory>
+    ensures value { IfOk result (λ coefs. terms_of (literals terms.now) coefs ≡ terms.now) }
+    ensures short { IfOk result (λ coefs. AreOnes terms.now → coefs ≡ []) }
+{
+    if are_ones(terms) {
+        return Ok(Items::new(alloc));
+    }
+    let coefs = coefficients_of(alloc, terms)?;
+    Ok(coefs)
+}
+
+// The coefficients of the terms.
+fn coefficients_of(alloc: Global, terms: &[(Lit, u128)]) -> Result<Items<u128>, NoMemory>
+    ensures { IfOk result (λ coefs. coefs ≡ map (λ t. t.1) terms.now) }
+{
+    let mut coefs = Items::from_vec(Vec::with_capacity(alloc, terms.len())?);
+    for term in terms {
+        coefs.push(term.1)?;
+    }
+    Ok(coefs)
+}
+
+// Whether all coefficients are 1.
+fn are_ones(terms: &[(Lit, u128)]) -> bool
+    ensures { IsTrue result ↔ AreOnes terms.now }
+{
+    terms.iter().all(|term| term.1 == 1)
 }

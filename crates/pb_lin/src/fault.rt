@@ -1,6 +1,5 @@
 // Why a constraint wasn't made.
 use scut_base::NoMemory;
-use std::alloc::{AllocError, AllocFailed};
 use thiserror::Error;
 
 /// Why a constraint wasn't made.
@@ -21,28 +20,6 @@ impl From<NoMemory> for LinFault {
     ghost from_gives = { λ _ e. e ≡ NoMemory };
 
     fn from(_: NoMemory) -> LinFault {
-        LinFault::NoMemory
-    }
-}
-
-impl From<AllocError> for LinFault {
-    ghost use Rattle.std.specs.Prelude.{◌≡◌};
-    ghost use Rattle.pb_lin.specs.declared.fault.LinFault.TheVariants.{NoMemory};
-
-    ghost from_gives = { λ _ e. e ≡ NoMemory };
-
-    fn from(_: AllocError) -> LinFault {
-        LinFault::NoMemory
-    }
-}
-
-impl<T: Drop> From<AllocFailed<T>> for LinFault {
-    ghost use Rattle.std.specs.Prelude.{◌≡◌};
-    ghost use Rattle.pb_lin.specs.declared.fault.LinFault.TheVariants.{NoMemory};
-
-    ghost from_gives = { λ _ e. e ≡ NoMemory };
-
-    fn from(_: AllocFailed<T>) -> LinFault {
         LinFault::NoMemory
     }
 }

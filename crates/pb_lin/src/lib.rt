@@ -6,28 +6,31 @@
 #![tactic(auto)]
 
 mod constraint;
+mod cost_row;
 mod cover;
 mod evaluate;
 mod fault;
 mod lines;
-mod lookup;
 mod negation;
 mod normal;
 mod problem;
 mod restriction;
+mod size;
 mod substitution;
 mod witness;
 
 pub use constraint::Constraint;
+pub use cost_row::{CostRow, row_cost};
 pub use cover::covering_implies;
 pub use fault::LinFault;
 pub use lines::Lines;
 pub use negation::negation_holds_elsewhere;
-pub use normal::{normal_form_holds, normal_form_is_unique};
-pub use problem::{CostRow, PbProblem, row_cost};
+pub use normal::{
+    add_terms, normal_form_holds, normal_form_is_unique, normal_form_variables, same_excess,
+};
+pub use problem::PbProblem;
 pub use restriction::restriction_holds;
-pub use substitution::substitution_holds;
+pub use size::SIZE_LIMIT;
+pub use substitution::{substitution_holds, substitution_variables};
 pub use witness::{Image, Witness};
 
-#[cfg(test)]
-mod tests;

@@ -1,71 +1,19 @@
 // Problems: constraints, and sums to be minimised.
-ghost use Rattle.std.specs.Prelude.{◌≡◌, length};
-ghost use Rattle.pb_lin.specs.Constraint.{TermsUpTo};
-ghost use Rattle.pb_lin.specs.Problem.{IsCostRow, IsProblem, row_cost};
+ghost use Rattle.std.specs.Prelude.{◌≡◌};
+ghost use Rattle.pb_lin.specs.Problem.{IsProblem};
 
-use crate::Constraint;
-use scut_base::{Assignment, Duplicate, Items, Lit, NoMemory};
+use crate::{Constraint, CostRow};
+use scut_base::{Duplicate, Items, NoMemory};
 use std::alloc::Global;
 use std::marker::Model;
 
-/// A sum to be minimised: positive coefficients on literals of distinct variables, plus an offset.
-/// Each value of it has a magnitude below 2^63.
-#[derive(Debug, Drop)]
-pub struct CostRow {
-    pub terms: Items<(Lit, u64)>,
-    pub offset: i64,
-}
-
-impl Model for CostRow {
-    ghost use Rattle.pb_lin.specs.Problem.{CostRowValue, IsCostRow};
-
-    ghost Value = { CostRowValue };
-
-    ghost view = { λ r. record { terms = r.terms; offset = r.offset } };
-
-    ghost invariant = { λ r. IsCostRow r.terms r.offset };
-}
-
-impl CostRow {
-    /// The row of these parts. Takes no memory.
-    pub fn from_parts(terms: Items<(Lit, u64)>, offset: i64) -> CostRow
-        requires { IsCostRow terms offset }
-        ensures { result ≡ record { terms = terms; offset = offset } }
-    {
-        CostRow { terms, offset }
-    }
-
-    /// The coefficients with their literals.
-    pub fn terms(&self) -> &[(Lit, u64)]
-        ensures value { result.now ≡ self.now.terms }
-        ensures row { IsCostRow self.now.terms self.now.offset }
-    {
-        self.terms.as_slice()
-    }
-
-    /// What is added to the sum.
-    pub fn offset(&self) -> i64
-        ensures { result ≡ self.now.offset }
-    {
-        self.offset
-    }
-}
-
-impl Duplicate for CostRow {
-    fn copy(&self, alloc: Global) -> Result<CostRow, NoMemory> {
-        Ok(CostRow {
-            terms: Items::from_vec(Vec::from_slice(alloc, self.terms.as_slice())?),
-            offset: self.offset,
-        })
-    }
-}
-
-/// Constraints over the variables 1 to `vars`, and sums to be minimised.
+/// Constraints over the variables 1 to `vars`, and sums to be minimised: fewer than 2^33 variables, at
+/// most 2^34 constraints, each of a size of at most 2^66, and at most 64 sums.
 #[derive(Debug, Drop)]
 pub struct PbProblem {
-    pub vars: u64,
-    pub rows: Items<Constraint>,
-    pub costs: Items<CostRow>,
+    vars: u64,
+    rows: Items<Constraint>,
+    costs: Items<CostRow>,
 }
 
 impl Model for PbProblem {
@@ -87,7 +35,7 @@ impl PbProblem {
         PbProblem { vars, rows, costs }
     }
 
-    /// The number of variables.
+    /// The number of variables. Its second clause tells the limits of the whole.
     pub fn vars(&self) -> u64
         ensures value { result ≡ self.now.vars }
         ensures problem { IsProblem self.now }
@@ -118,18 +66,4 @@ impl Duplicate for PbProblem {
             costs: self.costs.copy(alloc)?,
         })
     }
-}
-
-/// The value of a row under an assignment. Costs one pass over the terms.
-pub fn row_cost(row: &CostRow, a: &Assignment) -> i64
-    requires { TermsUpTo (length a.now) row.now.terms }
-    ensures { result ≡ row_cost a.now row.now }
-{
-    let mut value = 0;
-    for term in row.terms() {
-        if a.value(term.0) {
-            value += term.1;
-        }
-    }
-    value as i64 + row.offset()
 }

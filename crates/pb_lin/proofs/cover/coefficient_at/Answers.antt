@@ -1,21 +1,25 @@
-use Rattle.std.proofs.Common.{ℕ, false, arith, ap, sym, ◌∙◌, subst, ◌≡◌}
-use Rattle.std.proofs.lemmas.List.{get_or_default}
+use Rattle.std.proofs.Common.{◌≡◌, ℕ, true, false, arith, ap, sym, ◌∙◌, subst}
+use Rattle.std.proofs.lemmas.Option.{get_or_from_slice_get, slice_get_within}
 use Rattle.scut_base.specs.Literal.{Literal}
 use Rattle.pb_lin.specs.Cover.{is_same}
 use Rattle.pb_lin.proofs.Coefficients.{coefficient_at, coefficient_none}
 use Rattle.pb_lin.proofs.cover.coefficient_at.Goals as goal
-use Rattle.pb_lin.proofs.cover.coefficient_at.Goals.{else-place-terms-via-then-place-terms+else-eq, else-place-terms-via-else-place-terms}
+
+pub returns-then-len-place : goal.returns-then-len-place
+returns-then-len-place c = sym (coefficient_none c.args.c.now.terms c.args.literal c.args.place c.len.ensures.normal.merged.rising c.requires (λ d short. absurd (omega (arith, c.len.ensures.value))))
 
 pub returns-then-eq : goal.returns-then-eq
 returns-then-eq c =
-    let same = get_or_default c.args.terms.now c.args.place c.index-terms-place.result c.index-terms-place-then-eq.result c.if-place-terms.true in
-    sym (ap (λ (t : Literal × ℕ). t.1) same) ∙ sym (coefficient_at c.args.terms.now c.args.literal c.args.place c.index-terms-place.result c.requires.rising c.requires.place c.if-place-terms.true (sym c.eq.ensures ∙ c.if-eq.true))
+    let terms = c.args.c.now.terms in
+    let t = c.term-term.result in
+    let here = get_or_from_slice_get terms c.args.place t t c.term-term.ensures in
+    ap (λ (s : Literal × ℕ). s.1) (sym here)
+    ∙ sym (coefficient_at terms c.args.literal c.args.place t c.len.ensures.normal.merged.rising c.requires (slice_get_within terms c.args.place t c.term-term.ensures)
+    (subst (λ (s : Literal × ℕ). is_same s.0 c.args.literal ≡ true) (sym here) (sym c.eq.ensures ∙ c.if-eq.true)))
 
-pub returns : goal.returns
-returns c =
-    sym (coefficient_none c.args.terms.now c.args.literal c.args.place c.requires.rising c.requires.place (elim c.else-place-terms.branch [
-      | else-place-terms-via-then-place-terms+else-eq w ↦ λ d short.
-          let same = get_or_default c.args.terms.now c.args.place w.index-terms-place.result d short in
-          subst (λ (t : Literal × ℕ). is_same t.0 c.args.literal ≡ false) same (sym w.eq.ensures ∙ w.if-eq.false)
-      | else-place-terms-via-else-place-terms w ↦ λ d short. absurd (omega arith)
-    ]))
+pub returns-else-eq : goal.returns-else-eq
+returns-else-eq c =
+    let terms = c.args.c.now.terms in
+    let t = c.term-term.result in
+    sym (coefficient_none terms c.args.literal c.args.place c.len.ensures.normal.merged.rising c.requires (λ d short.
+    subst (λ (s : Literal × ℕ). is_same s.0 c.args.literal ≡ false) (sym (get_or_from_slice_get terms c.args.place t d c.term-term.ensures)) (sym c.eq.ensures ∙ c.if-eq.false)))

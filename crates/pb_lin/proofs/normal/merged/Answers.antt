@@ -24,5 +24,5 @@ loop-term-preserved c = record {
   upto = λ k d h short.
       let order = c.requires.order c.loop-term.term-index k d (omega arith) short in
       let here = ap (λ (t : Literal × ℕ). t.0.var) (get_or_read c.args.terms.now c.loop-term.term-index c.term-item.result c.loop-term-test.true c.term-item.is d) in
-      All-weaker (λ (t : Literal × ℕ). t.0.var ≤ c.term-item.result.0.var) (λ (t : Literal × ℕ). t.0.var ≤ (slice_index_or c.args.terms.now k d).0.var) (λ t below. omega arith) c.take_in.new.merged c.in_ok-cancelled.ensures.upto;
+      All-weaker (λ (t : Literal × ℕ). t.0.var ≤ c.term-item.result.0.var) (λ (t : Literal × ℕ). t.0.var ≤ (slice_index_or c.args.terms.now k d).0.var) (λ t below. omega arith) c.push_term.new.merged c.in_ok-cancelled.ensures.upto;
 }

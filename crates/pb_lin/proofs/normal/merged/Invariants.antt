@@ -1,7 +1,7 @@
 use Rattle.std.proofs.Common.{◌≡◌, ◌≤◌, ◌<◌, ◌+◌, ℕ, take, length, slice_index_or, List, Bool}
 use Rattle.scut_base.specs.Literal.{Literal}
 use Rattle.pb_lin.specs.Constraint.{total, value, TermsUpTo}
-use Rattle.pb_lin.specs.Merge.{IsMerged}
+use Rattle.pb_lin.specs.Constraint.{IsMerged}
 use Rattle.pb_lin.proofs.normal.merged.Given as goal
 
 abbrev pub invariant-loop-term : goal.invariant-loop-term

@@ -2,5 +2,5 @@ use Rattle.std.proofs.Common.{◌≡◌, take}
 use Rattle.pb_lin.specs.Constraint.{total}
 use Rattle.pb_lin.proofs.constraint.Constraint.total.Given as goal
 
-abbrev pub invariant-loop-term : goal.invariant-loop-term
-invariant-loop-term l = l.total ≡ total (take l.term-index l.term-items)
+abbrev pub invariant-loop-at : goal.invariant-loop-at
+invariant-loop-at l = l.total ≡ total (take l.at l.self.terms)

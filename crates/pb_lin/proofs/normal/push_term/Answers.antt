@@ -1,0 +1,62 @@
+use Rattle.std.proofs.Common.{◌≡◌, ℕ, ◌<◌, ◌≤◌, List, [], ◌∷◌, ◌++◌, arith, subst, sym, ap, ◌∙◌, Option, ◌+◌}
+use Rattle.std.specs.List.{All}
+use Rattle.std.specs.Option.{option_to_list}
+use Rattle.std.proofs.lemmas.List.Elements.{All-push, All-weaker}
+use Rattle.std.proofs.lemmas.List.Sums.{sum_by_push}
+use Rattle.scut_base.specs.Literal.{Literal}
+use Rattle.pb_lin.specs.Constraint.{TermsUpTo, value, term_value}
+use Rattle.pb_lin.specs.Constraint.{IsMerged}
+use Rattle.pb_lin.proofs.Merges.{merged_front, merged_push, below_from_last, All-front, All-last, AllPairs-last}
+use Rattle.pb_lin.proofs.normal.push_term.Goals as goal
+
+pub returns-then-var-clause-merged : goal.returns-then-var-clause-merged
+returns-then-var-clause-merged c =
+    let old = subst IsMerged c.in-Some.ensures c.requires.merged in
+    let new : c.push-then-var-2.new.self ≡ (c.pop.new.self ++ c.in-Some.last ∷ []) ++ c.args.term ∷ [] = c.in_ok-push-3.ensures.ok ∙ ap (λ (ts : List (Literal × ℕ)). ts ++ c.args.term ∷ []) c.in_ok-push-2.ensures.ok in
+    subst IsMerged (sym new) (merged_push _ c.args.term old (below_from_last c.pop.new.self c.in-Some.last c.args.term.0.var old (omega arith)) c.requires.positive (omega arith))
+
+pub returns-then-var-clause-upto : goal.returns-then-var-clause-upto
+returns-then-var-clause-upto c =
+    let old = subst IsMerged c.in-Some.ensures c.requires.merged in
+    let new : c.push-then-var-2.new.self ≡ (c.pop.new.self ++ c.in-Some.last ∷ []) ++ c.args.term ∷ [] = c.in_ok-push-3.ensures.ok ∙ ap (λ (ts : List (Literal × ℕ)). ts ++ c.args.term ∷ []) c.in_ok-push-2.ensures.ok in
+    let upto = subst (TermsUpTo c.args.term.0.var) c.in-Some.ensures c.requires.upto in
+    subst (TermsUpTo c.args.term.0.var) (sym new) (All-push (λ (t : Literal × ℕ). t.0.var ≤ c.args.term.0.var) (c.pop.new.self ++ c.in-Some.last ∷ []) c.args.term upto (omega arith))
+
+pub add_terms-joined-requires-clause-same : goal.add_terms-joined-requires-clause-same
+add_terms-joined-requires-clause-same c =
+    let upto = subst (TermsUpTo c.args.term.0.var) c.in-Some.ensures c.requires.upto in
+    let least = All-last (λ (t : Literal × ℕ). t.0.var ≤ c.args.term.0.var) c.pop.new.self c.in-Some.last upto in
+    omega arith
+
+pub add_terms-joined-requires-clause-positive : goal.add_terms-joined-requires-clause-positive
+add_terms-joined-requires-clause-positive c =
+    let merged = subst IsMerged c.in-Some.ensures c.requires.merged in
+    All-last (λ (t : Literal × ℕ). 0 < t.1) c.pop.new.self c.in-Some.last merged.positive
+
+pub returns-in_ok-push-4-clause-value : goal.returns-in_ok-push-4-clause-value
+returns-in_ok-push-4-clause-value c = λ a.
+    let joined = subst (λ (o : Option (Literal × ℕ)). value a (option_to_list o) + c.add_terms-joined.result.1 ≡ term_value a c.in-Some.last + term_value a c.args.term) c.in-Some-joined.is (c.add_terms-joined.ensures.value a) in
+    let old : value a c.args.merged.now ≡ value a c.pop.new.self + term_value a c.in-Some.last = ap (value a) c.in-Some.ensures ∙ sum_by_push (term_value a) c.pop.new.self c.in-Some.last in
+    let new : value a c.push-in-Some-joined.new.self ≡ value a c.pop.new.self + term_value a c.in-Some-joined.left = ap (value a) c.in_ok-push-4.ensures.ok ∙ sum_by_push (term_value a) c.pop.new.self c.in-Some-joined.left in
+    omega arith
+
+pub returns-in_ok-push-4-clause-merged : goal.returns-in_ok-push-4-clause-merged
+returns-in_ok-push-4-clause-merged c =
+    let old = subst IsMerged c.in-Some.ensures c.requires.merged in
+    let left = subst (λ (o : Option (Literal × ℕ)). All (λ (t : Literal × ℕ). (t.0.var ≡ c.in-Some.last.0.var) × (0 < t.1)) (option_to_list o)) c.in-Some-joined.is c.add_terms-joined.ensures.left 0 c.in-Some-joined.left (omega arith) in
+    let from_one = All-last (λ (t : Literal × ℕ). 0 < t.0.var) c.pop.new.self c.in-Some.last old.from_one in
+    let below = AllPairs-last (λ (s t : Literal × ℕ). s.0.var < t.0.var) c.pop.new.self c.in-Some.last old.rising in
+    subst IsMerged (sym c.in_ok-push-4.ensures.ok) (merged_push c.pop.new.self c.in-Some-joined.left (merged_front c.pop.new.self c.in-Some.last old) (All-weaker (λ (t : Literal × ℕ). t.0.var < c.in-Some.last.0.var) (λ (t : Literal × ℕ). t.0.var < c.in-Some-joined.left.0.var) (λ t h. omega arith) c.pop.new.self below) left.1 (omega arith))
+
+pub returns-in_ok-push-4-clause-upto : goal.returns-in_ok-push-4-clause-upto
+returns-in_ok-push-4-clause-upto c =
+    let left = subst (λ (o : Option (Literal × ℕ)). All (λ (t : Literal × ℕ). (t.0.var ≡ c.in-Some.last.0.var) × (0 < t.1)) (option_to_list o)) c.in-Some-joined.is c.add_terms-joined.ensures.left 0 c.in-Some-joined.left (omega arith) in
+    let upto = subst (TermsUpTo c.args.term.0.var) c.in-Some.ensures c.requires.upto in
+    let last = All-last (λ (t : Literal × ℕ). t.0.var ≤ c.args.term.0.var) c.pop.new.self c.in-Some.last upto in
+    subst (TermsUpTo c.args.term.0.var) (sym c.in_ok-push-4.ensures.ok) (All-push (λ (t : Literal × ℕ). t.0.var ≤ c.args.term.0.var) c.pop.new.self c.in-Some-joined.left (All-front (λ (t : Literal × ℕ). t.0.var ≤ c.args.term.0.var) c.pop.new.self c.in-Some.last upto) (omega arith))
+
+pub returns-in_default-joined-clause-merged : goal.returns-in_default-joined-clause-merged
+returns-in_default-joined-clause-merged c = merged_front c.pop.new.self c.in-Some.last (subst IsMerged c.in-Some.ensures c.requires.merged)
+
+pub returns-in_default-joined-clause-upto : goal.returns-in_default-joined-clause-upto
+returns-in_default-joined-clause-upto c = All-front (λ (t : Literal × ℕ). t.0.var ≤ c.args.term.0.var) c.pop.new.self c.in-Some.last (subst (TermsUpTo c.args.term.0.var) c.in-Some.ensures c.requires.upto)

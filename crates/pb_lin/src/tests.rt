@@ -1,3 +1,0 @@
-// Tests of constraints.
-mod evaluation;
-mod normal_forms;
