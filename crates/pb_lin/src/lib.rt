@@ -34,3 +34,5 @@ pub use size::SIZE_LIMIT;
 pub use substitution::{substitution_holds, substitution_variables};
 pub use witness::{Image, Witness};
 
+#[cfg(test)]
+mod tests;

@@ -195,7 +195,7 @@ fn push_term(merged: &mut Items<(Lit, u128)>, term: (Lit, u128)) -> Result<u128,
     requires small { total merged.old + term.1 ≤ 2 ^ 100 }
     ensures value { IfOk result
         (λ cancelled. (a : List Bool) → value a merged.new + cancelled
-            ≡ value a merged.old + term_value a term) }
+        ≡ value a merged.old + term_value a term) }
     ensures total { IfOk result
         (λ cancelled. total merged.new + cancelled ≤ total merged.old + term.1) }
     ensures merged { IfOk result (λ _. IsMerged merged.new) }
