@@ -5,14 +5,10 @@ use Rattle.std.proofs.Common.{ap, sym, subst, arith}
 use Rattle.std.proofs.lemmas.List.{take-append-drop}
 use Rattle.scut_base.specs.declared.shelf.ShelfCall.{ShelfCall}
 use Rattle.scut_base.specs.declared.shelf.ShelfFault.{ShelfFault}
-use Rattle.scut_base.specs.Faults.{HasCause, plain, plain_cause}
+use Rattle.scut_base.specs.Faults.{HasCause, plain}
 use Rattle.scut_base.specs.Files.{Files, content, with_file, bytes_or_none, IsPartlyAppended, IsPartlyFollowed}
-use Rattle.scut_base.specs.FileLaws.{nothing_appended, bytes_kept}
+use Rattle.scut_base.proofs.FileLaws.{nothing_appended, bytes_kept}
 use Rattle.scut_base.specs.Memory.{Memory, one_more, file_of, put_behind}
-
--- a cause from a count that has risen by one
-pub risen_cause : {T : Type 0} (call : ShelfCall) (name : List ℕ) (before now : ℕ) (result : Result T ShelfFault) → before ≤ now → now ≡ one_more before → HasCause call name (plain before) (plain now) result
-risen_cause call name before now result later is = plain_cause call name before now result later (λ _. omega arith)
 
 -- a file that holds other bytes
 pub with_file_insert : (old new : Files) (name bytes : List ℕ) → new ≡ insert old name bytes → Some new ≡ with_file (Some old) name bytes

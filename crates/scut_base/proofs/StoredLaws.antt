@@ -8,7 +8,7 @@ use Rattle.std.proofs.lemmas.List.{take-append-drop, drop_more, take_more_set, d
 use Rattle.std.proofs.lemmas.Cmp.{nat_list_cmp_total}
 use Rattle.scut_base.specs.Files.{content}
 use Rattle.scut_base.specs.Stored.{name_of, files_of, NoneNamed, IsFirstAt}
-use Rattle.scut_base.specs.FileLaws.{tied_same, tied_other, tied_is}
+use Rattle.scut_base.proofs.FileLaws.{tied_same, tied_other, tied_is}
 use Rattle.scut_base.specs.declared.mem_shelf.Stored.{Stored}
 
 pub get_first : (f : Stored) (fs : List Stored) (q : List ℕ) → get (files_of (f ∷ fs)) q ≡ cond (eq_by_cmp (slice_cmp nat_cmp) q (name_of f)) (Some f.bytes) (get (files_of fs) q)

@@ -1,5 +1,5 @@
 use Rattle.std.proofs.Common.{arith}
-use Rattle.scut_base.specs.Faults.{plain_cause}
+use Rattle.scut_base.proofs.FaultLaws.{plain_cause}
 use Rattle.scut_base.proofs.host_shelf.counted.Goals as goal
 
 pub returns-in-Err-clause-cause : goal.returns-in-Err-clause-cause

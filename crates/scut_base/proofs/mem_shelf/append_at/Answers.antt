@@ -2,7 +2,7 @@ use Rattle.std.proofs.Common.{◌≡◌, ◌++◌, set, get_or, ap, sym, ◌∙�
 use Rattle.std.specs.Prelude.{Some}
 use Rattle.std.specs.FinMap.{insert}
 use Rattle.scut_base.specs.Files.{content, bytes_or_none}
-use Rattle.scut_base.specs.FileLaws.{on_err_anyway}
+use Rattle.scut_base.proofs.FileLaws.{on_err_anyway}
 use Rattle.scut_base.specs.declared.mem_shelf.Stored.{Stored}
 use Rattle.scut_base.specs.Stored.{files_of, name_of}
 use Rattle.scut_base.proofs.StoredLaws.{file_set, file_same, content_at}

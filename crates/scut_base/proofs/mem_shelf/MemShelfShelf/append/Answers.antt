@@ -1,6 +1,7 @@
 use Rattle.std.proofs.Common.{arith}
-use Rattle.scut_base.specs.FileLaws.{on_err_anyway}
-use Rattle.scut_base.proofs.MemoryLaws.{risen_cause, with_file_insert, cut_appended, kept_appended}
+use Rattle.scut_base.proofs.FileLaws.{on_err_anyway}
+use Rattle.scut_base.proofs.FaultLaws.{risen_cause}
+use Rattle.scut_base.proofs.MemoryLaws.{with_file_insert, cut_appended, kept_appended}
 use Rattle.scut_base.proofs.mem_shelf.MemShelfShelf.append.Goals as goal
 
 pub returns-in_err-put_more-in-None-clause-fault : goal.returns-in_err-put_more-in-None-clause-fault

@@ -1,5 +1,6 @@
 use Rattle.std.proofs.Common.{arith}
-use Rattle.scut_base.proofs.MemoryLaws.{risen_cause, cut_followed}
+use Rattle.scut_base.proofs.FaultLaws.{risen_cause}
+use Rattle.scut_base.proofs.MemoryLaws.{cut_followed}
 use Rattle.scut_base.proofs.mem_shelf.MemShelfShelf.warn.Goals as goal
 
 pub returns-in_ok-warn_more-in-Some-clause-fault : goal.returns-in_ok-warn_more-in-Some-clause-fault

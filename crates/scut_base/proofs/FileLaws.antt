@@ -70,10 +70,10 @@ on_err_anyway (Err e) p = p
 
 pub told_by_content : (f : Option Files) (n b : List ℕ) → content f n ≡ Some b → IsTold f
 unfolding content
-told_by_content None n b e = absurd (none_not_some e)
+told_by_content None n b e = absurd (none-some e)
   where
-    none_not_some : {X : Type 0} {x : X} → None ≡ Some x → ⊥
-    none_not_some h = cc
+    none-some : {X : Type 0} {x : X} → None ≡ Some x → ⊥
+    none-some h = cc
 told_by_content (Some m) n b e = tt
 
 -- nothing is told of any file
