@@ -6,6 +6,7 @@ pub mod Number
 pub mod Bytes
 pub mod Fault
 pub mod Files
+pub mod FileMap
 pub mod Faults
 pub mod Memory
-pub mod Stored
+pub mod MemoryCode
