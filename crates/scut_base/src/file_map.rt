@@ -37,16 +37,19 @@ impl FileMap {
 
     // The bytes of a file, if it is there.
     pub(crate) fn get(&self, name: &str) -> Option<&Items<u8>>
-        ensures {
-            MatchOption result (content (Some self.now) name.now ≡ None)
-                (λ bytes. content (Some self.now) name.now ≡ Some bytes.now)
-        }
+        ensures { MatchOption result (content (Some self.now) name.now ≡ None)
+            (λ bytes. content (Some self.now) name.now ≡ Some bytes.now) }
     {
         self.files.get(name)
     }
 
     // Puts a file there, in place of one of that name.
-    pub(crate) fn put(&mut self, alloc: Global, name: &str, bytes: Items<u8>) -> Result<(), NoMemory>
+    pub(crate) fn put(
+        &mut self,
+        alloc: Global,
+        name: &str,
+        bytes: Items<u8>,
+    ) -> Result<(), NoMemory>
         ensures ok { OnOk result (self.new ≡ insert self.old name.now bytes) }
         ensures err { OnErr result (self.new ≡ self.old) }
     {
@@ -58,10 +61,8 @@ impl FileMap {
     // Puts a piece after the bytes of a file that is there.
     pub(crate) fn append(&mut self, name: &str, piece: &[u8]) -> Result<(), NoMemory>
         requires { IsSome (content (Some self.old) name.now) }
-        ensures ok {
-            OnOk result (self.new ≡ insert self.old name.now
-                (bytes_or_none (content (Some self.old) name.now) ++ piece.now))
-        }
+        ensures ok { OnOk result (self.new ≡ insert self.old name.now
+            (bytes_or_none (content (Some self.old) name.now) ++ piece.now)) }
         ensures err { OnErr result (self.new ≡ self.old) }
         ensures nothing { piece.now ≡ [] → IsOk result }
     {

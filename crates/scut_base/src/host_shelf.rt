@@ -62,10 +62,8 @@ impl<R: Runtime> HostShelf<R> {
 
 // What a call answers, with one more fault where it failed for another cause than memory.
 fn counted<T: Drop>(done: io::Result<T>, faults: &mut u64) -> Result<T, ShelfFault>
-    ensures cause {
-        (call : ShelfCall) (name : List ℕ)
-        → HasCause call name (plain faults.old) (plain faults.new) result
-    }
+    ensures cause { (call : ShelfCall) (name : List ℕ)
+        → HasCause call name (plain faults.old) (plain faults.new) result }
     ensures value { IfOk result (λ v. done ≡ Ok v) }
 {
     match done {
@@ -269,18 +267,24 @@ mod tests {
     use super::*;
     use std::test::Fail;
 
+    // A place in a file that holds `hello`, and the two bytes there, as far as there are.
+    static PIECES: [(u64, &str); 4] = [(0, "he"), (4, "o"), (5, ""), (1, "el")];
+
     #[test]
     fn a_file_is_written_in_pieces_and_read_at_places(rt: HostRuntime) -> Result<(), Fail> {
         let mut shelf = HostShelf::new(rt);
         let mut into = [0u8; 2];
-        assert_eq!(rt; shelf.read_at("none.txt", 0, &mut into), Err(ShelfFault::Failed));
+        assert_eq!(rt;
+            shelf.read_at("none.txt", 0, &mut into),
+            Err(ShelfFault::Failed)
+        );
         shelf.begin("a.txt")?;
         shelf.append("a.txt", b"old")?;
         shelf.begin("a.txt")?;
         shelf.append("a.txt", b"hel")?;
         shelf.append("a.txt", b"lo")?;
-        for (at, piece) in [(0, "he"), (4, "o"), (5, ""), (1, "el")] {
-            let read = shelf.read_at("a.txt", at, &mut into)?;
+        for (at, piece) in &PIECES {
+            let read = shelf.read_at("a.txt", *at, &mut into)?;
             assert_eq!(rt; into.get(..read), Some(piece.as_bytes()), "at {at}");
         }
         shelf.say(b"")?;

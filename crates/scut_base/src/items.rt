@@ -76,7 +76,8 @@ impl<T> Items<T> {
 
     /// The element at a place, counted from 0; `None` past the end.
     pub fn get(&self, at: usize) -> Option<&T>
-        ensures { MatchOption result (length self.now ≤ at) (λ x. slice_get self.now at ≡ Some x.now) }
+        ensures { MatchOption result (length self.now ≤ at)
+            (λ x. slice_get self.now at ≡ Some x.now) }
     {
         self.items.get(at)
     }
@@ -138,6 +139,7 @@ impl<T> Items<T> {
         ensures err { OnErr result (self.new ≡ self.old) }
         ensures nothing { more.now ≡ [] → IsOk result }
     {
+        // A caller that has nothing to put must not meet want of memory.
         if more.is_empty() {
             return Ok(());
         }
@@ -148,7 +150,8 @@ impl<T> Items<T> {
 
     /// Takes the last element off; `None` where there is none. Takes no memory and gives none back.
     pub fn pop(&mut self) -> Option<T>
-        ensures { MatchOption result ((self.old ≡ []) × (self.new ≡ [])) (λ x. self.old ≡ self.new ++ x ∷ []) }
+        ensures { MatchOption result ((self.old ≡ []) × (self.new ≡ []))
+            (λ x. self.old ≡ self.new ++ x ∷ []) }
     {
         self.items.pop()
     }

@@ -103,9 +103,11 @@ impl PartialOrd for Lit {
     ghost use Rattle.std.specs.Cmp.Rules.{comparing};
     ghost use Rattle.std.specs.Ordering.{on, then_cmp, nat_cmp, bool_cmp, as_partial_cmp};
 
-    ghost partial_cmp = { as_partial_cmp (then_cmp (on (λ l. l.var) nat_cmp) (on (λ l. l.neg) bool_cmp)) };
+    ghost partial_cmp = { as_partial_cmp
+        (then_cmp (on (λ l. l.var) nat_cmp) (on (λ l. l.neg) bool_cmp)) };
 
-    ghost laws = { partial_order_from_own_ties (Prim.search (comparing, rules)) (Prim.search (comparing, rules)) };
+    ghost laws = { partial_order_from_own_ties (Prim.search (comparing, rules))
+        (Prim.search (comparing, rules)) };
 
     fn partial_cmp(&self, other: &Lit) -> Option<Ordering> {
         Some(self.cmp(other))

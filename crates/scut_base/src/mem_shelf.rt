@@ -45,7 +45,14 @@ impl Model for MemShelf {
 
     ghost coded = { memory_code };
 
-    ghost view = { λ s. record { files = s.files; said = s.said; warned = s.warned; plan = s.plan; calls = s.calls; faults = s.faults } };
+    ghost view = { λ s. record {
+      files = s.files;
+      said = s.said;
+      warned = s.warned;
+      plan = s.plan;
+      calls = s.calls;
+      faults = s.faults;
+    } };
 }
 
 impl MemShelf {
@@ -97,10 +104,8 @@ impl MemShelf {
 
     /// The bytes of a file, if it is there.
     pub fn get(&self, name: &str) -> Option<&[u8]>
-        ensures {
-            MatchOption result (file_of self.now name.now ≡ None)
-                (λ bytes. file_of self.now name.now ≡ Some bytes.now)
-        }
+        ensures { MatchOption result (file_of self.now name.now ≡ None)
+            (λ bytes. file_of self.now name.now ≡ Some bytes.now) }
     {
         match self.files.get(name) {
             Some(bytes) => Some(bytes.as_slice()),
@@ -171,9 +176,8 @@ impl Shelf for MemShelf {
         ensures files { self.new.files ≡ self.old.files }
         ensures said { self.new.said ≡ self.old.said }
         ensures warned { self.new.warned ≡ self.old.warned }
-        ensures cause {
-            HasCause ShelfCall.Read name.now (plain self.old.faults) (plain self.new.faults) result
-        }
+        ensures cause { HasCause ShelfCall.Read name.now
+            (plain self.old.faults) (plain self.new.faults) result }
         ensures exact { Reads self.old name.now result self.new }
     {
         if self.count_call(ShelfCall::Read).is_some() {
@@ -186,16 +190,14 @@ impl Shelf for MemShelf {
     }
 
     fn begin(&mut self, name: &str) -> Result<(), ShelfFault>
-        ensures begun { OnOk result (Some self.new.files ≡ with_file (Some self.old.files) name.now []) }
-        ensures fault {
-            OnErr result
-                (IsTouched (Some self.old.files) (Some self.new.files) name.now (λ bytes. bytes ≡ []))
-        }
+        ensures begun { OnOk result
+            (Some self.new.files ≡ with_file (Some self.old.files) name.now []) }
+        ensures fault { OnErr result
+            (IsTouched (Some self.old.files) (Some self.new.files) name.now (λ bytes. bytes ≡ [])) }
         ensures said { self.new.said ≡ self.old.said }
         ensures warned { self.new.warned ≡ self.old.warned }
-        ensures cause {
-            HasCause ShelfCall.Begin name.now (plain self.old.faults) (plain self.new.faults) result
-        }
+        ensures cause { HasCause ShelfCall.Begin name.now
+            (plain self.old.faults) (plain self.new.faults) result }
         ensures exact { Begins self.old name.now result self.new }
     {
         if self.count_call(ShelfCall::Begin).is_some() {
@@ -207,22 +209,16 @@ impl Shelf for MemShelf {
 
     fn append(&mut self, name: &str, piece: &[u8]) -> Result<(), ShelfFault>
         requires { IsSome (file_of self.old name.now) }
-        ensures appended {
-            OnOk result
-                (Some self.new.files ≡ with_appended (Some self.old.files) name.now piece.now)
-        }
-        ensures fault {
-            OnErr result
-                (IsPartlyAppended (Some self.old.files) (Some self.new.files) name.now piece.now)
-        }
+        ensures appended { OnOk result
+            (Some self.new.files ≡ with_appended (Some self.old.files) name.now piece.now) }
+        ensures fault { OnErr result
+            (IsPartlyAppended (Some self.old.files) (Some self.new.files) name.now piece.now) }
         ensures said { self.new.said ≡ self.old.said }
         ensures warned { self.new.warned ≡ self.old.warned }
-        ensures cause {
-            HasCause ShelfCall.Append name.now (plain self.old.faults) (plain self.new.faults) result
-        }
-        ensures exact {
-            Puts ShelfCall.Append (λ s. append_file s name.now) self.old piece.now result self.new
-        }
+        ensures cause { HasCause ShelfCall.Append name.now
+            (plain self.old.faults) (plain self.new.faults) result }
+        ensures exact { Puts ShelfCall.Append (λ s. append_file s name.now)
+            self.old piece.now result self.new }
     {
         match self.count_call(ShelfCall::Append) {
             None => {
@@ -238,12 +234,12 @@ impl Shelf for MemShelf {
 
     fn say(&mut self, piece: &[u8]) -> Result<(), ShelfFault>
         ensures said { OnOk result (self.new.said ≡ self.old.said ++ piece.now) }
-        ensures fault { OnErr result (IsPartlyFollowed (Some self.old.said) (Some self.new.said) piece.now) }
+        ensures fault { OnErr result
+            (IsPartlyFollowed (Some self.old.said) (Some self.new.said) piece.now) }
         ensures files { self.new.files ≡ self.old.files }
         ensures warned { self.new.warned ≡ self.old.warned }
-        ensures cause {
-            HasCause ShelfCall.Say [] (plain self.old.faults) (plain self.new.faults) result
-        }
+        ensures cause { HasCause ShelfCall.Say []
+            (plain self.old.faults) (plain self.new.faults) result }
         ensures exact { Puts ShelfCall.Say say_more self.old piece.now result self.new }
     {
         match self.count_call(ShelfCall::Say) {
@@ -260,14 +256,12 @@ impl Shelf for MemShelf {
 
     fn warn(&mut self, piece: &[u8]) -> Result<(), ShelfFault>
         ensures warned { OnOk result (self.new.warned ≡ self.old.warned ++ piece.now) }
-        ensures fault {
-            OnErr result (IsPartlyFollowed (Some self.old.warned) (Some self.new.warned) piece.now)
-        }
+        ensures fault { OnErr result
+            (IsPartlyFollowed (Some self.old.warned) (Some self.new.warned) piece.now) }
         ensures files { self.new.files ≡ self.old.files }
         ensures said { self.new.said ≡ self.old.said }
-        ensures cause {
-            HasCause ShelfCall.Warn [] (plain self.old.faults) (plain self.new.faults) result
-        }
+        ensures cause { HasCause ShelfCall.Warn []
+            (plain self.old.faults) (plain self.new.faults) result }
         ensures exact { Puts ShelfCall.Warn warn_more self.old piece.now result self.new }
     {
         match self.count_call(ShelfCall::Warn) {
@@ -284,10 +278,7 @@ impl Shelf for MemShelf {
 }
 
 // The faults of calls that are to put nothing.
-fn plan_at_start(
-    alloc: Global,
-    fail: &[(ShelfCall, u64)],
-) -> Result<Vec<PlannedFault>, AllocError>
+fn plan_at_start(alloc: Global, fail: &[(ShelfCall, u64)]) -> Result<Vec<PlannedFault>, AllocError>
     ensures { IfOk result (λ plan. plan.items ≡ map fault_at_start fail.now) }
 {
     fail.iter()

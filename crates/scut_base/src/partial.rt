@@ -97,10 +97,8 @@ impl Partial {
 fn make_room(places: &mut Vec<u64>, len: usize) -> Result<(), NoMemory>
     ensures room { OnOk result (len ≤ length places.new.items) }
     ensures longer { length places.old.items ≤ length places.new.items }
-    ensures kept {
-        (j : ℕ) → j < length places.old.items
-        → slice_index places.new.items j ≡ slice_index places.old.items j
-    }
+    ensures kept { (j : ℕ) → j < length places.old.items
+        → slice_index places.new.items j ≡ slice_index places.old.items j }
 {
     if places.len() < len {
         places.resize(len, 0)?;

@@ -83,35 +83,36 @@ pub trait Shelf {
         ensures files { files self.new ≡ files self.old }
         ensures said { said self.new ≡ said self.old }
         ensures warned { warned self.new ≡ warned self.old }
-        ensures cause { HasCause ShelfCall.Read name.now (faults self.old) (faults self.new) result };
+        ensures cause { HasCause ShelfCall.Read name.now
+            (faults self.old) (faults self.new) result };
 
     /// Makes the file anew, empty. After a fault it is as before or empty.
     fn begin(&mut self, name: &str) -> Result<(), ShelfFault>
         ensures begun { OnOk result (files self.new ≡ with_file (files self.old) name.now []) }
-        ensures fault {
-            OnErr result (IsTouched (files self.old) (files self.new) name.now (λ bytes. bytes ≡ []))
-        }
+        ensures fault { OnErr result
+            (IsTouched (files self.old) (files self.new) name.now (λ bytes. bytes ≡ [])) }
         ensures said { said self.new ≡ said self.old }
         ensures warned { warned self.new ≡ warned self.old }
-        ensures cause { HasCause ShelfCall.Begin name.now (faults self.old) (faults self.new) result };
+        ensures cause { HasCause ShelfCall.Begin name.now
+            (faults self.old) (faults self.new) result };
 
     /// Puts a piece after the bytes of a file that is there. After a fault a prefix of it was put.
     fn append(&mut self, name: &str, piece: &[u8]) -> Result<(), ShelfFault>
         requires { IsTold (files self.old) → IsSome (content (files self.old) name.now) }
-        ensures appended {
-            OnOk result (files self.new ≡ with_appended (files self.old) name.now piece.now)
-        }
-        ensures fault {
-            OnErr result (IsPartlyAppended (files self.old) (files self.new) name.now piece.now)
-        }
+        ensures appended { OnOk result
+            (files self.new ≡ with_appended (files self.old) name.now piece.now) }
+        ensures fault { OnErr result
+            (IsPartlyAppended (files self.old) (files self.new) name.now piece.now) }
         ensures said { said self.new ≡ said self.old }
         ensures warned { warned self.new ≡ warned self.old }
-        ensures cause { HasCause ShelfCall.Append name.now (faults self.old) (faults self.new) result };
+        ensures cause { HasCause ShelfCall.Append name.now
+            (faults self.old) (faults self.new) result };
 
     /// Puts a piece out. After a fault a prefix of it was put out.
     fn say(&mut self, piece: &[u8]) -> Result<(), ShelfFault>
         ensures said { OnOk result (said self.new ≡ followed (said self.old) piece.now) }
-        ensures fault { OnErr result (IsPartlyFollowed (said self.old) (said self.new) piece.now) }
+        ensures fault { OnErr result
+            (IsPartlyFollowed (said self.old) (said self.new) piece.now) }
         ensures files { files self.new ≡ files self.old }
         ensures warned { warned self.new ≡ warned self.old }
         ensures cause { HasCause ShelfCall.Say [] (faults self.old) (faults self.new) result };
@@ -119,7 +120,8 @@ pub trait Shelf {
     /// Puts a piece out as a warning. After a fault a prefix of it was put out.
     fn warn(&mut self, piece: &[u8]) -> Result<(), ShelfFault>
         ensures warned { OnOk result (warned self.new ≡ followed (warned self.old) piece.now) }
-        ensures fault { OnErr result (IsPartlyFollowed (warned self.old) (warned self.new) piece.now) }
+        ensures fault { OnErr result
+            (IsPartlyFollowed (warned self.old) (warned self.new) piece.now) }
         ensures files { files self.new ≡ files self.old }
         ensures said { said self.new ≡ said self.old }
         ensures cause { HasCause ShelfCall.Warn [] (faults self.old) (faults self.new) result };

@@ -13,13 +13,24 @@ static NUMBERS: [[&str; 4]; 10] = [
     ["+1", DIGITS, DIGITS, DIGITS],
     ["--1", DIGITS, DIGITS, DIGITS],
     ["99999999999999999999x", DIGITS, DIGITS, DIGITS],
-    ["9223372036854775808", "9223372036854775808", WIDE, "9223372036854775808"],
-    ["-9223372036854775808", DIGITS, "-9223372036854775808", "-9223372036854775808"],
+    [
+        "9223372036854775808",
+        "9223372036854775808",
+        WIDE,
+        "9223372036854775808",
+    ],
+    [
+        "-9223372036854775808",
+        DIGITS,
+        "-9223372036854775808",
+        "-9223372036854775808",
+    ],
     ["18446744073709551616", WIDE, WIDE, "18446744073709551616"],
     ["170141183460469231731687303715884105728", WIDE, WIDE, WIDE],
 ];
 
 const DIGITS: &str = "decimal digits were expected";
+
 const WIDE: &str = "the number is too wide";
 
 fn shown(alloc: Global, read: Result<i128, NumberFault>) -> Result<String, AllocError> {

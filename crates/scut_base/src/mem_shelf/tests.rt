@@ -2,6 +2,15 @@
 use super::*;
 use std::test::Fail;
 
+// A kind of call, and what is in the file `a`, said and warned after two calls of it.
+static ROWS: [(ShelfCall, &str, &str, &str); 5] = [
+    (ShelfCall::Read, "xy", "", ""),
+    (ShelfCall::Begin, "", "", ""),
+    (ShelfCall::Append, "xybcd", "", ""),
+    (ShelfCall::Say, "xy", "bcd", ""),
+    (ShelfCall::Warn, "xy", "", "bcd"),
+];
+
 // One call, on the file `a` where the call takes a name.
 fn call_once(shelf: &mut MemShelf, call: ShelfCall, piece: &[u8]) -> Result<(), ShelfFault> {
     match call {
@@ -40,15 +49,8 @@ fn after_two(alloc: Global, call: ShelfCall) -> Result<MemShelf, ShelfFault> {
 
 #[test]
 fn the_second_call_of_each_kind_fails(rt: HostRuntime) -> Result<(), Fail> {
-    let rows = [
-        (ShelfCall::Read, "xy", "", ""),
-        (ShelfCall::Begin, "", "", ""),
-        (ShelfCall::Append, "xybcd", "", ""),
-        (ShelfCall::Say, "xy", "bcd", ""),
-        (ShelfCall::Warn, "xy", "", "bcd"),
-    ];
-    for (call, file, said, warned) in rows {
-        let shelf = after_two(rt.alloc(), call)?;
+    for (call, file, said, warned) in &ROWS {
+        let shelf = after_two(rt.alloc(), *call)?;
         assert_eq!(rt; shelf.get("a"), Some(file.as_bytes()), "{call:?}");
         assert_eq!(rt; shelf.said(), said.as_bytes(), "{call:?}");
         assert_eq!(rt; shelf.warned(), warned.as_bytes(), "{call:?}");
