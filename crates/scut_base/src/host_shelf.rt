@@ -285,7 +285,7 @@ mod tests {
         shelf.append("a.txt", b"lo")?;
         for (at, piece) in &PIECES {
             let read = shelf.read_at("a.txt", *at, &mut into)?;
-            assert_eq!(rt; into.get(..read), Some(piece.as_bytes()), "at {at}");
+            assert_eq!(rt; &into[..read], piece.as_bytes(), "at {at}");
         }
         shelf.say(b"")?;
         shelf.warn(b"")?;
