@@ -267,26 +267,21 @@ mod tests {
     use super::*;
     use std::test::Fail;
 
-    // A place in a file that holds `hello`, and the two bytes there, as far as there are.
-    static PIECES: [(u64, &str); 4] = [(0, "he"), (4, "o"), (5, ""), (1, "el")];
+    fn written(shelf: &mut HostShelf<HostRuntime>, name: &str) -> Result<(), ShelfFault> {
+        shelf.begin(name)?;
+        shelf.append(name, b"hel")?;
+        shelf.append(name, b"lo")
+    }
 
     #[test]
-    fn a_file_is_written_in_pieces_and_read_at_places(rt: HostRuntime) -> Result<(), Fail> {
+    fn a_file_is_written_in_pieces_and_read_at_a_place(rt: HostRuntime) -> Result<(), Fail> {
         let mut shelf = HostShelf::new(rt);
-        let mut into = [0u8; 2];
-        assert_eq!(rt;
-            shelf.read_at("none.txt", 0, &mut into),
-            Err(ShelfFault::Failed)
-        );
-        shelf.begin("a.txt")?;
-        shelf.append("a.txt", b"old")?;
-        shelf.begin("a.txt")?;
-        shelf.append("a.txt", b"hel")?;
-        shelf.append("a.txt", b"lo")?;
-        for (at, piece) in &PIECES {
-            let read = shelf.read_at("a.txt", *at, &mut into)?;
-            assert_eq!(rt; &into[..read], piece.as_bytes(), "at {at}");
-        }
+        let mut into = [0u8; 9];
+        assert!(rt; shelf.read_at("none.txt", 0, &mut into).is_err());
+        written(&mut shelf, "a.txt")?;
+        written(&mut shelf, "a.txt")?;
+        let read = shelf.read_at("a.txt", 1, &mut into)?;
+        assert_eq!(rt; &into[..read], b"ello".as_slice());
         shelf.say(b"")?;
         shelf.warn(b"")?;
         Ok(())
