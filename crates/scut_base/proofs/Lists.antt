@@ -254,8 +254,8 @@ sum_by_same_in f g (x ∷ xs) all =
 -- what one term is below, the sum is below
 pub sum_gap : {X : Type 0} (f g : X → ℕ) (xs : List X) (k n : ℕ) (d : X) → ((x : X) → f x ≤ g x) → k < length xs → f (get_or xs k d) + n ≤ g (get_or xs k d) → sum_by f xs + n ≤ sum_by g xs
 sum_gap f g xs k n d each within gap =
-    let front : sum_by f (take k xs) ≤ sum_by g (take k xs) = sum_by-le-sum_by f g (take k xs) each in
-    let back : sum_by f (drop (k + 1) xs) ≤ sum_by g (drop (k + 1) xs) = sum_by-le-sum_by f g (drop (k + 1) xs) each in
+    let before : sum_by f (take k xs) ≤ sum_by g (take k xs) = sum_by-le-sum_by f g (take k xs) each in
+    let after : sum_by f (drop (k + 1) xs) ≤ sum_by g (drop (k + 1) xs) = sum_by-le-sum_by f g (drop (k + 1) xs) each in
     let f_whole : sum_by f (take k xs) + sum_by f (drop k xs) ≡ sum_by f xs = sum_by-take-drop f xs k in
     let g_whole : sum_by g (take k xs) + sum_by g (drop k xs) ≡ sum_by g xs = sum_by-take-drop g xs k in
     let f_more : sum_by f (drop k xs) ≡ f (get_or xs k d) + sum_by f (drop (k + 1) xs) = sum_by-drop_more f xs k d within in

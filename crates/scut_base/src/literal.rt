@@ -4,12 +4,13 @@ ghost use Rattle.std.specs.Prelude.{◌≡◌, ◌<◌, ◌^◌, not};
 use crate::{Duplicate, NoMemory};
 use std::alloc::Global;
 use std::cmp::Ordering;
+use std::fmt;
 use std::hash::{Hash, Hasher};
 use std::marker::Model;
 
 /// A variable, counted from 1, or its negation, in 8 bytes. Literals are ordered by variable, the
 /// positive one first.
-#[derive(Clone, Copy, Debug)]
+#[derive(Clone, Copy)]
 pub struct Lit {
     // Twice the variable, plus 1 for a negation: half of a record of both, and its order is that of
     // literals.
@@ -142,6 +143,15 @@ impl Hash for Lit {
 
     fn hash<H: Hasher>(&self, state: &mut H) {
         self.code.hash(state);
+    }
+}
+
+impl fmt::Debug for Lit {
+    /// As logs spell it: `x3`, and `~x3` for its negation.
+    fn fmt<W: fmt::Write>(&self, f: &mut fmt::Formatter<W>) -> fmt::Result {
+        let sign = if self.is_neg() { "~" } else { "" };
+        let var = self.var();
+        write!(f, "{sign}x{var}")
     }
 }
 
