@@ -1,7 +1,7 @@
 -- What the trait asks of a shelf, from what a shelf in memory has become.
-use Rattle.std.specs.Prelude.{◌≡◌, ℕ, ◌≤◌, List, [], ◌++◌, take, drop, Result, Some, IsSome, refl}
+use Rattle.std.specs.Prelude.{◌≡◌, ℕ, List, ◌++◌, take, drop, Some, IsSome}
 use Rattle.std.specs.FinMap.{insert}
-use Rattle.std.proofs.Common.{ap, sym, subst, arith}
+use Rattle.std.proofs.Common.{ap, sym, subst}
 use Rattle.std.proofs.lemmas.List.{take-append-drop}
 use Rattle.scut_base.specs.Files.{Files, content, with_file, bytes_or_none, IsPartlyAppended, IsPartlyFollowed}
 use Rattle.scut_base.proofs.FileLaws.{nothing_appended}

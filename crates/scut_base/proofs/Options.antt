@@ -1,5 +1,5 @@
 -- Lemmas on options of any value type that several crates need and std lacks.
-use Rattle.std.proofs.Common.{◌≡◌, Bool, true, false, Option, None, Some, refl, ap, subst}
+use Rattle.std.proofs.Common.{◌≡◌, true, false, Option, None, Some, refl, ap, subst}
 use Rattle.std.specs.Option.{option_or, option_map, is_some, IfSome, MatchOption}
 
 pub or_at_none : {X : Type 0} (o p : Option X) → o ≡ None → option_or o p ≡ p
