@@ -2,3 +2,5 @@ pub mod Terms
 pub mod Rising
 pub mod Merge
 pub mod Truth
+pub mod Within
+pub mod OneValue

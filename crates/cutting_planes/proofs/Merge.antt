@@ -1,14 +1,14 @@
 -- Two lists of terms, merged in one pass.
-use Rattle.std.specs.Prelude.{◌≡◌, ℕ, zero, suc, ◌+◌, ◌⊎◌, ◌-◌, ◌<◌, ◌≤◌, ◌^◌, Bool, List, [], ◌∷◌, ◌++◌, refl, true, false, if◌then◌else◌}
+use Rattle.std.specs.Prelude.{◌≡◌, ℕ, ◌+◌, ◌⊎◌, ◌-◌, ◌<◌, ◌≤◌, ◌^◌, Bool, List, [], ◌∷◌, ◌++◌, Option, Some, None, option_to_list, All, refl}
 use Rattle.std.proofs.Common.{sym, ◌∙◌, ap, subst, arith, append_assoc, length, get_or, drop, inl, inr}
 use Rattle.std.proofs.lemmas.List.{append-nil}
+use Rattle.std.proofs.lemmas.List.Elements.{All-head, All-weaker}
 use Rattle.std.proofs.lemmas.List.Sums.{sum_by-append, sum_by_push}
 use Rattle.scut_base.specs.Literal.{Literal}
-use Rattle.scut_base.specs.Assignment.{lit_true}
 use Rattle.pb_lin.specs.Constraint.{ConstraintValue, IsNormal, size, total, term_value, value}
 use Rattle.cutting_planes.specs.Rules.{IsSum}
 use Rattle.cutting_planes.proofs.Terms.{Terms, total-cons, value-cons}
-use Rattle.cutting_planes.proofs.Rising.{Above, above_from_normal, normal_from_above, above_without, above_instead, above_before}
+use Rattle.cutting_planes.proofs.Rising.{Above, above_from_normal, normal_from_above, above_next, above_without, above_instead, above_before}
 
 -- what is merged of p and q, what is left of each, and what has cancelled
 pub record IsMerge (p q ms ls rs : Terms) (cancelled : ℕ) : Type 0 where
@@ -68,43 +68,39 @@ merge_turned p q ms ls rs cancelled merge = record {
 pub merge_right : (p q ms ls rs : Terms) (s t : Literal × ℕ) (cancelled : ℕ) → IsMerge p q ms (s ∷ ls) (t ∷ rs) cancelled → t.0.var < s.0.var → IsMerge p q (ms ++ t ∷ []) (s ∷ ls) rs cancelled
 merge_right p q ms ls rs s t cancelled merge before = merge_turned q p (ms ++ t ∷ []) rs (s ∷ ls) cancelled (merge_left q p ms rs ls t s cancelled (merge_turned p q ms (s ∷ ls) (t ∷ rs) cancelled merge) before)
 
--- u stands for two terms of one variable, with what cancels
-pub record IsJoined (s t u : Literal × ℕ) (cancelled : ℕ) : Type 0 where
-  pub same : (a : List Bool) → term_value a s + term_value a t ≡ term_value a u + cancelled
+-- what is left of two terms of one variable, with what cancels
+pub record IsJoined (s t : Literal × ℕ) (left : Terms) (cancelled : ℕ) : Type 0 where
+  pub same : (a : List Bool) → value a left + cancelled ≡ term_value a s + term_value a t
   pub variable : s.0.var ≡ t.0.var
-  pub same_variable : u.0.var ≡ s.0.var
-  pub small : u.1 + cancelled ≤ s.1 + t.1
+  pub terms : All (λ u. (u.0.var ≡ s.0.var) × (0 < u.1)) left
+  pub small : total left + cancelled ≤ s.1 + t.1
 
-join_same : (v m l r c x k y i u d n : ℕ) → v ≡ m + l + r + c → l ≡ x + k → r ≡ y + i → n ≡ m + u → x + y ≡ u + d → v ≡ n + k + i + (c + d)
+join_same : (v m l r c x k y i u d n : ℕ) → v ≡ m + l + r + c → l ≡ x + k → r ≡ y + i → n ≡ m + u → u + d ≡ x + y → v ≡ n + k + i + (c + d)
 join_same v m l r c x k y i u d n e f g h j = omega arith
 
 join_small : (v m l r c x k y i u d n : ℕ) → m + l + r + c ≤ v → l ≡ x + k → r ≡ y + i → n ≡ m + u → u + d ≤ x + y → n + k + i + (c + d) ≤ v
 join_small v m l r c x k y i u d n e f g h j = omega arith
 
-pub merge_joined : (p q ms ls rs : Terms) (s t u : Literal × ℕ) (before now : ℕ) → IsMerge p q ms (s ∷ ls) (t ∷ rs) before → IsJoined s t u now → 0 < u.1 → IsMerge p q (ms ++ u ∷ []) ls rs (before + now)
-merge_joined p q ms ls rs s t u before now merge joined positive = record {
+-- the terms that are left of two stand in their place
+above_left : (ms : Terms) (s : Literal × ℕ) (ls : Terms) (joined : Option (Literal × ℕ)) → All (λ u. (u.0.var ≡ s.0.var) × (0 < u.1)) (option_to_list joined) → Above 0 (ms ++ s ∷ ls) → Above 0 ((ms ++ option_to_list joined) ++ ls)
+above_left ms s ls None all above = subst (λ (ts : Terms). Above 0 (ts ++ ls)) (sym (append-nil ms)) (above_without 0 ms s ls above)
+above_left ms s ls (Some u) all above =
+    let one = All-head (λ (r : Literal × ℕ). (r.0.var ≡ s.0.var) × (0 < r.1)) u [] all in
+    moved ms u ls (above_instead 0 ms s u ls one.0 one.1 above)
+
+same_variable : (s t : Literal × ℕ) (left : Terms) → s.0.var ≡ t.0.var → All (λ u. (u.0.var ≡ s.0.var) × (0 < u.1)) left → All (λ u. (u.0.var ≡ t.0.var) × (0 < u.1)) left
+same_variable s t left e all = All-weaker (λ u. (u.0.var ≡ s.0.var) × (0 < u.1)) (λ u. (u.0.var ≡ t.0.var) × (0 < u.1)) (λ u h. (h.0 ∙ e, h.1)) left all
+
+merge_joined : (p q ms ls rs : Terms) (s t : Literal × ℕ) (joined : Option (Literal × ℕ)) (before now : ℕ) → IsMerge p q ms (s ∷ ls) (t ∷ rs) before → IsJoined s t (option_to_list joined) now → IsMerge p q (ms ++ option_to_list joined) ls rs (before + now)
+merge_joined p q ms ls rs s t joined before now merge is = record {
   same = λ a.
-      let pushed : value a (ms ++ u ∷ []) ≡ value a ms + term_value a u = sum_by_push (term_value a) ms u in
-      join_same (value a p + value a q) (value a ms) (value a (s ∷ ls)) (value a (t ∷ rs)) before (term_value a s) (value a ls) (term_value a t) (value a rs) (term_value a u) now (value a (ms ++ u ∷ [])) (merge.same a) (value-cons a s ls) (value-cons a t rs) pushed (joined.same a);
-  left = moved ms u ls (above_instead 0 ms s u ls joined.same_variable positive merge.left);
-  right = moved ms u rs (above_instead 0 ms t u rs (joined.same_variable ∙ joined.variable) positive merge.right);
+      let pushed : value a (ms ++ option_to_list joined) ≡ value a ms + value a (option_to_list joined) = sum_by-append (term_value a) ms (option_to_list joined) in
+      join_same (value a p + value a q) (value a ms) (value a (s ∷ ls)) (value a (t ∷ rs)) before (term_value a s) (value a ls) (term_value a t) (value a rs) (value a (option_to_list joined)) now (value a (ms ++ option_to_list joined)) (merge.same a) (value-cons a s ls) (value-cons a t rs) pushed (is.same a);
+  left = above_left ms s ls joined is.terms merge.left;
+  right = above_left ms t rs joined (same_variable s t (option_to_list joined) is.variable is.terms) merge.right;
   small =
-      let pushed : total (ms ++ u ∷ []) ≡ total ms + u.1 = sum_by_push (λ t. t.1) ms u in
-      join_small (total p + total q) (total ms) (total (s ∷ ls)) (total (t ∷ rs)) before s.1 (total ls) t.1 (total rs) u.1 now (total (ms ++ u ∷ [])) merge.small (total-cons s ls) (total-cons t rs) pushed joined.small;
-}
-
-if_zero : (b : Bool) (n : ℕ) → n ≡ 0 → (if b then n else 0) ≡ 0
-if_zero true n e = e
-if_zero false n e = refl
-
-pub merge_gone : (p q ms ls rs : Terms) (s t u : Literal × ℕ) (before now : ℕ) → IsMerge p q ms (s ∷ ls) (t ∷ rs) before → IsJoined s t u now → u.1 ≡ 0 → IsMerge p q ms ls rs (before + now)
-merge_gone p q ms ls rs s t u before now merge joined none = record {
-  same = λ a.
-      let nothing : term_value a u ≡ 0 = if_zero (lit_true a u.0) u.1 none in
-      join_same (value a p + value a q) (value a ms) (value a (s ∷ ls)) (value a (t ∷ rs)) before (term_value a s) (value a ls) (term_value a t) (value a rs) (term_value a u) now (value a ms) (merge.same a) (value-cons a s ls) (value-cons a t rs) (omega arith) (joined.same a);
-  left = above_without 0 ms s ls merge.left;
-  right = above_without 0 ms t rs merge.right;
-  small = join_small (total p + total q) (total ms) (total (s ∷ ls)) (total (t ∷ rs)) before s.1 (total ls) t.1 (total rs) u.1 now (total ms) merge.small (total-cons s ls) (total-cons t rs) (omega arith) joined.small;
+      let pushed : total (ms ++ option_to_list joined) ≡ total ms + total (option_to_list joined) = sum_by-append (λ t. t.1) ms (option_to_list joined) in
+      join_small (total p + total q) (total ms) (total (s ∷ ls)) (total (t ∷ rs)) before s.1 (total ls) t.1 (total rs) (total (option_to_list joined)) now (total (ms ++ option_to_list joined)) merge.small (total-cons s ls) (total-cons t rs) pushed is.small;
 }
 
 end_same : (v m l c n : ℕ) → v ≡ m + l + 0 + c → n ≡ m + l → v ≡ n + c
@@ -129,10 +125,6 @@ merge_end_right p q ms ls cancelled merge fits = record {
 
 -- ---- steps of the loop, where the next terms are read at index 0
 
-by_zero : {R : Type 0} (n : ℕ) → (n ≡ 0 → R) → (0 < n → R) → R
-by_zero zero none some = none refl
-by_zero (suc n) none some = some (omega arith)
-
 with_heads : (p q ms ls rs : Terms) (l r s t : Literal × ℕ) (cancelled : ℕ) → s ≡ l → t ≡ r → IsMerge p q ms (l ∷ ls) (r ∷ rs) cancelled → IsMerge p q ms (s ∷ ls) (t ∷ rs) cancelled
 with_heads p q ms ls rs l r s t cancelled e f merge =
     subst (λ (x : Literal × ℕ). IsMerge p q ms (x ∷ ls) (t ∷ rs) cancelled) (sym e) (subst (λ (x : Literal × ℕ). IsMerge p q ms (l ∷ ls) (x ∷ rs) cancelled) (sym f) merge)
@@ -148,15 +140,21 @@ pub step_right : (p q ms ls rs ms' rs' : Terms) (s t : Literal × ℕ) (cancelle
 step_right p q ms ls rs ms' rs' s t cancelled merge some_l some_r e f before pushed rest =
     merge_turned q p ms' rs' ls cancelled (step_left q p ms rs ls ms' rs' t s cancelled (merge_turned p q ms ls rs cancelled merge) some_r some_l f e before pushed rest)
 
-pub step_joined : (p q ms ls rs ms' ls' rs' : Terms) (s t u : Literal × ℕ) (before now : ℕ) → IsMerge p q ms ls rs before → 0 < length ls → 0 < length rs → s ≡ get_or ls 0 s → t ≡ get_or rs 0 t → IsJoined s t u now → (u.1 ≡ 0 → ms' ≡ ms) → (0 < u.1 → ms' ≡ ms ++ u ∷ []) → ls' ≡ drop 1 ls → rs' ≡ drop 1 rs → IsMerge p q ms' ls' rs' (before + now)
-step_joined p q ms [] rs ms' ls' rs' s t u before now merge some_l some_r e f joined gone pushed rest_l rest_r = absurd (omega arith)
-step_joined p q ms (l ∷ ls) [] ms' ls' rs' s t u before now merge some_l some_r e f joined gone pushed rest_l rest_r = absurd (omega arith)
-step_joined p q ms (l ∷ ls) (r ∷ rs) ms' ls' rs' s t u before now merge some_l some_r e f joined gone pushed rest_l rest_r =
+pub step_joined : (p q ms ls rs ms' ls' rs' : Terms) (s t : Literal × ℕ) (joined : Option (Literal × ℕ)) (before now : ℕ) → IsMerge p q ms ls rs before → 0 < length ls → 0 < length rs → s ≡ get_or ls 0 s → t ≡ get_or rs 0 t → IsJoined s t (option_to_list joined) now → ms' ≡ ms ++ option_to_list joined → ls' ≡ drop 1 ls → rs' ≡ drop 1 rs → IsMerge p q ms' ls' rs' (before + now)
+step_joined p q ms [] rs ms' ls' rs' s t joined before now merge some_l some_r e f is pushed rest_l rest_r = absurd (omega arith)
+step_joined p q ms (l ∷ ls) [] ms' ls' rs' s t joined before now merge some_l some_r e f is pushed rest_l rest_r = absurd (omega arith)
+step_joined p q ms (l ∷ ls) (r ∷ rs) ms' ls' rs' s t joined before now merge some_l some_r e f is pushed rest_l rest_r =
     let heads : IsMerge p q ms (s ∷ ls) (t ∷ rs) before = with_heads p q ms ls rs l r s t before e f merge in
-    let made : IsMerge p q ms' ls rs (before + now) = by_zero u.1
-    (λ none. subst (λ (xs : Terms). IsMerge p q xs ls rs (before + now)) (sym (gone none)) (merge_gone p q ms ls rs s t u before now heads joined none))
-    (λ some. subst (λ (xs : Terms). IsMerge p q xs ls rs (before + now)) (sym (pushed some)) (merge_joined p q ms ls rs s t u before now heads joined some)) in
+    let made : IsMerge p q ms' ls rs (before + now) = subst (λ (xs : Terms). IsMerge p q xs ls rs (before + now)) (sym pushed) (merge_joined p q ms ls rs s t joined before now heads is) in
     subst (λ (xs : Terms). IsMerge p q ms' xs rs' (before + now)) (sym rest_l) (subst (λ (xs : Terms). IsMerge p q ms' ls xs (before + now)) (sym rest_r) made)
+
+-- the next terms are positive
+pub left_positive : (p q ms ls rs : Terms) (s : Literal × ℕ) (cancelled : ℕ) → IsMerge p q ms ls rs cancelled → 0 < length ls → s ≡ get_or ls 0 s → 0 < s.1
+left_positive p q ms [] rs s cancelled merge some e = absurd (omega arith)
+left_positive p q ms (l ∷ ls) rs s cancelled merge some e = subst (λ (x : Literal × ℕ). 0 < x.1) (sym e) (above_next 0 ms l ls merge.left)
+
+pub right_positive : (p q ms ls rs : Terms) (t : Literal × ℕ) (cancelled : ℕ) → IsMerge p q ms ls rs cancelled → 0 < length rs → t ≡ get_or rs 0 t → 0 < t.1
+right_positive p q ms ls rs t cancelled merge some e = left_positive q p ms rs ls t cancelled (merge_turned p q ms ls rs cancelled merge) some e
 
 none_when_empty : (ts : Terms) → length ts ≡ 0 → ts ≡ []
 none_when_empty [] e = refl

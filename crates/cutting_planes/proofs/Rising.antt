@@ -5,6 +5,7 @@ use Rattle.std.proofs.lemmas.List.Elements.{All-nil, All-cons, All-head, All-tai
 use Rattle.std.proofs.lemmas.List.Kept.{AllPairs-cons}
 use Rattle.scut_base.specs.Literal.{Literal}
 use Rattle.pb_lin.specs.Constraint.{IsNormal, total}
+use Rattle.pb_lin.proofs.Merges.{rising_head, rising_tail}
 use Rattle.cutting_planes.proofs.Terms.{Terms}
 
 -- the variables rise from above n, and the coefficients are positive
@@ -33,17 +34,9 @@ above_rising n (t ∷ ts) above = AllPairs-cons (λ s t. s.0.var < t.0.var) t ts
 
 pub normal_from_above : (ts : Terms) (degree : ℕ) → Above 0 ts → total ts + degree ≤ 2 ^ 100 → IsNormal ts degree
 normal_from_above ts degree above fits = record {
-  positive = above_positive 0 ts above;
-  from_one = above_vars 0 ts above;
-  rising = above_rising 0 ts above;
+  merged = record { positive = above_positive 0 ts above; from_one = above_vars 0 ts above; rising = above_rising 0 ts above };
   small = fits;
 }
-
-rising_tail : (t : Literal × ℕ) (ts : Terms) → Rising (t ∷ ts) → Rising ts
-rising_tail t ts rising = λ i j d h l. rising (suc i) (suc j) d (omega arith) (omega arith)
-
-rising_head : (t : Literal × ℕ) (ts : Terms) → Rising (t ∷ ts) → All (λ u. t.0.var < u.0.var) ts
-rising_head t ts rising = λ k d l. rising 0 (suc k) d (omega arith) (omega arith)
 
 above_from_parts : (n : ℕ) (ts : Terms) → All (λ t. 0 < t.1) ts → All (λ t. n < t.0.var) ts → Rising ts → Above n ts
 above_from_parts n [] positive vars rising = tt
@@ -51,9 +44,14 @@ above_from_parts n (t ∷ ts) positive vars rising =
     (All-head (λ u. n < u.0.var) t ts vars, All-head (λ u. 0 < u.1) t ts positive, above_from_parts t.0.var ts (All-tail (λ u. 0 < u.1) t ts positive) (rising_head t ts rising) (rising_tail t ts rising))
 
 pub above_from_normal : (ts : Terms) (degree : ℕ) → IsNormal ts degree → Above 0 ts
-above_from_normal ts degree normal = above_from_parts 0 ts normal.positive normal.from_one normal.rising
+above_from_normal ts degree normal = above_from_parts 0 ts normal.merged.positive normal.merged.from_one normal.merged.rising
 
--- ---- behind terms that stay
+-- ---- after terms that stay
+
+-- the next term's coefficient is positive
+pub above_next : (n : ℕ) (ms : Terms) (s : Literal × ℕ) (ls : Terms) → Above n (ms ++ s ∷ ls) → 0 < s.1
+above_next n [] s ls above = above.1
+above_next n (m ∷ ms) s ls above = above_next m.0.var ms s ls above.2
 
 -- without the next term
 pub above_without : (n : ℕ) (ms : Terms) (s : Literal × ℕ) (ls : Terms) → Above n (ms ++ s ∷ ls) → Above n (ms ++ ls)

@@ -14,6 +14,8 @@ use Rattle.std.proofs.lemmas.Nat.{div_below, le-div}
 use Rattle.scut_base.specs.Literal.{Literal}
 use Rattle.scut_base.specs.Assignment.{lit_true}
 use Rattle.pb_lin.specs.Constraint.{ConstraintValue, IsNormal, Holds, total, term_value, value}
+use Rattle.pb_lin.proofs.Ones.{AllPairs-map}
+use Rattle.pb_lin.proofs.Sums.{term_value-le}
 use Rattle.cutting_planes.specs.Rules.{IsSum, literal_axiom, multiplied, rounded_up, divided, saturated, coefficient_in, weakened}
 
 abbrev pub Terms : Type 0
@@ -31,20 +33,14 @@ value-cons a t ts = sum_by-cons (term_value a) t ts
 
 -- ---- normal form
 
-rising-changed : (g : ℕ → ℕ) (ts : Terms) → AllPairs (λ s t. s.0.var < t.0.var) ts → AllPairs (λ s t. s.0.var < t.0.var) (map (changed g) ts)
-rising-changed g ts rising = λ i j d before within.
-    let inside : j < length ts = omega (arith, length-map ts (changed g)) in
-    let first : (get_or (map (changed g) ts) i d).0.var ≡ (get_or ts i d).0.var = ap (λ t. t.0.var) (get_or-map (changed g) ts i d d (omega arith)) in
-    let second : (get_or (map (changed g) ts) j d).0.var ≡ (get_or ts j d).0.var = ap (λ t. t.0.var) (get_or-map (changed g) ts j d d inside) in
-    let rise : (get_or ts i d).0.var < (get_or ts j d).0.var = rising i j d before inside in
-    omega arith
-
 -- positive coefficients changed to positive ones, where the size stays small
 pub normal-changed : (g : ℕ → ℕ) (ts : Terms) (degree degree' : ℕ) → IsNormal ts degree → ((n : ℕ) → 0 < n → 0 < g n) → total (map (changed g) ts) + degree' ≤ 2 ^ 100 → IsNormal (map (changed g) ts) degree'
 normal-changed g ts degree degree' normal positive fits = record {
-  positive = All-map (λ t. 0 < t.1) (changed g) ts (All-weaker (λ t. 0 < t.1) (λ t. 0 < g t.1) (λ t h. positive t.1 h) ts normal.positive);
-  from_one = All-map (λ t. 0 < t.0.var) (changed g) ts normal.from_one;
-  rising = rising-changed g ts normal.rising;
+  merged = record {
+    positive = All-map (λ t. 0 < t.1) (changed g) ts (All-weaker (λ t. 0 < t.1) (λ t. 0 < g t.1) (λ t h. positive t.1 h) ts normal.merged.positive);
+    from_one = All-map (λ t. 0 < t.0.var) (changed g) ts normal.merged.from_one;
+    rising = AllPairs-map (λ s t. s.0.var < t.0.var) (changed g) (λ t. t) ts normal.merged.rising;
+  };
   small = fits;
 }
 
@@ -177,9 +173,11 @@ min_lowers d n = omega arith
 
 pub normal-nil : (degree : ℕ) → degree ≤ 2 ^ 100 → IsNormal [] degree
 normal-nil degree fits = record {
-  positive = λ k d h. absurd (omega arith);
-  from_one = λ k d h. absurd (omega arith);
-  rising = λ i j d h l. absurd (omega arith);
+  merged = record {
+    positive = λ k d h. absurd (omega arith);
+    from_one = λ k d h. absurd (omega arith);
+    rising = λ i j d h l. absurd (omega arith);
+  };
   small = omega arith;
 }
 
@@ -189,6 +187,16 @@ normal-cut c normal above =
     (let terms : total (map (changed (λ n. min n c.degree)) c.terms) ≤ total c.terms = total-lowered (λ n. min n c.degree) (min_lowers c.degree) c.terms in
     let small : total c.terms + c.degree ≤ 2 ^ 100 = normal.small in
     sums_below (total (map (changed (λ n. min n c.degree)) c.terms)) c.degree (total c.terms) c.degree (2 ^ 100) terms (omega arith) small)
+
+pub normal-saturated : (c : ConstraintValue) → IsNormal c.terms c.degree → IsNormal (saturated c).terms (saturated c).degree
+normal-saturated c normal = by (c.degree == 0) refl
+  where
+    above : (n : ℕ) → (n == 0) ≡ false → 0 < n
+    above n e = grind (arith, nat_tests)
+
+    by : (b : Bool) → (c.degree == 0) ≡ b → IsNormal (if b then [] else map (changed (λ n. min n c.degree)) c.terms) c.degree
+    by true e = normal-nil c.degree (let small : total c.terms + c.degree ≤ 2 ^ 100 = normal.small in omega arith)
+    by false e = normal-cut c normal (above c.degree e)
 
 if_cut : (b : Bool) (n d : ℕ) → (if b then min n d else 0) ≡ min (if b then n else 0) d
 if_cut true n d = refl
@@ -220,22 +228,17 @@ saturated_holds a c holds = cut_or_none_holds (c.degree == 0) a c (eq_true c.deg
 
 pub normal-weakened : (var : ℕ) (c : ConstraintValue) → IsNormal c.terms c.degree → IsNormal (weakened var c).terms (weakened var c).degree
 normal-weakened var c normal = record {
-  positive = All-filter (λ t. not (t.0.var == var)) (λ t. 0 < t.1) c.terms normal.positive;
-  from_one = All-filter (λ t. not (t.0.var == var)) (λ t. 0 < t.0.var) c.terms normal.from_one;
-  rising = AllPairs-filter (λ s t. s.0.var < t.0.var) (λ t. not (t.0.var == var)) c.terms normal.rising;
+  merged = record {
+    positive = All-filter (λ t. not (t.0.var == var)) (λ t. 0 < t.1) c.terms normal.merged.positive;
+    from_one = All-filter (λ t. not (t.0.var == var)) (λ t. 0 < t.0.var) c.terms normal.merged.from_one;
+    rising = AllPairs-filter (λ s t. s.0.var < t.0.var) (λ t. not (t.0.var == var)) c.terms normal.merged.rising;
+  };
   small =
       let both : total (filter (λ t. not (t.0.var == var)) c.terms) + total (filter (λ t. not (not (t.0.var == var))) c.terms) ≡ total c.terms =
       sum_by-filter_both (λ t. not (t.0.var == var)) (λ t. not (not (t.0.var == var))) (λ _. refl) (λ t. t.1) c.terms in
       let small : total c.terms + c.degree ≤ 2 ^ 100 = normal.small in
       sums_below (total (filter (λ t. not (t.0.var == var)) c.terms)) (c.degree - sum_by (coefficient_in var) c.terms) (total c.terms) c.degree (2 ^ 100) (omega arith) (omega arith) small;
 }
-
-if_le : (b : Bool) (n : ℕ) → (if b then n else 0) ≤ n
-if_le true n = omega arith
-if_le false n = omega arith
-
-term_value-le : (a : List Bool) (t : Literal × ℕ) → term_value a t ≤ t.1
-term_value-le a t = if_le (lit_true a t.0) t.1
 
 weakened_step : (a : List Bool) (b : Bool) (t : Literal × ℕ) (ts : Terms) → term_value a t + value a ts ≤ value a (cond (not b) (t ∷ ts) ts) + (if b then t.1 else 0)
 weakened_step a true t ts = let one : term_value a t ≤ t.1 = term_value-le a t in omega arith

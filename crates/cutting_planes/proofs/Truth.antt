@@ -3,9 +3,11 @@ use Rattle.std.specs.Prelude.{◌≡◌, ℕ, ◌<◌, Bool, List, [], ◌∷◌
 use Rattle.std.proofs.Common.{sym, subst, arith, negsuc, zero, suc, ◌∙◌, ap, ◌+◌, ◌≤◌, length, get_or, drop, drop-cons, Bor, ◌⊎◌, inl, inr}
 use Rattle.std.proofs.lemmas.List.{drop_all}
 use Rattle.std.specs.FinMap.{get}
+use Rattle.scut_base.proofs.Options.{if_some}
 use Rattle.pb_lin.specs.Constraint.{ConstraintValue, Holds}
+use Rattle.pb_lin.specs.Given.{Given, HoldsGiven}
 use Rattle.cutting_planes.specs.Rules.{literal_axiom, multiplied, divided, saturated, weakened}
-use Rattle.cutting_planes.specs.Stack.{Given, HoldsGiven, factor_fault, token_fault, IsPushed, IsStep, Answer, final_answer, IsValueOn, IsPolValue}
+use Rattle.cutting_planes.specs.Stack.{factor_fault, token_fault, IsPushed, IsStep, Answer, final_answer, IsValueOn, IsPolValue}
 use Rattle.cutting_planes.specs.declared.token.PolToken.{PolToken}
 use Rattle.cutting_planes.specs.declared.token.PolToken.TheVariants.{Id, Axiom, Negated, Denied, Add, Mul, Div, Saturate, Weaken}
 use Rattle.cutting_planes.specs.declared.fault.PolFault.{PolFault}
@@ -24,12 +26,8 @@ pushed_holds : (a : List Bool) (named : Option ConstraintValue) (stack new : Lis
 pushed_holds a None stack new named_holds step all = absurd step
 pushed_holds a (Some c) stack new named_holds step all = all_along a new stack c step (named_holds c refl) all
 
-some_holds : (a : List Bool) (named : Option ConstraintValue) → IfSome named (Holds a) → (c : ConstraintValue) → named ≡ Some c → Holds a c
-some_holds a None holds c e = cc
-some_holds a (Some d) holds c e = let same : d ≡ c = cc in subst (λ (x : ConstraintValue). Holds a x) same holds
-
 -- a divisor that isn't faulty is positive
-from_one : (k : ℤ) → factor_fault k None ≡ None → 0 < unsigned_abs k
+pub from_one : (k : ℤ) → factor_fault k None ≡ None → 0 < unsigned_abs k
 from_one (pos zero) e = cc
 from_one (pos (suc n)) e = omega arith
 from_one (negsuc n) e = cc
@@ -37,8 +35,8 @@ from_one (negsuc n) e = cc
 step_holds : (a : List Bool) (given : Given) → HoldsGiven a given → (token : PolToken) (stack new : List ConstraintValue) → token_fault given token stack ≡ None → IsStep given token stack new → HoldAll a stack → HoldAll a new
 step_holds a given holds (Id id) stack new e step all = pushed_holds a (get given.lines id) stack new (holds.lines id) step all
 step_holds a given holds (Axiom lit) stack new e step all = all_along a new stack (literal_axiom lit) step (literal_axiom_holds a lit) all
-step_holds a given holds Negated stack new e step all = pushed_holds a given.negated stack new (some_holds a given.negated holds.negated) step all
-step_holds a given holds Denied stack new e step all = pushed_holds a given.denied stack new (some_holds a given.denied holds.denied) step all
+step_holds a given holds Negated stack new e step all = pushed_holds a given.negated stack new (λ c e. if_some (Holds a) given.negated c holds.negated e) step all
+step_holds a given holds Denied stack new e step all = pushed_holds a given.denied stack new (λ c e. if_some (Holds a) given.denied c holds.denied e) step all
 step_holds a given holds Add [] new e step all = absurd step
 step_holds a given holds Add (q ∷ []) new e step all = absurd step
 step_holds a given holds Add (q ∷ p ∷ stack) new e step all = all_along a new stack step.0 step.2 (sum_holds a step.0 p q step.1 all.1.0 all.0) all.1.1
@@ -56,7 +54,7 @@ last_holds a [] c e all = cc
 last_holds a (d ∷ []) c e all = let same : d ≡ c = cc in subst (λ (x : ConstraintValue). Holds a x) same all.0
 last_holds a (d ∷ f ∷ stack) c e all = cc
 
-by_fault : {P R : Type 0} {Q : PolFault → Type 0} (fault : Option PolFault) → MatchOption fault P Q → (fault ≡ None → P → R) → ((f : PolFault) → Q f → R) → R
+pub by_fault : {P R : Type 0} {Q : PolFault → Type 0} (fault : Option PolFault) → MatchOption fault P Q → (fault ≡ None → P → R) → ((f : PolFault) → Q f → R) → R
 by_fault None m none some = none refl m
 by_fault (Some f) m none some = some f m
 
@@ -108,8 +106,9 @@ pub run_fault : (given : Given) (tokens : List PolToken) (stack : List Constrain
 run_fault given tokens stack n token f within is (inl refused) continues = subst (λ (g : PolFault). IsPolValue given tokens (Err g)) (sym refused) tt
 run_fault given tokens stack n token f within is (inr faulty) continues = value_from_run given tokens (Err f) (fault_ends given tokens stack n token f within is faulty continues)
 
-pub run_end : (given : Given) (tokens : List PolToken) (stack : List ConstraintValue) (n : ℕ) (answer : Answer) → length tokens ≤ n → answer ≡ final_answer stack → Continues given tokens stack n → IsPolValue given tokens answer
-run_end given tokens stack n answer past is continues =
+pub run_end : (given : Given) (tokens : List PolToken) (stack : List ConstraintValue) (n : ℕ) (answer : Answer) → length tokens ≤ n → (answer ≡ Err NoMemory) ⊎ (answer ≡ final_answer stack) → Continues given tokens stack n → IsPolValue given tokens answer
+run_end given tokens stack n answer past (inl refused) continues = subst (λ (r : Answer). IsPolValue given tokens r) (sym refused) tt
+run_end given tokens stack n answer past (inr is) continues =
     value_from_run given tokens answer (continues answer (subst (λ (ts : List PolToken). IsValueOn given stack ts answer) (sym (drop_all n tokens past)) is))
 
 -- a look-up that gives a reference

@@ -1,19 +1,13 @@
 -- The value of a stack of constraints under a list of tokens.
-use Rattle.std.specs.Prelude.{◌≡◌, ℕ, ◌+◌, ◌*◌, ◌^◌, Bool, nat_lt, int_lt, unsigned_abs, if◌then◌else◌, List, [], ◌∷◌, ℤ, pos, Option, Some, None, Result, Ok, Err, MatchOption, IfSome}
+use Rattle.std.specs.Prelude.{◌≡◌, ℕ, ◌+◌, ◌*◌, ◌^◌, Bool, nat_lt, int_lt, unsigned_abs, if◌then◌else◌, List, [], ◌∷◌, ℤ, pos, Option, Some, None, Result, Ok, Err, MatchOption}
 use Rattle.std.specs.FinMap.{get}
-use Rattle.pb_lin.specs.Constraint.{ConstraintValue, size, Holds}
-use Rattle.pb_lin.specs.LineMap.{LineMap}
+use Rattle.pb_lin.specs.Constraint.{ConstraintValue, IsVariable, size}
+use Rattle.pb_lin.specs.Given.{Given}
 use Rattle.cutting_planes.specs.Rules.{literal_axiom, IsSum, multiplied, divided, saturated, weakened}
 use Rattle.cutting_planes.specs.declared.token.PolToken.{PolToken}
 use Rattle.cutting_planes.specs.declared.token.PolToken.TheVariants.{Id, Axiom, Negated, Denied, Add, Mul, Div, Saturate, Weaken}
 use Rattle.cutting_planes.specs.declared.fault.PolFault.{PolFault}
 use Rattle.cutting_planes.specs.declared.fault.PolFault.TheVariants.{NoSuchId, Stack, BadFactor, Overflow, NoMemory}
-
--- what tokens may name: lines by their ids, and two constraints that may be given
-pub record Given : Type 0 where
-  pub lines : LineMap
-  pub negated : Option ConstraintValue
-  pub denied : Option ConstraintValue
 
 -- a constraint is there, or this id names none
 abbrev pub named_fault : Option ConstraintValue → ℕ → Option PolFault
@@ -80,8 +74,7 @@ abbrev pub IsPolValue : Given → List PolToken → Answer → Type 0
 IsPolValue given tokens (Err NoMemory) = Unit {0}
 IsPolValue given tokens answer = IsValueOn given [] tokens answer
 
--- all that tokens may name holds
-pub record HoldsGiven (a : List Bool) (given : Given) : Type 0 where
-  pub lines : (id : ℕ) (c : ConstraintValue) → get given.lines id ≡ Some c → Holds a c
-  pub negated : IfSome given.negated (Holds a)
-  pub denied : IfSome given.denied (Holds a)
+-- a literal that the token names is of a variable from 1 to n
+abbrev pub TokenUpTo : ℕ → PolToken → Type 0
+TokenUpTo n (Axiom lit) = IsVariable n lit.var
+TokenUpTo n token = Unit {0}

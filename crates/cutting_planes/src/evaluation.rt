@@ -1,7 +1,9 @@
 // The value of tokens.
-ghost use Rattle.std.specs.Prelude.{◌≡◌, Bool, List, IfOk, option_copied};
-ghost use Rattle.pb_lin.specs.Constraint.{Holds};
-ghost use Rattle.cutting_planes.specs.Stack.{Given, HoldsGiven, IsPolValue};
+ghost use Rattle.std.specs.Prelude.{◌≡◌, ℕ, List, [], Ok, All, IfOk};
+ghost use Rattle.pb_lin.specs.Constraint.{ConstraintValue, UpTo};
+ghost use Rattle.pb_lin.specs.Given.{Given, GivenWithin, IsImpliedBy, given_of};
+ghost use Rattle.cutting_planes.specs.Stack.{Answer, IsPolValue, IsValueOn, TokenUpTo};
+ghost use Rattle.cutting_planes.specs.declared.token.PolToken.{PolToken};
 
 use crate::stack::ConstraintStack;
 use crate::steps::apply;
@@ -11,8 +13,9 @@ use std::alloc::Global;
 
 /// The constraint that the tokens make on a stack that is empty at first; `negated` and `denied` are the
 /// constraints that those two tokens push. The rules are those of Cook, Coullard and Turán (1987), with
-/// saturation and weakening. Each token costs at most one pass over the terms that it reads, and `Add`
-/// makes one new constraint.
+/// saturation and weakening, as VeriPB's `pol` has them (Gocht and Nordström 2021). Each token costs at
+/// most one pass over the terms that it reads; a pushed constraint is copied, `Add` makes one new
+/// constraint, and the others change the topmost in place.
 ///
 /// The first token that fails decides: `NoSuchId(id)` where no line has this id, and `NoSuchId(0)` where
 /// `negated` or `denied` isn't given; `Stack` where a token finds too few constraints, which is judged
@@ -26,12 +29,25 @@ pub fn evaluate(
     negated: Option<&Constraint>,
     denied: Option<&Constraint>,
 ) -> Result<Constraint, PolFault>
-    ensures value { IsPolValue (record { lines = lines.now; negated = option_copied negated.entry; denied = option_copied denied.entry }) tokens.now result }
-    ensures implied { IfOk result (λ c. (a : List Bool) → HoldsGiven a (record { lines = lines.now; negated = option_copied negated.entry; denied = option_copied denied.entry }) → Holds a c) }
+    ensures value { IsPolValue (given_of lines.now negated.entry denied.entry) tokens.now result }
+    ensures implied { IfOk result (IsImpliedBy (given_of lines.now negated.entry denied.entry)) }
 {
     let mut stack = ConstraintStack::new(alloc);
     for token in tokens {
         apply(alloc, &mut stack, *token, lines, negated, denied)?;
     }
-    stack.into_answer()
+    stack.into_answer(alloc)
 }
+
+/// Law: tokens have at most one value.
+pub fn one_value()
+    ensures { (given : Given) (tokens : List PolToken) (x y : Answer)
+        → IsValueOn given [] tokens x → IsValueOn given [] tokens y → x ≡ y }
+{}
+
+/// Law: the value of tokens has no variable that what is given and the tokens' literals lack.
+pub fn value_variables()
+    ensures { (given : Given) (tokens : List PolToken) (c : ConstraintValue) (n : ℕ)
+        → GivenWithin n given → All (TokenUpTo n) tokens
+        → IsValueOn given [] tokens (Ok c) → UpTo n c }
+{}

@@ -1,6 +1,5 @@
 // Why tokens have no value.
 use scut_base::NoMemory;
-use std::alloc::{AllocError, AllocFailed};
 use thiserror::Error;
 
 /// Why tokens have no value.
@@ -30,28 +29,6 @@ impl From<NoMemory> for PolFault {
     ghost from_gives = { λ _ e. e ≡ NoMemory };
 
     fn from(_: NoMemory) -> PolFault {
-        PolFault::NoMemory
-    }
-}
-
-impl From<AllocError> for PolFault {
-    ghost use Rattle.std.specs.Prelude.{◌≡◌};
-    ghost use Rattle.cutting_planes.specs.declared.fault.PolFault.TheVariants.{NoMemory};
-
-    ghost from_gives = { λ _ e. e ≡ NoMemory };
-
-    fn from(_: AllocError) -> PolFault {
-        PolFault::NoMemory
-    }
-}
-
-impl<T: Drop> From<AllocFailed<T>> for PolFault {
-    ghost use Rattle.std.specs.Prelude.{◌≡◌};
-    ghost use Rattle.cutting_planes.specs.declared.fault.PolFault.TheVariants.{NoMemory};
-
-    ghost from_gives = { λ _ e. e ≡ NoMemory };
-
-    fn from(_: AllocFailed<T>) -> PolFault {
         PolFault::NoMemory
     }
 }

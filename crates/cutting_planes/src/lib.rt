@@ -1,4 +1,4 @@
-//! The rules of cutting planes, over a stack of constraints (Cook, Coullard and Turán, 1987).
+//! The rules of cutting planes, over a stack of constraints (Cook, Coullard and Turán 1987).
 //!
 //! Its public contract: what `evaluate` answers is the value of the stack that the tokens describe, or
 //! the first token's fault, and it is implied by the lines and the two given constraints. The crate
@@ -7,22 +7,20 @@
 
 mod evaluation;
 mod fault;
-mod laws;
 mod scale;
-mod size;
 mod stack;
 mod steps;
 mod sum;
 mod token;
 mod weaken;
+mod wide;
 
-pub use evaluation::evaluate;
+pub use evaluation::{evaluate, one_value, value_variables};
 pub use fault::PolFault;
-pub use laws::{
-    multiples_are_implied, quotients_are_implied, saturation_is_implied, sums_keep_truth,
-    weakening_is_implied,
-};
+pub use scale::{multiples_are_implied, quotients_are_implied, saturation_is_implied};
+pub use sum::sums_keep_truth;
 pub use token::PolToken;
+pub use weaken::weakening_is_implied;
 
 #[cfg(test)]
 mod tests;

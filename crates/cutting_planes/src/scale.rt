@@ -1,41 +1,54 @@
-// Constraints multiplied, divided and saturated, in place.
-ghost use Rattle.std.specs.Prelude.{◌≡◌, ◌<◌, ◌≤◌, ◌*◌, ◌^◌, min, map, [], pos, int_lt, unsigned_abs, true, false, None, Some, MatchOption, IfOk, OnOk, IfErr};
-ghost use Rattle.pb_lin.specs.Constraint.{size, total};
+// Constraints multiplied, divided and saturated, in place: one pass, and no memory.
+ghost use Rattle.std.specs.Prelude.{◌≡◌, ℕ, ◌<◌, ◌≤◌, ◌*◌, ◌^◌, ◌↔◌, min, map, [], pos, int_lt, unsigned_abs, true, false, None, Some, IfOk, OnOk, IfErr, IsTrue};
+ghost use Rattle.pb_lin.specs.Constraint.{ConstraintValue, Implies, size, total};
 ghost use Rattle.cutting_planes.specs.Rules.{multiplied, divided, saturated, rounded_up};
 ghost use Rattle.cutting_planes.specs.Stack.{factor_fault, size_fault};
 
 use crate::PolFault;
-use crate::size::{is_product_small, size_of};
-use pb_lin::Constraint;
+use crate::wide::WideConstraint;
+use pb_lin::SIZE_LIMIT;
 use scut_base::{Items, Lit};
 
 // The constraint with each number multiplied.
-pub fn multiplied(c: Constraint, k: i128) -> Result<Constraint, PolFault>
+pub(crate) fn multiplied(c: WideConstraint, k: i128) -> Result<WideConstraint, PolFault>
     ensures value { IfOk result (λ r. r ≡ multiplied (unsigned_abs k) c) }
-    ensures faultless { OnOk result (factor_fault k (size_fault (size c * unsigned_abs k)) ≡ None) }
-    ensures fault { IfErr result (λ f. factor_fault k (size_fault (size c * unsigned_abs k)) ≡ Some f) }
+    ensures faultless { OnOk result
+        (factor_fault k (size_fault (size c * unsigned_abs k)) ≡ None) }
+    ensures fault { IfErr result
+        (λ f. factor_fault k (size_fault (size c * unsigned_abs k)) ≡ Some f) }
 {
     let factor = factor_of(k)?;
-    if !is_product_small(size_of(&c), factor) {
+    if !is_product_small(c.size(), factor) {
         return Err(PolFault::Overflow);
     }
     let degree = c.degree * factor;
-    Ok(Constraint::from_parts(multiplied_terms(c.terms, factor), degree))
+    Ok(WideConstraint::from_parts(multiplied_terms(c.terms, factor), degree))
 }
 
-// The constraint with each number divided and rounded up.
-pub fn divided(c: Constraint, k: i128) -> Result<Constraint, PolFault>
+/// Law: a constraint implies each multiple of it.
+pub fn multiples_are_implied()
+    ensures { (k : ℕ) (c : ConstraintValue) → Implies c (multiplied k c) }
+{}
+
+// The constraint with each number divided and rounded up (Chvátal 1973; as the rule of cutting planes in
+// Cook, Coullard and Turán 1987).
+pub(crate) fn divided(c: WideConstraint, k: i128) -> Result<WideConstraint, PolFault>
     ensures value { IfOk result (λ r. r ≡ divided (unsigned_abs k) c) }
     ensures faultless { OnOk result (factor_fault k None ≡ None) }
     ensures fault { IfErr result (λ f. factor_fault k None ≡ Some f) }
 {
     let divisor = factor_of(k)?;
     let degree = rounded_up(c.degree, divisor);
-    Ok(Constraint::from_parts(divided_terms(c.terms, divisor), degree))
+    Ok(WideConstraint::from_parts(divided_terms(c.terms, divisor), degree))
 }
 
-// The constraint with each coefficient cut to the degree.
-pub fn saturated(c: Constraint) -> Constraint
+/// Law: a constraint implies itself divided, where each number is rounded up.
+pub fn quotients_are_implied()
+    ensures { (k : ℕ) (c : ConstraintValue) → 0 < k → Implies c (divided k c) }
+{}
+
+// The constraint with each coefficient cut to the degree (Chai and Kuehlmann 2003).
+pub(crate) fn saturated(c: WideConstraint) -> WideConstraint
     ensures { result ≡ saturated c }
 {
     let degree = c.degree;
@@ -44,8 +57,13 @@ pub fn saturated(c: Constraint) -> Constraint
     } else {
         cut_terms(c.terms, degree)
     };
-    Constraint::from_parts(terms, degree)
+    WideConstraint::from_parts(terms, degree)
 }
+
+/// Law: a constraint implies itself with each coefficient cut to the degree.
+pub fn saturation_is_implied()
+    ensures { (c : ConstraintValue) → Implies c (saturated c) }
+{}
 
 // A factor without its sign, which is that of a number from 1 on.
 fn factor_of(k: i128) -> Result<u128, PolFault>
@@ -60,6 +78,16 @@ fn factor_of(k: i128) -> Result<u128, PolFault>
         return Err(PolFault::BadFactor);
     }
     Ok(k.unsigned_abs())
+}
+
+// Whether a constraint of this size may be multiplied by the factor.
+fn is_product_small(size: u128, factor: u128) -> bool
+    ensures { IsTrue result ↔ (size * factor ≤ 2 ^ 100) }
+{
+    match size.checked_mul(factor) {
+        Some(product) => product <= SIZE_LIMIT,
+        None => false,
+    }
 }
 
 fn rounded_up(n: u128, divisor: u128) -> u128

@@ -1,8 +1,9 @@
 // A stack of constraints.
-ghost use Rattle.std.specs.Prelude.{◌≡◌, [], ◌∷◌, MatchOption, OnOk, OnErr};
+ghost use Rattle.std.specs.Prelude.{◌≡◌, ◌⊎◌, [], ◌∷◌, Err, MatchOption, OnOk, OnErr};
 ghost use Rattle.cutting_planes.specs.Stack.{final_answer};
 
 use crate::PolFault;
+use crate::wide::WideConstraint;
 use pb_lin::Constraint;
 use scut_base::NoMemory;
 use std::alloc::Global;
@@ -10,8 +11,8 @@ use std::marker::Model;
 
 // The constraints that are worked on. Contracts see the topmost, the last of the `Vec`, first.
 #[derive(Debug, Drop)]
-pub struct ConstraintStack {
-    constraints: Vec<Constraint>,
+pub(crate) struct ConstraintStack {
+    constraints: Vec<WideConstraint>,
 }
 
 impl Model for ConstraintStack {
@@ -24,7 +25,7 @@ impl Model for ConstraintStack {
 }
 
 impl ConstraintStack {
-    pub fn new(alloc: Global) -> ConstraintStack
+    pub(crate) fn new(alloc: Global) -> ConstraintStack
         ensures { result ≡ [] }
     {
         ConstraintStack {
@@ -32,25 +33,27 @@ impl ConstraintStack {
         }
     }
 
-    pub fn push(&mut self, c: Constraint) -> Result<(), NoMemory>
-        ensures { OnOk result (self.new ≡ c ∷ self.old) }
+    pub(crate) fn push(&mut self, c: WideConstraint) -> Result<(), NoMemory>
+        ensures ok { OnOk result (self.new ≡ c ∷ self.old) }
+        ensures err { OnErr result (self.new ≡ self.old) }
     {
         self.constraints.push(c)?;
         Ok(())
     }
 
-    pub fn pop(&mut self) -> Option<Constraint>
-        ensures { MatchOption result (self.old ≡ []) (λ c. self.old ≡ c ∷ self.new) }
+    pub(crate) fn pop(&mut self) -> Option<WideConstraint>
+        ensures { MatchOption result ((self.old ≡ []) × (self.new ≡ []))
+            (λ c. self.old ≡ c ∷ self.new) }
     {
         self.constraints.pop()
     }
 
     // What is left, if it is one constraint.
-    pub fn into_answer(mut self) -> Result<Constraint, PolFault>
-        ensures { result ≡ final_answer self }
+    pub(crate) fn into_answer(mut self, alloc: Global) -> Result<Constraint, PolFault>
+        ensures { (result ≡ Err PolFault.NoMemory) ⊎ (result ≡ final_answer self) }
     {
         match self.pop() {
-            Some(c) if self.constraints.is_empty() => Ok(c),
+            Some(c) if self.constraints.is_empty() => Ok(c.to_constraint(alloc)?),
             _ => Err(PolFault::Stack),
         }
     }

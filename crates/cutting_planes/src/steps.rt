@@ -1,19 +1,20 @@
 // What tokens do to a stack.
 ghost use Rattle.std.specs.Prelude.{option_copied};
+ghost use Rattle.pb_lin.specs.Given.{Given, given_of};
 ghost use Rattle.cutting_planes.specs.Applied.{IsApplied, IsPushedIfNamed};
-ghost use Rattle.cutting_planes.specs.Stack.{Given};
 
 use crate::scale::{divided, multiplied, saturated};
 use crate::stack::ConstraintStack;
 use crate::sum::sum;
-use crate::weaken::{literal_axiom, weakened};
+use crate::weaken::weakened;
+use crate::wide::WideConstraint;
 use crate::{PolFault, PolToken};
 use pb_lin::{Constraint, Lines};
-use scut_base::{Duplicate, Lit};
+use scut_base::Lit;
 use std::alloc::Global;
 
 // What a token makes of the stack.
-pub fn apply(
+pub(crate) fn apply(
     alloc: Global,
     stack: &mut ConstraintStack,
     token: PolToken,
@@ -21,7 +22,8 @@ pub fn apply(
     negated: Option<&Constraint>,
     denied: Option<&Constraint>,
 ) -> Result<(), PolFault>
-    ensures { let given : Given = record { lines = lines.now; negated = option_copied negated.entry; denied = option_copied denied.entry } in IsApplied given token stack.old stack.new result }
+    ensures { IsApplied (given_of lines.now negated.entry denied.entry)
+        token stack.old stack.new result }
 {
     match token {
         PolToken::Id(id) => push_named(alloc, stack, lines.get(id), id),
@@ -47,7 +49,7 @@ fn push_named(
 {
     match c {
         Some(c) => {
-            stack.push(c.copy(alloc)?)?;
+            stack.push(WideConstraint::of(alloc, c)?)?;
             Ok(())
         }
         None => Err(PolFault::NoSuchId(id)),
@@ -57,7 +59,7 @@ fn push_named(
 fn push_axiom(alloc: Global, stack: &mut ConstraintStack, lit: Lit) -> Result<(), PolFault>
     ensures { (given : Given) → IsApplied given (PolToken.Axiom lit) stack.old stack.new result }
 {
-    stack.push(literal_axiom(alloc, lit)?)?;
+    stack.push(WideConstraint::literal_axiom(alloc, lit)?)?;
     Ok(())
 }
 

@@ -1,5 +1,6 @@
-// Tokens of a stack.
-use scut_base::Lit;
+// Tokens of a derivation.
+use scut_base::{Duplicate, Lit, NoMemory};
+use std::alloc::Global;
 
 /// What is done to a stack of constraints.
 #[derive(Clone, Copy, Debug, PartialEq, Eq)]
@@ -22,4 +23,10 @@ pub enum PolToken {
     Saturate,
     /// Drops the term of this variable from the topmost, and lowers its degree by the coefficient.
     Weaken(u64),
+}
+
+impl Duplicate for PolToken {
+    fn copy(&self, _alloc: Global) -> Result<PolToken, NoMemory> {
+        Ok(*self)
+    }
 }

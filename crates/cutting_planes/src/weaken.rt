@@ -1,21 +1,26 @@
-// Constraints without a variable, and what is true of each literal.
-ghost use Rattle.std.specs.Prelude.{◌≡◌, ◌≤◌, ◌^◌, ◌==◌, not, sum_by, IfOk};
+// Constraints without a variable, in place: one pass, and no memory.
+ghost use Rattle.std.specs.Prelude.{◌≡◌, ℕ, ◌≤◌, ◌^◌, ◌==◌, not, sum_by};
 ghost use Rattle.std.specs.List.{filter};
-ghost use Rattle.pb_lin.specs.Constraint.{total};
-ghost use Rattle.cutting_planes.specs.Rules.{coefficient_in, literal_axiom, weakened};
+ghost use Rattle.pb_lin.specs.Constraint.{ConstraintValue, Implies, total};
+ghost use Rattle.cutting_planes.specs.Rules.{coefficient_in, weakened};
 
-use pb_lin::Constraint;
-use scut_base::{Items, Lit, NoMemory};
-use std::alloc::Global;
+use crate::wide::WideConstraint;
+use scut_base::{Items, Lit};
 
-// The constraint without the term of a variable.
-pub fn weakened(c: Constraint, var: u64) -> Constraint
+// The constraint without the term of a variable, which is the sum with as many times the opposite
+// literal's axiom.
+pub(crate) fn weakened(c: WideConstraint, var: u64) -> WideConstraint
     ensures { result ≡ weakened var c }
 {
     let lost = coefficient_in(c.terms.as_slice(), var);
     let degree = c.degree.saturating_sub(lost);
-    Constraint::from_parts(terms_elsewhere(c.terms, var), degree)
+    WideConstraint::from_parts(terms_elsewhere(c.terms, var), degree)
 }
+
+/// Law: a constraint implies itself without a variable, at a degree lowered by the coefficient.
+pub fn weakening_is_implied()
+    ensures { (var : ℕ) (c : ConstraintValue) → Implies c (weakened var c) }
+{}
 
 // The terms of the other variables.
 fn terms_elsewhere(terms: Items<(Lit, u128)>, var: u64) -> Items<(Lit, u128)>
@@ -38,14 +43,4 @@ fn coefficient_in(terms: &[(Lit, u128)], var: u64) -> u128
         }
     }
     coefficient
-}
-
-// That a literal is at least 0.
-pub fn literal_axiom(alloc: Global, lit: Lit) -> Result<Constraint, NoMemory>
-    ensures { IfOk result (λ c. c ≡ literal_axiom lit) }
-{
-    let _var = lit.var();
-    let mut terms = Items::new(alloc);
-    terms.push((lit, 1))?;
-    Ok(Constraint::from_parts(terms, 0))
 }

@@ -6,7 +6,7 @@ use Rattle.scut_base.specs.Literal.{Literal}
 use Rattle.pb_lin.specs.Place.{IsPlace}
 use Rattle.pb_lin.specs.Cover.{is_same, coefficient}
 use Rattle.pb_lin.proofs.Places.{at_place}
-use Rattle.pb_lin.proofs.Sums.{sum_by_zero, sum_by_single}
+use Rattle.scut_base.proofs.Lists.{sum_by_zero, sum_by_single}
 use Rattle.std.proofs.Common.{◌∙◌}
 
 pub coefficient_at : (terms : List (Literal × ℕ)) (l : Literal) (i : ℕ) (d : Literal × ℕ) → AllPairs (λ s t. s.0.var < t.0.var) terms → IsPlace (λ t. t.0.var) terms l.var i → i < length terms → is_same (get_or terms i d).0 l ≡ true → coefficient terms l ≡ (get_or terms i d).1

@@ -13,22 +13,11 @@ use Rattle.scut_base.specs.Literal.{Literal}
 use Rattle.scut_base.specs.Assignment.{value_of, lit_true}
 use Rattle.pb_lin.specs.Constraint.{ConstraintValue, IsNormal, Covers, term_value, value, opposite}
 use Rattle.pb_lin.specs.Cover.{is_same, coefficient, greatest_excess}
-use Rattle.pb_lin.proofs.Distinct.{AllApart, AllApart-from_pairs}
-use Rattle.pb_lin.proofs.Sums.{sum_by_zero, sum_by_single, sum_by_same}
+use Rattle.scut_base.proofs.Lists.{AllApart, AllApart-from_pairs, sum_by_zero, sum_by_single, sum_by_same, sum_by-add, sum_by_same_in}
 use Rattle.pb_lin.proofs.Truths.{beq_same, beq_other}
 
 abbrev pub Terms : Type 0
 Terms = List (Literal × ℕ)
-
--- the sums of two functions, added
-pub sum_by-add : {X : Type 0} (f g : X → ℕ) (xs : List X) → sum_by (λ x. f x + g x) xs ≡ sum_by f xs + sum_by g xs
-sum_by-add f g [] = omega arith
-sum_by-add f g (x ∷ xs) =
-    let rest = sum_by-add f g xs in
-    let both = sum_by-cons (λ y. f y + g y) x xs in
-    let left = sum_by-cons f x xs in
-    let right = sum_by-cons g x xs in
-    omega arith
 
 beq-true : (x y : Bool) → beq x y ≡ true → x ≡ y
 beq-true true true e = refl
@@ -132,15 +121,6 @@ excess_bound a left right up =
     omega arith
 
 -- ---- the assignment that reaches it
-
-pub sum_by_same_in : {X : Type 0} (f g : X → ℕ) (xs : List X) → All (λ x. f x ≡ g x) xs → sum_by f xs ≡ sum_by g xs
-sum_by_same_in f g [] all = refl
-sum_by_same_in f g (x ∷ xs) all =
-    let one : f x ≡ g x = All-head (λ y. f y ≡ g y) x xs all in
-    let rest = sum_by_same_in f g xs (All-tail (λ y. f y ≡ g y) x xs all) in
-    let left = sum_by-cons f x xs in
-    let right = sum_by-cons g x xs in
-    omega arith
 
 pub same_literal : (l m : Literal) → l ≡ m → is_same l m ≡ true
 same_literal l m e = and_from (l.var == m.var) (beq l.neg m.neg) (eq-eqb l.var m.var (ap (λ (k : Literal). k.var) e)) (beq_same l.neg m.neg (ap (λ (k : Literal). k.neg) e))

@@ -12,7 +12,8 @@ use Rattle.pb_lin.specs.Constraint.{ConstraintValue, Holds, Covers, Implies, ter
 use Rattle.pb_lin.specs.NormalForm.{HasExcess, IsNormalForm, sum_value}
 use Rattle.pb_lin.specs.Restriction.{is_set, is_among, met_value, restriction}
 use Rattle.pb_lin.specs.Substitution.{Images, IsUnder, variable_under, true_under, value_under}
-use Rattle.pb_lin.proofs.Covers.{sum_by_same_in, is_same-true}
+use Rattle.scut_base.proofs.Lists.{sum_by_same_in}
+use Rattle.pb_lin.proofs.Covers.{is_same-true}
 
 -- a constraint holds where its excess isn't below 0
 pub Holds-excess : (c : ConstraintValue) (excess : List Bool → ℤ) → HasExcess c excess → (a : List Bool) → (Holds a c ↔ (pos 0 ≤ℤ excess a))

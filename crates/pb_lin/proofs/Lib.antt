@@ -1,7 +1,6 @@
 pub mod Places
 pub mod AtPlace
 pub mod Sums
-pub mod Distinct
 pub mod Truths
 pub mod Coefficients
 pub mod Covers

@@ -12,7 +12,8 @@ use Rattle.std.proofs.lemmas.List.Kept.{AllPairs-filter}
 use Rattle.std.proofs.lemmas.List.Sorted.{list_any-IsPermutation}
 use Rattle.pb_lin.specs.Constraint.{ConstraintValue, IsNormal}
 use Rattle.pb_lin.specs.Restriction.{is_set, is_among, met_value, restriction}
-use Rattle.pb_lin.proofs.Sums.{filter_same, sum_by_same, sum_by-filter-le}
+use Rattle.scut_base.proofs.Lists.{sum_by_same, sum_by-filter-le}
+use Rattle.pb_lin.proofs.Sums.{filter_same}
 use Rattle.pb_lin.proofs.Places.{at_place}
 
 pub beq_same : (x y : Bool) → x ≡ y → beq x y ≡ true

@@ -12,7 +12,8 @@ use Rattle.pb_lin.specs.Constraint.{ConstraintValue, IsNormal, value}
 use Rattle.pb_lin.specs.NormalForm.{HasExcess}
 use Rattle.pb_lin.specs.Cover.{is_same, coefficient, greatest_excess}
 use Rattle.pb_lin.proofs.Covers.{Terms, coefficient_of_term, excess_reached, is_same-true, term_of}
-use Rattle.pb_lin.proofs.Sums.{sum_by_zero}
+use Rattle.scut_base.proofs.Lists.{sum_by_zero}
+use Rattle.pb_lin.proofs.Merges.{rising_head, rising_tail}
 
 -- no literal of a variable below all
 coefficient_below : (terms : Terms) (l : Literal) → All (λ t. l.var < t.0.var) terms → coefficient terms l ≡ 0
@@ -23,12 +24,6 @@ coefficient_below terms l above = sum_by_zero (λ t. if is_same t.0 l then t.1 e
 
 coefficient-cons : (t : Literal × ℕ) (terms : Terms) (l : Literal) → coefficient (t ∷ terms) l ≡ (if is_same t.0 l then t.1 else 0) + coefficient terms l
 coefficient-cons t terms l = sum_by-cons (λ r. if is_same r.0 l then r.1 else 0) t terms
-
-rest_above : (t : Literal × ℕ) (terms : Terms) → AllPairs (λ x y. x.0.var < y.0.var) (t ∷ terms) → All (λ r. t.0.var < r.0.var) terms
-rest_above t terms up k d short = up 0 (suc k) d (omega arith) (omega arith)
-
-rest_rising : (t : Literal × ℕ) (terms : Terms) → AllPairs (λ x y. x.0.var < y.0.var) (t ∷ terms) → AllPairs (λ x y. x.0.var < y.0.var) terms
-rest_rising t terms up i j d less short = up (suc i) (suc j) d (omega arith) (omega arith)
 
 first_coefficient : (t : Literal × ℕ) (terms : Terms) → AllPairs (λ x y. x.0.var < y.0.var) (t ∷ terms) → coefficient (t ∷ terms) t.0 ≡ t.1
 first_coefficient t terms up = coefficient_of_term (t ∷ terms) up 0 t (omega arith)
@@ -48,7 +43,7 @@ same_terms (x ∷ xs) [] ux uy px py same =
     absurd (omega arith)
 same_terms (x ∷ xs) (y ∷ ys) ux uy px py same =
     let first : x ≡ y = first_same in
-    let rest = same_terms xs ys (rest_rising x xs ux) (rest_rising y ys uy) (All-tail (λ t. 0 < t.1) x xs px) (All-tail (λ t. 0 < t.1) y ys py) (λ l.
+    let rest = same_terms xs ys (rising_tail x xs ux) (rising_tail y ys uy) (All-tail (λ t. 0 < t.1) x xs px) (All-tail (λ t. 0 < t.1) y ys py) (λ l.
     let here = same l in
     let left = coefficient-cons x xs l in
     let right = coefficient-cons y ys l in
@@ -64,14 +59,14 @@ same_terms (x ∷ xs) (y ∷ ys) ux uy px py same =
 
     not_below : x.0.var < y.0.var → ⊥
     not_below h =
-        let none = coefficient_below (y ∷ ys) x.0 (All-cons (λ t. x.0.var < t.0.var) y ys h (All-weaker (λ t. y.0.var < t.0.var) (λ t. x.0.var < t.0.var) (λ t k. omega arith) ys (rest_above y ys uy))) in
+        let none = coefficient_below (y ∷ ys) x.0 (All-cons (λ t. x.0.var < t.0.var) y ys h (All-weaker (λ t. y.0.var < t.0.var) (λ t. x.0.var < t.0.var) (λ t k. omega arith) ys (rising_head y ys uy))) in
         let here = same x.0 in
         let positive = All-head (λ t. 0 < t.1) x xs px in
         omega (arith, x_here)
 
     not_above : y.0.var < x.0.var → ⊥
     not_above h =
-        let none = coefficient_below (x ∷ xs) y.0 (All-cons (λ t. y.0.var < t.0.var) x xs h (All-weaker (λ t. x.0.var < t.0.var) (λ t. y.0.var < t.0.var) (λ t k. omega arith) xs (rest_above x xs ux))) in
+        let none = coefficient_below (x ∷ xs) y.0 (All-cons (λ t. y.0.var < t.0.var) x xs h (All-weaker (λ t. x.0.var < t.0.var) (λ t. y.0.var < t.0.var) (λ t k. omega arith) xs (rising_head x xs ux))) in
         let here = same y.0 in
         let positive = All-head (λ t. 0 < t.1) y ys py in
         omega (arith, y_here)
@@ -81,7 +76,7 @@ same_terms (x ∷ xs) (y ∷ ys) ux uy px py same =
 
     same_first_literal : y.0 ≡ x.0
     same_first_literal = ⊎_elim (λ (e : is_same y.0 x.0 ≡ true). is_same-true y.0 x.0 e) (λ (n : is_same y.0 x.0 ≡ false).
-        let none = coefficient_below ys x.0 (All-weaker (λ t. y.0.var < t.0.var) (λ t. x.0.var < t.0.var) (λ t k. omega (arith, same_var)) ys (rest_above y ys uy)) in
+        let none = coefficient_below ys x.0 (All-weaker (λ t. y.0.var < t.0.var) (λ t. x.0.var < t.0.var) (λ t k. omega (arith, same_var)) ys (rising_head y ys uy)) in
         let cons = coefficient-cons y ys x.0 in
         let zero : (if is_same y.0 x.0 then y.1 else 0) ≡ 0 = cond-false (is_same y.0 x.0) y.1 0 n in
         let here = same x.0 in
@@ -127,7 +122,7 @@ unique c d nc nd m n same =
 abbrev HasLeast : ConstraintValue → (List Bool → ℤ) → ℤ → Type 0
 HasLeast c excess least = ((a : List Bool) → pos (value a c.terms) -ℤ least ≡ excess a) × (pos c.degree ≡ int_max least (pos 0))
 
-equal_from : (c d : ConstraintValue) → IsNormal c.terms c.degree → IsNormal d.terms d.degree → (m n : ℕ) → ((a : List Bool) → value a c.terms + m ≡ value a d.terms + n) → (m ≡ n → c.degree ≡ d.degree) → c ≡ d
+pub equal_from : (c d : ConstraintValue) → IsNormal c.terms c.degree → IsNormal d.terms d.degree → (m n : ℕ) → ((a : List Bool) → value a c.terms + m ≡ value a d.terms + n) → (m ≡ n → c.degree ≡ d.degree) → c ≡ d
 equal_from c d nc nd m n same degrees =
     let is = unique c d nc nd m n same in
     ap (λ (ts : Terms). let r : ConstraintValue = record { terms = ts; degree = c.degree } in r) is.0

@@ -13,7 +13,7 @@ use Rattle.pb_lin.specs.NormalForm.{HasExcess, IsNormalForm, signed_value, sum_v
 use Rattle.pb_lin.specs.declared.witness.Image.{Image}
 use Rattle.pb_lin.specs.declared.witness.Image.TheVariants.{Zero, One, Lit}
 use Rattle.pb_lin.specs.Substitution.{Images, ImageUpTo, IsUnder, image_true, variable_under, true_under, value_under}
-use Rattle.pb_lin.proofs.Covers.{sum_by_same_in}
+use Rattle.scut_base.proofs.Lists.{sum_by_same_in}
 
 -- the assignments give the variables 1 to n the same values
 abbrev pub AgreeUpTo : ℕ → List Bool → List Bool → Type 0

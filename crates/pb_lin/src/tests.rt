@@ -1,4 +1,4 @@
-// Constraints worked out by hand. A sum is given by its coefficients with the numbers of literals: 3 is
+// Constraints worked out by hand, in tables. A sum is given by its coefficients with the numbers of literals: 3 is
 // x3, and -3 is ~x3.
 ghost use Rattle.std.specs.Prelude.{◌≡◌, length, All, IfOk};
 ghost use Rattle.pb_lin.specs.Constraint.{IsVariable, UpTo};
@@ -59,8 +59,9 @@ fn partial(alloc: Global, truths: &[i8]) -> Result<Partial, NoMemory>
 {
     let mut part = Partial::new(alloc, 128)?;
     for number in truths {
-        if part.get(lit(*number)).is_none() {
-            part.set(lit(*number));
+        let literal = lit(*number);
+        if part.get(literal).is_none() {
+            part.set(literal);
         }
     }
     Ok(part)

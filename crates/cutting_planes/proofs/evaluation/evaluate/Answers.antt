@@ -1,11 +1,11 @@
 use Rattle.std.proofs.Common.{arith}
-use Rattle.std.specs.Prelude.{option_copied}
-use Rattle.cutting_planes.specs.Stack.{Given}
+use Rattle.pb_lin.specs.Given.{Given, given_of}
 use Rattle.cutting_planes.proofs.Truth.{run_end, value_implied}
 use Rattle.cutting_planes.proofs.evaluation.evaluate.Goals as goal
 
+pub returns-clause-value : goal.returns-clause-value
+returns-clause-value c =
+    run_end (given_of c.args.lines.now c.args.negated c.args.denied) c.args.tokens.now c.loop-token.stack c.loop-token.token-index c.into_answer.result (omega arith) c.into_answer.ensures c.loop-token.invariant
+
 pub returns-clause-implied : goal.returns-clause-implied
-returns-clause-implied c =
-    let given : Given = record { lines = c.args.lines.now; negated = option_copied c.args.negated; denied = option_copied c.args.denied } in
-    value_implied given c.args.tokens.now c.into_answer.result
-    (run_end given c.args.tokens.now c.loop-token.stack c.loop-token.token-index c.into_answer.result (omega arith) c.into_answer.ensures c.loop-token.invariant)
+returns-clause-implied c = value_implied (given_of c.args.lines.now c.args.negated c.args.denied) c.args.tokens.now c.into_answer.result (returns-clause-value c)

@@ -6,7 +6,8 @@ use Rattle.std.proofs.lemmas.List.Sums.{sum_by_push}
 use Rattle.scut_base.specs.Literal.{Literal}
 use Rattle.pb_lin.specs.Constraint.{TermsUpTo, value, term_value}
 use Rattle.pb_lin.specs.Constraint.{IsMerged}
-use Rattle.pb_lin.proofs.Merges.{merged_front, merged_push, below_from_last, All-front, All-last, AllPairs-last}
+use Rattle.scut_base.proofs.Lists.{All-prefix, All-last, AllPairs-last}
+use Rattle.pb_lin.proofs.Merges.{merged_prefix, merged_push, below_from_last}
 use Rattle.pb_lin.proofs.normal.push_term.Goals as goal
 
 pub returns-then-var-clause-merged : goal.returns-then-var-clause-merged
@@ -46,17 +47,17 @@ returns-in_ok-push-4-clause-merged c =
     let left = subst (λ (o : Option (Literal × ℕ)). All (λ (t : Literal × ℕ). (t.0.var ≡ c.in-Some.last.0.var) × (0 < t.1)) (option_to_list o)) c.in-Some-joined.is c.add_terms-joined.ensures.left 0 c.in-Some-joined.left (omega arith) in
     let from_one = All-last (λ (t : Literal × ℕ). 0 < t.0.var) c.pop.new.self c.in-Some.last old.from_one in
     let below = AllPairs-last (λ (s t : Literal × ℕ). s.0.var < t.0.var) c.pop.new.self c.in-Some.last old.rising in
-    subst IsMerged (sym c.in_ok-push-4.ensures.ok) (merged_push c.pop.new.self c.in-Some-joined.left (merged_front c.pop.new.self c.in-Some.last old) (All-weaker (λ (t : Literal × ℕ). t.0.var < c.in-Some.last.0.var) (λ (t : Literal × ℕ). t.0.var < c.in-Some-joined.left.0.var) (λ t h. omega arith) c.pop.new.self below) left.1 (omega arith))
+    subst IsMerged (sym c.in_ok-push-4.ensures.ok) (merged_push c.pop.new.self c.in-Some-joined.left (merged_prefix c.pop.new.self c.in-Some.last old) (All-weaker (λ (t : Literal × ℕ). t.0.var < c.in-Some.last.0.var) (λ (t : Literal × ℕ). t.0.var < c.in-Some-joined.left.0.var) (λ t h. omega arith) c.pop.new.self below) left.1 (omega arith))
 
 pub returns-in_ok-push-4-clause-upto : goal.returns-in_ok-push-4-clause-upto
 returns-in_ok-push-4-clause-upto c =
     let left = subst (λ (o : Option (Literal × ℕ)). All (λ (t : Literal × ℕ). (t.0.var ≡ c.in-Some.last.0.var) × (0 < t.1)) (option_to_list o)) c.in-Some-joined.is c.add_terms-joined.ensures.left 0 c.in-Some-joined.left (omega arith) in
     let upto = subst (TermsUpTo c.args.term.0.var) c.in-Some.ensures c.requires.upto in
     let last = All-last (λ (t : Literal × ℕ). t.0.var ≤ c.args.term.0.var) c.pop.new.self c.in-Some.last upto in
-    subst (TermsUpTo c.args.term.0.var) (sym c.in_ok-push-4.ensures.ok) (All-push (λ (t : Literal × ℕ). t.0.var ≤ c.args.term.0.var) c.pop.new.self c.in-Some-joined.left (All-front (λ (t : Literal × ℕ). t.0.var ≤ c.args.term.0.var) c.pop.new.self c.in-Some.last upto) (omega arith))
+    subst (TermsUpTo c.args.term.0.var) (sym c.in_ok-push-4.ensures.ok) (All-push (λ (t : Literal × ℕ). t.0.var ≤ c.args.term.0.var) c.pop.new.self c.in-Some-joined.left (All-prefix (λ (t : Literal × ℕ). t.0.var ≤ c.args.term.0.var) c.pop.new.self c.in-Some.last upto) (omega arith))
 
 pub returns-in_default-joined-clause-merged : goal.returns-in_default-joined-clause-merged
-returns-in_default-joined-clause-merged c = merged_front c.pop.new.self c.in-Some.last (subst IsMerged c.in-Some.ensures c.requires.merged)
+returns-in_default-joined-clause-merged c = merged_prefix c.pop.new.self c.in-Some.last (subst IsMerged c.in-Some.ensures c.requires.merged)
 
 pub returns-in_default-joined-clause-upto : goal.returns-in_default-joined-clause-upto
-returns-in_default-joined-clause-upto c = All-front (λ (t : Literal × ℕ). t.0.var ≤ c.args.term.0.var) c.pop.new.self c.in-Some.last (subst (TermsUpTo c.args.term.0.var) c.in-Some.ensures c.requires.upto)
+returns-in_default-joined-clause-upto c = All-prefix (λ (t : Literal × ℕ). t.0.var ≤ c.args.term.0.var) c.pop.new.self c.in-Some.last (subst (TermsUpTo c.args.term.0.var) c.in-Some.ensures c.requires.upto)

@@ -2,7 +2,7 @@ use Rattle.std.proofs.Common.{rules, sym, subst, ◌≢◌}
 use Rattle.std.specs.List.{AllPairs}
 use Rattle.std.proofs.lemmas.List.Sorted.{IsNonDecreasingBy-from_sort_by_key}
 use Rattle.scut_base.specs.Literal.{Literal}
-use Rattle.pb_lin.proofs.Distinct.{AllApart-from_pairs, AllApart-IsPermutation, rising_from_distinct}
+use Rattle.scut_base.proofs.Lists.{AllApart-from_pairs, AllApart-IsPermutation, rising_from_distinct}
 use Rattle.pb_lin.proofs.restriction.sorted_literals.Goals as goal
 
 pub returns-clause-rising : goal.returns-clause-rising
