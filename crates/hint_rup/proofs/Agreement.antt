@@ -11,7 +11,9 @@ use Rattle.std.proofs.lemmas.List.Sums.{sum_by-le-sum_by, sum_by-take-drop, sum_
 use Rattle.scut_base.specs.Literal.{Literal}
 use Rattle.scut_base.specs.Assignment.{value_of, lit_true, partial_value, partial_truth}
 use Rattle.pb_lin.specs.Constraint.{ConstraintValue, Holds, term_value, value, unless_false, possible_value, slack}
-use Rattle.hint_rup.specs.Propagation.{is_forced, with_true, forced, Conflicts}
+use Rattle.scut_base.proofs.Lists.{all_filter_if, sum_gap}
+use Rattle.pb_lin.specs.Propagation.{is_forced}
+use Rattle.hint_rup.specs.Propagation.{with_true, forced, Conflicts}
 use Rattle.hint_rup.proofs.ForcedLiterals.{with_all}
 use Rattle.hint_rup.proofs.Conflict.{conflicts_none, conflicts_cases}
 
@@ -22,7 +24,7 @@ pub record Agrees (p : List (Option Bool)) (a : List Bool) : Type 0 where
 abbrev no_value : Option Bool
 no_value = None
 
-all_open : (n k : ℕ) → get_or (replicate n no_value) k None ≡ None
+pub all_open : (n k : ℕ) → get_or (replicate n no_value) k None ≡ None
 all_open n k = elim (cases_lt k n) [ inl within ↦ get_or-replicate n k no_value None within | inr past ↦ get_or_past (replicate n no_value) k None (omega (arith, length-replicate n no_value)) ]
 
 pub open_agrees : (n : ℕ) (a : List Bool) → Agrees (replicate n None) a
@@ -49,17 +51,6 @@ by_truth (Some false) v n same = let is : v ≡ false = same false refl in subst
 -- no term is worth more than it may be
 term_within : (p : List (Option Bool)) (a : List Bool) → Agrees p a → (t : Literal × ℕ) → term_value a t ≤ possible_value p t
 term_within p a agrees t = by_truth (partial_truth p t.0) (lit_true a t.0) t.1 (λ b. truth_agrees p a agrees t.0 b)
-
--- what one term is below, the sum is below
-sum_gap : {X : Type 0} (f g : X → ℕ) (xs : List X) (k n : ℕ) (d : X) → ((x : X) → f x ≤ g x) → k < length xs → f (get_or xs k d) + n ≤ g (get_or xs k d) → sum_by f xs + n ≤ sum_by g xs
-sum_gap f g xs k n d each within gap =
-    let front : sum_by f (take k xs) ≤ sum_by g (take k xs) = sum_by-le-sum_by f g (take k xs) each in
-    let back : sum_by f (drop (k + 1) xs) ≤ sum_by g (drop (k + 1) xs) = sum_by-le-sum_by f g (drop (k + 1) xs) each in
-    let f_whole : sum_by f (take k xs) + sum_by f (drop k xs) ≡ sum_by f xs = sum_by-take-drop f xs k in
-    let g_whole : sum_by g (take k xs) + sum_by g (drop k xs) ≡ sum_by g xs = sum_by-take-drop g xs k in
-    let f_more : sum_by f (drop k xs) ≡ f (get_or xs k d) + sum_by f (drop (k + 1) xs) = sum_by-drop_more f xs k d within in
-    let g_more : sum_by g (drop k xs) ≡ g (get_or xs k d) + sum_by g (drop (k + 1) xs) = sum_by-drop_more g xs k d within in
-    omega arith
 
 -- a constraint that holds isn't violated
 pub not_violated : (p : List (Option Bool)) (a : List Bool) (c : ConstraintValue) → Agrees p a → Holds a c → slack p c <ℤ pos 0 → ⊥
@@ -94,16 +85,6 @@ forced_true p a c agrees holds k d within is =
         let nothing : term_value a (get_or c.terms k d) ≡ 0 = ap (λ (b : Bool). if b then (get_or c.terms k d).1 else 0) truth in
         let gap : value a c.terms + (get_or c.terms k d).1 ≤ sum_by (possible_value p) c.terms = sum_gap (term_value a) (possible_value p) c.terms k (get_or c.terms k d).1 d (term_within p a agrees) within (omega arith) in
         absurd (omega (arith, ints))
-
-all_filter_if : {X : Type 0} (P : X → Type 0) (test : X → Bool) (xs : List X) → All (λ x. test x ≡ true → P x) xs → All P (filter test xs)
-all_filter_if P test [] each = All-nil P
-all_filter_if P test (x ∷ xs) each =
-    let rest : All P (filter test xs) = all_filter_if P test xs (All-tail (λ x. test x ≡ true → P x) x xs each) in
-    by_test (test x) refl rest
-  where
-    by_test : (b : Bool) → test x ≡ b → All P (filter test xs) → All P (cond b (x ∷ filter test xs) (filter test xs))
-    by_test true is rest = All-cons P x (filter test xs) (All-head (λ x. test x ≡ true → P x) x xs each is) rest
-    by_test false is rest = rest
 
 set_agrees : (neg v b : Bool) → (if neg then not v else v) ≡ true → Some (not neg) ≡ Some b → v ≡ b
 set_agrees true true b holds is = cc

@@ -1,22 +1,10 @@
 -- Conflicts, one constraint after another.
-use Rattle.std.specs.Prelude.{◌≡◌, ℕ, ◌<◌, ◌⊎◌, Bool, true, false, Option, List, [], ◌∷◌, length, Any, slice_index_or, pos, ◌<ℤ◌, refl}
-use Rattle.std.proofs.Common.{zero, suc, inl, inr, sym, subst, arith}
+use Rattle.std.specs.Prelude.{◌≡◌, ◌⊎◌, Bool, true, false, Option, List, [], ◌∷◌, pos, ◌<ℤ◌}
+use Rattle.std.proofs.Common.{inl, inr, sym, subst}
 use Rattle.std.specs.List.{zip}
+use Rattle.scut_base.proofs.Lists.{any_none, any_first, any_later, any_cases}
 use Rattle.pb_lin.specs.Constraint.{ConstraintValue, slack}
 use Rattle.hint_rup.specs.Propagation.{forced, partials, Conflicts}
-
-any_none : {X : Type 0} (P : X → Type 0) → Any P [] → ⊥
-any_none P found = let within : found.0 < 0 = found.2 in omega arith
-
-any_first : {X : Type 0} (P : X → Type 0) (x : X) (xs : List X) → P x → Any P (x ∷ xs)
-any_first P x xs holds = let within : 0 < length (x ∷ xs) = omega arith in (0, x, within, refl, holds)
-
-any_later : {X : Type 0} (P : X → Type 0) (x : X) (xs : List X) → Any P xs → Any P (x ∷ xs)
-any_later P x xs found = let within : suc found.0 < length (x ∷ xs) = omega arith in (suc found.0, found.1, within, found.3, found.4)
-
-any_cases : {X : Type 0} (P : X → Type 0) (x : X) (xs : List X) (k : ℕ) (y : X) → k < length (x ∷ xs) → slice_index_or (x ∷ xs) k y ≡ y → P y → P x ⊎ Any P xs
-any_cases P x xs zero y within is holds = inl (subst P (sym is) holds)
-any_cases P x xs (suc k) y within is holds = let inside : k < length xs = omega arith in inr (k, y, inside, is, holds)
 
 abbrev IsViolated : List (Option Bool) × ConstraintValue → Type 0
 IsViolated x = slack x.0 x.1 <ℤ pos 0

@@ -3,13 +3,15 @@ use Rattle.std.specs.Prelude.{◌≡◌, ◌≢◌, ℕ, ◌+◌, ◌-◌, ◌<�
 use Rattle.std.proofs.Common.{sym, ◌∙◌, ap, subst, get_or, take, take_all, arith}
 use Rattle.std.specs.Option.{is_none, option_map}
 use Rattle.std.specs.List.{filter}
-use Rattle.std.proofs.lemmas.List.{get_or-take, get_or_default, length-take-le, get_or-set_other}
+use Rattle.std.proofs.lemmas.List.{get_or-take, get_or_default, get_or-map, length-map, length-take-le, get_or-set_other}
 use Rattle.std.proofs.lemmas.List.Elements.{filter_more, All-filter, All-head, All-tail}
+use Rattle.std.proofs.lemmas.Int.{ints}
 use Rattle.std.proofs.lemmas.List.Sums.{fold-append}
 use Rattle.scut_base.specs.Literal.{Literal}
 use Rattle.scut_base.specs.Assignment.{partial_truth}
-use Rattle.pb_lin.specs.Constraint.{ConstraintValue, IsNormal, slack}
-use Rattle.hint_rup.specs.Propagation.{is_forced, with_true, forced}
+use Rattle.pb_lin.specs.Constraint.{ConstraintValue, AreOnes, IsNormal, literals, slack}
+use Rattle.pb_lin.specs.Propagation.{is_forced}
+use Rattle.hint_rup.specs.Propagation.{with_true, forced}
 
 -- the partial assignment with the literals of these terms true
 abbrev pub with_all : List (Option Bool) → List (Literal × ℕ) → List (Option Bool)
@@ -38,9 +40,9 @@ truth_kept p l (t ∷ terms) at_one apart =
 earlier_apart : (terms : List (Literal × ℕ)) (degree i : ℕ) (t : Literal × ℕ) → IsNormal terms degree → i < length terms → t ≡ get_or terms i t → All (IsApart t.0.var) (take i terms)
 earlier_apart terms degree i t normal within is = λ k d below.
     let before : k < i = omega (arith, length-take-le i terms (omega arith)) in
-    let rise : (get_or terms k t).0.var < (get_or terms i t).0.var = normal.rising k i t before within in
+    let rise : (get_or terms k t).0.var < (get_or terms i t).0.var = normal.merged.rising k i t before within in
     let here : t.0.var ≡ (get_or terms i t).0.var = ap (λ (u : Literal × ℕ). u.0.var) is in
-    let positive : 0 < (get_or terms k t).0.var = normal.from_one k t (omega arith) in
+    let positive : 0 < (get_or terms k t).0.var = normal.merged.from_one k t (omega arith) in
     let apart : IsApart t.0.var (get_or terms k t) = (positive, λ same. omega arith) in
     subst (IsApart t.0.var) (sym (get_or-take i terms k d before ∙ get_or_default terms k d t (omega arith))) apart
 
@@ -48,7 +50,7 @@ earlier_apart terms degree i t normal within is = λ k d below.
 pub test_is : (p q : List (Option Bool)) (c : ConstraintValue) (i : ℕ) (t : Literal × ℕ) (s : ℕ) (b : Bool) → IsNormal c.terms c.degree → i < length c.terms → t ≡ get_or c.terms i t → q ≡ forced_of_first p c i → slack p c ≡ pos s
     → b ≡ (is_none (partial_truth q t.0) && int_lt (pos s) (pos t.1)) → b ≡ is_forced p c t
 test_is p q c i t s b normal within is so_far slack_is test =
-    let positive : 0 < t.0.var = subst (λ (u : Literal × ℕ). 0 < u.0.var) (sym is) (normal.from_one i t within) in
+    let positive : 0 < t.0.var = subst (λ (u : Literal × ℕ). 0 < u.0.var) (sym is) (normal.merged.from_one i t within) in
     let apart : All (IsApart t.0.var) (filter (is_forced p c) (take i c.terms)) = All-filter (is_forced p c) (IsApart t.0.var) (take i c.terms) (earlier_apart c.terms c.degree i t normal within is) in
     let kept : partial_truth q t.0 ≡ partial_truth p t.0 = ap (λ r. partial_truth r t.0) so_far ∙ truth_kept p t.0 (filter (is_forced p c) (take i c.terms)) positive apart in
     test ∙ ap (λ o. is_none o && int_lt (pos s) (pos t.1)) kept ∙ ap (λ z. is_none (partial_truth p t.0) && int_lt z (pos t.1)) (sym slack_is)
@@ -74,3 +76,36 @@ goes_on_same p q c i t within is so_far fails =
 pub forced_by_all : (p q : List (Option Bool)) (c : ConstraintValue) (i : ℕ) → length c.terms ≤ i → q ≡ forced_of_first p c i → q ≡ forced p c
 unfolding forced
 forced_by_all p q c i past so_far = so_far ∙ ap (λ ts. with_all p (filter (is_forced p c) ts)) (take_all i c.terms past)
+
+-- ---- constraints whose coefficients are all 1
+
+-- the term of a literal that is read from the literals
+pub literal_at : (terms : List (Literal × ℕ)) (lits : List Literal) (i : ℕ) (l : Literal) → lits ≡ literals terms → i < length lits → l ≡ get_or lits i l → (i < length terms) × (l ≡ (get_or terms i (l, 1)).0)
+literal_at terms lits i l same short is =
+    let long : length lits ≡ length terms = ap length same ∙ length-map terms (λ t. t.0) in
+    let within : i < length terms = omega arith in
+    (within, is ∙ ap (λ (ls : List Literal). get_or ls i l) same ∙ get_or-map (λ t. t.0) terms i (l, 1) l within)
+
+-- a literal that is tested at the slack 0
+pub test_at_zero : (p q : List (Option Bool)) (c : ConstraintValue) (i : ℕ) (t : Literal × ℕ) (b : Bool) → IsNormal c.terms c.degree → i < length c.terms → t ≡ get_or c.terms i t → q ≡ forced_of_first p c i → slack p c ≡ pos 0 → t.1 ≡ 1 → b ≡ is_none (partial_truth q t.0) → b ≡ is_forced p c t
+test_at_zero p q c i t b normal within is so_far slack_is one test =
+    test_is p q c i t 0 b normal within is so_far slack_is
+    (test ∙ sym (with_true_test (is_none (partial_truth q t.0))) ∙ ap (λ (n : ℕ). is_none (partial_truth q t.0) && int_lt (pos 0) (pos n)) (sym one))
+  where
+    with_true_test : (x : Bool) → (x && int_lt (pos 0) (pos 1)) ≡ x
+    with_true_test true = refl
+    with_true_test false = refl
+
+filter_none : {X : Type 0} (test : X → Bool) (xs : List X) → All (λ x. test x ≡ false) xs → filter test xs ≡ []
+filter_none test [] fails = refl
+filter_none {X} test (x ∷ xs) fails = ap (λ (b : Bool). cond b (x ∷ filter test xs) (filter test xs)) (All-head (λ y. test y ≡ false) x xs fails) ∙ filter_none test xs (All-tail (λ y. test y ≡ false) x xs fails)
+
+-- above the slack 0 nothing is forced
+pub forced_none : (p : List (Option Bool)) (c : ConstraintValue) (s : ℕ) → AreOnes c.terms → slack p c ≡ pos s → 0 < s → p ≡ forced p c
+unfolding forced
+forced_none p c s ones is above = sym (ap (with_all p) (filter_none (is_forced p c) c.terms (λ k d short.
+    let t = get_or c.terms k d in
+    ap (λ z. is_none (partial_truth p t.0) && int_lt z (pos t.1)) is ∙ ap (λ (n : ℕ). is_none (partial_truth p t.0) && int_lt (pos s) (pos n)) (ones k d short) ∙ none (is_none (partial_truth p t.0)))))
+  where
+    none : (x : Bool) → (x && int_lt (pos s) (pos 1)) ≡ false
+    none x = grind (arith, ints)

@@ -1,5 +1,6 @@
-mod ForcedLiterals
-mod Conflict
-mod Agreement
-mod HintLines
+pub mod ForcedLiterals
+pub mod Conflict
+pub mod Agreement
+pub mod HintLines
 pub mod HintedVariables
+pub mod Lengths

@@ -1,20 +1,21 @@
 -- The lines that hints name, and what is answered for them.
-use Rattle.std.specs.Prelude.{◌≡◌, ℕ, Option, Some, None, option_map, List, [], ◌∷◌, Result, Ok, Err}
+use Rattle.std.specs.Prelude.{◌≡◌, ℕ, Option, Some, None, option_map, List, [], ◌∷◌, All, IfSome, Result, Ok, Err, replicate}
 use Rattle.std.specs.Option.{is_none}
 use Rattle.std.specs.List.{find}
 use Rattle.std.specs.FinMap.{get}
-use Rattle.pb_lin.specs.Constraint.{ConstraintValue, TermsUpTo}
-use Rattle.pb_lin.specs.LineMap.{LineMap}
+use Rattle.pb_lin.specs.Constraint.{ConstraintValue, UpTo}
+use Rattle.pb_lin.specs.Given.{Given}
+use Rattle.hint_rup.specs.Propagation.{Conflicts}
 use Rattle.hint_rup.specs.declared.hint.Hint.{Hint}
 use Rattle.hint_rup.specs.declared.hint.Hint.TheVariants.{Id, Negated, Denied}
 use Rattle.hint_rup.specs.declared.hint.RupFault.{RupFault}
 use Rattle.hint_rup.specs.declared.hint.RupFault.TheVariants.{NoSuchId, Open}
 
 -- the line that a hint names
-abbrev pub line_of : ConstraintValue → Option ConstraintValue → LineMap → Hint → Option ConstraintValue
-line_of negated denied lines (Id id) = get lines id
-line_of negated denied lines Negated = Some negated
-line_of negated denied lines Denied = denied
+abbrev pub line_of : Given → Hint → Option ConstraintValue
+line_of given (Id id) = get given.lines id
+line_of given Negated = given.negated
+line_of given Denied = given.denied
 
 -- the id of a hint, or 0
 abbrev pub id_of : Hint → ℕ
@@ -28,13 +29,17 @@ before None cs = []
 before (Some c) cs = c ∷ cs
 
 -- the lines of the hints, up to the first that names none
-unfoldable pub named : ConstraintValue → Option ConstraintValue → LineMap → List Hint → List ConstraintValue
-named negated denied lines [] = []
-named negated denied lines (h ∷ hs) = before (line_of negated denied lines h) (named negated denied lines hs)
+unfoldable pub named : Given → List Hint → List ConstraintValue
+named given [] = []
+named given (h ∷ hs) = before (line_of given h) (named given hs)
 
 -- the id of the first hint that names no line
-unfoldable pub unnamed : ConstraintValue → Option ConstraintValue → LineMap → List Hint → Option ℕ
-unnamed negated denied lines hints = option_map id_of (find (λ h. is_none (line_of negated denied lines h)) hints)
+unfoldable pub unnamed : Given → List Hint → Option ℕ
+unnamed given hints = option_map id_of (find (λ h. is_none (line_of given h)) hints)
+
+-- no variable of a line that a hint names is above n
+abbrev pub HintsUpTo : ℕ → Given → List Hint → Type 0
+HintsUpTo n given hints = All (λ h. IfSome (line_of given h) (UpTo n)) hints
 
 -- What is answered: Ok exactly where there is a conflict, and else the id of the first hint that names no line, or Open where there is none.
 abbrev pub IsAnswer : {T : Type 0} → Result T RupFault → Type 0 → Option ℕ → Type 0
@@ -42,10 +47,6 @@ IsAnswer (Ok x) Conflict first = Conflict
 IsAnswer (Err (NoSuchId id)) Conflict first = (Conflict → ⊥) × (first ≡ Some id)
 IsAnswer (Err Open) Conflict first = (Conflict → ⊥) × (first ≡ None)
 
--- no variable of a constraint is above n
-abbrev pub UpTo : ℕ → ConstraintValue → Type 0
-UpTo n c = TermsUpTo n c.terms
-
--- no variable of a line is above n
-abbrev pub LinesUpTo : ℕ → LineMap → Type 0
-LinesUpTo n lines = (id : ℕ) (c : ConstraintValue) → get lines id ≡ Some c → UpTo n c
+-- the answer for a constraint and then the lines of the hints, from n open variables on
+abbrev pub IsReplayed : {T : Type 0} → ℕ → ConstraintValue → Given → List Hint → Result T RupFault → Type 0
+IsReplayed n first given hints result = IsAnswer result (Conflicts (replicate n None) (first ∷ named given hints)) (unnamed given hints)

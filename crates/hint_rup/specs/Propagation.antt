@@ -1,14 +1,9 @@
 -- Propagation of a list of constraints, each once.
-use Rattle.std.specs.Prelude.{ℕ, ◌-◌, Bool, not, ◌&&◌, Option, Some, List, [], ◌∷◌, fold, slice_set, pos, ◌<ℤ◌, int_lt, Any}
-use Rattle.std.specs.Option.{is_none}
+use Rattle.std.specs.Prelude.{ℕ, ◌-◌, Bool, not, Option, Some, List, [], ◌∷◌, fold, slice_set, pos, ◌<ℤ◌, Any}
 use Rattle.std.specs.List.{filter, zip}
 use Rattle.scut_base.specs.Literal.{Literal}
-use Rattle.scut_base.specs.Assignment.{partial_truth}
 use Rattle.pb_lin.specs.Constraint.{ConstraintValue, slack}
-
--- whether the literal is open, with a coefficient above the slack
-abbrev pub is_forced : List (Option Bool) → ConstraintValue → Literal × ℕ → Bool
-is_forced p c t = is_none (partial_truth p t.0) && int_lt (slack p c) (pos t.1)
+use Rattle.pb_lin.specs.Propagation.{is_forced}
 
 -- the same with this literal true
 abbrev pub with_true : List (Option Bool) → Literal → List (Option Bool)

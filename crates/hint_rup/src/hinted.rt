@@ -1,11 +1,11 @@
 // Propagation that follows hints.
-ghost use Rattle.std.specs.Prelude.{◌≡◌, ◌∷◌, List, Bool, None, ℕ, length, replicate, option_copied, All, IfSome, IsOk};
-ghost use Rattle.std.specs.FinMap.{get};
-ghost use Rattle.pb_lin.specs.Constraint.{ConstraintValue, Holds};
+ghost use Rattle.std.specs.Prelude.{◌≡◌, ℕ, List, None, length, replicate, option_copied, All, IsOk};
+ghost use Rattle.pb_lin.specs.Constraint.{ConstraintValue, UpTo};
+ghost use Rattle.pb_lin.specs.Given.{IsRefuted, IsWithin, given_with};
+ghost use Rattle.hint_rup.specs.Hints.{HintsUpTo, IsReplayed, line_of, id_of};
 ghost use Rattle.hint_rup.specs.Propagation.{Conflicts};
-ghost use Rattle.hint_rup.specs.Hints.{line_of, id_of, named, unnamed, IsAnswer, UpTo};
 
-use crate::propagation::propagates_to_conflict;
+use crate::propagation::propagate;
 use crate::{Hint, RupFault};
 use pb_lin::{Constraint, Lines};
 use scut_base::Partial;
@@ -17,7 +17,8 @@ use scut_base::Partial;
 ///
 /// `scratch` is overwritten. `NoSuchId` where a hint before the conflict names no line, with 0 for
 /// `Denied` where it isn't given; `Open` where all hints are used and no conflict came. Takes no memory.
-/// Costs one pass over `scratch`, and one or two over `negated` and each line up to the conflict.
+/// Costs what was set in `scratch`, whatever its length is, and one or two passes over `negated` and
+/// each line up to the conflict.
 pub fn replay(
     scratch: &mut Partial,
     negated: &Constraint,
@@ -26,25 +27,35 @@ pub fn replay(
     lines: &Lines,
 ) -> Result<(), RupFault>
     requires negated { UpTo (length scratch.old) negated.now }
-    requires hinted { All (λ h. IfSome (line_of negated.now (option_copied denied) lines.now h) (UpTo (length scratch.old))) hints.now }
-    ensures answer { IsAnswer result (Conflicts (replicate (length scratch.old) None) (negated.now ∷ named negated.now (option_copied denied.entry) lines.now hints.now)) (unnamed negated.now (option_copied denied.entry) lines.now hints.now) }
+    requires hinted { HintsUpTo (length scratch.old)
+        (given_with lines.now negated.now denied) hints.now }
+    ensures answer { IsReplayed (length scratch.old) negated.now
+        (given_with lines.now negated.now denied.entry) hints.now result }
     ensures length { length scratch.new ≡ length scratch.old }
-    ensures implied { IsOk result → (a : List Bool) → Holds a negated.now → IfSome (option_copied denied.entry) (Holds a) → ((id : ℕ) (c : ConstraintValue) → get lines.now id ≡ Some c → Holds a c) → ⊥ }
+    ensures implied { IsOk result
+        → IsRefuted (given_with lines.now negated.now denied.entry) }
 {
     scratch.clear();
-    if propagates_to_conflict(scratch, negated) {
+    if propagate(scratch, negated) {
         return Ok(());
     }
     for hint in hints {
         let Some(line) = line_of(*hint, negated, denied, lines) else {
             return Err(RupFault::NoSuchId(id_of(*hint)));
         };
-        if propagates_to_conflict(scratch, line) {
+        if propagate(scratch, line) {
             return Ok(());
         }
     }
     Err(RupFault::Open)
 }
+
+/// Law: whether constraints conflict doesn't depend on how many variables are open at first, where these
+/// are all of theirs.
+pub fn conflicts_at_any_length()
+    ensures { (m n : ℕ) (cs : List ConstraintValue) → All (IsWithin m) cs → All (IsWithin n) cs
+        → Conflicts (replicate m None) cs → Conflicts (replicate n None) cs }
+{}
 
 // The line that a hint names.
 fn line_of<'a>(
@@ -53,7 +64,8 @@ fn line_of<'a>(
     denied: Option<&'a Constraint>,
     lines: &'a Lines,
 ) -> Option<&'a Constraint>
-    ensures { option_copied result ≡ line_of negated.now (option_copied denied.entry) lines.now hint }
+    ensures { option_copied result
+        ≡ line_of (given_with lines.now negated.now denied.entry) hint }
 {
     match hint {
         Hint::Id(id) => lines.get(id),

@@ -10,7 +10,7 @@ mod hinted;
 mod propagation;
 
 pub use hint::{Hint, RupFault};
-pub use hinted::replay;
+pub use hinted::{conflicts_at_any_length, replay};
 
 #[cfg(test)]
 mod tests;

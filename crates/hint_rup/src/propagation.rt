@@ -2,17 +2,18 @@
 ghost use Rattle.std.specs.Prelude.{◌≡◌, ◌≤◌, ◌↔◌, ◌&&◌, pos, ◌<ℤ◌, int_lt, true, false, length, IsTrue};
 ghost use Rattle.std.specs.Option.{is_none};
 ghost use Rattle.scut_base.specs.Assignment.{partial_truth};
-ghost use Rattle.pb_lin.specs.Constraint.{TermsUpTo, slack};
+ghost use Rattle.pb_lin.specs.Constraint.{AreOnes, UpTo, slack};
 ghost use Rattle.hint_rup.specs.Propagation.{forced};
 
 use pb_lin::Constraint;
 use scut_base::{Lit, Partial};
 
-// Whether the line's slack is negative; where it isn't, makes every open literal true whose coefficient
-// exceeds it. Costs two passes over the line.
-pub(crate) fn propagates_to_conflict(scratch: &mut Partial, line: &Constraint) -> bool
-    requires { TermsUpTo (length scratch.old) line.now.terms }
-    ensures violated { IsTrue result ↔ slack scratch.old line.now <ℤ pos 0 }
+// Whether the line is in conflict, which is a negative slack; where it isn't, makes every open literal
+// true whose coefficient exceeds the slack. Costs two passes over the line; where all coefficients are 1
+// these only count, and the second is left out where the slack is above 0.
+pub(crate) fn propagate(scratch: &mut Partial, line: &Constraint) -> bool
+    requires { UpTo (length scratch.old) line.now }
+    ensures conflict { IsTrue result ↔ slack scratch.old line.now <ℤ pos 0 }
     ensures forced { result ≡ false → scratch.new ≡ forced scratch.old line.now }
     ensures length { length scratch.new ≡ length scratch.old }
 {
@@ -24,17 +25,50 @@ pub(crate) fn propagates_to_conflict(scratch: &mut Partial, line: &Constraint) -
     false
 }
 
-// Makes every open literal true whose coefficient exceeds the slack. The line's variables are distinct,
-// so making one of these true closes no other.
+// Makes every open literal true whose coefficient exceeds the slack.
 fn force(scratch: &mut Partial, line: &Constraint, line_slack: u128)
-    requires within { TermsUpTo (length scratch.old) line.now.terms }
+    requires within { UpTo (length scratch.old) line.now }
     requires slack { slack scratch.old line.now ≡ pos line_slack }
     ensures forced { scratch.new ≡ forced scratch.old line.now }
     ensures length { length scratch.new ≡ length scratch.old }
 {
-    for term in line.terms() {
-        if is_forced(scratch, term, line_slack) {
+    if !line.is_cardinality() {
+        force_terms(scratch, line, line_slack);
+        return;
+    }
+    if line_slack > 0 {
+        return;
+    }
+    force_literals(scratch, line);
+}
+
+// The same, by the coefficients. The line's variables are distinct, so making one of these literals true
+// closes no other.
+fn force_terms(scratch: &mut Partial, line: &Constraint, line_slack: u128)
+    requires within { UpTo (length scratch.old) line.now }
+    requires slack { slack scratch.old line.now ≡ pos line_slack }
+    ensures forced { scratch.new ≡ forced scratch.old line.now }
+    ensures length { length scratch.new ≡ length scratch.old }
+{
+    for at in 0..line.len() {
+        let term = line.term(at);
+        if is_forced(scratch, &term, line_slack) {
             scratch.set(term.0);
+        }
+    }
+}
+
+// The same where all coefficients are 1 and the slack is 0: every open literal is made true.
+fn force_literals(scratch: &mut Partial, line: &Constraint)
+    requires within { UpTo (length scratch.old) line.now }
+    requires ones { AreOnes line.now.terms }
+    requires slack { slack scratch.old line.now ≡ pos 0 }
+    ensures forced { scratch.new ≡ forced scratch.old line.now }
+    ensures length { length scratch.new ≡ length scratch.old }
+{
+    for lit in line.literals() {
+        if is_open(scratch, *lit) {
+            scratch.set(*lit);
         }
     }
 }
@@ -42,8 +76,16 @@ fn force(scratch: &mut Partial, line: &Constraint, line_slack: u128)
 // Whether the literal is open, with a coefficient above the slack.
 fn is_forced(scratch: &Partial, term: &(Lit, u128), line_slack: u128) -> bool
     requires { term.now.0.var ≤ length scratch.now }
-    ensures value { result ≡ (is_none (partial_truth scratch.now term.now.0) && int_lt (pos line_slack) (pos term.now.1)) }
+    ensures value { result ≡ (is_none (partial_truth scratch.now term.now.0)
+        && int_lt (pos line_slack) (pos term.now.1)) }
     ensures open { IsTrue result → is_none (partial_truth scratch.now term.now.0) ≡ true }
 {
-    scratch.get(term.0).is_none() && line_slack < term.1
+    is_open(scratch, term.0) && line_slack < term.1
+}
+
+fn is_open(scratch: &Partial, lit: Lit) -> bool
+    requires { lit.var ≤ length scratch.now }
+    ensures { result ≡ is_none (partial_truth scratch.now lit) }
+{
+    scratch.get(lit).is_none()
 }

@@ -14,4 +14,5 @@ pub mod Images
 pub mod Variables
 pub mod Laws
 pub mod LineEntries
+pub mod LineVariables
 pub mod Ids
