@@ -71,10 +71,7 @@ fn small_sum(
 }
 
 // Puts a term at the end, where there is one.
-fn push_some(
-    terms: &mut Items<(Lit, u128)>,
-    term: Option<(Lit, u128)>,
-) -> Result<(), NoMemory>
+fn push_some(terms: &mut Items<(Lit, u128)>, term: Option<(Lit, u128)>) -> Result<(), NoMemory>
     ensures { OnOk result (terms.new ≡ terms.old ++ option_to_list term) }
 {
     if let Some(term) = term {

@@ -1,225 +1,159 @@
-// What each rule makes, and the faults, worked out by hand.
-ghost use Rattle.std.specs.Prelude.{◌≡◌, ◌<◌, ◌≤◌, ◌+◌, ◌^◌};
-
+// What tokens make of lines, worked out by hand. A sum is given by its coefficients with the numbers of
+// literals: 3 is x3, and -3 is ~x3.
 use crate::{PolFault, PolToken, evaluate};
-use pb_lin::{Constraint, Lines};
-use scut_base::{Items, Lit, NoMemory};
+use pb_lin::{Constraint, LinFault, Lines};
+use scut_base::{Lit, NoMemory};
 use std::alloc::Global;
 use std::test::Fail;
 
-// `1 x1 1 x2 1 x3 >= degree`.
-fn three_terms(alloc: Global, degree: u128) -> Result<Constraint, NoMemory>
-    requires { degree ≤ 2 ^ 99 }
-{
-    let (x1, x2, x3) = (positive(1), positive(2), positive(3));
-    let terms = vec![in alloc; (x1, 1), (x2, 1), (x3, 1)]?;
-    Ok(Constraint::from_parts(Items::from_vec(terms), degree))
+// The literal of a number.
+fn lit(number: i8) -> Lit {
+    Lit::new(u64::from(number.unsigned_abs().max(1)), number < 0)
 }
 
-// `1 x1 1 x2 1 x3 coefficient ~x(var) >= degree`.
-fn four_terms(
-    alloc: Global,
-    coefficient: u128,
-    var: u64,
-    degree: u128,
-) -> Result<Constraint, NoMemory>
-    requires above { 3 < var }
-    requires below { var < 2 ^ 63 }
-    requires positive { 0 < coefficient }
-    requires small { coefficient + degree ≤ 2 ^ 99 }
-{
-    let (x1, x2, x3) = (positive(1), positive(2), positive(3));
-    let last = Lit::new(var, true);
-    let terms = vec![in alloc; (x1, 1), (x2, 1), (x3, 1), (last, coefficient)]?;
-    Ok(Constraint::from_parts(Items::from_vec(terms), degree))
+// The normal form of a sum.
+fn normal(alloc: Global, terms: &[(i128, i8)], degree: i128) -> Result<Constraint, LinFault> {
+    Constraint::normal(alloc, &literals_of(alloc, terms)?, degree)
 }
 
-fn positive(var: u64) -> Lit
-    requires above { 0 < var }
-    requires below { var < 2 ^ 63 }
-    ensures { result.var ≡ var }
-{
-    Lit::new(var, false)
+// The terms with literals in place of their numbers.
+fn literals_of(alloc: Global, terms: &[(i128, i8)]) -> Result<Vec<(i128, Lit)>, NoMemory> {
+    let mut given = Vec::new(alloc);
+    for term in terms {
+        given.push((term.0, lit(term.1)))?;
+    }
+    Ok(given)
 }
 
-fn lines(alloc: Global) -> Result<Lines, NoMemory> {
+// Whether a constraint has these terms and this degree.
+fn is(constraint: &Constraint, terms: &[(u128, i8)], degree: u128) -> bool {
+    let mut same = constraint.degree() == degree && constraint.len() == terms.len();
+    for (at, wanted) in terms.iter().enumerate() {
+        same = same && at < constraint.len() && is_term(constraint.term(at), *wanted);
+    }
+    same
+}
+
+// Whether a term has this coefficient and this literal.
+fn is_term(term: (Lit, u128), wanted: (u128, i8)) -> bool {
+    term.1 == wanted.0 && term.0 == lit(wanted.1)
+}
+
+// The lines 1 to 4.
+const LINES: &[(u64, &[(i128, i8)], i128)] = &[
+    (1, &[(1, 1), (1, 2), (1, 3)], 1),
+    (2, &[(1, 1), (1, 2), (1, 3), (2, -4)], 2),
+    (3, &[(1, 1), (1, 2), (1, 3), (1, -4)], 2),
+    (4, &[(1, 1), (1, 2), (1, 3), (3, -5)], 3),
+];
+
+fn lines(alloc: Global) -> Result<Lines, LinFault> {
     let mut lines = Lines::new(alloc);
-    lines.put(1, three_terms(alloc, 1)?)?;
-    lines.put(2, four_terms(alloc, 2, 4, 2)?)?;
-    lines.put(3, four_terms(alloc, 1, 4, 2)?)?;
-    lines.put(4, four_terms(alloc, 3, 5, 3)?)?;
+    for line in LINES {
+        lines.put(line.0, normal(alloc, line.1, line.2)?)?;
+    }
     Ok(lines)
 }
 
-// The value over the lines, with no given constraint.
-fn value(alloc: Global, tokens: &[PolToken]) -> Result<Constraint, PolFault> {
-    evaluate(alloc, tokens, &lines(alloc)?, None, None)
+// A token by its word: a number pushes that line, `x` an axiom of x1 and `~` of ~x1.
+fn token(word: u8, number: i128) -> PolToken {
+    match word {
+        b'x' => PolToken::Axiom(lit(1)),
+        b'~' => PolToken::Axiom(lit(-1)),
+        b'+' => PolToken::Add,
+        b'*' => PolToken::Mul(number),
+        b'd' => PolToken::Div(number),
+        b's' => PolToken::Saturate,
+        b'w' => PolToken::Weaken(number.unsigned_abs().min(9) as u64),
+        _ => PolToken::Id(number.unsigned_abs().min(9) as u64),
+    }
 }
 
+// The tokens of words with their numbers.
+fn tokens(alloc: Global, words: &[(u8, i128)]) -> Result<Vec<PolToken>, NoMemory> {
+    let mut tokens = Vec::new(alloc);
+    for word in words {
+        tokens.push(token(word.0, word.1))?;
+    }
+    Ok(tokens)
+}
+
+// Tokens, and the terms and the degree that they make.
+const VALUES: &[(&[(u8, i128)], &[(u128, i8)], u128)] = &[
+    // a sum is divided and rounded up
+    (
+        &[(b'i', 1), (b'i', 2), (b'+', 0), (b'd', 2)],
+        &[(1, 1), (1, 2), (1, 3), (1, -4)],
+        2,
+    ),
+    // a multiple is added and divided
+    (
+        &[(b'i', 3), (b'*', 2), (b'i', 4), (b'+', 0), (b'd', 3)],
+        &[(1, 1), (1, 2), (1, 3), (1, -4), (1, -5)],
+        3,
+    ),
+    // complementary literals cancel
+    (
+        &[(b'i', 1), (b'~', 0), (b'*', 2), (b'+', 0)],
+        &[(1, -1), (1, 2), (1, 3)],
+        0,
+    ),
+    (&[(b'x', 0), (b'~', 0), (b'+', 0)], &[], 0),
+    // saturation cuts coefficients to the degree
+    (
+        &[(b'i', 4), (b'w', 3), (b's', 0)],
+        &[(1, 1), (1, 2), (2, -5)],
+        2,
+    ),
+    (&[(b'x', 0), (b's', 0)], &[], 0),
+    // weakening lowers the degree to no less than 0
+    (
+        &[(b'i', 2), (b'w', 9), (b'w', 4), (b'w', 1)],
+        &[(1, 2), (1, 3)],
+        0,
+    ),
+];
+
 #[test]
-fn a_sum_is_divided_and_rounded_up(rt: HostRuntime) -> Result<(), Fail> {
-    let alloc = rt.alloc();
-    let made = value(
-        alloc,
-        &[
-            PolToken::Id(1),
-            PolToken::Id(2),
-            PolToken::Add,
-            PolToken::Div(2),
-        ],
-    )?;
-    let wanted = four_terms(alloc, 1, 4, 2)?;
-    assert_eq!(rt; made.terms(), wanted.terms());
-    assert_eq!(rt; made.degree(), 2);
+fn tokens_make_what_the_rules_say(rt: HostRuntime) -> Result<(), Fail> {
+    for row in VALUES {
+        let tokens = tokens(rt.alloc(), row.0)?;
+        let made = evaluate(rt.alloc(), &tokens, &lines(rt.alloc())?, None, None)?;
+        assert!(rt; is(&made, row.1, row.2));
+    }
     Ok(())
 }
 
-#[test]
-fn a_multiple_is_added_and_divided(rt: HostRuntime) -> Result<(), Fail> {
-    let alloc = rt.alloc();
-    let tokens = [
-        PolToken::Id(3),
-        PolToken::Mul(2),
-        PolToken::Id(4),
-        PolToken::Add,
-        PolToken::Div(3),
-    ];
-    let made = value(alloc, &tokens)?;
-    let (not_x4, not_x5) = (Lit::new(4, true), Lit::new(5, true));
-    let terms = [
-        (positive(1), 1),
-        (positive(2), 1),
-        (positive(3), 1),
-        (not_x4, 1),
-        (not_x5, 1),
-    ];
-    assert_eq!(rt; made.terms(), &terms[..]);
-    assert_eq!(rt; made.degree(), 3);
-    Ok(())
-}
+// Tokens whose size or factor is wrong, and whether the size is.
+const FAULTS: &[(&[(u8, i128)], bool)] = &[
+    (&[(b'i', 1), (b'*', 1 << 100)], true),
+    (&[(b'i', 1), (b'*', i128::MAX)], true),
+    (&[(b'x', 0), (b'*', 1 << 100), (b'~', 0), (b'+', 0)], true),
+    (&[(b'i', 1), (b'*', 0)], false),
+];
 
 #[test]
-fn complementary_literals_cancel(rt: HostRuntime) -> Result<(), Fail> {
-    let alloc = rt.alloc();
-    let (x1, not_x1) = (positive(1), Lit::new(1, true));
-    let made = value(
-        alloc,
-        &[
-            PolToken::Id(1),
-            PolToken::Axiom(not_x1),
-            PolToken::Mul(2),
-            PolToken::Add,
-        ],
-    )?;
-    let terms = [(not_x1, 1), (positive(2), 1), (positive(3), 1)];
-    assert_eq!(rt; made.terms(), &terms[..]);
-    assert_eq!(rt; made.degree(), 0);
-    let none = value(
-        alloc,
-        &[PolToken::Axiom(x1), PolToken::Axiom(not_x1), PolToken::Add],
-    )?;
-    assert!(rt; none.terms().is_empty());
-    Ok(())
-}
-
-#[test]
-fn saturation_cuts_coefficients_to_the_degree(rt: HostRuntime) -> Result<(), Fail> {
-    let alloc = rt.alloc();
-    let made = value(
-        alloc,
-        &[PolToken::Id(4), PolToken::Weaken(3), PolToken::Saturate],
-    )?;
-    let terms = [(positive(1), 1), (positive(2), 1), (Lit::new(5, true), 2)];
-    assert_eq!(rt; made.terms(), &terms[..]);
-    assert_eq!(rt; made.degree(), 2);
-    let none = value(alloc, &[PolToken::Axiom(positive(1)), PolToken::Saturate])?;
-    assert!(rt; none.terms().is_empty());
-    Ok(())
-}
-
-#[test]
-fn weakening_lowers_the_degree_to_no_less_than_0(rt: HostRuntime) -> Result<(), Fail> {
-    let alloc = rt.alloc();
-    let tokens = [
-        PolToken::Id(2),
-        PolToken::Weaken(9),
-        PolToken::Weaken(4),
-        PolToken::Weaken(1),
-    ];
-    let made = value(alloc, &tokens)?;
-    let terms = [(positive(2), 1), (positive(3), 1)];
-    assert_eq!(rt; made.terms(), &terms[..]);
-    assert_eq!(rt; made.degree(), 0);
+fn sizes_and_factors_are_judged_before_terms_cancel(rt: HostRuntime) -> Result<(), Fail> {
+    for row in FAULTS {
+        let wanted = if row.1 {
+            PolFault::Overflow
+        } else {
+            PolFault::BadFactor
+        };
+        let tokens = tokens(rt.alloc(), row.0)?;
+        let refused = evaluate(rt.alloc(), &tokens, &lines(rt.alloc())?, None, None);
+        assert!(rt; refused.err() == Some(wanted));
+    }
     Ok(())
 }
 
 #[test]
 fn given_constraints_are_pushed(rt: HostRuntime) -> Result<(), Fail> {
-    let alloc = rt.alloc();
-    let negated = three_terms(alloc, 1)?;
-    let denied = four_terms(alloc, 2, 4, 2)?;
+    let negated = normal(rt.alloc(), &[(1, 1), (1, 2)], 1)?;
+    let denied = normal(rt.alloc(), &[(1, 1), (1, 3)], 2)?;
     let tokens = [PolToken::Negated, PolToken::Denied, PolToken::Add];
-    let made = evaluate(
-        alloc,
-        &tokens,
-        &Lines::new(alloc),
-        Some(&negated),
-        Some(&denied),
-    )?;
-    assert_eq!(rt; made.degree(), 3);
-    assert_eq!(rt; made.terms().len(), 4);
-    assert_eq!(rt;
-        value(alloc, &[PolToken::Negated]).err(),
-        Some(PolFault::NoSuchId(0))
-    );
-    Ok(())
-}
-
-#[test]
-fn the_stack_is_judged_before_the_factor(rt: HostRuntime) -> Result<(), Fail> {
-    let alloc = rt.alloc();
-    let short = Some(PolFault::Stack);
-    assert_eq!(rt; value(alloc, &[]).err(), short);
-    assert_eq!(rt;
-        value(alloc, &[PolToken::Id(1), PolToken::Add]).err(),
-        short
-    );
-    assert_eq!(rt;
-        value(alloc, &[PolToken::Id(1), PolToken::Id(2)]).err(),
-        short
-    );
-    assert_eq!(rt; value(alloc, &[PolToken::Mul(0)]).err(), short);
-    assert_eq!(rt;
-        value(alloc, &[PolToken::Id(1), PolToken::Mul(0)]).err(),
-        Some(PolFault::BadFactor)
-    );
-    assert_eq!(rt;
-        value(alloc, &[PolToken::Id(9)]).err(),
-        Some(PolFault::NoSuchId(9))
-    );
-    Ok(())
-}
-
-#[test]
-fn a_size_is_judged_before_terms_cancel(rt: HostRuntime) -> Result<(), Fail> {
-    let alloc = rt.alloc();
-    let overflow = Some(PolFault::Overflow);
-    assert_eq!(rt;
-        value(alloc, &[PolToken::Id(1), PolToken::Mul(1 << 100)]).err(),
-        overflow
-    );
-    assert_eq!(rt;
-        value(alloc, &[PolToken::Id(1), PolToken::Mul(i128::MAX)]).err(),
-        overflow
-    );
-    let at_limit = [PolToken::Axiom(positive(1)), PolToken::Mul(1 << 100)];
-    assert!(rt; value(alloc, &at_limit).is_ok());
-    let above = [
-        PolToken::Axiom(positive(1)),
-        PolToken::Mul(1 << 100),
-        PolToken::Axiom(Lit::new(1, true)),
-        PolToken::Add,
-    ];
-    assert_eq!(rt; value(alloc, &above).err(), overflow);
+    let none = Lines::new(rt.alloc());
+    let made = evaluate(rt.alloc(), &tokens, &none, Some(&negated), Some(&denied))?;
+    assert!(rt; is(&made, &[(2, 1), (1, 2), (1, 3)], 3));
     Ok(())
 }

@@ -1,135 +1,124 @@
-// Replays over four lines: 1 is `x1 x2 >= 1`, 2 is `~x2 >= 1`, 3 is `~x1 >= 1`, 4 is `2 x1 x2 >= 2`.
-ghost use Rattle.std.specs.Prelude.{◌≡◌, ◌≤◌, ◌<◌, ◌+◌, ◌^◌, [], IfOk, OnOk, IfSome, option_copied};
-ghost use Rattle.hint_rup.specs.Hints.{LinesUpTo, UpTo};
+// Replays over four lines, worked out by hand. A sum is given by its coefficients with the numbers of
+// literals: 3 is x3, and -3 is ~x3.
+ghost use Rattle.std.specs.Prelude.{◌≡◌, All, IfOk, IfSome, OnOk, option_copied};
+ghost use Rattle.pb_lin.specs.Constraint.{IsVariable, UpTo};
+ghost use Rattle.pb_lin.specs.LineMap.{LinesUpTo};
 
 use crate::{Hint, RupFault, replay};
-use pb_lin::{Constraint, Lines};
-use scut_base::{Items, Lit, NoMemory, Partial};
+use pb_lin::{Constraint, LinFault, Lines};
+use scut_base::{Lit, NoMemory, Partial};
 use std::alloc::Global;
 use std::test::Fail;
 
-// `first x1 second x2 >= degree`.
-fn two_terms(alloc: Global, first: u128, second: u128, degree: u128) -> Result<Constraint, NoMemory>
-    requires first { 0 < first }
-    requires second { 0 < second }
-    requires small { first + second + degree ≤ 2 ^ 100 }
-    ensures { IfOk result (UpTo 2) }
+// The literal of a number.
+fn lit(number: i8) -> Lit
+    ensures { IsVariable 128 result.var }
 {
-    let x1 = (Lit::new(1, false), first);
-    let x2 = (Lit::new(2, false), second);
-    Ok(Constraint::from_parts(Items::from_vec(vec![in alloc; x1, x2]?), degree))
+    Lit::new(u64::from(number.unsigned_abs().max(1)), number < 0)
 }
 
-// The negation of a variable, 1 or 2, as a constraint.
-fn denial(alloc: Global, var: u64) -> Result<Constraint, NoMemory>
-    requires from_one { 0 < var }
-    requires to_two { var ≤ 2 }
-    ensures { IfOk result (UpTo 2) }
+// The normal form of a sum.
+fn normal(alloc: Global, terms: &[(i128, i8)], degree: i128) -> Result<Constraint, LinFault>
+    ensures { IfOk result (UpTo 128) }
 {
-    let term = (Lit::new(var, true), 1);
-    Ok(Constraint::from_parts(Items::from_vec(vec![in alloc; term]?), 1))
+    let given = literals_of(alloc, terms)?;
+    let constraint = Constraint::normal(alloc, &given, degree)?;
+    let _normal = constraint.len();
+    Ok(constraint)
 }
 
-// `>= 0`, with no terms.
-fn nothing(alloc: Global) -> Constraint
-    ensures { UpTo 2 result }
+// The terms with literals in place of their numbers.
+fn literals_of(alloc: Global, terms: &[(i128, i8)]) -> Result<Vec<(i128, Lit)>, NoMemory>
+    ensures { IfOk result (λ given. All (λ t. IsVariable 128 t.1.var) given.items) }
 {
-    Constraint::from_parts(Items::new(alloc), 0)
+    let mut given = Vec::new(alloc);
+    for term in terms {
+        given.push((term.0, lit(term.1)))?;
+    }
+    Ok(given)
+}
+
+// The lines 1 to 4.
+const LINES: &[(u64, &[(i128, i8)], i128)] = &[
+    (1, &[(1, 1), (1, 2)], 1),
+    (2, &[(1, -2)], 1),
+    (3, &[(1, -1)], 1),
+    (4, &[(2, 1), (1, 2)], 2),
+];
+
+fn four_lines(alloc: Global) -> Result<Lines, LinFault>
+    ensures { IfOk result (LinesUpTo 128) }
+{
+    let mut lines = Lines::new(alloc);
+    for line in LINES {
+        let constraint = normal(alloc, line.1, line.2)?;
+        put_line(&mut lines, line.0, constraint)?;
+    }
+    Ok(lines)
 }
 
 // Puts a line under an id.
 fn put_line(lines: &mut Lines, id: u64, line: Constraint) -> Result<(), NoMemory>
-    requires line { UpTo 2 line }
-    requires others { LinesUpTo 2 lines.old }
-    ensures { OnOk result (LinesUpTo 2 lines.new) }
+    requires line { UpTo 128 line }
+    requires others { LinesUpTo 128 lines.old }
+    ensures { OnOk result (LinesUpTo 128 lines.new) }
 {
     lines.put(id, line)
 }
 
-// The four lines.
-fn four_lines(alloc: Global) -> Result<Lines, NoMemory>
-    ensures { IfOk result (LinesUpTo 2) }
-{
-    let mut lines = Lines::new(alloc);
-    put_line(&mut lines, 1, two_terms(alloc, 1, 1, 1)?)?;
-    put_line(&mut lines, 2, denial(alloc, 2)?)?;
-    put_line(&mut lines, 3, denial(alloc, 1)?)?;
-    put_line(&mut lines, 4, two_terms(alloc, 2, 1, 2)?)?;
-    Ok(lines)
-}
-
-// The answer for these hints over the four lines.
+// The answer for hints over the four lines: an id, 0 for what is negated, and -1 for what is denied.
 fn replayed(
     alloc: Global,
     negated: &Constraint,
     denied: Option<&Constraint>,
-    hints: &[Hint],
-) -> Result<Result<(), RupFault>, NoMemory>
-    requires negated { UpTo 2 negated.now }
-    requires denied { IfSome (option_copied denied) (UpTo 2) }
+    numbers: &[i8],
+) -> Result<Result<(), RupFault>, Fail>
+    requires negated { UpTo 128 negated.now }
+    requires denied { IfSome (option_copied denied) (UpTo 128) }
 {
     let lines = four_lines(alloc)?;
-    let mut scratch = Partial::new(alloc, 2)?;
+    let mut hints = Vec::new(alloc);
+    for number in numbers {
+        hints.push(hint(*number))?;
+    }
+    // what was set before doesn't count
+    let mut scratch = Partial::new(alloc, 128)?;
     scratch.set(Lit::new(1, false));
-    Ok(replay(&mut scratch, negated, denied, hints, &lines))
+    Ok(replay(&mut scratch, negated, denied, &hints, &lines))
 }
+
+fn hint(number: i8) -> Hint {
+    match number {
+        0 => Hint::Negated,
+        -1 => Hint::Denied,
+        _ => Hint::Id(u64::from(number.unsigned_abs())),
+    }
+}
+
+// Hints that lead to a conflict from nothing, and hints that don't.
+const CONFLICTS: &[&[i8]] = &[&[2, 3, 1], &[2, 3, 1, 9], &[4, 3]];
+
+const OPEN: &[&[i8]] = &[&[1, 2, 3], &[2, 3], &[4, 2], &[0], &[]];
 
 #[test]
 fn lines_lead_to_a_conflict_in_the_order_of_the_hints(rt: HostRuntime) -> Result<(), Fail> {
-    let alloc = rt.alloc();
-    let negated = nothing(alloc);
-    let rows: [(&[Hint], Result<(), RupFault>); 8] = [
-        (&[Hint::Id(2), Hint::Id(3), Hint::Id(1)], Ok(())),
-        (
-            &[Hint::Id(1), Hint::Id(2), Hint::Id(3)],
-            Err(RupFault::Open),
-        ),
-        (&[Hint::Id(2), Hint::Id(3)], Err(RupFault::Open)),
-        (&[Hint::Id(2), Hint::Id(9)], Err(RupFault::NoSuchId(9))),
-        (
-            &[Hint::Id(2), Hint::Id(3), Hint::Id(1), Hint::Id(9)],
-            Ok(()),
-        ),
-        (&[Hint::Denied, Hint::Id(9)], Err(RupFault::NoSuchId(0))),
-        (&[Hint::Negated], Err(RupFault::Open)),
-        (&[], Err(RupFault::Open)),
-    ];
-    for (hints, want) in rows {
-        assert_eq!(rt; replayed(alloc, &negated, None, hints)?, want, "{hints:?}");
+    let nothing = normal(rt.alloc(), &[], 0)?;
+    for hints in CONFLICTS {
+        assert!(rt; replayed(rt.alloc(), &nothing, None, hints)? == Ok(()));
+    }
+    for hints in OPEN {
+        assert!(rt; replayed(rt.alloc(), &nothing, None, hints)? == Err(RupFault::Open));
     }
     Ok(())
 }
 
 #[test]
-fn a_coefficient_above_the_slack_is_made_true(rt: HostRuntime) -> Result<(), Fail> {
-    let alloc = rt.alloc();
-    let negated = nothing(alloc);
-    let conflict = [Hint::Id(4), Hint::Id(3)];
-    assert_eq!(rt; replayed(alloc, &negated, None, &conflict)?, Ok(()));
-    let open = [Hint::Id(4), Hint::Id(2)];
-    assert_eq!(rt;
-        replayed(alloc, &negated, None, &open)?,
-        Err(RupFault::Open)
-    );
-    Ok(())
-}
-
-#[test]
-fn what_is_negated_comes_first_and_what_is_denied_where_it_is_hinted(
-    rt: HostRuntime,
-) -> Result<(), Fail> {
-    let alloc = rt.alloc();
-    let negated = denial(alloc, 1)?;
-    let denied = two_terms(alloc, 1, 1, 1)?;
-    let hints = [Hint::Id(2), Hint::Denied];
-    assert_eq!(rt; replayed(alloc, &negated, Some(&denied), &hints)?, Ok(()));
-    assert_eq!(rt;
-        replayed(alloc, &negated, Some(&denied), &[])?,
-        Err(RupFault::Open)
-    );
-    assert_eq!(rt;
-        replayed(alloc, &negated, None, &[Hint::Id(2), Hint::Id(1)])?,
-        Ok(())
-    );
+fn what_is_denied_counts_where_it_is_hinted(rt: HostRuntime) -> Result<(), Fail> {
+    let negated = normal(rt.alloc(), &[(1, -1)], 1)?;
+    let denied = normal(rt.alloc(), &[(1, 1), (1, 2)], 1)?;
+    let hinted = replayed(rt.alloc(), &negated, Some(&denied), &[2, -1])?;
+    assert!(rt; hinted == Ok(()));
+    let missing = replayed(rt.alloc(), &negated, None, &[2, -1])?;
+    assert!(rt; missing == Err(RupFault::NoSuchId(0)));
     Ok(())
 }

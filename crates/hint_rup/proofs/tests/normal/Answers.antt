@@ -1,0 +1,11 @@
+use Rattle.std.proofs.Common.{ℤ, subst, sym}
+use Rattle.std.specs.List.{All}
+use Rattle.scut_base.specs.Literal.{Literal}
+use Rattle.pb_lin.specs.Constraint.{IsVariable}
+use Rattle.pb_lin.proofs.Variables.{normal_form_upto}
+use Rattle.hint_rup.proofs.tests.normal.Goals as goal
+
+pub returns : goal.returns
+returns c =
+    normal_form_upto c.in_ok-constraint.constraint c.deref.result.now c.args.degree 128 c.len-normal.ensures.normal c.in_ok-constraint.ensures.normal_form
+    (subst (All {X = ℤ × Literal} (λ t. IsVariable 128 t.1.var)) (sym c.deref.ensures.value) c.in_ok-given.ensures)
