@@ -116,7 +116,7 @@ impl Constraint {
         ensures value { IfOk result (λ terms. terms ≡ self.now.terms) }
         ensures normal { IsNormal self.now.terms self.now.degree }
     {
-        let mut terms = Items::from_vec(Vec::with_capacity(alloc, self.len())?);
+        let mut terms = Items::with_capacity(alloc, self.len())?;
         for at in 0..self.len() {
             terms.push(self.term(at))?;
         }
@@ -172,7 +172,7 @@ fn first_variable(lits: &[Lit]) -> u64
 fn literals_of(alloc: Global, terms: &[(Lit, u128)]) -> Result<Items<Lit>, NoMemory>
     ensures { IfOk result (λ lits. lits ≡ literals terms.now) }
 {
-    let mut lits = Items::from_vec(Vec::with_capacity(alloc, terms.len())?);
+    let mut lits = Items::with_capacity(alloc, terms.len())?;
     for term in terms {
         lits.push(term.0)?;
     }
@@ -195,7 +195,7 @@ fn stored_coefficients(alloc: Global, terms: &[(Lit, u128)]) -> Result<Items<u12
 fn coefficients_of(alloc: Global, terms: &[(Lit, u128)]) -> Result<Items<u128>, NoMemory>
     ensures { IfOk result (λ coefs. coefs ≡ map (λ t. t.1) terms.now) }
 {
-    let mut coefs = Items::from_vec(Vec::with_capacity(alloc, terms.len())?);
+    let mut coefs = Items::with_capacity(alloc, terms.len())?;
     for term in terms {
         coefs.push(term.1)?;
     }

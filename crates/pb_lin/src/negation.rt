@@ -42,7 +42,7 @@ impl Constraint {
 fn opposite_literals(alloc: Global, lits: &[Lit]) -> Result<Items<Lit>, NoMemory>
     ensures { IfOk result (λ opposites. opposites ≡ map opposite lits.now) }
 {
-    let mut opposites = Items::from_vec(Vec::with_capacity(alloc, lits.len())?);
+    let mut opposites = Items::with_capacity(alloc, lits.len())?;
     for lit in lits {
         opposites.push(lit.not())?;
     }

@@ -1,5 +1,5 @@
-// Constraints worked out by hand, in tables. A sum is given by its coefficients with the numbers of literals: 3 is
-// x3, and -3 is ~x3.
+// Constraints worked out by hand, in tables. A sum is given by its coefficients with the numbers of literals:
+// 3 is x3, and -3 is ~x3.
 ghost use Rattle.std.specs.Prelude.{◌≡◌, length, All, IfOk};
 ghost use Rattle.pb_lin.specs.Constraint.{IsVariable, UpTo};
 
