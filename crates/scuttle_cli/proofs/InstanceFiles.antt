@@ -1,6 +1,6 @@
--- What the text of an instance file spells, whichever reader takes it.
-use Rattle.std.proofs.Common.{◌≡◌, ℕ, zero, ◌+◌, ◌<◌, List, [], ◌∷◌, ◌++◌, length, map, Bool, true, false, if◌then◌else◌, arith}
-use Rattle.std.specs.Prelude.{◌==◌, Option, Some, None, Ok, Err, MatchBool}
+-- What the text of an instance file spells, in either format.
+use Rattle.std.proofs.Common.{◌≡◌, ℕ, zero, ◌+◌, ◌<◌, List, [], ◌∷◌, ◌++◌, length, map, arith}
+use Rattle.std.specs.Prelude.{◌==◌, Option, Some, None, Ok, Err}
 use Rattle.std.specs.Option.{option_or, option_map}
 use Rattle.std.proofs.lemmas.List.Splits.{length-slice_split}
 use Rattle.instance.specs.Shape.{InstanceValue}
@@ -10,16 +10,16 @@ use Rattle.instance.specs.declared.fault.InstanceLimit.{InstanceLimit}
 use Rattle.instance.specs.declared.fault.ReadFault.TheVariants.{Bad, Limit, NoMemory}
 use Rattle.instance.specs.Reading.{at_line}
 use Rattle.mcnf_reader.specs.Words.{lines_of, words_of}
-use Rattle.mcnf_reader.specs.FirstFault.{line_fault, fault_behind, first_fault as mcnf_fault}
-use Rattle.mcnf_reader.specs.Grammar.{Spells as SpellsMcnf}
+use Rattle.mcnf_reader.specs.FirstFault.{line_fault, fault_behind}
 use Rattle.mcnf_reader.proofs.Texts.{one_spelled as one_mcnf}
 use Rattle.mcnf_reader.proofs.TextFaults.{no_fault as mcnf_no_fault}
-use Rattle.mopb_reader.specs.Grammar.{Spells as SpellsOpb}
 use Rattle.mopb_reader.proofs.Texts.{one_spelled as one_opb}
 use Rattle.mopb_reader.proofs.Faultless.{spelled_faultless as opb_no_fault}
 use Rattle.mopb_reader.specs.Tokens.{Token}
-use Rattle.mopb_reader.specs.FirstFault.{Progress, Progressed, step, end_fault, end_in, fault_or, fault_from, numbered_tokens, tokens_in_line, nothing_yet, lines_of as opb_lines_of, first_fault as opb_fault}
-use Rattle.scuttle_cli.specs.InstanceFile.{is_mcnf_name, SpellsIn, fault_in}
+use Rattle.mopb_reader.specs.FirstFault.{Progress, Progressed, step, end_fault, end_in, fault_or, fault_from, numbered_tokens, tokens_in_line, nothing_yet, lines_of as opb_lines_of}
+use Rattle.scuttle_cli.specs.InstanceFile.{SpellsIn, fault_in}
+use Rattle.scuttle_cli.specs.declared.instance_file.Format.{Format}
+use Rattle.scuttle_cli.specs.declared.instance_file.Format.TheVariants.{Mcnf, Opb}
 
 -- A fault of a place has the line that it is given.
 placed : (n line : ℕ) (which : InstanceLimit) (f : PlaceFault) → 0 < n → Some (at_line n f) ≡ Some (Limit line which) → 0 < line
@@ -73,25 +73,16 @@ are_numbered n [] some = tt
 are_numbered n (line ∷ lines) some = in_one_line n (tokens_in_line line) _ some (are_numbered (n + 1) lines (omega arith))
 
 -- a limit is reached at a line counted from 1
-pub limit_has_line : (name text : List ℕ) (which : InstanceLimit) → fault_in name text ≡ Some (Limit zero which) → ⊥
-limit_has_line name text which e = by (is_mcnf_name name) e
-  where
-    by : (mcnf : Bool) → (if mcnf then fault_behind [] (map words_of (lines_of text)) else fault_from (length (opb_lines_of text)) nothing_yet (numbered_tokens 1 (opb_lines_of text))) ≡ Some (Limit zero which) → ⊥
-    by true h = omega (arith, mcnf_line [] (map words_of (lines_of text)) zero which h)
-    by false h = omega (arith, opb_line (length (opb_lines_of text)) nothing_yet (numbered_tokens 1 (opb_lines_of text)) zero which (omega (arith, length-slice_split (λ (b : ℕ). b == 10) text)) (are_numbered 1 (opb_lines_of text) (omega arith)) h)
+pub limit_has_line : (format : Format) (text : List ℕ) (which : InstanceLimit) → fault_in format text ≡ Some (Limit zero which) → ⊥
+limit_has_line Mcnf text which e = omega (arith, mcnf_line [] (map words_of (lines_of text)) zero which e)
+limit_has_line Opb text which e = omega (arith, opb_line (length (opb_lines_of text)) nothing_yet (numbered_tokens 1 (opb_lines_of text)) zero which (omega (arith, length-slice_split (λ (b : ℕ). b == 10) text)) (are_numbered 1 (opb_lines_of text) (omega arith)) e)
 
 -- a text that spells an instance has no fault
-pub no_fault_spelled : (name text : List ℕ) (i : InstanceValue) → SpellsIn name text i → fault_in name text ≡ None
-no_fault_spelled name text i spelled = by (is_mcnf_name name) spelled
-  where
-    by : (mcnf : Bool) → MatchBool mcnf (SpellsMcnf text i) (SpellsOpb text i) → (if mcnf then mcnf_fault text else opb_fault text) ≡ None
-    by true here = mcnf_no_fault text i here
-    by false here = opb_no_fault text i here
+pub no_fault_spelled : (format : Format) (text : List ℕ) (i : InstanceValue) → SpellsIn format text i → fault_in format text ≡ None
+no_fault_spelled Mcnf text i spelled = mcnf_no_fault text i spelled
+no_fault_spelled Opb text i spelled = opb_no_fault text i spelled
 
 -- a text spells one instance at most
-pub one_in : (name text : List ℕ) (i j : InstanceValue) → SpellsIn name text i → SpellsIn name text j → i ≡ j
-one_in name text i j left right = by (is_mcnf_name name) left right
-  where
-    by : (mcnf : Bool) → MatchBool mcnf (SpellsMcnf text i) (SpellsOpb text i) → MatchBool mcnf (SpellsMcnf text j) (SpellsOpb text j) → i ≡ j
-    by true a b = one_mcnf text i j a b
-    by false a b = one_opb text i j a b
+pub one_in : (format : Format) (text : List ℕ) (i j : InstanceValue) → SpellsIn format text i → SpellsIn format text j → i ≡ j
+one_in Mcnf text i j left right = one_mcnf text i j left right
+one_in Opb text i j left right = one_opb text i j left right

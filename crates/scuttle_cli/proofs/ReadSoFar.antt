@@ -5,7 +5,7 @@ use Rattle.std.proofs.Math.Seq.{take-add}
 use Rattle.std.proofs.lemmas.List.{length-take, take_min, take_all}
 use Rattle.scut_base.specs.Files.{Files, content, IsTold, IsReadAt, ReadsFrom}
 use Rattle.scut_base.specs.FileLaws.{told_by_content}
-use Rattle.scuttle_cli.specs.Reading.{IsWhole, IsLarge}
+use Rattle.scuttle_cli.specs.WholeFile.{IsWhole, IsLarge}
 
 -- the bytes are the first of the file
 abbrev pub IsReadSoFar : Option Files → List ℕ → List ℕ → Type 0

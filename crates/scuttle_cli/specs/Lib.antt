@@ -6,10 +6,12 @@ pub use Rattle.instance.specs.Meaning
 pub use Rattle.instance.specs.ParetoFront
 pub use Rattle.mcnf_reader.specs.Words
 pub use Rattle.mcnf_reader.specs.Grammar
+pub mod World
+pub mod OwnFaults
 pub mod InstanceFile
 pub mod Command
-pub mod Outcome
-pub mod Reading
+pub mod Answers
+pub mod WholeFile
 pub mod Enumeration
 pub mod Lines
 pub mod Messages

@@ -1,7 +1,7 @@
 use Rattle.std.proofs.Common.{◌≡◌, ◌-◌, ◌^◌, vec_len}
 use Rattle.scut_base.specs.Faults.{NoneFell}
 use Rattle.scuttle_cli.proofs.ReadSoFar.{IsReadSoFar, IsThereSoFar}
-use Rattle.scuttle_cli.proofs.input.read_whole.Given as goal
+use Rattle.scuttle_cli.proofs.whole_file.read_whole.Given as goal
 
 abbrev pub invariant-loop-piece : goal.invariant-loop-piece
 invariant-loop-piece g l =

@@ -1,6 +1,6 @@
 use Rattle.std.proofs.Common.{◌∙◌, arith}
 use Rattle.scuttle_cli.proofs.ReadSoFar.{reads_further, reads_all, there_from_read, read_no_more}
-use Rattle.scuttle_cli.proofs.input.read_whole.Goals as goal
+use Rattle.scuttle_cli.proofs.whole_file.read_whole.Goals as goal
 
 pub returns-then-n-eq0-clause-whole : goal.returns-then-n-eq0-clause-whole
 returns-then-n-eq0-clause-whole g c = (

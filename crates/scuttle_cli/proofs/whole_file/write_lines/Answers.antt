@@ -3,7 +3,7 @@ use Rattle.std.specs.List.{concat}
 use Rattle.scut_base.specs.Files.{with_file}
 use Rattle.scut_base.specs.FileLaws.{there_by, appended_by, partly_by, on_err_anyway}
 use Rattle.scuttle_cli.proofs.Written.{concat_more, concat_rest}
-use Rattle.scuttle_cli.proofs.writing.write_lines.Goals as goal
+use Rattle.scuttle_cli.proofs.whole_file.write_lines.Goals as goal
 
 pub append-requires : goal.append-requires
 append-requires g c = there_by _ _ _ _ c.loop-line.invariant.written

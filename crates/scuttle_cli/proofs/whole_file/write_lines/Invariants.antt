@@ -2,7 +2,7 @@ use Rattle.std.proofs.Common.{◌≡◌, take}
 use Rattle.std.specs.List.{concat}
 use Rattle.scut_base.specs.Files.{with_file}
 use Rattle.scut_base.specs.Faults.{NoneFell}
-use Rattle.scuttle_cli.proofs.writing.write_lines.Given as goal
+use Rattle.scuttle_cli.proofs.whole_file.write_lines.Given as goal
 
 abbrev pub invariant-loop-line : goal.invariant-loop-line
 invariant-loop-line g l =
