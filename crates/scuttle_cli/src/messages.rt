@@ -12,8 +12,10 @@ use std::alloc::Global;
 
 /// Says that the front is complete, and how many vectors it has.
 pub fn say_complete<H: Shelf>(alloc: Global, size: usize, shelf: &mut H) -> Result<(), ShelfFault>
-    ensures said { OnOk result (H.said shelf.new ≡ followed (H.said shelf.old) (complete_line size)) }
-    ensures cut { OnErr result (IsPartlyFollowed (H.said shelf.old) (H.said shelf.new) (complete_line size)) }
+    ensures said { OnOk result
+        (H.said shelf.new ≡ followed (H.said shelf.old) (complete_line size)) }
+    ensures cut { OnErr result
+        (IsPartlyFollowed (H.said shelf.old) (H.said shelf.new) (complete_line size)) }
     ensures files { H.files shelf.new ≡ H.files shelf.old }
     ensures warned { H.warned shelf.new ≡ H.warned shelf.old }
     ensures cause { HasCause ShelfCall.Say [] (H.faults shelf.old) (H.faults shelf.new) result }
@@ -25,8 +27,10 @@ pub fn say_complete<H: Shelf>(alloc: Global, size: usize, shelf: &mut H) -> Resu
 /// Warns of a status by its line, and of Complete by nothing. The caller decides what a warning that
 /// fails means.
 pub fn warn_of<H: Shelf>(alloc: Global, status: Status, shelf: &mut H) -> Result<(), ShelfFault>
-    ensures warned { OnOk result (H.warned shelf.new ≡ followed (H.warned shelf.old) (warning_text status)) }
-    ensures cut { OnErr result (IsPartlyFollowed (H.warned shelf.old) (H.warned shelf.new) (warning_text status)) }
+    ensures warned { OnOk result
+        (H.warned shelf.new ≡ followed (H.warned shelf.old) (warning_text status)) }
+    ensures cut { OnErr result
+        (IsPartlyFollowed (H.warned shelf.old) (H.warned shelf.new) (warning_text status)) }
     ensures files { H.files shelf.new ≡ H.files shelf.old }
     ensures said { H.said shelf.new ≡ H.said shelf.old }
     ensures cause { HasCause ShelfCall.Warn [] (H.faults shelf.old) (H.faults shelf.new) result }

@@ -7,7 +7,7 @@ abbrev pub invariant-loop-piece : goal.invariant-loop-piece
 invariant-loop-piece g l =
     let shelf = g.H.Shelf in
     record {
-      front : IsReadSoFar (shelf.files l.fn.shelf) l.name l.bytes.items;
+      start : IsReadSoFar (shelf.files l.fn.shelf) l.name l.bytes.items;
       there : IsThereSoFar (shelf.files l.fn.shelf) l.name l.bytes.items;
       files : shelf.files l.shelf ≡ shelf.files l.fn.shelf;
       said : shelf.said l.shelf ≡ shelf.said l.fn.shelf;
