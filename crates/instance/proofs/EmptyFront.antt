@@ -1,18 +1,16 @@
 -- A front is empty exactly where there is no model.
-use Rattle.std.proofs.Common.{◌≡◌, ◌≢◌, ℕ, Bool, true, false, not, List, [], ◌∷◌, length, map, ℤ, ◌↔◌, refl, sym, ap, ◌∙◌, subst}
+use Rattle.std.proofs.Common.{◌≡◌, ℕ, Bool, true, List, [], ◌∷◌, length, map, ℤ, ◌↔◌, refl, sym, ap, ◌∙◌, subst}
 use Rattle.std.specs.Prelude.{◌&&◌, Contains}
 use Rattle.std.specs.List.{filter, list_all}
 use Rattle.std.proofs.lemmas.Bool.{and_parts, and_from}
 use Rattle.std.proofs.lemmas.List.{length-map}
 use Rattle.front_set.specs.declared.entry.Entry.{Entry}
-use Rattle.front_set.specs.Vector.{IsBelow}
 use Rattle.front_set.specs.Front.{vectors_of, IsMinimalOf}
 use Rattle.front_set.proofs.Members.{Contains-nil, Contains-head, Contains-map, Contains-from_map, Contains-filter, Contains-from_filter}
 use Rattle.front_set.proofs.Minimal.{minimal_below}
-use Rattle.instance.specs.declared.objective.Objective.{Objective}
 use Rattle.instance.specs.Shape.{InstanceValue}
 use Rattle.instance.specs.Meaning.{IsModel, costs_of, clause_true, row_holds, objective_cost}
-use Rattle.instance.specs.ParetoFront.{IsFront, IsOnFront, Dominates, problem_vector}
+use Rattle.instance.specs.ParetoFront.{IsFront, IsOnFront, problem_vector}
 use Rattle.instance.proofs.Dominance.{problem_numbers-injective, weakly_dominates-is_below}
 use Rattle.instance.proofs.Assignments.{assignments, among_assignments, length_among_assignments}
 
@@ -44,8 +42,7 @@ model_of_vector i v among =
     let pair = Contains-from_map (λ (e : Entry). e.costs) (model_pairs i) v among in
     let found = Contains-from_map (pair_of i) (filter (satisfies i) (assignments i.vars)) pair.0 pair.1 in
     let kept = Contains-from_filter (satisfies i) (assignments i.vars) found.0 found.1 in
-    let holds = and_parts (list_all (clause_true found.0) i.clauses) (list_all (row_holds found.0) i.linear) kept.1 in
-    (
+    let holds = and_parts (list_all (clause_true found.0) i.clauses) (list_all (row_holds found.0) i.linear) kept.1 in (
       found.0,
       record { variables = length_among_assignments i.vars found.0 kept.0; clauses = holds.0; rows = holds.1 },
       ap (λ (e : Entry). e.costs) found.2 ∙ pair.2,

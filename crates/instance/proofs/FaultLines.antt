@@ -1,6 +1,6 @@
 -- The line of a fault.
 use Rattle.std.proofs.Common.{◌≡◌, ℕ, ◌<◌, subst}
-use Rattle.std.specs.Prelude.{Option, Some}
+use Rattle.std.specs.Prelude.{Some}
 use Rattle.instance.specs.declared.fault.PlaceFault.{PlaceFault}
 use Rattle.instance.specs.declared.fault.PlaceFault.TheVariants.{Bad, Limit, NoMemory}
 use Rattle.instance.specs.declared.fault.ReadFault.{ReadFault}

@@ -1,5 +1,6 @@
 // Objectives that are maximised, which no reader makes yet: their costs, and a list of them.
-ghost use Rattle.std.specs.Prelude.{◌≡◌, length, IfOk, OnOk};
+ghost use Rattle.std.specs.Prelude.{◌≡◌, [], length, IfOk, OnOk};
+ghost use Rattle.instance.specs.Shape.{IsObjectiveWithin};
 ghost use Rattle.instance.specs.ParetoFront.{AreProblemVectors};
 
 use super::*;
@@ -13,17 +14,21 @@ use std::test::Fail;
 fn objective(
     alloc: Global,
     sense: Sense,
-    coefficients: [i64; 2],
-    offset: i64,
-) -> Result<Objective, Fail> {
+    first: i32,
+    second: i32,
+    offset: i32,
+) -> Result<Objective, Fail>
+    ensures within { IfOk result (IsObjectiveWithin 2) }
+    ensures softs { IfOk result (λ o. o.softs ≡ []) }
+{
     let mut terms = Items::new(alloc);
-    terms.push((coefficients[0], Lit::new(1, false)))?;
-    terms.push((coefficients[1], Lit::new(2, true)))?;
+    terms.push((i64::from(first), Lit::new(1, false)))?;
+    terms.push((i64::from(second), Lit::new(2, true)))?;
     Ok(Objective {
         sense,
         softs: Items::new(alloc),
         terms,
-        offset,
+        offset: i64::from(offset),
     })
 }
 
@@ -32,14 +37,9 @@ fn instance(alloc: Global) -> Result<Instance, Fail>
     ensures { IfOk result (λ i. i.vars ≡ 2) }
 {
     let mut objectives = Items::new(alloc);
-    objectives.push(objective(alloc, Sense::Max, [5, -6], 1)?)?;
-    objectives.push(objective(alloc, Sense::Min, [2, 3], -4)?)?;
-    Ok(Instance::new(
-        2,
-        Items::new(alloc),
-        Items::new(alloc),
-        objectives,
-    ))
+    objectives.push(objective(alloc, Sense::Max, 5, -6, 1)?)?;
+    objectives.push(objective(alloc, Sense::Min, 2, 3, -4)?)?;
+    Ok(Instance::new(2, Items::new(alloc), Items::new(alloc), objectives))
 }
 
 // The assignment of x1 and x2.
@@ -91,18 +91,35 @@ fn insert(
     Ok(())
 }
 
+// The minimal pairs of all rows.
+fn minimal_pairs(alloc: Global, inst: &Instance) -> Result<FrontSet, Fail>
+    requires { inst.now.vars ≡ 2 }
+    ensures { IfOk result (AreProblemVectors inst.now) }
+{
+    let mut front = FrontSet::new(alloc);
+    for (values, _, _) in ROWS.iter() {
+        insert(alloc, inst, &mut front, *values)?;
+    }
+    Ok(front)
+}
+
 // The two assignments that no other dominates, each with the costs that the instance gives it.
 #[test]
 fn a_list_shows_maximised_sums_and_rises(rt: HostRuntime) -> Result<(), Fail> {
     let inst = instance(rt.alloc())?;
-    let mut front = FrontSet::new(rt.alloc());
-    for (values, _, _) in ROWS.iter() {
-        insert(rt.alloc(), &inst, &mut front, *values)?;
-    }
+    let front = minimal_pairs(rt.alloc(), &inst)?;
     let mut text = String::new(rt.alloc());
     for entry in listed(rt.alloc(), &inst, &front)?.as_slice() {
-        write!(text, "{:?} {:?};", entry.costs.as_slice(), entry.model.as_slice())?;
+        write!(
+            text,
+            "{:?} {:?};",
+            entry.costs.as_slice(),
+            entry.model.as_slice()
+        )?;
     }
-    assert_eq!(rt; text.as_str(), "[1, -4] [false, true];[6, -2] [true, true];");
+    assert_eq!(rt;
+        text.as_str(),
+        "[1, -4] [false, true];[6, -2] [true, true];"
+    );
     Ok(())
 }
