@@ -14,6 +14,7 @@ use Rattle.instance.specs.declared.fault.InstanceLimit.TheVariants.{Bytes, Vars}
 use Rattle.instance.specs.declared.fault.ReadFault.{ReadFault}
 use Rattle.instance.specs.declared.fault.ReadFault.TheVariants.{Bad, Limit, NoMemory as ReadNoMemory}
 use Rattle.instance.specs.ParetoFront.{IsFront}
+use Rattle.instance.proofs.EmptyFront.{empty_exactly}
 use Rattle.scuttle_cli.specs.World.{World}
 use Rattle.scuttle_cli.specs.InstanceFile.{fault_in}
 use Rattle.scuttle_cli.specs.Lines.{entry_lines, list_lines}
@@ -22,7 +23,6 @@ use Rattle.scuttle_cli.specs.Messages.{complete_line}
 use Rattle.scuttle_cli.specs.Answers.{IsFrontOfFile, IsFrontWritten, IsPrefixOfFront, IsInstanceOf, IsPartlySaid, IsCutShort, OwnCountRose, HasNoModel, FrontAnswers, status_of_shelf, status_of_reading}
 use Rattle.scuttle_cli.specs.declared.instance_file.Format.{Format}
 use Rattle.scuttle_cli.proofs.InstanceFiles.{limit_has_line}
-use Rattle.scuttle_cli.proofs.EmptyFront.{size_zero}
 
 -- ---- what stands in the list file
 
@@ -33,6 +33,16 @@ concat-entry_lines (e ∷ entries) = grind (arith, concat-entry_lines entries, a
 
 concat-list_lines : (entries : List Entry) → concat (list_lines true entries) ≡ list_text true entries
 concat-list_lines entries = ap (λ xs. head_line true (length entries) ++ xs) (concat-entry_lines entries)
+
+no_entries : (entries : List Entry) → length entries ≡ 0 → entries ≡ []
+no_entries [] none = refl
+no_entries (e ∷ entries) none = absurd cc
+
+-- the list of the front is empty exactly where there is no model
+size_zero : (i : InstanceValue) (entries : List Entry) → IsFront i entries → (length entries ≡ 0) ↔ HasNoModel i
+size_zero i entries front =
+    let law = empty_exactly i entries front in
+    (λ none. law.0 (no_entries entries none), λ none. ap length (law.1 none))
 
 front_of_file : (files : Option Files) (format : Format) (input : List ℕ) (i : InstanceValue) (entries : List Entry) → IsInstanceOf files format input i → IsFront i entries → IsTold files → IsFrontOfFile files format input entries
 front_of_file files format input i entries of front told =

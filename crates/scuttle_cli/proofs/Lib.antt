@@ -8,4 +8,3 @@ pub mod OwnFaults
 pub mod FrontAnswers
 pub mod Answered
 pub mod Completing
-pub mod EmptyFront

@@ -59,14 +59,14 @@ fn answer<H: Shelf>(alloc: Global, words: &[String], shelf: &mut H) -> Status
     ensures warned { H.warned shelf.new ≡ H.warned shelf.old }
     ensures later { NoneFell (H.faults shelf.old) (H.faults shelf.new) }
 {
-    match read_command(words) {
-        Some(
-            Command::Front {
-                format,
-                input,
-                list,
-            },
-        ) => Status::of(front(alloc, format, input, list, shelf)),
-        None => Status::Usage,
+    let Some(command) = read_command(words) else {
+        return Status::Usage;
+    };
+    match command {
+        Command::Front {
+            format,
+            input,
+            list,
+        } => Status::of(front(alloc, format, input, list, shelf)),
     }
 }
