@@ -4,7 +4,7 @@ use scut_base::{MemShelf, ShelfCall};
 use std::alloc::{AllocError, Global};
 use std::test::Fail;
 
-// Two vectors; the list has five lines.
+// Two vectors: the list has five lines.
 const INPUT: &str = "h 1 2 0\no1 1 -1 0\no2 1 -2 0\n";
 
 // The call that fails, and the how manyth of its kind; the words; the number; the list, or that there
