@@ -71,7 +71,8 @@ pub record IsFrontOfFile (files : Option Files) (format : Format) (input : List 
 abbrev pub HasNoModel : InstanceValue → Type 0
 HasNoModel i = (a : List Bool) → IsModel i a → ⊥
 
--- The list file holds the list of the front, of this size: 0 exactly where the instance has no model. No other file has changed.
+-- The list file holds the list of the front, and no other file has changed. Its size is 0 exactly where the
+-- instance has no model.
 pub record IsFrontWritten (old new : Option Files) (format : Format) (input list : List ℕ) (size : ℕ) : Type 0 where
   pub entries : List Entry
   pub front : IsFrontOfFile old format input entries
@@ -81,13 +82,15 @@ pub record IsFrontWritten (old new : Option Files) (format : Format) (input list
 
 -- a prefix of the list of the front
 abbrev pub IsPrefixOfFront : Option Files → Format → List ℕ → List ℕ → Type 0
-IsPrefixOfFront files format input bytes = (entries : List Entry) × IsFrontOfFile files format input entries × IsPrefixOf bytes (list_text true entries)
+IsPrefixOfFront files format input bytes =
+    (entries : List Entry) × IsFrontOfFile files format input entries × IsPrefixOf bytes (list_text true entries)
 
 -- ---- the answers of `front IN LIST`, a record for each
 
 -- A count rose of the calls that read IN, begin or append to LIST, or say something.
 abbrev pub OwnCountRose : Faults → Faults → List ℕ → List ℕ → Type 0
-OwnCountRose before now input list = ReadingFailed before now input ⊎ WritingFailed before now list ⊎ SayingFailed before now
+OwnCountRose before now input list =
+    ReadingFailed before now input ⊎ WritingFailed before now list ⊎ SayingFailed before now
 
 -- Complete: IN's instance has at most 20 variables, and LIST holds the list text of its front.
 pub record IsComplete (before after : World) (format : Format) (input list : List ℕ) (size : ℕ) : Type 0 where
@@ -106,21 +109,28 @@ pub record IsPartlySaid (before after : World) (format : Format) (input list : L
   pub files : IsTold before.files → IsFrontWritten before.files after.files format input list size
   pub said : IsPartlyFollowed before.said after.said (complete_line size)
 
--- NoMemory and ShelfFailed: LIST is as before, or a prefix of the list text of the front; something is said only where LIST is whole.
+-- NoMemory and ShelfFailed: LIST is as before, or a prefix of the list text of the front; something is said
+-- only where LIST is whole.
 pub record IsCutShort (before after : World) (format : Format) (input list : List ℕ) : Type 0 where
   pub files : IsTold before.files → IsTouched before.files after.files list (IsPrefixOfFront before.files format input)
   pub said : (after.said ≡ before.said) ⊎ IsPartlySaid before after format input list
 
--- The table. No two causes of a refusal hold of one text; line 0 stands for the whole file, and only for what is counted over all of it.
+-- The table. No two causes of a refusal hold of one text. Line 0 stands for the whole file, and only for what
+-- is counted over all of it. `front` never answers Usage.
 abbrev pub FrontAnswers : Format → List ℕ → List ℕ → Status → World → World → Type 0
 FrontAnswers format input list (Complete size) before after = IsComplete before after format input list size
 FrontAnswers format input list Usage before after = ⊥
-FrontAnswers format input list (BadInput line kind) before after = IsRefused before after input (HasFault format (Bad line kind))
-FrontAnswers format input list (TooLarge zero Bytes) before after = IsRefused before after input (λ text. 2 ^ 32 ≤ length text)
-FrontAnswers format input list (TooLarge zero Vars) before after = IsRefused before after input (HasManyVariables format)
-FrontAnswers format input list (TooLarge line which) before after = IsRefused before after input (HasFault format (Limit line which))
+FrontAnswers format input list (BadInput line kind) before after =
+    IsRefused before after input (HasFault format (Bad line kind))
+FrontAnswers format input list (TooLarge zero Bytes) before after =
+    IsRefused before after input (λ text. 2 ^ 32 ≤ length text)
+FrontAnswers format input list (TooLarge zero Vars) before after =
+    IsRefused before after input (HasManyVariables format)
+FrontAnswers format input list (TooLarge line which) before after =
+    IsRefused before after input (HasFault format (Limit line which))
 FrontAnswers format input list NoMemory before after = IsCutShort before after format input list
-FrontAnswers format input list ShelfFailed before after = IsCutShort before after format input list × OwnCountRose before.faults after.faults input list
+FrontAnswers format input list ShelfFailed before after =
+    IsCutShort before after format input list × OwnCountRose before.faults after.faults input list
 
 -- the front was written, or memory was wanted
 abbrev pub IsCompleteUnlessNoMemory : Status → Type 0
@@ -130,7 +140,9 @@ IsCompleteUnlessNoMemory status = ⊥
 
 -- Where IN spells an instance of at most 20 variables and no own count rose, the front is written, unless memory is wanted.
 abbrev pub FrontCompletes : Format → List ℕ → List ℕ → Status → World → World → Type 0
-FrontCompletes format input list status before after = (text : List ℕ) → content before.files input ≡ Some text → HasFewVariables format text → ¬ (OwnCountRose before.faults after.faults input list) → IsCompleteUnlessNoMemory status
+FrontCompletes format input list status before after =
+    (text : List ℕ) → content before.files input ≡ Some text → HasFewVariables format text
+    → ¬ (OwnCountRose before.faults after.faults input list) → IsCompleteUnlessNoMemory status
 
 -- ---- the answers to words that are none of a command
 

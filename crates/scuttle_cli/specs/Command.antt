@@ -14,7 +14,8 @@ pub data Request : Type 0 where
 
 -- `front IN LIST` with two different names, the first of an instance file
 abbrev pub front_request : List ℕ → List ℕ → Option Request
-front_request input list = if bytes_eq input list then None else option_map (λ format. FrontOf format input list) (format_of input)
+front_request input list =
+    if bytes_eq input list then None else option_map (λ format. FrontOf format input list) (format_of input)
 
 -- What the words ask for. Words that are none of a command ask for nothing.
 abbrev pub request_of : List (List ℕ) → Option Request

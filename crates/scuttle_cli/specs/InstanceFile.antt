@@ -12,7 +12,9 @@ use Rattle.scuttle_cli.specs.declared.instance_file.Format.TheVariants.{Mcnf, Op
 
 -- the format of an instance file, by the ending of its name
 abbrev pub format_of : List ℕ → Option Format
-format_of name = if ends_with nat_eq name (codes ".mcnf") then Some Mcnf else (if ends_with nat_eq name (codes ".opb") || ends_with nat_eq name (codes ".mopb") then Some Opb else None)
+format_of name =
+    if ends_with nat_eq name (codes ".mcnf") then Some Mcnf
+    else (if ends_with nat_eq name (codes ".opb") || ends_with nat_eq name (codes ".mopb") then Some Opb else None)
 
 -- which text spells which instance
 abbrev pub SpellsIn : Format → List ℕ → InstanceValue → Type 0

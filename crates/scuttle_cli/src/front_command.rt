@@ -14,8 +14,8 @@ use instance::{Instance, InstanceLimit};
 use scut_base::Shelf;
 use std::alloc::Global;
 
-// How many variables the command takes: 2^20 assignments take seconds, and each variable more doubles
-// that.
+// How many variables the command takes: it goes through all 2^20 assignments in seconds, and each
+// variable more doubles that.
 const MOST_VARS: u64 = 20;
 
 /// Writes the front of the instance in the one file as a list to the other, by going through all
