@@ -1,6 +1,7 @@
 -- What a command's answer says after a warning, and of the words.
 use Rattle.std.proofs.Common.{◌≡◌, ◌≢◌, ℕ, zero, ◌↔◌, List, refl, sym, ◌∙◌, subst, inl, inr}
 use Rattle.std.specs.Prelude.{Option, Some, None}
+use Rattle.std.proofs.lemmas.Option.{none-some}
 use Rattle.scut_base.specs.Files.{IsTold, IsTouched, IsPartlyFollowed}
 use Rattle.scut_base.specs.Faults.{NoneFell}
 use Rattle.instance.specs.declared.fault.InstanceLimit.TheVariants.{Bytes, Vars}
@@ -77,10 +78,7 @@ only_usage ShelfFailed before after was memory = absurd was
 no_usage : (format : Format) (input list : List ℕ) (status : Status) (before after : World) → FrontAnswers format input list status before after → status ≡ Usage → ⊥
 no_usage format input list status before after was is = subst (λ (s : Status). FrontAnswers format input list s before after) is was
 
-none_not_some : {X : Type 0} (x : X) → Some x ≡ None → ⊥
-none_not_some x e = absurd cc
-
 pub usage_exactly : (request : Option Request) (status : Status) (before after : World) → Answers request status before after → status ≢ NoMemory → (status ≡ Usage) ↔ (request ≡ None)
 usage_exactly None status before after was memory = (λ is. refl, λ is. only_usage status before after was memory)
 usage_exactly (Some (FrontOf format input list)) status before after was memory =
-    (λ is. absurd (no_usage format input list status before after was is), λ is. absurd (none_not_some (FrontOf format input list) is))
+    (λ is. absurd (no_usage format input list status before after was is), λ is. absurd (none-some (FrontOf format input list) (sym is)))

@@ -1,8 +1,10 @@
 -- Where the front is written.
 use Rattle.std.proofs.Common.{◌≡◌, ℕ, zero, List, sym, ◌∙◌, ap, subst, arith}
 use Rattle.std.specs.Prelude.{Option, Some, None}
+use Rattle.std.proofs.lemmas.Option.{none-some}
 use Rattle.scut_base.specs.Files.{Files, content}
-use Rattle.scut_base.specs.FileLaws.{told_by_content}
+use Rattle.scut_base.proofs.FileLaws.{told_by_content}
+use Rattle.scut_base.proofs.Options.{some_is}
 use Rattle.instance.specs.Shape.{InstanceValue}
 use Rattle.instance.specs.declared.fault.InstanceLimit.TheVariants.{Bytes, Vars}
 use Rattle.instance.specs.declared.fault.ReadFault.{ReadFault}
@@ -20,17 +22,11 @@ use Rattle.scuttle_cli.proofs.InstanceFiles.{no_fault_spelled, one_in}
 of_text : (files : Option Files) (name text : List ℕ) (P : List ℕ → Type 0) → content files name ≡ Some text → HasText files name P → P text
 of_text files name text P there has =
     let found = has (told_by_content files name text there) in
-    subst P (same _ _ (sym found.1 ∙ there)) found.2
-  where
-    same : (a b : List ℕ) → Some a ≡ Some b → a ≡ b
-    same a b e = cc
+    subst P (some_is text found.0 (content files name) there found.1) found.2
 
 -- a text of few variables has no fault, is no larger than a reader takes, and has no other instance
 faultless : (format : Format) (text : List ℕ) (fault : ReadFault) → HasFewVariables format text → HasFault format fault text → ⊥
-faultless format text fault few has = contradicts (no_fault_spelled format text few.0 few.1.spelled) has.first
-  where
-    contradicts : {X : Type 0} {o : Option X} {x : X} → o ≡ None → o ≡ Some x → ⊥
-    contradicts a b = absurd cc
+faultless format text fault few has = none-some fault (sym (no_fault_spelled format text few.0 few.1.spelled) ∙ has.first)
 
 few_not_many : (format : Format) (text : List ℕ) → HasFewVariables format text → HasManyVariables format text → ⊥
 few_not_many format text few many =

@@ -4,7 +4,8 @@ use Rattle.std.specs.Prelude.{Option, Some}
 use Rattle.std.proofs.Math.Seq.{take-add}
 use Rattle.std.proofs.lemmas.List.{length-take, take_min, take_all}
 use Rattle.scut_base.specs.Files.{Files, content, IsTold, IsReadAt, ReadsFrom}
-use Rattle.scut_base.specs.FileLaws.{told_by_content}
+use Rattle.scut_base.proofs.FileLaws.{told_by_content}
+use Rattle.scut_base.proofs.Options.{some_is}
 use Rattle.scuttle_cli.specs.WholeFile.{IsWhole, IsLarge}
 
 -- the bytes are the first of the file
@@ -19,9 +20,6 @@ pub there_from_read : (old now : Option Files) (name bytes into : List ℕ) (at 
 there_from_read old now name bytes into at n same read = λ told some.
     let got = read (subst IsTold (sym same) told) in
     (got.0, ap (λ f. content f name) (sym same) ∙ got.1)
-
-some_is : {X : Type 0} (x y : X) (o : Option X) → o ≡ Some x → o ≡ Some y → y ≡ x
-some_is x y o p q = cc
 
 pub read_further : (files : Option Files) (name bytes into : List ℕ) (n : ℕ) → IsReadSoFar files name bytes → IsReadAt files name (length bytes) n into → IsReadSoFar files name (bytes ++ take n into)
 read_further files name bytes into n start read whole is =

@@ -1,7 +1,7 @@
 -- What a run answers: for each command a table from its statuses to what they say of the world before and after.
 use Rattle.std.specs.Prelude.{◌≡◌, ℕ, zero, ◌≤◌, ◌^◌, ◌⊎◌, ◌↔◌, true, Bool, List, length, Option, Some, None, Result, Ok, Err}
 use Rattle.scut_base.specs.Files.{Files, content, with_file, IsTold, IsTouched, IsPrefixOf, followed, IsPartlyFollowed}
-use Rattle.scut_base.specs.Faults.{Faults}
+use Rattle.scut_base.specs.Faults.{Faults, ReadingFailed, WritingFailed, SayingFailed}
 use Rattle.scut_base.specs.declared.shelf.ShelfFault.{ShelfFault}
 use Rattle.scut_base.specs.declared.shelf.ShelfFault.TheVariants.{Failed, NoMemory as ShelfNoMemory}
 use Rattle.front_set.specs.declared.entry.Entry.{Entry}
@@ -13,7 +13,6 @@ use Rattle.instance.specs.Shape.{InstanceValue}
 use Rattle.instance.specs.Meaning.{IsModel}
 use Rattle.instance.specs.ParetoFront.{IsFront}
 use Rattle.scuttle_cli.specs.World.{World}
-use Rattle.scuttle_cli.specs.OwnFaults.{ReadingFailed, WritingFailed, SayingFailed}
 use Rattle.scuttle_cli.specs.Command.{Request, FrontOf}
 use Rattle.scuttle_cli.specs.InstanceFile.{IsTextOf, HasFault, HasFewVariables, HasManyVariables}
 use Rattle.scuttle_cli.specs.Messages.{complete_line}

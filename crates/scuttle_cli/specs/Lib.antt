@@ -7,7 +7,6 @@ pub use Rattle.instance.specs.ParetoFront
 pub use Rattle.mcnf_reader.specs.Words
 pub use Rattle.mcnf_reader.specs.Grammar
 pub mod World
-pub mod OwnFaults
 pub mod InstanceFile
 pub mod Command
 pub mod Answers

@@ -2,7 +2,8 @@
 use Rattle.std.specs.Prelude.{◌≡◌, ℕ, List, [], ◌∷◌, ◌++◌, codes, Result, OnOk, OnErr, IsErrOf}
 use Rattle.std.specs.Fmt.{decimal}
 use Rattle.scut_base.specs.Files.{followed, IsPartlyFollowed}
-use Rattle.scuttle_cli.specs.OwnFaults.{WarningFailed}
+use Rattle.scut_base.specs.Faults.{WarningFailed}
+use Rattle.scut_base.specs.Bytes.{newline}
 use Rattle.scut_base.specs.declared.shelf.ShelfFault.{ShelfFault}
 use Rattle.scut_base.specs.declared.shelf.ShelfFault.TheVariants.{Failed}
 use Rattle.instance.specs.declared.fault.BadKind.{BadKind}
@@ -15,7 +16,7 @@ use Rattle.scuttle_cli.specs.declared.status.Status.TheVariants.{Complete, Usage
 
 -- `complete n`
 abbrev pub complete_line : ℕ → List ℕ
-complete_line size = codes "complete " ++ decimal size ++ 10 ∷ []
+complete_line size = codes "complete " ++ decimal size ++ newline ∷ []
 
 -- the name of a kind of bad place, as it is warned
 abbrev pub kind_name : BadKind → List ℕ
@@ -43,16 +44,16 @@ limit_name Objectives = codes "Objectives"
 
 -- `scuttle: line n: what`
 abbrev pub line_warning : ℕ → List ℕ → List ℕ
-line_warning line what = codes "scuttle: line " ++ decimal line ++ codes ": " ++ what ++ 10 ∷ []
+line_warning line what = codes "scuttle: line " ++ decimal line ++ codes ": " ++ what ++ newline ∷ []
 
 -- the line that is warned of each status; nothing is warned of Complete
 abbrev pub warning_text : Status → List ℕ
 warning_text (Complete size) = []
-warning_text Usage = codes "scuttle: usage" ++ 10 ∷ []
+warning_text Usage = codes "scuttle: usage" ++ newline ∷ []
 warning_text (BadInput line kind) = line_warning line (kind_name kind)
 warning_text (TooLarge line which) = line_warning line (codes "too large: " ++ limit_name which)
-warning_text NoMemory = codes "scuttle: no memory" ++ 10 ∷ []
-warning_text ShelfFailed = codes "scuttle: file fault" ++ 10 ∷ []
+warning_text NoMemory = codes "scuttle: no memory" ++ newline ∷ []
+warning_text ShelfFailed = codes "scuttle: file fault" ++ newline ∷ []
 
 -- The line was put out whole; or a prefix of it, and then memory was wanted or the count of warnings rose.
 pub record IsWarned {T : Type 0} (line : List ℕ) (before after : World) (warning : Result T ShelfFault) : Type 0 where

@@ -1,9 +1,8 @@
 // Files read and written whole.
 ghost use Rattle.std.specs.Prelude.{◌≡◌, ◌<◌, ◌≤◌, ◌^◌, length, vec_len, IfOk, MatchOption, OnOk, OnErr, IsErrOf};
 ghost use Rattle.std.specs.List.{concat};
-ghost use Rattle.scut_base.specs.Faults.{NoneFell, HasCause};
+ghost use Rattle.scut_base.specs.Faults.{NoneFell, HasCause, WritingFailed};
 ghost use Rattle.scut_base.specs.Files.{with_file, IsTouched, IsPrefixOf};
-ghost use Rattle.scuttle_cli.specs.OwnFaults.{WritingFailed};
 ghost use Rattle.scuttle_cli.specs.WholeFile.{IsWhole, IsLarge};
 
 use scut_base::{Items, Shelf, ShelfCall, ShelfFault};

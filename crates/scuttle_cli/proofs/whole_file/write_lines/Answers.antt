@@ -1,7 +1,7 @@
 use Rattle.std.proofs.Common.{◌∙◌, arith, sym, ap, ◌++◌, ◌+◌, take, drop}
 use Rattle.std.specs.List.{concat}
 use Rattle.scut_base.specs.Files.{with_file}
-use Rattle.scut_base.specs.FileLaws.{there_by, appended_by, partly_by, on_err_anyway}
+use Rattle.scut_base.proofs.FileLaws.{there_by, appended_by, partly_by, on_err_anyway}
 use Rattle.scuttle_cli.proofs.Written.{concat_more, concat_rest}
 use Rattle.scuttle_cli.proofs.whole_file.write_lines.Goals as goal
 
