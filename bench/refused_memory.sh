@@ -22,7 +22,7 @@ export -f refuse
 export root work
 
 # shellcheck disable=SC2016  # the inner shell expands it
-printf '%s\n' "${@:-$(seq 1 50)}" | xargs -n 1 | xargs -P "${JOBS:-1}" -I N bash -c 'refuse N' | sort -n | tee "$work/answers"
+printf '%s\n' "${@:-$(seq 1 50)}" | xargs -n 1 | xargs -P "${JOBS:-1}" -I N bash -c 'refuse N' | tee "$work/answers"
 refused=$(grep -c ': want of memory$' "$work/answers")
 complete=$(grep -c ': complete$' "$work/answers")
 wrong=$(grep -c ': WRONG' "$work/answers")

@@ -2,13 +2,13 @@
 use Rattle.std.proofs.Common.{◌≡◌, ◌≢◌, ℕ, zero, ◌↔◌, List, refl, sym, ◌∙◌, subst, inl, inr}
 use Rattle.std.specs.Prelude.{Option, Some, None}
 use Rattle.std.proofs.lemmas.Option.{none-some}
-use Rattle.scut_base.specs.Files.{IsTold, IsTouched, IsPartlyFollowed}
+use Rattle.scut_base.specs.Files.{IsTouched, IsPartlyFollowed}
 use Rattle.scut_base.specs.Faults.{NoneFell}
 use Rattle.instance.specs.declared.fault.InstanceLimit.TheVariants.{Bytes, Vars}
 use Rattle.scuttle_cli.specs.World.{World}
 use Rattle.scuttle_cli.specs.Command.{Request, FrontOf}
 use Rattle.scuttle_cli.specs.Messages.{complete_line}
-use Rattle.scuttle_cli.specs.Answers.{Answers, FrontAnswers, UsageAnswers, IsComplete, IsRefused, IsPartlySaid, IsCutShort, IsUntouched, IsFrontWritten, IsPrefixOfFront}
+use Rattle.scuttle_cli.specs.Answers.{Answers, FrontAnswers, UsageAnswers, IsComplete, IsRefused, IsCutShort, IsUntouched, IsFrontWritten, IsPrefixOfFront}
 use Rattle.scuttle_cli.specs.declared.instance_file.Format.{Format}
 use Rattle.scuttle_cli.specs.declared.status.Status.{Status}
 use Rattle.scuttle_cli.specs.declared.status.Status.TheVariants.{Complete, Usage, BadInput, TooLarge, NoMemory, ShelfFailed}

@@ -20,7 +20,7 @@ use Rattle.scuttle_cli.specs.InstanceFile.{fault_in}
 use Rattle.scuttle_cli.specs.Lines.{entry_lines, list_lines}
 use Rattle.scuttle_cli.specs.WholeFile.{IsWhole}
 use Rattle.scuttle_cli.specs.Messages.{complete_line}
-use Rattle.scuttle_cli.specs.Answers.{IsFrontOfFile, IsFrontWritten, IsPrefixOfFront, IsInstanceOf, IsPartlySaid, IsCutShort, OwnCountRose, HasNoModel, FrontAnswers, status_of_shelf, status_of_reading}
+use Rattle.scuttle_cli.specs.Answers.{IsFrontOfFile, IsFrontWritten, IsPrefixOfFront, IsInstanceOf, IsCutShort, OwnCountRose, HasNoModel, FrontAnswers, status_of_shelf, status_of_reading}
 use Rattle.scuttle_cli.specs.declared.instance_file.Format.{Format}
 use Rattle.scuttle_cli.proofs.InstanceFiles.{limit_has_line}
 
