@@ -1,9 +1,10 @@
 #!/usr/bin/env bash
 # How long `front` takes and how much memory, by the number of variables: instances of n variables,
-# 60 clauses of three literals and three objectives, made anew at each run from fixed numbers.
-# Wants python3, which measures; nothing here is part of the gate.
+# 60 clauses of three literals and three objectives, made anew at each run from fixed numbers. Ends
+# with 1 where a run fails. Wants python3, which measures; nothing here is part of the gate.
 set -eu
 root=$(cd "$(dirname "$(readlink -f "$0")")/.." && pwd)
+program=$root/crates/scuttle_cli/out/scuttle_cli
 work=$(mktemp -d)
 trap 'rm -rf "$work"' EXIT
 "$root/scuttle" front "$root/examples/first.mcnf" "$work/first.list" >/dev/null
@@ -24,13 +25,7 @@ make_instance() { # variables
 printf '%10s %10s %10s %10s\n' variables vectors seconds megabytes
 for n in 14 16 18 20; do
     make_instance "$n" >"$work/$n.mcnf"
-    python3 - "$root/crates/scuttle_cli/out/scuttle_cli" "$work/$n.mcnf" "$work/$n.list" "$n" <<'PY'
-import resource, subprocess, sys, time
-program, instance, listed, n = sys.argv[1:]
-start = time.monotonic()
-done = subprocess.run([program, 'front', instance, listed], capture_output=True, text=True)
-seconds = time.monotonic() - start
-peak = resource.getrusage(resource.RUSAGE_CHILDREN).ru_maxrss / 1024
-print(f'{n:>10} {done.stdout.strip():>10} {seconds:10.2f} {peak:10.1f}' if done.returncode == 0 else f'{n:>10} status {done.returncode} {done.stderr.strip()}')
-PY
+    row=$("$root/bench/measure.py" 1 0 "$program" front "$work/$n.mcnf" "$work/$n.list")
+    read -r seconds megabytes _ vectors <<<"$row"
+    printf '%10s %10s %10s %10s\n' "$n" "$vectors" "$seconds" "$megabytes"
 done

@@ -2,10 +2,11 @@
 # How fast an instance file is read and how much memory it takes: generated files of 1 MB and 100 MB
 # over 2,000,000 variables, of three-literal clauses and weighted soft clauses, and of three objectives
 # and rows of three terms. `front` reads the whole file before it answers that the instance has too many
-# variables, so that answer is what is timed.
+# variables, so that answer is what is timed. Ends with 1 where another comes.
 # Wants python3, which measures; nothing here is part of the gate.
 set -eu
 root=$(cd "$(dirname "$(readlink -f "$0")")/.." && pwd)
+program=$root/crates/scuttle_cli/out/scuttle_cli
 work=$(mktemp -d)
 trap 'rm -rf "$work"' EXIT
 "$root/scuttle" front "$root/examples/first.mcnf" "$work/first.list" >/dev/null
@@ -38,20 +39,13 @@ make_statements() { # bytes
 }
 
 time_reading() { # file
-    python3 - "$root/crates/scuttle_cli/out/scuttle_cli" "$1" "$work/a.list" <<'PY'
-import os, resource, subprocess, sys, time
-program, instance, listed = sys.argv[1:]
-size = os.path.getsize(instance)
-best = None
-for _ in range(3):
-    start = time.monotonic()
-    done = subprocess.run([program, 'front', instance, listed], capture_output=True, text=True)
-    seconds = time.monotonic() - start
-    best = seconds if best is None else min(best, seconds)
-assert done.returncode == 66, (done.returncode, done.stderr)
-peak = resource.getrusage(resource.RUSAGE_CHILDREN).ru_maxrss * 1024
-print(f'{os.path.splitext(instance)[1]:>6} {size:12} {best:10.3f} {size / best / 1e6:10.1f} {peak / 1048576:12.1f} {peak / size:16.1f}')
-PY
+    local size row seconds megabytes
+    size=$(stat -c %s "$1")
+    row=$("$root/bench/measure.py" 3 66 "$program" front "$1" "$work/a.list")
+    read -r seconds megabytes _ <<<"$row"
+    awk -v ending="${1##*.}" -v size="$size" -v seconds="$seconds" -v megabytes="$megabytes" 'BEGIN {
+        printf "%6s %12d %10.3f %10.1f %12.1f %16.1f\n", ending, size, seconds,
+            size / seconds / 1e6, megabytes, megabytes * 1048576 / size }'
 }
 
 printf '%6s %12s %10s %10s %12s %16s\n' format bytes seconds MB/s megabytes 'memory per byte'

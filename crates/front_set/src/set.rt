@@ -65,15 +65,20 @@ impl FrontSet {
     }
 
     /// Adds a pair, where no entry weakly dominates its vector, and drops the entries that the vector
-    /// dominates. Costs one pass over the entries. A pair that isn't added is given up.
+    /// dominates. Costs one pass over the entries. A pair that isn't added is given up. After want of
+    /// memory nothing has changed.
     pub fn insert(&mut self, vec: CostVec, model: Assignment) -> Result<Inserted, NoMemory>
-        ensures inserted { IfOk result (λ done. IsInserted self.old self.new (record { costs = vec; model = model }) done) }
-        ensures stands { OnOk result ((pairs : List Entry) → StandsFor self.old pairs → StandsFor self.new (pairs ++ record { costs = vec; model = model } ∷ [])) }
+        ensures inserted { let pair : Entry = record { costs = vec; model = model } in
+            IfOk result (λ done. IsInserted self.old self.new pair done) }
+        ensures stands { let pair : Entry = record { costs = vec; model = model } in
+            OnOk result ((pairs : List Entry)
+            → StandsFor self.old pairs → StandsFor self.new (pairs ++ pair ∷ [])) }
         ensures err { OnErr result (self.new ≡ self.old) }
     {
         if let Some(by) = place_below(&self.entries, &vec) {
             return Ok(Inserted::Covered { by });
         }
+        // First what may fail, so that want of memory leaves all entries where they are.
         self.entries.reserve(1)?;
         let removed = drop_above(&mut self.entries, &vec);
         self.entries.push(Entry { costs: vec, model })?;

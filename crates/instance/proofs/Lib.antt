@@ -1,2 +1,5 @@
 pub mod Sums
 pub mod Dominance
+pub mod FaultLines
+pub mod Assignments
+pub mod EmptyFront

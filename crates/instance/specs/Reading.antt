@@ -1,5 +1,5 @@
 -- What a reader of instances answers where it refuses a text.
-use Rattle.std.specs.Prelude.{◌≡◌, ℕ, Option, Some}
+use Rattle.std.specs.Prelude.{◌≡◌, ℕ, ◌<◌, Option, Some}
 use Rattle.instance.specs.declared.fault.PlaceFault.{PlaceFault}
 use Rattle.instance.specs.declared.fault.PlaceFault.TheVariants.{Bad as BadPlace, Limit as LimitThere, NoMemory as PlaceNoMemory}
 use Rattle.instance.specs.declared.fault.ReadFault.{ReadFault}
@@ -22,3 +22,9 @@ abbrev pub IsPlaceFaultOf : Option PlaceFault → PlaceFault → Type 0
 IsPlaceFaultOf first (BadPlace kind) = first ≡ Some (BadPlace kind)
 IsPlaceFaultOf first (LimitThere which) = first ≡ Some (LimitThere which)
 IsPlaceFaultOf first PlaceNoMemory = Unit {0}
+
+-- the line of the fault, if it has one, is counted from 1
+abbrev pub HasLine : ReadFault → Type 0
+HasLine (Bad line kind) = 0 < line
+HasLine (Limit line which) = 0 < line
+HasLine NoMemory = Unit {0}

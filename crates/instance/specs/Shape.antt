@@ -13,6 +13,18 @@ pub record InstanceValue : Type 0 where
   pub linear : List Linear
   pub objectives : List Objective
 
+-- the largest variable
+abbrev pub max_vars : ℕ
+max_vars = 2 ^ 24
+
+-- the largest number of objectives
+abbrev pub max_objectives : ℕ
+max_objectives = 64
+
+-- The magnitudes of an objective, or of a row and its bound, sum below this, so that every sum of them fits 64 bits with its sign.
+abbrev pub magnitude_limit : ℕ
+magnitude_limit = 2 ^ 63
+
 -- no variable of the clause is above n
 abbrev pub ClauseUpTo : ℕ → List Literal → Type 0
 ClauseUpTo n clause = All (λ l. l.var ≤ n) clause
@@ -38,19 +50,19 @@ objective_magnitude o = weights_sum o.softs + terms_magnitude o.terms + unsigned
 -- a row over n variables, within its limit
 pub record IsRowWithin (n : ℕ) (row : Linear) : Type 0 where
   pub variables : TermsUpTo n row.terms
-  pub magnitude : row_magnitude row < 2 ^ 63
+  pub magnitude : row_magnitude row < magnitude_limit
 
--- an objective over n variables, within its limit; a maximised one has no soft clauses
+-- An objective over n variables, within its limit. A maximised one has no soft clauses, since a false soft clause is a cost: no format has rewards for false clauses.
 pub record IsObjectiveWithin (n : ℕ) (o : Objective) : Type 0 where
   pub clauses : All (λ s. ClauseUpTo n s.lits) o.softs
   pub variables : TermsUpTo n o.terms
-  pub magnitude : objective_magnitude o < 2 ^ 63
+  pub magnitude : objective_magnitude o < magnitude_limit
   pub maximised : o.sense ≡ Max → o.softs ≡ []
 
 -- the limits of an instance
 pub record IsWithinLimits (i : InstanceValue) : Type 0 where
-  pub variables : i.vars ≤ 2 ^ 24
-  pub count : length i.objectives ≤ 64
+  pub variables : i.vars ≤ max_vars
+  pub count : length i.objectives ≤ max_objectives
   pub clauses : All (ClauseUpTo i.vars) i.clauses
   pub rows : All (IsRowWithin i.vars) i.linear
   pub objectives : All (IsObjectiveWithin i.vars) i.objectives

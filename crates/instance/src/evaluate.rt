@@ -8,8 +8,8 @@ use crate::{Linear, Objective, Rel, Soft};
 use scut_base::{Assignment, Items, Lit, NoMemory};
 use std::alloc::Global;
 
-/// Whether each of these clauses has a true literal.
-pub fn all_clauses_true(clauses: &[Items<Lit>], a: &Assignment) -> bool
+// Whether each of these clauses has a true literal.
+pub(crate) fn all_clauses_true(clauses: &[Items<Lit>], a: &Assignment) -> bool
     requires { All (ClauseUpTo (length a.now)) clauses.now }
     ensures { result ≡ list_all (clause_true a.now) clauses.now }
 {
@@ -21,8 +21,8 @@ pub fn all_clauses_true(clauses: &[Items<Lit>], a: &Assignment) -> bool
     true
 }
 
-/// Whether each of these rows holds.
-pub fn all_rows_hold(rows: &[Linear], a: &Assignment) -> bool
+// Whether each of these rows holds.
+pub(crate) fn all_rows_hold(rows: &[Linear], a: &Assignment) -> bool
     requires { All (IsRowWithin (length a.now)) rows.now }
     ensures { result ≡ list_all (row_holds a.now) rows.now }
 {
@@ -32,6 +32,23 @@ pub fn all_rows_hold(rows: &[Linear], a: &Assignment) -> bool
         }
     }
     true
+}
+
+// The cost of the assignment in each of these objectives.
+pub(crate) fn objective_costs(
+    alloc: Global,
+    objectives: &[Objective],
+    a: &Assignment,
+) -> Result<Vec<i64>, NoMemory>
+    requires { All (IsObjectiveWithin (length a.now)) objectives.now }
+    ensures costs { IfOk result (λ costs. costs.items ≡ map (objective_cost a.now) objectives.now) }
+    ensures small { IfOk result (λ costs. All (λ x. unsigned_abs x < 2 ^ 63) costs.items) }
+{
+    let mut costs = Vec::with_capacity(alloc, objectives.len())?;
+    for objective in objectives {
+        costs.push(objective_cost(objective, a))?;
+    }
+    Ok(costs)
 }
 
 // Whether a literal of the clause is true.
@@ -109,23 +126,6 @@ fn soft_cost(soft: &Soft, a: &Assignment) -> i64
     } else {
         soft.weight as i64
     }
-}
-
-/// The cost of the assignment in each of these objectives.
-pub fn objective_costs(
-    alloc: Global,
-    objectives: &[Objective],
-    a: &Assignment,
-) -> Result<Vec<i64>, NoMemory>
-    requires { All (IsObjectiveWithin (length a.now)) objectives.now }
-    ensures costs { IfOk result (λ costs. costs.items ≡ map (objective_cost a.now) objectives.now) }
-    ensures small { IfOk result (λ costs. All (λ x. unsigned_abs x < 2 ^ 63) costs.items) }
-{
-    let mut costs = Vec::with_capacity(alloc, objectives.len())?;
-    for objective in objectives {
-        costs.push(objective_cost(objective, a))?;
-    }
-    Ok(costs)
 }
 
 // The cost of the assignment in one objective.

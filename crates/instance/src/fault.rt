@@ -1,20 +1,29 @@
-// What a reader of an instance answers where it refuses one.
+// The limits of instances, and what a reader of an instance answers where it refuses one.
 use scut_base::NoMemory;
-use std::alloc::{AllocError, AllocFailed};
 use thiserror::Error;
+
+/// The largest variable.
+pub const MAX_VARS: u64 = 1 << 24;
+
+/// The largest number of objectives.
+pub const MAX_OBJECTIVES: usize = 64;
+
+/// The largest number that a file may hold, and the largest sum of the magnitudes of an objective, or
+/// of a row and its bound: so each sum under an assignment fits an `i64`, and so does its negation.
+pub const MAX_MAGNITUDE: u64 = (1 << 63) - 1;
 
 /// A limit on instances.
 #[derive(Clone, Copy, Debug, PartialEq, Eq)]
 pub enum InstanceLimit {
     /// The file has 2^32 bytes or more.
     Bytes,
-    /// A variable is above 2^24, or above what a command takes.
+    /// A variable is above `MAX_VARS`, or above what a command takes.
     Vars,
-    /// The magnitudes of an objective sum above 2^63 - 1.
+    /// The magnitudes of an objective sum above `MAX_MAGNITUDE`.
     Weights,
-    /// The magnitudes of a row and its bound sum above 2^63 - 1.
+    /// The magnitudes of a row and its bound sum above `MAX_MAGNITUDE`.
     Row,
-    /// There are more than 64 objectives.
+    /// There are more than `MAX_OBJECTIVES` objectives.
     Objectives,
 }
 
@@ -37,13 +46,16 @@ pub enum BadKind {
 }
 
 /// Why a place of an instance file was refused.
-#[derive(Clone, Copy, Debug, PartialEq, Eq)]
+#[derive(Clone, Copy, Debug, PartialEq, Eq, Error)]
 pub enum PlaceFault {
     /// What stands there isn't in the grammar.
+    #[error("what stands here is not in the grammar")]
     Bad(BadKind),
     /// It passes a limit.
+    #[error("the instance is too large from here on")]
     Limit(InstanceLimit),
     /// Memory was refused.
+    #[error("memory was refused")]
     NoMemory,
 }
 
@@ -95,28 +107,6 @@ impl From<NoMemory> for ReadFault {
     ghost from_gives = { λ _ e. e ≡ NoMemory };
 
     fn from(_: NoMemory) -> ReadFault {
-        ReadFault::NoMemory
-    }
-}
-
-impl From<AllocError> for ReadFault {
-    ghost use Rattle.std.specs.Prelude.{◌≡◌};
-    ghost use Rattle.instance.specs.declared.fault.ReadFault.TheVariants.{NoMemory};
-
-    ghost from_gives = { λ _ e. e ≡ NoMemory };
-
-    fn from(_: AllocError) -> ReadFault {
-        ReadFault::NoMemory
-    }
-}
-
-impl<T: Drop> From<AllocFailed<T>> for ReadFault {
-    ghost use Rattle.std.specs.Prelude.{◌≡◌};
-    ghost use Rattle.instance.specs.declared.fault.ReadFault.TheVariants.{NoMemory};
-
-    ghost from_gives = { λ _ e. e ≡ NoMemory };
-
-    fn from(_: AllocFailed<T>) -> ReadFault {
         ReadFault::NoMemory
     }
 }

@@ -40,8 +40,11 @@ impl Instance {
         linear: Items<Linear>,
         objectives: Items<Objective>,
     ) -> Instance
-        requires { IsWithinLimits (record { vars = vars; clauses = clauses; linear = linear; objectives = objectives }) }
-        ensures { result ≡ record { vars = vars; clauses = clauses; linear = linear; objectives = objectives } }
+        requires { let value : InstanceValue =
+            record { vars = vars; clauses = clauses; linear = linear; objectives = objectives } in
+            IsWithinLimits value }
+        ensures { result ≡
+            record { vars = vars; clauses = clauses; linear = linear; objectives = objectives } }
     {
         Instance {
             vars,
@@ -51,7 +54,8 @@ impl Instance {
         }
     }
 
-    /// The number of variables.
+    /// The number of variables. Its clause tells the limits that every instance keeps, to callers that
+    /// need them.
     pub fn vars(&self) -> u64
         ensures value { result ≡ self.now.vars }
         ensures limits { IsWithinLimits self.now }

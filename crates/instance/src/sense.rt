@@ -6,8 +6,8 @@ use crate::{Objective, Sense};
 use scut_base::NoMemory;
 use std::alloc::Global;
 
-/// These numbers with the sign changed of each at a maximised objective.
-pub fn problem_numbers(
+// These numbers with the sign changed of each at a maximised objective.
+pub(crate) fn problem_numbers(
     alloc: Global,
     objectives: &[Objective],
     numbers: &[i64],

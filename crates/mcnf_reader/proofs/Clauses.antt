@@ -9,11 +9,11 @@ use Rattle.scut_base.specs.Literal.{Literal}
 use Rattle.scut_base.specs.Number.{IsNatural, natural_value, magnitude_text}
 use Rattle.mcnf_reader.specs.Grammar.{SpellsLiteral, SpellsZero, SpellsClause}
 
--- what the words left spell makes, behind these literals, what all words spell
+-- what the words left spell makes, after these literals, what all words spell
 abbrev pub GoesOn : List (List ℕ) → List (List ℕ) → List Literal → Type 0
 GoesOn all words lits = (more : List Literal) → SpellsClause words more → SpellsClause all (lits ++ more)
 
--- digits have no minus in front
+-- digits begin with no minus
 pub natural_sign : (word : List ℕ) → IsNatural word → starts_with_minus word ≡ false
 natural_sign [] natural = refl
 natural_sign (x ∷ word) natural =

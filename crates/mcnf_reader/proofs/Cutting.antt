@@ -37,7 +37,7 @@ skip zero xs blank le = refl
 skip (suc i) [] blank le = refl
 skip (suc i) (x ∷ xs) blank le = skip i xs (λ k lt. blank (suc k) (omega arith)) (omega arith) ∙ sym (skip_one x xs (blank 0 (omega arith)))
 
--- blanks in front make no words
+-- blanks at the beginning make no words
 pub words_skip : (xs : List ℕ) → words_of (drop (position_or_len (λ b. not (is_blank b)) xs) xs) ≡ words_of xs
 words_skip xs = skip _ xs (λ k lt. from_not _ (fails_before_first (λ b. not (is_blank b)) xs k 0 lt)) (first_within (λ b. not (is_blank b)) xs)
 

@@ -8,3 +8,4 @@ pub mod Texts
 pub mod Counts
 pub mod Limits
 pub mod TextFaults
+pub mod FaultLines

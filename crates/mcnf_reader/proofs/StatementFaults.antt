@@ -28,16 +28,16 @@ use Rattle.mcnf_reader.proofs.FaultChoice.{or_at_none, or_none, place_fault, pla
 use Rattle.mcnf_reader.proofs.WordFaults.{objective_none, objective_from, weight_none, weight_from, literal_none, literal_from, zero_passes, zero_from, no_zero_at_literal}
 
 -- a clause after one literal
-pub clause_behind : (word : List ℕ) (words : List (List ℕ)) (l : Literal) → SpellsLiteral word l → l.var ≤ 2 ^ 24 → clause_fault (word ∷ words) ≡ clause_fault words
-clause_behind word words l spelled le = cond-false (is_zero word) (ending_fault words) (option_or (literal_fault word) (clause_fault words)) (no_zero_at_literal word l spelled) ∙ or_at_none (literal_fault word) (clause_fault words) (literal_none word l spelled le)
+pub clause_after : (word : List ℕ) (words : List (List ℕ)) (l : Literal) → SpellsLiteral word l → l.var ≤ 2 ^ 24 → clause_fault (word ∷ words) ≡ clause_fault words
+clause_after word words l spelled le = cond-false (is_zero word) (ending_fault words) (option_or (literal_fault word) (clause_fault words)) (no_zero_at_literal word l spelled) ∙ or_at_none (literal_fault word) (clause_fault words) (literal_none word l spelled le)
 
 -- the fault of a word that is neither a literal within the limit nor the terminator
 pub word_wrong : (all words rest : List (List ℕ)) (word : List ℕ) (f : PlaceFault) → clause_fault all ≡ clause_fault words → words ≡ word ∷ rest → is_zero word ≡ false → literal_fault word ≡ Some f → IsPlaceFaultOf (clause_fault all) f
 word_wrong all words rest word f same cut other wrong = place_fault (clause_fault all) f (same ∙ ap clause_fault cut ∙ cond-false (is_zero word) (ending_fault rest) (option_or (literal_fault word) (clause_fault rest)) other ∙ ap (λ o. option_or o (clause_fault rest)) wrong)
 
--- a word behind the terminator
-pub text_behind : (all words rest more : List (List ℕ)) (word next : List ℕ) → clause_fault all ≡ clause_fault words → words ≡ word ∷ rest → SpellsZero word → rest ≡ next ∷ more → clause_fault all ≡ Some (Bad TextAfterZero)
-text_behind all words rest more word next same cut zero left = same ∙ ap clause_fault cut ∙ cond-true (is_zero word) (ending_fault rest) (option_or (literal_fault word) (clause_fault rest)) (zero_passes word zero) ∙ ap ending_fault left
+-- a word after the terminator
+pub text_after : (all words rest more : List (List ℕ)) (word next : List ℕ) → clause_fault all ≡ clause_fault words → words ≡ word ∷ rest → SpellsZero word → rest ≡ next ∷ more → clause_fault all ≡ Some (Bad TextAfterZero)
+text_after all words rest more word next same cut zero left = same ∙ ap clause_fault cut ∙ cond-true (is_zero word) (ending_fault rest) (option_or (literal_fault word) (clause_fault rest)) (zero_passes word zero) ∙ ap ending_fault left
 
 -- a clause within the limit has no fault
 pub clause_none : (words : List (List ℕ)) (lits : List Literal) → SpellsClause words lits → IsClauseWithin lits → clause_fault words ≡ None
@@ -45,7 +45,7 @@ clause_none [] lits spelled within = absurd spelled
 clause_none (word ∷ []) [] zero within = cond-true (is_zero word) None (option_or (literal_fault word) (Some (Bad ZeroMissing))) (zero_passes word zero)
 clause_none (word ∷ next ∷ words) [] spelled within = absurd spelled
 clause_none (word ∷ words) (l ∷ lits) spelled within =
-    clause_behind word words l spelled.0 (All-head (λ k. k.var ≤ 2 ^ 24) l lits within) ∙ clause_none words lits spelled.1 (All-tail (λ k. k.var ≤ 2 ^ 24) l lits within)
+    clause_after word words l spelled.0 (All-head (λ k. k.var ≤ 2 ^ 24) l lits within) ∙ clause_none words lits spelled.1 (All-tail (λ k. k.var ≤ 2 ^ 24) l lits within)
 
 -- the literals that words without a fault spell
 abbrev HasClause : List (List ℕ) → Type 0
@@ -102,30 +102,30 @@ other_line before first words no_comment no_hard =
     cond-false (slice_index first 0 == 99) None (cond (bytes_eq first (codes "h")) (clause_fault words) soft) (ne_eqb (slice_index first 0) 99 no_comment)
     ∙ cond-false (bytes_eq first (codes "h")) (clause_fault words) soft (not_h first no_hard)
 
-same_behind : {X : Type 0} (o p q : Option X) → (o ≡ None → p ≡ q) → option_or o p ≡ option_or o q
-same_behind None p q same = same refl
-same_behind (Some x) p q same = refl
+same_after : {X : Type 0} (o p q : Option X) → (o ≡ None → p ≡ q) → option_or o p ≡ option_or o q
+same_after None p q same = same refl
+same_after (Some x) p q same = refl
 
 pub soft_line : (before : List (List (List ℕ))) (sums : List ℕ) (first : List ℕ) (words : List (List ℕ)) → IsSumsOf before sums → slice_index first 0 ≢ 99 → (first ≡ codes "h" → ⊥) → line_fault before (first ∷ words) ≡ option_or (objective_fault first) (soft_fault (slice_index sums (natural_value (drop 1 first) - 1)) words)
 soft_line before sums first words same no_comment no_hard =
     let k = natural_value (drop 1 first) in
-    other_line before first words no_comment no_hard ∙ same_behind (objective_fault first) (soft_fault (weights_in k before) words) (soft_fault (slice_index sums (k - 1)) words) (λ none.
+    other_line before first words no_comment no_hard ∙ same_after (objective_fault first) (soft_fault (weights_in k before) words) (soft_fault (slice_index sums (k - 1)) words) (λ none.
     let objective = objective_from first none in
     ap (λ n. soft_fault n words) (sym (sum_at before sums k same objective.0.positive objective.1)))
 
--- the fault of a soft clause behind its objective
-pub behind_objective : (sums : List ℕ) (first : List ℕ) (words : List (List ℕ)) (k : ℕ) → SpellsObjective first k → k ≤ 64 → option_or (objective_fault first) (soft_fault (slice_index sums (natural_value (drop 1 first) - 1)) words) ≡ soft_fault (slice_index sums (k - 1)) words
-behind_objective sums first words k objective le =
+-- the fault of a soft clause after its objective
+pub after_objective : (sums : List ℕ) (first : List ℕ) (words : List (List ℕ)) (k : ℕ) → SpellsObjective first k → k ≤ 64 → option_or (objective_fault first) (soft_fault (slice_index sums (natural_value (drop 1 first) - 1)) words) ≡ soft_fault (slice_index sums (k - 1)) words
+after_objective sums first words k objective le =
     or_at_none (objective_fault first) (soft_fault (slice_index sums (natural_value (drop 1 first) - 1)) words) (objective_none first k objective le) ∙ ap (λ n. soft_fault (slice_index sums (n - 1)) words) objective.value
 
 pub no_weight_left : (sums : List ℕ) (first : List ℕ) (words : List (List ℕ)) (k : ℕ) → SpellsObjective first k → k ≤ 64 → words ≡ [] → option_or (objective_fault first) (soft_fault (slice_index sums (natural_value (drop 1 first) - 1)) words) ≡ Some (Bad WeightExpected)
-no_weight_left sums first words k objective le none = behind_objective sums first words k objective le ∙ ap (soft_fault (slice_index sums (k - 1))) none
+no_weight_left sums first words k objective le none = after_objective sums first words k objective le ∙ ap (soft_fault (slice_index sums (k - 1))) none
 
 pub weight_wrong : (sums : List ℕ) (first : List ℕ) (words rest : List (List ℕ)) (second : List ℕ) (k : ℕ) (f : PlaceFault) → SpellsObjective first k → k ≤ 64 → words ≡ second ∷ rest → weight_fault (slice_index sums (k - 1)) second ≡ Some f → IsPlaceFaultOf (option_or (objective_fault first) (soft_fault (slice_index sums (natural_value (drop 1 first) - 1)) words)) f
-weight_wrong sums first words rest second k f objective le cut wrong = place_fault _ f (behind_objective sums first words k objective le ∙ ap (soft_fault (slice_index sums (k - 1))) cut ∙ ap (λ o. option_or o (clause_fault rest)) wrong)
+weight_wrong sums first words rest second k f objective le cut wrong = place_fault _ f (after_objective sums first words k objective le ∙ ap (soft_fault (slice_index sums (k - 1))) cut ∙ ap (λ o. option_or o (clause_fault rest)) wrong)
 
 pub clause_wrong : (sums : List ℕ) (first : List ℕ) (words rest : List (List ℕ)) (second : List ℕ) (k weight : ℕ) (f : PlaceFault) → SpellsObjective first k → k ≤ 64 → words ≡ second ∷ rest → SpellsWeight second weight → slice_index sums (k - 1) + weight < 2 ^ 63 → IsPlaceFaultOf (clause_fault rest) f → IsPlaceFaultOf (option_or (objective_fault first) (soft_fault (slice_index sums (natural_value (drop 1 first) - 1)) words)) f
-clause_wrong sums first words rest second k weight f objective le cut spelled small wrong = place_fault_same (clause_fault rest) _ f (behind_objective sums first words k objective le ∙ ap (soft_fault (slice_index sums (k - 1))) cut ∙ or_at_none (weight_fault (slice_index sums (k - 1)) second) (clause_fault rest) (weight_none (slice_index sums (k - 1)) second weight spelled small)) wrong
+clause_wrong sums first words rest second k weight f objective le cut spelled small wrong = place_fault_same (clause_fault rest) _ f (after_objective sums first words k objective le ∙ ap (soft_fault (slice_index sums (k - 1))) cut ∙ or_at_none (weight_fault (slice_index sums (k - 1)) second) (clause_fault rest) (weight_none (slice_index sums (k - 1)) second weight spelled small)) wrong
 
 -- the fault of a line whose first word is neither a comment's nor a hard clause's
 pub soft_wrong : (sums : List ℕ) (line words : List (List ℕ)) (first : List ℕ) (f : PlaceFault) → line ≡ first ∷ words → slice_index first 0 ≢ 99 → (first ≡ codes "h" → ⊥) → IsPlaceFaultOf (option_or (objective_fault first) (soft_fault (slice_index sums (natural_value (drop 1 first) - 1)) words)) f → (before : List (List (List ℕ))) → IsSumsOf before sums → IsPlaceFaultOf (line_fault before line) f

@@ -17,7 +17,7 @@ use Rattle.mcnf_reader.specs.Words.{words_of, lines_of}
 use Rattle.mcnf_reader.specs.Grammar.{Spells, largest_variable, hard_clauses, objectives_of, SpellsStatement, SpellsClause, SpellsLiteral}
 use Rattle.mcnf_reader.specs.Draft.{IsReady, IsDraftOf}
 use Rattle.mcnf_reader.specs.Reads.{IsReadAs}
-use Rattle.mcnf_reader.specs.FirstFault.{line_fault, fault_behind, first_fault}
+use Rattle.mcnf_reader.specs.FirstFault.{line_fault, fault_after, first_fault}
 use Rattle.mcnf_reader.specs.LineLimits.{IsStatementWithin, IsSumsOf}
 use Rattle.mcnf_reader.proofs.Clauses.{not_both}
 use Rattle.mcnf_reader.proofs.FaultChoice.{or_at_none, map_at_none, fault_first, fault_same}
@@ -33,7 +33,7 @@ pub record IsReadTo (lines rest : List (List ℕ)) (number : ℕ) (d : Draft) : 
   pub whole : before ++ map words_of rest ≡ map words_of lines
   pub numbered : number ≡ length before
   pub spelled : AllZip SpellsStatement before done
-  pub faultless : fault_behind [] (map words_of lines) ≡ fault_behind before (map words_of rest)
+  pub faultless : fault_after [] (map words_of lines) ≡ fault_after before (map words_of rest)
   pub draft : IsDraftOf d done
 
 abbrev literal_from : ℕ → Bool → Literal
@@ -117,9 +117,9 @@ spelled_push [] (t ∷ done) words s spelled says = absurd spelled
 spelled_push (line ∷ before) [] words s spelled says = absurd spelled
 spelled_push (line ∷ before) (t ∷ done) words s spelled says = (spelled.0, spelled_push before done words s spelled.1 says)
 
--- behind a line without a fault the fault is that of the lines left
-pub fault_on : (before : List (List (List ℕ))) (words : List (List ℕ)) (lines : List (List (List ℕ))) → line_fault before words ≡ None → fault_behind before (words ∷ lines) ≡ fault_behind (before ++ words ∷ []) lines
-fault_on before words lines none = or_at_none (option_map (at_line (length before + 1)) (line_fault before words)) (fault_behind (before ++ words ∷ []) lines) (map_at_none (at_line (length before + 1)) (line_fault before words) none)
+-- after a line without a fault the fault is that of the lines left
+pub fault_on : (before : List (List (List ℕ))) (words : List (List ℕ)) (lines : List (List (List ℕ))) → line_fault before words ≡ None → fault_after before (words ∷ lines) ≡ fault_after (before ++ words ∷ []) lines
+fault_on before words lines none = or_at_none (option_map (at_line (length before + 1)) (line_fault before words)) (fault_after (before ++ words ∷ []) lines) (map_at_none (at_line (length before + 1)) (line_fault before words) none)
 
 pub sums_of : (d : Draft) (before : List (List (List ℕ))) (done : List Statement) → AllZip SpellsStatement before done → IsDraftOf d done → IsSumsOf before d.sums
 sums_of d before done spelled draft = draft.weights ∙ sums_same before done spelled
@@ -134,7 +134,7 @@ read_on lines rest left line number d e s cut says within added so_far =
       whole = append_assoc so_far.before (words_of line ∷ []) (map words_of left) ∙ ap (λ more. so_far.before ++ more) (sym cut_words) ∙ so_far.whole;
       numbered = omega (arith, so_far.numbered, length_push so_far.before (words_of line));
       spelled = spelled_push so_far.before so_far.done (words_of line) s so_far.spelled says;
-      faultless = so_far.faultless ∙ ap (fault_behind so_far.before) cut_words ∙ fault_on so_far.before (words_of line) (map words_of left) none;
+      faultless = so_far.faultless ∙ ap (fault_after so_far.before) cut_words ∙ fault_on so_far.before (words_of line) (map words_of left) none;
       draft = added so_far.done so_far.draft;
     }
 
@@ -167,8 +167,8 @@ next_wrong text rest left line number d f cut so_far wrong =
     let before = so_far.before in
     let here : IsFaultOf (option_map (at_line (number + 1)) (line_fault before (words_of line))) f = wrong before (sums_of d before so_far.done so_far.spelled so_far.draft) in
     let there : IsFaultOf (option_map (at_line (length before + 1)) (line_fault before (words_of line))) f = subst (λ (n : ℕ). IsFaultOf (option_map (at_line (n + 1)) (line_fault before (words_of line))) f) so_far.numbered here in
-    let first : IsFaultOf (fault_behind before (words_of line ∷ map words_of left)) f = fault_first (option_map (at_line (length before + 1)) (line_fault before (words_of line))) (fault_behind (before ++ words_of line ∷ []) (map words_of left)) f there in
-    fault_same (fault_behind before (words_of line ∷ map words_of left)) (first_fault text) f (so_far.faultless ∙ ap (λ (ls : List (List ℕ)). fault_behind before (map words_of ls)) cut) first
+    let first : IsFaultOf (fault_after before (words_of line ∷ map words_of left)) f = fault_first (option_map (at_line (length before + 1)) (line_fault before (words_of line))) (fault_after (before ++ words_of line ∷ []) (map words_of left)) f there in
+    fault_same (fault_after before (words_of line ∷ map words_of left)) (first_fault text) f (so_far.faultless ∙ ap (λ (ls : List (List ℕ)). fault_after before (map words_of ls)) cut) first
 
 -- the number of a line is at most the count of lines
 pub number_below : (lines rest : List (List ℕ)) (number : ℕ) (d : Draft) → IsReadTo lines rest number d → number + length rest ≡ length lines

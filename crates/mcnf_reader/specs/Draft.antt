@@ -1,10 +1,10 @@
 -- What the statements read so far make.
-use Rattle.std.specs.Prelude.{◌≡◌, ℕ, ◌<◌, ◌≤◌, ◌+◌, ◌-◌, ◌^◌, max, Some, slice_get, slice_index, slice_set, List, [], ◌∷◌, ◌++◌, length, map, take, All}
+use Rattle.std.specs.Prelude.{◌≡◌, ℕ, ◌<◌, ◌≤◌, ◌+◌, ◌-◌, max, Some, slice_get, slice_index, slice_set, List, [], ◌∷◌, ◌++◌, length, map, take, All}
 use Rattle.std.specs.List.{range_with_len}
 use Rattle.scut_base.specs.Literal.{Literal}
 use Rattle.instance.specs.declared.objective.Objective.{Objective}
 use Rattle.instance.specs.declared.objective.Soft.{Soft}
-use Rattle.instance.specs.Shape.{InstanceValue, weights_sum}
+use Rattle.instance.specs.Shape.{InstanceValue, weights_sum, max_vars, max_objectives, magnitude_limit}
 use Rattle.mcnf_reader.specs.declared.draft.Draft.{Draft}
 use Rattle.mcnf_reader.specs.declared.statement.Statement.{Statement}
 use Rattle.mcnf_reader.specs.Grammar.{hard_clauses, objective_at, softs_of, largest_of, largest_variable, objective_count}
@@ -15,7 +15,7 @@ with_soft o soft = record o { softs = o.softs ++ soft ∷ [] }
 
 -- the objectives that a draft has room for
 abbrev pub objective_numbers : List ℕ
-objective_numbers = range_with_len 1 64
+objective_numbers = range_with_len 1 max_objectives
 
 -- the sum of an objective's weights
 abbrev pub weight_of : List Statement → ℕ → ℕ
@@ -23,8 +23,8 @@ weight_of statements k = weights_sum (softs_of k statements)
 
 -- The draft has room for each objective, and no sum of weights is too large.
 pub record IsReady (d : Draft) : Type 0 where
-  pub room : length d.objectives.items ≡ 64
-  pub small : All (λ sum. sum < 2 ^ 63) d.sums
+  pub room : length d.objectives.items ≡ max_objectives
+  pub small : All (λ sum. sum < magnitude_limit) d.sums
 
 -- The draft is what these statements make, within the limits.
 pub record IsDraftOf (d : Draft) (statements : List Statement) : Type 0 where
@@ -32,9 +32,9 @@ pub record IsDraftOf (d : Draft) (statements : List Statement) : Type 0 where
   pub soft : d.objectives.items ≡ map (objective_at statements) objective_numbers
   pub weights : d.sums ≡ map (weight_of statements) objective_numbers
   pub variables : d.vars ≡ largest_variable statements
-  pub variables_within : d.vars ≤ 2 ^ 24
+  pub variables_within : d.vars ≤ max_vars
   pub number : d.count ≡ objective_count statements
-  pub number_within : d.count ≤ 64
+  pub number_within : d.count ≤ max_objectives
 
 -- what a soft clause more makes of a draft
 pub record AddsSoft (d e : Draft) (k weight : ℕ) (lits : List Literal) : Type 0 where

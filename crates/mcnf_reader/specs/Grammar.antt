@@ -10,7 +10,7 @@ use Rattle.instance.specs.declared.objective.Sense.TheVariants.{Min}
 use Rattle.instance.specs.Shape.{InstanceValue, IsWithinLimits}
 use Rattle.mcnf_reader.specs.declared.statement.Statement.{Statement}
 use Rattle.mcnf_reader.specs.declared.statement.Statement.TheVariants.{Nothing, Hard, Soft as SoftIn}
-use Rattle.mcnf_reader.specs.Words.{lines_of, words_of}
+use Rattle.mcnf_reader.specs.Words.{letter_c, letter_o, lines_of, words_of}
 
 -- a number above 0, or a minus and a number above 0
 pub record SpellsLiteral (word : List ℕ) (l : Literal) : Type 0 where
@@ -32,7 +32,7 @@ SpellsClause (word ∷ words) (l ∷ lits) = SpellsLiteral word l × SpellsClaus
 
 -- an `o` and the number of an objective, from 1
 pub record SpellsObjective (word : List ℕ) (objective : ℕ) : Type 0 where
-  pub letter : slice_index word 0 ≡ 111
+  pub letter : slice_index word 0 ≡ letter_o
   pub number : IsNatural (drop 1 word)
   pub value : natural_value (drop 1 word) ≡ objective
   pub positive : 0 < objective
@@ -44,7 +44,7 @@ SpellsWeight word weight = IsNatural word × (natural_value word ≡ weight)
 -- no words, or a first word that begins with `c`
 abbrev pub IsIgnored : List (List ℕ) → Type 0
 IsIgnored [] = Unit {0}
-IsIgnored (word ∷ words) = slice_index word 0 ≡ 99
+IsIgnored (word ∷ words) = slice_index word 0 ≡ letter_c
 
 -- which words spell which statement
 abbrev pub SpellsStatement : List (List ℕ) → Statement → Type 0

@@ -1,50 +1,49 @@
 // What the lines read so far make.
 ghost use Rattle.std.specs.Prelude.{List, ◌≡◌, ◌<◌, ◌≤◌, ◌+◌, ◌-◌, ◌^◌, ◌++◌, [], ◌∷◌, Some, max, length, map, replicate, slice_index, slice_get, slice_set, OnOk, IfOk};
 ghost use Rattle.instance.specs.declared.objective.Objective.{Objective};
-ghost use Rattle.instance.specs.Shape.{IsWithinLimits};
+ghost use Rattle.instance.specs.Shape.{IsWithinLimits, max_objectives, magnitude_limit};
 ghost use Rattle.mcnf_reader.specs.Grammar.{largest_of, objective_at};
 ghost use Rattle.mcnf_reader.specs.LineLimits.{IsClauseWithin, IsStatementWithin};
 ghost use Rattle.mcnf_reader.specs.Draft.{IsReady, IsDraftOf, AddsSoft, with_soft, instance_of, objective_numbers};
 ghost use Rattle.mcnf_reader.specs.declared.statement.Statement.{Statement};
 
 use crate::statement::Statement;
-use instance::{Instance, Objective, Sense, Soft};
+use instance::{Instance, MAX_OBJECTIVES, Objective, Sense, Soft};
 use scut_base::{Items, Lit, NoMemory};
 use std::alloc::Global;
 
-const OBJECTIVES: usize = 64;
-
-/// An instance in the making. It has room for 64 objectives, of which the first `count` are used,
-/// and keeps the sum of each objective's weights.
+/// An instance in the making. The lines may name the objectives in any order, and so few of them are
+/// allowed that each has its place from the start: the first `count` are used. The sums of their
+/// weights are kept, so that a limit is noticed at its line and not at the end.
 #[derive(Drop)]
 pub struct Draft {
     pub clauses: Items<Items<Lit>>,
     pub objectives: Vec<Objective>,
-    pub sums: [u64; 64],
+    pub sums: [u64; MAX_OBJECTIVES],
     pub vars: u64,
     pub count: u64,
 }
 
-/// The draft of no lines.
-pub fn new_draft(alloc: Global) -> Result<Draft, NoMemory>
+// The draft of no lines.
+pub(crate) fn new_draft(alloc: Global) -> Result<Draft, NoMemory>
     ensures ready { IfOk result (λ d. IsReady d) }
     ensures empty { IfOk result (λ d. IsDraftOf d []) }
 {
     Ok(Draft {
         clauses: Items::new(alloc),
         objectives: empty_objectives(alloc)?,
-        sums: [0; 64],
+        sums: [0; MAX_OBJECTIVES],
         vars: 0,
         count: 0,
     })
 }
 
-// 64 objectives with no clauses.
+// All objectives, with no clauses.
 fn empty_objectives(alloc: Global) -> Result<Vec<Objective>, NoMemory>
-    ensures { IfOk result (λ all. all.items ≡ replicate 64 (objective_at [] 1)) }
+    ensures { IfOk result (λ all. all.items ≡ replicate max_objectives (objective_at [] 1)) }
 {
-    let mut objectives = Vec::with_capacity(alloc, OBJECTIVES)?;
-    for _ in 0..OBJECTIVES {
+    let mut objectives = Vec::with_capacity(alloc, MAX_OBJECTIVES)?;
+    for _ in 0..MAX_OBJECTIVES {
         objectives.push(empty_objective(alloc))?;
     }
     Ok(objectives)
@@ -62,12 +61,13 @@ fn empty_objective(alloc: Global) -> Objective
     }
 }
 
-/// Puts what a line says into the draft. After a fault the draft is of no use.
-pub fn add_statement(draft: &mut Draft, statement: Statement) -> Result<(), NoMemory>
+// Puts what a line says into the draft. After a fault the draft is of no use.
+pub(crate) fn add_statement(draft: &mut Draft, statement: Statement) -> Result<(), NoMemory>
     requires ready { IsReady draft.old }
     requires within { IsStatementWithin draft.old.sums statement }
     ensures ready { OnOk result (IsReady draft.new) }
-    ensures added { OnOk result ((done : List Statement) → IsDraftOf draft.old done → IsDraftOf draft.new (done ++ statement ∷ [])) }
+    ensures added { OnOk result ((done : List Statement)
+        → IsDraftOf draft.old done → IsDraftOf draft.new (done ++ statement ∷ [])) }
 {
     match statement {
         Statement::Nothing => Ok(()),
@@ -82,7 +82,10 @@ pub fn add_statement(draft: &mut Draft, statement: Statement) -> Result<(), NoMe
 
 // Puts a hard clause into the draft.
 fn add_hard(draft: &mut Draft, lits: Items<Lit>) -> Result<(), NoMemory>
-    ensures { OnOk result (draft.new ≡ record draft.old { clauses = draft.old.clauses ++ lits ∷ []; vars = max draft.old.vars (largest_of lits) }) }
+    ensures { OnOk result (draft.new ≡ record draft.old {
+      clauses = draft.old.clauses ++ lits ∷ [];
+      vars = max draft.old.vars (largest_of lits);
+    }) }
 {
     draft.vars = draft.vars.max(largest_variable(&lits));
     draft.clauses.push(lits)
@@ -97,8 +100,8 @@ fn add_soft(
 ) -> Result<(), NoMemory>
     requires from_one { 0 < objective }
     requires room { objective ≤ length draft.old.objectives.items }
-    requires below { objective ≤ 64 }
-    requires fits { slice_index draft.old.sums (objective - 1) + weight < 2 ^ 63 }
+    requires below { objective ≤ max_objectives }
+    requires fits { slice_index draft.old.sums (objective - 1) + weight < magnitude_limit }
     ensures { OnOk result (AddsSoft draft.old draft.new objective weight lits) }
 {
     let at = (objective - 1) as usize;
@@ -111,7 +114,8 @@ fn add_soft(
 // Puts a soft clause at the end of an objective.
 fn push_soft(objectives: &mut Vec<Objective>, at: usize, soft: Soft) -> Result<(), NoMemory>
     requires { at < length objectives.old.items }
-    ensures { OnOk result ((o : Objective) → slice_get objectives.old.items at ≡ Some o → objectives.new.items ≡ slice_set objectives.old.items at (with_soft o soft)) }
+    ensures { OnOk result ((o : Objective) → slice_get objectives.old.items at ≡ Some o
+        → objectives.new.items ≡ slice_set objectives.old.items at (with_soft o soft)) }
 {
     objectives[at].softs.push(soft)
 }
@@ -127,8 +131,8 @@ fn largest_variable(lits: &Items<Lit>) -> u64
     largest
 }
 
-/// The instance of a draft.
-pub fn finish(alloc: Global, draft: Draft) -> Instance
+// The instance of a draft.
+pub(crate) fn finish(alloc: Global, draft: Draft) -> Instance
     requires { IsWithinLimits (instance_of draft) }
     ensures { result ≡ instance_of draft }
 {

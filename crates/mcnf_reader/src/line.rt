@@ -2,6 +2,7 @@
 ghost use Rattle.std.specs.Prelude.{ℕ, List, ◌≡◌, ◌<◌, ◌-◌, ◌∷◌, ◌^◌, length, drop, slice_index, IfOk, IfErr, All};
 ghost use Rattle.std.specs.Option.{option_or};
 ghost use Rattle.scut_base.specs.Number.{natural_value};
+ghost use Rattle.instance.specs.Shape.{max_objectives, magnitude_limit};
 ghost use Rattle.instance.specs.Reading.{IsPlaceFaultOf};
 ghost use Rattle.mcnf_reader.specs.Words.{words_of};
 ghost use Rattle.mcnf_reader.specs.Grammar.{SpellsClause, SpellsStatement};
@@ -15,12 +16,17 @@ use instance::{BadKind, PlaceFault};
 use scut_base::{Items, Lit};
 use std::alloc::Global;
 
-/// Reads what a line says, where the objectives have these sums of weights already.
-pub fn read_statement(alloc: Global, line: &[u8], sums: &[u64]) -> Result<Statement, PlaceFault>
-    requires count { length sums.now ≡ 64 }
-    requires small { All (λ sum. sum < 2 ^ 63) sums.now }
+// Reads what a line says, where the objectives have these sums of weights already.
+pub(crate) fn read_statement(
+    alloc: Global,
+    line: &[u8],
+    sums: &[u64],
+) -> Result<Statement, PlaceFault>
+    requires count { length sums.now ≡ max_objectives }
+    requires small { All (λ sum. sum < magnitude_limit) sums.now }
     ensures ok { IfOk result (λ s. SpellsStatement (words_of line.now) s × IsStatementWithin sums.now s) }
-    ensures fault { IfErr result (λ f. (before : List (List (List ℕ))) → IsSumsOf before sums.now → IsPlaceFaultOf (line_fault before (words_of line.now)) f) }
+    ensures fault { IfErr result (λ f. (before : List (List (List ℕ)))
+        → IsSumsOf before sums.now → IsPlaceFaultOf (line_fault before (words_of line.now)) f) }
 {
     let mut words = Words::new(line);
     let first = match words.next() {
@@ -44,10 +50,12 @@ fn read_soft(
     words: &mut Words<'_>,
     sums: &[u64],
 ) -> Result<Statement, PlaceFault>
-    requires count { length sums.now ≡ 64 }
-    requires small { All (λ sum. sum < 2 ^ 63) sums.now }
-    ensures ok { IfOk result (λ s. SpellsStatement (first.now ∷ words.old) s × IsStatementWithin sums.now s) }
-    ensures fault { IfErr result (IsPlaceFaultOf (option_or (objective_fault first.now) (soft_fault (slice_index sums.now (natural_value (drop 1 first.now) - 1)) words.old))) }
+    requires count { length sums.now ≡ max_objectives }
+    requires small { All (λ sum. sum < magnitude_limit) sums.now }
+    ensures ok { IfOk result (λ s.
+        SpellsStatement (first.now ∷ words.old) s × IsStatementWithin sums.now s) }
+    ensures fault { let sum = slice_index sums.now (natural_value (drop 1 first.now) - 1) in
+        IfErr result (IsPlaceFaultOf (option_or (objective_fault first.now) (soft_fault sum words.old))) }
 {
     let objective = read_objective(first)?;
     let second = match words.next() {
@@ -63,7 +71,7 @@ fn read_soft(
     })
 }
 
-// Reads literals up to the terminator, behind which there is no word.
+// Reads literals up to the terminator, after which there is no word.
 fn read_clause(alloc: Global, words: &mut Words<'_>) -> Result<Items<Lit>, PlaceFault>
     ensures ok { IfOk result (λ lits. SpellsClause words.old lits × IsClauseWithin lits) }
     ensures fault { IfErr result (IsPlaceFaultOf (clause_fault words.old)) }

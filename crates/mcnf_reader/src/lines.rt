@@ -35,7 +35,8 @@ impl<'a> Lines<'a> {
 
     /// Takes the next line.
     pub fn next(&mut self) -> Option<&'a [u8]>
-        ensures { MatchOption result ((self.old ≡ []) × (self.new ≡ [])) (λ line. self.old ≡ line.now ∷ self.new) }
+        ensures { MatchOption result ((self.old ≡ []) × (self.new ≡ []))
+            (λ line. self.old ≡ line.now ∷ self.new) }
     {
         if self.ended {
             return None;
@@ -81,7 +82,7 @@ fn without_return(line: &[u8]) -> &[u8]
     ensures { result.now ≡ strip_carriage_return line.entry.now }
 {
     match line {
-        [front @ .., b'\r'] => front,
+        [prefix @ .., b'\r'] => prefix,
         _ => line,
     }
 }

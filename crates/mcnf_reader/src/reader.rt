@@ -1,8 +1,9 @@
 // The reader.
-ghost use Rattle.std.specs.Prelude.{ℕ, List, ◌≡◌, ◌<◌, ◌^◌, ◌++◌, [], ◌∷◌, None, length, IfOk, IfErr, OnOk};
+ghost use Rattle.std.specs.Prelude.{ℕ, List, ◌≡◌, ◌<◌, ◌^◌, ◌++◌, [], ◌∷◌, Some, None, length, IfOk, IfErr, OnOk};
 ghost use Rattle.std.specs.Option.{option_map};
 ghost use Rattle.instance.specs.Shape.{InstanceValue};
-ghost use Rattle.instance.specs.Reading.{at_line, IsFaultOf};
+ghost use Rattle.instance.specs.declared.fault.ReadFault.{ReadFault};
+ghost use Rattle.instance.specs.Reading.{at_line, IsFaultOf, HasLine};
 ghost use Rattle.mcnf_reader.specs.Words.{words_of};
 ghost use Rattle.mcnf_reader.specs.Grammar.{Spells, SpellsStatement};
 ghost use Rattle.mcnf_reader.specs.FirstFault.{line_fault, first_fault};
@@ -48,8 +49,12 @@ fn read_lines(alloc: Global, bytes: &[u8]) -> Result<Draft, ReadFault>
 fn read_line(alloc: Global, line: &[u8], number: u64, draft: &mut Draft) -> Result<(), ReadFault>
     requires { IsReady draft.old }
     ensures ready { OnOk result (IsReady draft.new) }
-    ensures ok { OnOk result ((s : Statement) × SpellsStatement (words_of line.now) s × IsStatementWithin draft.old.sums s × ((done : List Statement) → IsDraftOf draft.old done → IsDraftOf draft.new (done ++ s ∷ []))) }
-    ensures fault { IfErr result (λ f. (before : List (List (List ℕ))) → IsSumsOf before draft.old.sums → IsFaultOf (option_map (at_line number) (line_fault before (words_of line.now))) f) }
+    ensures ok { OnOk result ((s : Statement)
+        × SpellsStatement (words_of line.now) s
+        × IsStatementWithin draft.old.sums s
+        × ((done : List Statement) → IsDraftOf draft.old done → IsDraftOf draft.new (done ++ s ∷ []))) }
+    ensures fault { IfErr result (λ f. (before : List (List (List ℕ))) → IsSumsOf before draft.old.sums
+        → IsFaultOf (option_map (at_line number) (line_fault before (words_of line.now))) f) }
 {
     match read_statement(alloc, line, &draft.sums) {
         Ok(statement) => {
@@ -60,19 +65,25 @@ fn read_line(alloc: Global, line: &[u8], number: u64, draft: &mut Draft) -> Resu
     }
 }
 
-/// A text spells at most one instance.
+/// Law: a text spells at most one instance.
 pub fn one_instance()
     ensures { (text : List ℕ) (i j : InstanceValue) → Spells text i → Spells text j → i ≡ j }
 {}
 
-/// A text that spells an instance has no fault.
+/// Law: a text that spells an instance has no fault.
 pub fn no_fault_where_spelled()
     ensures { (text : List ℕ) (i : InstanceValue) → Spells text i → first_fault text ≡ None }
 {}
 
-/// A text of fewer than 2^32 bytes that has no fault spells an instance.
+/// Law: a text of fewer than 2^32 bytes that has no fault spells an instance.
 pub fn spelled_where_no_fault()
-    ensures { (text : List ℕ) → length text < 2 ^ 32 → first_fault text ≡ None → (i : InstanceValue) × Spells text i }
+    ensures { (text : List ℕ) → length text < 2 ^ 32 → first_fault text ≡ None
+        → (i : InstanceValue) × Spells text i }
+{}
+
+/// Law: the line of a fault is counted from 1.
+pub fn faults_have_lines()
+    ensures { (text : List ℕ) (f : ReadFault) → first_fault text ≡ Some f → HasLine f }
 {}
 
 #[cfg(test)]

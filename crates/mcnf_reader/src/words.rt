@@ -30,7 +30,8 @@ impl<'a> Words<'a> {
 
     /// Takes the next word. No word is empty.
     pub fn next(&mut self) -> Option<&'a [u8]>
-        ensures { MatchOption result ((self.old ≡ []) × (self.new ≡ [])) (λ word. self.old ≡ word.now ∷ self.new) }
+        ensures { MatchOption result ((self.old ≡ []) × (self.new ≡ []))
+            (λ word. self.old ≡ word.now ∷ self.new) }
     {
         let text = skip_blanks(self.rest);
         if text.is_empty() {

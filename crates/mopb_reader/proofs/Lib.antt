@@ -8,3 +8,4 @@ pub mod Limits
 pub mod Texts
 pub mod Faultless
 pub mod Completions
+pub mod FaultLines

@@ -1,5 +1,5 @@
 -- The first fault of a text: the first token, or end, that isn't allowed at its place or reaches a limit.
-use Rattle.std.specs.Prelude.{ℕ, Bool, true, false, not, ◌+◌, ◌^◌, ◌==◌, ◌||◌, nat_lt, nat_le, if◌then◌else◌, List, [], ◌∷◌, ◌++◌, length, map, Option, Some, None, Result, Ok, Err}
+use Rattle.std.specs.Prelude.{ℕ, Bool, true, false, not, ◌+◌, ◌==◌, ◌||◌, nat_lt, nat_le, if◌then◌else◌, List, [], ◌∷◌, ◌++◌, length, map, Option, Some, None, Result, Ok, Err}
 use Rattle.std.specs.List.{filter, slice_split}
 use Rattle.scut_base.specs.Number.{natural_value}
 use Rattle.instance.specs.declared.fault.BadKind.{BadKind}
@@ -9,6 +9,7 @@ use Rattle.instance.specs.declared.fault.InstanceLimit.TheVariants.{Vars, Weight
 use Rattle.instance.specs.declared.fault.PlaceFault.{PlaceFault}
 use Rattle.instance.specs.declared.fault.PlaceFault.TheVariants.{Bad, Limit}
 use Rattle.instance.specs.declared.fault.ReadFault.{ReadFault}
+use Rattle.instance.specs.Shape.{max_vars, max_objectives, magnitude_limit}
 use Rattle.instance.specs.Reading.{at_line}
 use Rattle.mopb_reader.specs.Tokens.{Token, Plus, Minus, Digits, Positive, Negative, Min, AtLeast, AtMost, Equal, Semicolon, Other, is_comment, is_gap, tokens_of_line}
 
@@ -57,13 +58,13 @@ Next = Result Place PlaceFault
 -- the place behind a number that counts in the statement, where it fits and is within the limit
 abbrev pub counted : InstanceLimit → ℕ → ℕ → (ℕ → Place) → Next
 counted limit sum value behind =
-    if nat_lt value (2 ^ 63) then (if nat_lt (sum + value) (2 ^ 63) then Ok (behind (sum + value)) else Err (Limit limit))
+    if nat_lt value magnitude_limit then (if nat_lt (sum + value) magnitude_limit then Ok (behind (sum + value)) else Err (Limit limit))
     else Err (Bad NumberTooWide)
 
 -- the place behind a literal of this index, where it fits and is within the limit
 abbrev pub indexed : ℕ → Next → Next
 indexed index behind =
-    if nat_lt index (2 ^ 63) then (if nat_le index (2 ^ 24) then behind else Err (Limit Vars))
+    if nat_lt index magnitude_limit then (if nat_le index max_vars then behind else Err (Limit Vars))
     else Err (Bad NumberTooWide)
 
 -- the place behind a literal that has no coefficient: that is 1
@@ -158,7 +159,7 @@ Progressed = Result Progress PlaceFault
 abbrev pub head_begun : Progress → Progressed
 head_begun p =
     if p.rows then Err (Bad ObjectiveAfterConstraint)
-    else if nat_lt p.objectives 64 then Ok (record { objectives = p.objectives + 1; rows = false; place = Head })
+    else if nat_lt p.objectives max_objectives then Ok (record { objectives = p.objectives + 1; rows = false; place = Head })
     else Err (Limit Objectives)
 
 -- the same progress at another place

@@ -8,10 +8,8 @@ ghost use Rattle.mopb_reader.specs.Cuts.{HasFront, HasVariable, BeginsNoDigits, 
 ghost use Rattle.mopb_reader.specs.Symbols.{ValueIs};
 
 use crate::symbol::Symbol;
-use instance::Rel;
+use instance::{MAX_MAGNITUDE, Rel};
 use scut_base::read_u64;
-
-const WIDE: u64 = 1 << 63;
 
 /// The token that a line begins with, and what follows it.
 pub fn cut_token(line: &[u8]) -> (Symbol, &[u8])
@@ -171,7 +169,7 @@ fn value_of(digits: &[u8]) -> Option<u64>
     ensures { ValueIs result digits.now }
 {
     match read_u64(digits) {
-        Ok(value) if value < WIDE => Some(value),
+        Ok(value) if value <= MAX_MAGNITUDE => Some(value),
         _ => None,
     }
 }

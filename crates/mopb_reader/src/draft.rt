@@ -12,11 +12,9 @@ use crate::statement::{read_objective, read_row};
 use crate::symbol::Symbol;
 use crate::terms::begins_row;
 use crate::tokens::Tokens;
-use instance::{BadKind, Instance, InstanceLimit, Linear, Objective, PlaceFault};
+use instance::{BadKind, Instance, InstanceLimit, Linear, MAX_OBJECTIVES, Objective, PlaceFault};
 use scut_base::Items;
 use std::alloc::Global;
-
-const OBJECTIVES: usize = 64;
 
 /// An instance in the making.
 #[derive(Drop)]
@@ -71,7 +69,7 @@ fn add_objective(
     if !draft.linear.is_empty() {
         return Err(PlaceFault::Bad(BadKind::ObjectiveAfterConstraint));
     }
-    if draft.objectives.len() >= OBJECTIVES {
+    if draft.objectives.len() >= MAX_OBJECTIVES {
         return Err(PlaceFault::Limit(InstanceLimit::Objectives));
     }
     let (objective, largest) = read_objective(alloc, tokens)?;

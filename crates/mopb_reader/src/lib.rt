@@ -16,4 +16,6 @@ mod term;
 mod terms;
 mod tokens;
 
-pub use reader::{no_fault_where_spelled, one_instance, read, spelled_where_no_fault};
+pub use reader::{
+    faults_have_lines, no_fault_where_spelled, one_instance, read, spelled_where_no_fault,
+};

@@ -1,7 +1,8 @@
 // The reader.
 ghost use Rattle.std.specs.Prelude.{ℕ, List, ◌≡◌, ◌<◌, ◌^◌, length, Some, None, IfOk, IfErr, OnOk};
 ghost use Rattle.instance.specs.Shape.{InstanceValue};
-ghost use Rattle.instance.specs.Reading.{IsFaultOf};
+ghost use Rattle.instance.specs.declared.fault.ReadFault.{ReadFault};
+ghost use Rattle.instance.specs.Reading.{IsFaultOf, HasLine};
 ghost use Rattle.mopb_reader.specs.Tokens.{Token, tokens_of};
 ghost use Rattle.mopb_reader.specs.FirstFault.{first_fault, fault_from};
 ghost use Rattle.mopb_reader.specs.Symbols.{IsLeft, IsSound};
@@ -60,19 +61,25 @@ fn read_statement(
     }
 }
 
-/// A text spells at most one instance.
+/// Law: a text spells at most one instance.
 pub fn one_instance()
     ensures { (text : List ℕ) (i j : InstanceValue) → Spells text i → Spells text j → i ≡ j }
 {}
 
-/// A text that spells an instance has no fault.
+/// Law: a text that spells an instance has no fault.
 pub fn no_fault_where_spelled()
     ensures { (text : List ℕ) (i : InstanceValue) → Spells text i → first_fault text ≡ None }
 {}
 
-/// A text of fewer than 2^32 bytes that has no fault spells an instance.
+/// Law: a text of fewer than 2^32 bytes that has no fault spells an instance.
 pub fn spelled_where_no_fault()
-    ensures { (text : List ℕ) → length text < 2 ^ 32 → first_fault text ≡ None → (i : InstanceValue) × Spells text i }
+    ensures { (text : List ℕ) → length text < 2 ^ 32 → first_fault text ≡ None
+        → (i : InstanceValue) × Spells text i }
+{}
+
+/// Law: the line of a fault is counted from 1.
+pub fn faults_have_lines()
+    ensures { (text : List ℕ) (f : ReadFault) → first_fault text ≡ Some f → HasLine f }
 {}
 
 #[cfg(test)]

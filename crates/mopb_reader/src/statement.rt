@@ -13,11 +13,9 @@ use crate::symbol::{Symbol, number_of, relation_of, sign_of};
 use crate::term::{magnitude_within, signed};
 use crate::terms::read_terms;
 use crate::tokens::Tokens;
-use instance::{BadKind, InstanceLimit, Linear, Objective, PlaceFault, Rel, Sense};
+use instance::{BadKind, InstanceLimit, Linear, MAX_MAGNITUDE, Objective, PlaceFault, Rel, Sense};
 use scut_base::Items;
 use std::alloc::Global;
-
-const LARGEST: u64 = (1 << 63) - 1;
 
 /// Reads an objective from behind its head on, and answers its largest variable too.
 pub fn read_objective(
@@ -52,7 +50,7 @@ pub fn read_row(
 {
     let terms = read_terms(alloc, Some(first), tokens, InstanceLimit::Row)?;
     let rel = read_relation(terms.next)?;
-    let bound = read_bound(tokens, LARGEST - terms.sum)?;
+    let bound = read_bound(tokens, MAX_MAGNITUDE - terms.sum)?;
     let last = tokens.next();
     end_statement(last)?;
     let row = Linear {

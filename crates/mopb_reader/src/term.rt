@@ -12,10 +12,8 @@ ghost use Rattle.mopb_reader.specs.Steps.{BeginsWith, IsTermWithin};
 
 use crate::symbol::{Symbol, number_of, sign_of};
 use crate::tokens::Tokens;
-use instance::{BadKind, InstanceLimit, PlaceFault};
+use instance::{BadKind, InstanceLimit, MAX_VARS, PlaceFault};
 use scut_base::Lit;
-
-const VARS: u64 = 1 << 24;
 
 /// Reads a term from its first token, if there is one, and those after it. Its magnitude is at most
 /// what there is room for.
@@ -101,7 +99,7 @@ pub fn magnitude_within(
     }
 }
 
-// Reads a literal, whose variable is at most 2^24.
+// Reads a literal, whose variable is at most the largest.
 fn read_literal(symbol: Option<Symbol>) -> Result<Lit, PlaceFault>
     requires { IsSound symbol }
     ensures ok { IfOk result (λ l. (rest left : List Token) → IsLeft symbol rest left → (token : Token) × (left ≡ token ∷ rest) × SpellsLiteral token l) }
@@ -116,7 +114,7 @@ fn read_literal(symbol: Option<Symbol>) -> Result<Lit, PlaceFault>
                 neg,
             },
         ) => {
-            if var > VARS {
+            if var > MAX_VARS {
                 return Err(PlaceFault::Limit(InstanceLimit::Vars));
             }
             Ok(Lit::new(var, neg))

@@ -10,11 +10,9 @@ ghost use Rattle.mopb_reader.specs.Steps.{BeginsWithTerms, AreSummed};
 use crate::symbol::Symbol;
 use crate::term::read_term;
 use crate::tokens::Tokens;
-use instance::{BadKind, InstanceLimit, PlaceFault};
+use instance::{BadKind, InstanceLimit, MAX_MAGNITUDE, PlaceFault};
 use scut_base::{Items, Lit};
 use std::alloc::Global;
-
-const LARGEST: u64 = (1 << 63) - 1;
 
 /// Terms, the sum of their magnitudes, their largest variable, and the token after them, if there is
 /// one.
@@ -47,7 +45,7 @@ pub fn read_terms(
         if is_product(&items, next) {
             return Err(PlaceFault::Bad(BadKind::Product));
         }
-        let term = read_term(next, tokens, LARGEST - sum, limit)?;
+        let term = read_term(next, tokens, MAX_MAGNITUDE - sum, limit)?;
         sum += term.0.unsigned_abs();
         largest = largest.max(term.1.var());
         items.push(term)?;

@@ -4,6 +4,7 @@ pub mod ListedFront
 pub mod ReadSoFar
 pub mod Written
 pub mod InstanceFiles
-pub mod FrontFiles
+pub mod OwnFaults
+pub mod FrontAnswers
+pub mod Answered
 pub mod Completing
-pub mod Saying

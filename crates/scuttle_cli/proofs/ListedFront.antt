@@ -9,7 +9,7 @@ use Rattle.std.proofs.lemmas.List.Sorted.{All-permutation, Contains-permutation,
 use Rattle.front_set.specs.declared.entry.Entry.{Entry}
 use Rattle.front_set.specs.Vector.{IsStrictlyBelow, AreRising}
 use Rattle.front_set.specs.Front.{IsMinimalOf, vectors_of}
-use Rattle.front_set.proofs.Members.{Contains-from_map, Contains-map}
+use Rattle.scut_base.proofs.Lists.{Contains-from_map, Contains-map}
 use Rattle.instance.specs.Shape.{InstanceValue}
 use Rattle.instance.specs.Meaning.{IsModel, costs_of, objective_cost}
 use Rattle.instance.specs.ParetoFront.{problem_vector, listed_entry, IsFront, IsOnFront, Dominates}

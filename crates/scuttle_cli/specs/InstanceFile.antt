@@ -1,5 +1,5 @@
--- Instance files: their names, and what their texts spell.
-use Rattle.std.specs.Prelude.{◌≡◌, ℕ, ◌<◌, ◌^◌, Bool, ◌||◌, if◌then◌else◌, MatchBool, nat_eq, List, length, codes, Option, Some}
+-- Instance files: their formats, and what their texts spell.
+use Rattle.std.specs.Prelude.{◌≡◌, ℕ, ◌<◌, ◌≤◌, ◌^◌, ◌||◌, if◌then◌else◌, nat_eq, List, length, codes, Option, Some, None}
 use Rattle.std.specs.List.{ends_with}
 use Rattle.instance.specs.Shape.{InstanceValue}
 use Rattle.instance.specs.declared.fault.ReadFault.{ReadFault}
@@ -7,27 +7,39 @@ use Rattle.mcnf_reader.specs.Grammar.{Spells as SpellsMcnf}
 use Rattle.mcnf_reader.specs.FirstFault.{first_fault as mcnf_fault}
 use Rattle.mopb_reader.specs.Grammar.{Spells as SpellsOpb}
 use Rattle.mopb_reader.specs.FirstFault.{first_fault as opb_fault}
+use Rattle.scuttle_cli.specs.declared.instance_file.Format.{Format}
+use Rattle.scuttle_cli.specs.declared.instance_file.Format.TheVariants.{Mcnf, Opb}
 
--- the name of a file of hard and soft clauses
-abbrev pub is_mcnf_name : List ℕ → Bool
-is_mcnf_name name = ends_with nat_eq name (codes ".mcnf")
+-- the format of an instance file, by the ending of its name
+abbrev pub format_of : List ℕ → Option Format
+format_of name =
+    if ends_with nat_eq name (codes ".mcnf") then Some Mcnf
+    else (if ends_with nat_eq name (codes ".opb") || ends_with nat_eq name (codes ".mopb") then Some Opb else None)
 
--- the name of a file of linear statements
-abbrev pub is_opb_name : List ℕ → Bool
-is_opb_name name = ends_with nat_eq name (codes ".opb") || ends_with nat_eq name (codes ".mopb")
+-- which text spells which instance
+abbrev pub SpellsIn : Format → List ℕ → InstanceValue → Type 0
+SpellsIn Mcnf text i = SpellsMcnf text i
+SpellsIn Opb text i = SpellsOpb text i
 
-abbrev pub is_instance_name : List ℕ → Bool
-is_instance_name name = is_mcnf_name name || is_opb_name name
-
--- which text spells which instance, in a file of this name
-abbrev pub SpellsIn : List ℕ → List ℕ → InstanceValue → Type 0
-SpellsIn name text i = MatchBool (is_mcnf_name name) (SpellsMcnf text i) (SpellsOpb text i)
-
--- the first fault of a text, in a file of this name
-abbrev pub fault_in : List ℕ → List ℕ → Option ReadFault
-fault_in name text = if is_mcnf_name name then mcnf_fault text else opb_fault text
+-- the first fault of a text
+abbrev pub fault_in : Format → List ℕ → Option ReadFault
+fault_in Mcnf text = mcnf_fault text
+fault_in Opb text = opb_fault text
 
 -- the text is one that a reader takes, and this is its first fault
-pub record HasFault (name text : List ℕ) (fault : ReadFault) : Type 0 where
+pub record HasFault (format : Format) (fault : ReadFault) (text : List ℕ) : Type 0 where
   pub taken : length text < 2 ^ 32
-  pub first : fault_in name text ≡ Some fault
+  pub first : fault_in format text ≡ Some fault
+
+-- the text is one that a reader takes, and it spells this instance
+pub record IsTextOf (format : Format) (i : InstanceValue) (text : List ℕ) : Type 0 where
+  pub taken : length text < 2 ^ 32
+  pub spelled : SpellsIn format text i
+
+-- the instance of the text has at most 20 variables
+abbrev pub HasFewVariables : Format → List ℕ → Type 0
+HasFewVariables format text = (i : InstanceValue) × IsTextOf format i text × (i.vars ≤ 20)
+
+-- the instance of the text has more
+abbrev pub HasManyVariables : Format → List ℕ → Type 0
+HasManyVariables format text = (i : InstanceValue) × IsTextOf format i text × (20 < i.vars)

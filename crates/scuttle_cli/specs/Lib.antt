@@ -6,10 +6,11 @@ pub use Rattle.instance.specs.Meaning
 pub use Rattle.instance.specs.ParetoFront
 pub use Rattle.mcnf_reader.specs.Words
 pub use Rattle.mcnf_reader.specs.Grammar
+pub mod World
 pub mod InstanceFile
 pub mod Command
-pub mod Outcome
-pub mod Reading
+pub mod Answers
+pub mod WholeFile
 pub mod Enumeration
 pub mod Lines
 pub mod Messages

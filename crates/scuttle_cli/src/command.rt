@@ -1,14 +1,18 @@
 // What the words of the command line ask for.
-ghost use Rattle.std.specs.Prelude.{◌≡◌, map, string_bytes};
+ghost use Rattle.std.specs.Prelude.{map, string_bytes};
 ghost use Rattle.scuttle_cli.specs.Command.{IsCommandOf};
 
-use crate::instance_file::is_instance_name;
+use crate::instance_file::{Format, format_of};
 
 /// A command with its files.
 #[derive(Clone, Copy, Debug)]
 pub enum Command<'a> {
     /// The front of the instance file, by going through all assignments, to the list file.
-    Front { input: &'a str, list: &'a str },
+    Front {
+        format: Format,
+        input: &'a str,
+        list: &'a str,
+    },
 }
 
 /// The command that the words ask for; `None` where they are none.
@@ -20,9 +24,13 @@ pub fn read_command(words: &[String]) -> Option<Command<'_>>
     }
     let input = words[1].as_str();
     let list = words[2].as_str();
-    if is_instance_name(input) && input != list {
-        Some(Command::Front { input, list })
-    } else {
-        None
+    if input == list {
+        return None;
     }
+    let format = format_of(input)?;
+    Some(Command::Front {
+        format,
+        input,
+        list,
+    })
 }

@@ -40,7 +40,8 @@ fn take_model(
     front: &mut FrontSet,
 ) -> Result<(), NoMemory>
     requires { length a.now ≡ inst.now.vars }
-    ensures { OnOk result ((k : ℕ) → a.now ≡ assignment_of inst.now.vars k → StandsForModels inst.now front.old k → StandsForModels inst.now front.new (k + 1)) }
+    ensures { OnOk result ((k : ℕ) → a.now ≡ assignment_of inst.now.vars k
+        → StandsForModels inst.now front.old k → StandsForModels inst.now front.new (k + 1)) }
 {
     if inst.is_model(a) {
         let costs = inst.costs(alloc, a)?;

@@ -1,72 +1,64 @@
 // The command `front`.
-ghost use Rattle.std.specs.Prelude.{◌≡◌, IfOk, IfErr};
-ghost use Rattle.scut_base.specs.Faults.{NoneFell, HasCause};
-ghost use Rattle.scut_base.specs.Files.{IsTold};
-ghost use Rattle.scuttle_cli.specs.Messages.{Says};
-ghost use Rattle.scuttle_cli.specs.Outcome.{LeavesFiles, IsCausedByFile, HasOwnCause, IsUsageWhere, IsInputFault, IsInstanceOf, ReadingFailed, status_of};
+ghost use Rattle.std.specs.Prelude.{◌≡◌, ℕ, List, IfOk, IfErr};
+ghost use Rattle.scut_base.specs.Faults.{NoneFell};
+ghost use Rattle.scuttle_cli.specs.World.{world};
+ghost use Rattle.scuttle_cli.specs.Answers.{FrontAnswers, IsInstanceOf, status_of};
 
 use crate::Status;
 use crate::enumeration::front_of;
-use crate::input::read_whole;
-use crate::instance_file::read_text;
+use crate::instance_file::{Format, read_text};
 use crate::list_lines::complete_lines;
-use crate::writing::{say_complete, write_lines};
+use crate::messages::say_complete;
+use crate::whole_file::{read_whole, write_lines};
 use instance::{Instance, InstanceLimit};
 use scut_base::Shelf;
 use std::alloc::Global;
 
-/// How many variables the command takes.
+// How many variables the command takes: it goes through all 2^20 assignments in seconds, and each
+// variable more doubles that.
 const MOST_VARS: u64 = 20;
 
 /// Writes the front of the instance in the one file as a list to the other, by going through all
-/// assignments of its variables.
-pub fn front<H: Shelf>(alloc: Global, input: &str, list: &str, shelf: &mut H) -> Status
-    ensures usage { IsUsageWhere result ⊥ }
-    ensures files { IsTold (H.files shelf.old) → LeavesFiles result (H.files shelf.old) (H.files shelf.new) input.now list.now }
-    ensures caused { IsCausedByFile result (H.files shelf.old) input.now }
-    ensures own_cause { HasOwnCause result (H.faults shelf.old) (H.faults shelf.new) input.now list.now }
-    ensures said { Says result (H.files shelf.old) (H.files shelf.new) input.now list.now (H.said shelf.old) (H.said shelf.new) }
-    ensures warned { H.warned shelf.new ≡ H.warned shelf.old }
-    ensures later { NoneFell (H.faults shelf.old) (H.faults shelf.new) }
-{
-    match write_front(alloc, input, list, shelf) {
-        Ok(size) => Status::Complete { size },
-        Err(status) => status,
-    }
-}
-
-// The same, with what isn't Complete as an error.
-fn write_front<H: Shelf>(
+/// assignments of its variables, and says its size. Answers the size, or the status of any other end.
+pub fn front<H: Shelf>(
     alloc: Global,
+    format: Format,
     input: &str,
     list: &str,
     shelf: &mut H,
 ) -> Result<u64, Status>
-    ensures usage { IsUsageWhere (status_of result) ⊥ }
-    ensures files { IsTold (H.files shelf.old) → LeavesFiles (status_of result) (H.files shelf.old) (H.files shelf.new) input.now list.now }
-    ensures caused { IsCausedByFile (status_of result) (H.files shelf.old) input.now }
-    ensures own_cause { HasOwnCause (status_of result) (H.faults shelf.old) (H.faults shelf.new) input.now list.now }
-    ensures said { Says (status_of result) (H.files shelf.old) (H.files shelf.new) input.now list.now (H.said shelf.old) (H.said shelf.new) }
+    ensures answer { FrontAnswers format input.now list.now (status_of result)
+        (world H.files H.said H.warned H.faults shelf.old)
+        (world H.files H.said H.warned H.faults shelf.new) }
     ensures warned { H.warned shelf.new ≡ H.warned shelf.old }
     ensures later { NoneFell (H.faults shelf.old) (H.faults shelf.new) }
 {
-    let inst = read_instance(alloc, input, shelf)?;
+    let inst = read_instance(alloc, format, input, shelf)?;
     let entries = front_of(alloc, &inst)?;
+    let size = entries.len();
     let lines = complete_lines(alloc, &entries)?;
     write_lines(shelf, list, lines.as_slice())?;
-    say_complete(alloc, entries.len(), shelf)?;
-    Ok(entries.len() as u64)
+    say_complete(alloc, size, shelf)?;
+    Ok(size as u64)
 }
 
-// The instance of a file, where it has few enough variables.
-fn read_instance<H: Shelf>(alloc: Global, input: &str, shelf: &mut H) -> Result<Instance, Status>
-    ensures read { IfOk result (λ inst. IsInstanceOf (H.files shelf.old) input.now inst) }
-    ensures fault { IfErr result (λ status. IsInputFault status (H.files shelf.old) input.now) }
+// The instance of a file, where it has few enough variables; else the command's answer, however the
+// list is called.
+fn read_instance<H: Shelf>(
+    alloc: Global,
+    format: Format,
+    input: &str,
+    shelf: &mut H,
+) -> Result<Instance, Status>
+    ensures read { IfOk result (λ inst. IsInstanceOf (H.files shelf.old) format input.now inst) }
+    ensures refused { IfErr result (λ status. (list : List ℕ) →
+        FrontAnswers format input.now list status
+        (world H.files H.said H.warned H.faults shelf.old)
+        (world H.files H.said H.warned H.faults shelf.new)) }
     ensures files { H.files shelf.new ≡ H.files shelf.old }
     ensures said { H.said shelf.new ≡ H.said shelf.old }
     ensures warned { H.warned shelf.new ≡ H.warned shelf.old }
     ensures later { NoneFell (H.faults shelf.old) (H.faults shelf.new) }
-    ensures failed { IfErr result (λ status. status ≡ Status.ShelfFailed → ReadingFailed (H.faults shelf.old) (H.faults shelf.new) input.now) }
 {
     let bytes = match read_whole(alloc, input, shelf)? {
         Some(bytes) => bytes,
@@ -77,7 +69,7 @@ fn read_instance<H: Shelf>(alloc: Global, input: &str, shelf: &mut H) -> Result<
             });
         }
     };
-    let inst = match read_text(alloc, input, &bytes) {
+    let inst = match read_text(alloc, format, &bytes) {
         Ok(inst) => inst,
         Err(fault) => return Err(Status::from(fault)),
     };

@@ -7,14 +7,14 @@
 mod command;
 mod enumeration;
 mod front_command;
-mod input;
 mod instance_file;
 mod list_lines;
+mod messages;
 mod running;
 mod status;
-mod warning;
-mod writing;
+mod whole_file;
 
+use messages::warn_of;
 use running::run;
 use scut_base::{HostShelf, Shelf};
 use status::Status;
@@ -22,7 +22,6 @@ use std::alloc::Global;
 use std::io::ErrorKind;
 use std::process::ExitCode;
 use std::{env, io};
-use warning::warn_of;
 
 // The words of the command line, without the program's name.
 fn words_of(rt: &HostRuntime) -> io::Result<Vec<String>> {
@@ -32,7 +31,7 @@ fn words_of(rt: &HostRuntime) -> io::Result<Vec<String>> {
 // Answers for words that could not be collected: want of memory, or words that are no command.
 fn without_words<H: Shelf>(alloc: Global, fault: ErrorKind, shelf: &mut H) -> Status {
     if fault == ErrorKind::OutOfMemory {
-        warn_of(alloc, Status::NoMemory, shelf);
+        let _ = warn_of(alloc, Status::NoMemory, shelf);
         return Status::NoMemory;
     }
     run(alloc, &[], shelf)

@@ -1,32 +1,72 @@
 // The top call.
-ghost use Rattle.std.specs.Prelude.{◌≡◌, None, map, string_bytes};
-ghost use Rattle.scuttle_cli.specs.Command.{request_of};
+ghost use Rattle.std.specs.Prelude.{◌≡◌, ◌≢◌, ◌↔◌, None, map, string_bytes};
+ghost use Rattle.scut_base.specs.Faults.{NoneFell};
 ghost use Rattle.scut_base.specs.Files.{IsPartlyFollowed};
-ghost use Rattle.scuttle_cli.specs.Messages.{SaysOf, warning_text};
-ghost use Rattle.scuttle_cli.specs.Outcome.{IsUsageWhere, LeavesFilesOf, IsCausedByInput, HasOwnCauseOf, CompletesOf};
+ghost use Rattle.scuttle_cli.specs.World.{world};
+ghost use Rattle.scuttle_cli.specs.Command.{request_of};
+ghost use Rattle.scuttle_cli.specs.Messages.{warning_text, IsWarned};
+ghost use Rattle.scuttle_cli.specs.Answers.{Answers, Completes};
 
 use crate::Status;
 use crate::command::{Command, read_command};
 use crate::front_command::front;
-use crate::warning::warn_of;
-use scut_base::Shelf;
+use crate::messages::warn_of;
+use scut_base::{Shelf, ShelfFault};
 use std::alloc::Global;
 
-/// Runs the command that the words ask for; they are those of the command line without the
-/// program's name.
+/// Runs the command that the words ask for, and warns of a status that isn't Complete; the words are
+/// those of the command line without the program's name. A warning that fails changes no status.
 pub fn run<H: Shelf>(alloc: Global, words: &[String], shelf: &mut H) -> Status
-    ensures usage { IsUsageWhere result (request_of (map string_bytes words.now) ≡ None) }
-    ensures files { LeavesFilesOf (request_of (map string_bytes words.now)) result (H.files shelf.old) (H.files shelf.new) }
-    ensures caused { IsCausedByInput (request_of (map string_bytes words.now)) result (H.files shelf.old) }
-    ensures own_cause { HasOwnCauseOf (request_of (map string_bytes words.now)) result (H.faults shelf.old) (H.faults shelf.new) }
-    ensures complete { CompletesOf (request_of (map string_bytes words.now)) result (H.files shelf.old) (H.faults shelf.old) (H.faults shelf.new) }
-    ensures said { SaysOf (request_of (map string_bytes words.now)) result (H.files shelf.old) (H.files shelf.new) (H.said shelf.old) (H.said shelf.new) }
+    ensures usage { result ≢ Status.NoMemory
+        → ((result ≡ Status.Usage) ↔ (request_of (map string_bytes words.now) ≡ None)) }
+    ensures answer { Answers (request_of (map string_bytes words.now)) result
+        (world H.files H.said H.warned H.faults shelf.old)
+        (world H.files H.said H.warned H.faults shelf.new) }
+    ensures complete { Completes (request_of (map string_bytes words.now)) result
+        (world H.files H.said H.warned H.faults shelf.old)
+        (world H.files H.said H.warned H.faults shelf.new) }
     ensures warned { IsPartlyFollowed (H.warned shelf.old) (H.warned shelf.new) (warning_text result) }
+    ensures later { NoneFell (H.faults shelf.old) (H.faults shelf.new) }
 {
-    let status = match read_command(words) {
-        Some(Command::Front { input, list }) => front(alloc, input, list, shelf),
-        None => Status::Usage,
-    };
-    warn_of(alloc, status, shelf);
+    let (status, _) = run_and_warn(alloc, words, shelf);
     status
+}
+
+// The same, and how the warning went: what `run` can't tell is why a warning was cut off.
+fn run_and_warn<H: Shelf>(
+    alloc: Global,
+    words: &[String],
+    shelf: &mut H,
+) -> (Status, Result<(), ShelfFault>)
+    ensures answer { Answers (request_of (map string_bytes words.now)) result.0
+        (world H.files H.said H.warned H.faults shelf.old)
+        (world H.files H.said H.warned H.faults shelf.new) }
+    ensures warned { IsWarned (warning_text result.0)
+        (world H.files H.said H.warned H.faults shelf.old)
+        (world H.files H.said H.warned H.faults shelf.new) result.1 }
+    ensures later { NoneFell (H.faults shelf.old) (H.faults shelf.new) }
+{
+    let status = answer(alloc, words, shelf);
+    let warning = warn_of(alloc, status, shelf);
+    (status, warning)
+}
+
+// The command's answer, with nothing warned yet.
+fn answer<H: Shelf>(alloc: Global, words: &[String], shelf: &mut H) -> Status
+    ensures answer { Answers (request_of (map string_bytes words.now)) result
+        (world H.files H.said H.warned H.faults shelf.old)
+        (world H.files H.said H.warned H.faults shelf.new) }
+    ensures warned { H.warned shelf.new ≡ H.warned shelf.old }
+    ensures later { NoneFell (H.faults shelf.old) (H.faults shelf.new) }
+{
+    let Some(command) = read_command(words) else {
+        return Status::Usage;
+    };
+    match command {
+        Command::Front {
+            format,
+            input,
+            list,
+        } => Status::of(front(alloc, format, input, list, shelf)),
+    }
 }

@@ -1,6 +1,6 @@
 // How a run ends.
 ghost use Rattle.std.specs.Prelude.{◌≡◌};
-ghost use Rattle.scuttle_cli.specs.Outcome.{status_number};
+ghost use Rattle.scuttle_cli.specs.Answers.{status_number, status_of};
 
 use instance::{BadKind, InstanceLimit, ReadFault};
 use scut_base::{NoMemory, ShelfFault};
@@ -23,6 +23,16 @@ pub enum Status {
 }
 
 impl Status {
+    /// The status of a run that wrote a front of this size, or that ended so.
+    pub fn of(outcome: Result<u64, Status>) -> Status
+        ensures { result ≡ status_of outcome }
+    {
+        match outcome {
+            Ok(size) => Status::Complete { size },
+            Err(status) => status,
+        }
+    }
+
     /// The number with which the program ends.
     pub fn number(&self) -> u8
         ensures { result ≡ status_number self.now }
@@ -50,7 +60,7 @@ impl From<NoMemory> for Status {
 }
 
 impl From<ShelfFault> for Status {
-    ghost use Rattle.scuttle_cli.specs.Outcome.{status_of_shelf};
+    ghost use Rattle.scuttle_cli.specs.Answers.{status_of_shelf};
     ghost use Rattle.std.specs.Prelude.{◌≡◌};
 
     ghost from_gives = { λ fault s. s ≡ status_of_shelf fault };
@@ -64,7 +74,7 @@ impl From<ShelfFault> for Status {
 }
 
 impl From<ReadFault> for Status {
-    ghost use Rattle.scuttle_cli.specs.Outcome.{status_of_reading};
+    ghost use Rattle.scuttle_cli.specs.Answers.{status_of_reading};
     ghost use Rattle.std.specs.Prelude.{◌≡◌};
 
     ghost from_gives = { λ fault s. s ≡ status_of_reading fault };

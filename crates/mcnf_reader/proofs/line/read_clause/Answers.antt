@@ -3,7 +3,7 @@ use Rattle.std.proofs.lemmas.List.Elements.{All-push}
 use Rattle.std.proofs.lemmas.Result.{err_from_is_err_and}
 use Rattle.mcnf_reader.specs.FirstFault.{clause_fault}
 use Rattle.mcnf_reader.proofs.Clauses.{goes_on, ends_clause, where_none, where_some}
-use Rattle.mcnf_reader.proofs.StatementFaults.{clause_behind, word_wrong, text_behind}
+use Rattle.mcnf_reader.proofs.StatementFaults.{clause_after, word_wrong, text_after}
 use Rattle.mcnf_reader.proofs.line.read_clause.Goals as goal
 
 pub loop-word-preserved : goal.loop-word-preserved
@@ -12,7 +12,7 @@ loop-word-preserved c =
     rw c.in_ok-push-in-Some-2.ensures.ok (record {
       within = All-push (λ l. l.var ≤ 2 ^ 24) c.loop-word.lits c.in-Some-2.lit c.loop-word.invariant.within found.1;
       spelled = goes_on c.args.words.now c.loop-word.words c.next.new.self c.in-Some.word.now c.in-Some-2.lit c.loop-word.lits c.in-Some.ensures found.0 c.loop-word.invariant.spelled;
-      same = c.loop-word.invariant.same ∙ ap clause_fault c.in-Some.ensures ∙ clause_behind c.in-Some.word.now c.next.new.self c.in-Some-2.lit found.0 found.1;
+      same = c.loop-word.invariant.same ∙ ap clause_fault c.in-Some.ensures ∙ clause_after c.in-Some.word.now c.next.new.self c.in-Some-2.lit found.0 found.1;
     })
 
 pub returns-in-None-clause-ok : goal.returns-in-None-clause-ok
@@ -30,7 +30,7 @@ pub returns-then-is_some-clause-fault : goal.returns-then-is_some-clause-fault
 returns-then-is_some-clause-fault c =
     let zero = rw c.in-None.is at c.in_ok-lit.ensures.ok in
     let next = where_some c.next-in-None.result _ _ c.next-in-None.ensures (sym c.is_some.ensures ∙ c.if-is_some.true) in
-    text_behind c.args.words.now c.loop-word.words c.next.new.self c.next-in-None.new.self c.in-Some.word.now next.0.now c.loop-word.invariant.same c.in-Some.ensures zero next.1
+    text_after c.args.words.now c.loop-word.words c.next.new.self c.next-in-None.new.self c.in-Some.word.now next.0.now c.loop-word.invariant.same c.in-Some.ensures zero next.1
 
 pub returns-clause-fault : goal.returns-clause-fault
 returns-clause-fault c = c.loop-word.invariant.same ∙ ap clause_fault c.in_default.ensures.0

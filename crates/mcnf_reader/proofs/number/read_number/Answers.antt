@@ -2,8 +2,8 @@ use Rattle.mcnf_reader.proofs.WordFaults.{number_wide, number_not_digits}
 use Rattle.mcnf_reader.proofs.number.read_number.Goals as goal
 use Rattle.std.proofs.Common.{arith}
 
-pub returns-then-value-ge-WIDE-clause-fault : goal.returns-then-value-ge-WIDE-clause-fault
-returns-then-value-ge-WIDE-clause-fault c =
+pub returns-then-value-gt-MAX_MAGNITUDE-clause-fault : goal.returns-then-value-gt-MAX_MAGNITUDE-clause-fault
+returns-then-value-gt-MAX_MAGNITUDE-clause-fault c =
     let number = c.in-Ok.ensures in
     number_wide c.args.kind c.args.text.now number.0 (omega (arith, number.2))
 

@@ -1,4 +1,4 @@
-use Rattle.std.proofs.Common.{◌≡◌, ◌∙◌, subst, sym, List}
+use Rattle.std.proofs.Common.{◌∙◌, subst, sym, List}
 use Rattle.front_set.specs.declared.entry.Entry.{Entry}
 use Rattle.front_set.specs.Front.{AreDistinct}
 use Rattle.front_set.proofs.Rising.{distinct_from_incomparable}

@@ -1,0 +1,84 @@
+-- What a command's answer says after a warning, and of the words.
+use Rattle.std.proofs.Common.{◌≡◌, ◌≢◌, ℕ, zero, ◌↔◌, List, refl, sym, ◌∙◌, subst, inl, inr}
+use Rattle.std.specs.Prelude.{Option, Some, None}
+use Rattle.std.proofs.lemmas.Option.{none-some}
+use Rattle.scut_base.specs.Files.{IsTouched, IsPartlyFollowed}
+use Rattle.scut_base.specs.Faults.{NoneFell}
+use Rattle.instance.specs.declared.fault.InstanceLimit.TheVariants.{Bytes, Vars}
+use Rattle.scuttle_cli.specs.World.{World}
+use Rattle.scuttle_cli.specs.Command.{Request, FrontOf}
+use Rattle.scuttle_cli.specs.Messages.{complete_line}
+use Rattle.scuttle_cli.specs.Answers.{Answers, FrontAnswers, UsageAnswers, IsComplete, IsRefused, IsCutShort, IsUntouched, IsFrontWritten, IsPrefixOfFront}
+use Rattle.scuttle_cli.specs.declared.instance_file.Format.{Format}
+use Rattle.scuttle_cli.specs.declared.status.Status.{Status}
+use Rattle.scuttle_cli.specs.declared.status.Status.TheVariants.{Complete, Usage, BadInput, TooLarge, NoMemory, ShelfFailed}
+use Rattle.scuttle_cli.proofs.OwnFaults.{own_rose_at_first}
+
+-- ---- what is warned changes nothing that an answer speaks of
+
+module _ (before mid after : World) (files : after.files ≡ mid.files) (said : after.said ≡ mid.said) where
+  complete_kept : (format : Format) (input list : List ℕ) (size : ℕ) → IsComplete before mid format input list size → IsComplete before after format input list size
+  complete_kept format input list size was = record {
+    files = λ told. subst (λ f. IsFrontWritten before.files f format input list size) (sym files) (was.files told);
+    said = said ∙ was.said;
+  }
+
+  refused_kept : (input : List ℕ) (Cause : List ℕ → Type 0) → IsRefused before mid input Cause → IsRefused before after input Cause
+  refused_kept input Cause was = record { cause = was.cause; files = files ∙ was.files; said = said ∙ was.said }
+
+  cut_kept : (format : Format) (input list : List ℕ) → IsCutShort before mid format input list → IsCutShort before after format input list
+  cut_kept format input list was = record {
+    files = λ told. subst (λ f. IsTouched before.files f list (IsPrefixOfFront before.files format input)) (sym files) (was.files told);
+    said = elim was.said [
+      | inl same ↦ inl (said ∙ same)
+      | inr partly ↦ inr record {
+        size = partly.size;
+        files = λ told. subst (λ f. IsFrontWritten before.files f format input list partly.size) (sym files) (partly.files told);
+        said = subst (λ text. IsPartlyFollowed before.said text (complete_line partly.size)) (sym said) partly.said;
+      }
+    ];
+  }
+
+  untouched_kept : IsUntouched before mid → IsUntouched before after
+  untouched_kept was = record { files = files ∙ was.files; said = said ∙ was.said }
+
+  front_kept : (format : Format) (input list : List ℕ) (status : Status) → NoneFell mid.faults after.faults → FrontAnswers format input list status before mid → FrontAnswers format input list status before after
+  front_kept format input list (Complete size) later was = complete_kept format input list size was
+  front_kept format input list Usage later was = was
+  front_kept format input list (BadInput line kind) later was = refused_kept input _ was
+  front_kept format input list (TooLarge zero Bytes) later was = refused_kept input _ was
+  front_kept format input list (TooLarge zero Vars) later was = refused_kept input _ was
+  front_kept format input list (TooLarge line which) later was = refused_kept input _ was
+  front_kept format input list NoMemory later was = cut_kept format input list was
+  front_kept format input list ShelfFailed later was = (cut_kept format input list was.0, own_rose_at_first before.faults mid.faults after.faults input list was.1 later)
+
+  usage_kept : (status : Status) → UsageAnswers status before mid → UsageAnswers status before after
+  usage_kept (Complete size) was = was
+  usage_kept Usage was = untouched_kept was
+  usage_kept (BadInput line kind) was = was
+  usage_kept (TooLarge line which) was = was
+  usage_kept NoMemory was = untouched_kept was
+  usage_kept ShelfFailed was = was
+
+  pub answer_kept : (request : Option Request) (status : Status) → NoneFell mid.faults after.faults → Answers request status before mid → Answers request status before after
+  answer_kept None status later was = usage_kept status was
+  answer_kept (Some (FrontOf format input list)) status later was = front_kept format input list status later was
+
+-- ---- Usage
+
+-- words that ask for nothing have no other answer than Usage and want of memory
+only_usage : (status : Status) (before after : World) → UsageAnswers status before after → status ≢ NoMemory → status ≡ Usage
+only_usage (Complete size) before after was memory = absurd was
+only_usage Usage before after was memory = refl
+only_usage (BadInput line kind) before after was memory = absurd was
+only_usage (TooLarge line which) before after was memory = absurd was
+only_usage NoMemory before after was memory = absurd (memory refl)
+only_usage ShelfFailed before after was memory = absurd was
+
+no_usage : (format : Format) (input list : List ℕ) (status : Status) (before after : World) → FrontAnswers format input list status before after → status ≡ Usage → ⊥
+no_usage format input list status before after was is = subst (λ (s : Status). FrontAnswers format input list s before after) is was
+
+pub usage_exactly : (request : Option Request) (status : Status) (before after : World) → Answers request status before after → status ≢ NoMemory → (status ≡ Usage) ↔ (request ≡ None)
+usage_exactly None status before after was memory = (λ is. refl, λ is. only_usage status before after was memory)
+usage_exactly (Some (FrontOf format input list)) status before after was memory =
+    (λ is. absurd (no_usage format input list status before after was is), λ is. absurd (none-some (FrontOf format input list) (sym is)))
