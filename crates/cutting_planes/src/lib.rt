@@ -21,6 +21,3 @@ pub use scale::{multiples_are_implied, quotients_are_implied, saturation_is_impl
 pub use sum::sums_keep_truth;
 pub use token::PolToken;
 pub use weaken::weakening_is_implied;
-
-#[cfg(test)]
-mod tests;

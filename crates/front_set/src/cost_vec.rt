@@ -95,31 +95,3 @@ impl Duplicate for CostVec {
         CostVec::from_slice(alloc, self.as_slice())
     }
 }
-
-#[cfg(test)]
-mod tests {
-    use super::*;
-    use std::test::Fail;
-
-    #[test]
-    fn dominates_where_no_number_is_greater(rt: HostRuntime) -> Result<(), Fail> {
-        let rows = [
-            ([1, 2], [1, 2], true),
-            ([1, 2], [1, 3], true),
-            ([-4, 2], [-3, 2], true),
-            ([0, 5], [1, 4], false),
-            ([2, 0], [1, 9], false),
-        ];
-        for (left, right, want) in rows {
-            let left = CostVec::from_slice(rt.alloc(), &left)?;
-            let right = CostVec::from_slice(rt.alloc(), &right)?;
-            assert_eq!(rt; left.len(), right.len());
-            assert_eq!(rt;
-                left.weakly_dominates(&right),
-                want,
-                "{left:?} and {right:?}"
-            );
-        }
-        Ok(())
-    }
-}

@@ -11,6 +11,3 @@ mod propagation;
 
 pub use hint::{Hint, RupFault};
 pub use hinted::{conflicts_at_any_length, replay};
-
-#[cfg(test)]
-mod tests;

@@ -25,6 +25,3 @@ pub use instance::Instance;
 pub use listing::listed;
 pub use objective::{Objective, Sense, Soft};
 pub use row::{Linear, Rel};
-
-#[cfg(test)]
-mod tests;

@@ -81,6 +81,3 @@ pub fn spelled_where_no_fault()
 pub fn faults_have_lines()
     ensures { (text : List ℕ) (f : ReadFault) → first_fault text ≡ Some f → HasLine f }
 {}
-
-#[cfg(test)]
-mod tests;

@@ -33,6 +33,3 @@ pub use restriction::restriction_holds;
 pub use size::SIZE_LIMIT;
 pub use substitution::{substitution_holds, substitution_variables};
 pub use witness::{Image, Witness};
-
-#[cfg(test)]
-mod tests;

@@ -26,6 +26,3 @@ pub use memory::{Duplicate, NoMemory};
 pub use number::{NumberFault, read_i64, read_i128, read_u64};
 pub use partial::Partial;
 pub use shelf::{Shelf, ShelfCall, ShelfFault};
-
-#[cfg(test)]
-mod tests;

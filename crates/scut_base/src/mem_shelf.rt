@@ -348,6 +348,3 @@ fn copy_from(bytes: &[u8], at: u64, into: &mut [u8]) -> usize
     into[..n].copy_from_slice(&rest[..n]);
     n
 }
-
-#[cfg(test)]
-mod tests;

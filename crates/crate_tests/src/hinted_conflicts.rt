@@ -1,0 +1,97 @@
+// Replays over four lines, worked out by hand. A sum is given by its coefficients with the numbers of
+// literals: 3 is x3, and -3 is ~x3.
+ghost use Rattle.std.specs.Prelude.{◌≡◌, IfOk, IfSome, OnOk, option_copied};
+ghost use Rattle.pb_lin.specs.Constraint.{UpTo};
+ghost use Rattle.pb_lin.specs.LineMap.{LinesUpTo};
+
+use crate::sums::normal;
+use hint_rup::{Hint, RupFault, replay};
+use pb_lin::{Constraint, LinFault, Lines};
+use scut_base::{Lit, NoMemory, Partial};
+use std::alloc::Global;
+use std::test::Fail;
+
+// The lines 1 to 4.
+const LINES: &[(u64, &[(i128, i8)], i128)] = &[
+    (1, &[(1, 1), (1, 2)], 1),
+    (2, &[(1, -2)], 1),
+    (3, &[(1, -1)], 1),
+    (4, &[(2, 1), (1, 2)], 2),
+];
+
+fn four_lines(alloc: Global) -> Result<Lines, LinFault>
+    ensures { IfOk result (LinesUpTo 128) }
+{
+    let mut lines = Lines::new(alloc);
+    for line in LINES {
+        let constraint = normal(alloc, line.1, line.2)?;
+        put_line(&mut lines, line.0, constraint)?;
+    }
+    Ok(lines)
+}
+
+// Puts a line under an id.
+fn put_line(lines: &mut Lines, id: u64, line: Constraint) -> Result<(), NoMemory>
+    requires line { UpTo 128 line }
+    requires others { LinesUpTo 128 lines.old }
+    ensures { OnOk result (LinesUpTo 128 lines.new) }
+{
+    lines.put(id, line)
+}
+
+// The answer for hints over the four lines: an id, 0 for what is negated, and -1 for what is denied.
+fn replayed(
+    alloc: Global,
+    negated: &Constraint,
+    denied: Option<&Constraint>,
+    numbers: &[i8],
+) -> Result<Result<(), RupFault>, Fail>
+    requires negated { UpTo 128 negated.now }
+    requires denied { IfSome (option_copied denied) (UpTo 128) }
+{
+    let lines = four_lines(alloc)?;
+    let mut hints = Vec::new(alloc);
+    for number in numbers {
+        hints.push(hint(*number))?;
+    }
+    // what was set before doesn't count
+    let mut scratch = Partial::new(alloc, 128)?;
+    scratch.set(Lit::new(1, false));
+    Ok(replay(&mut scratch, negated, denied, &hints, &lines))
+}
+
+fn hint(number: i8) -> Hint {
+    match number {
+        0 => Hint::Negated,
+        -1 => Hint::Denied,
+        _ => Hint::Id(u64::from(number.unsigned_abs())),
+    }
+}
+
+// Hints that lead to a conflict from nothing, and hints that don't.
+const CONFLICTS: &[&[i8]] = &[&[2, 3, 1], &[2, 3, 1, 9], &[4, 3]];
+
+const OPEN: &[&[i8]] = &[&[1, 2, 3], &[2, 3], &[4, 2], &[0], &[]];
+
+#[test]
+fn lines_lead_to_a_conflict_in_the_order_of_the_hints(rt: HostRuntime) -> Result<(), Fail> {
+    let nothing = normal(rt.alloc(), &[], 0)?;
+    for hints in CONFLICTS {
+        assert!(rt; replayed(rt.alloc(), &nothing, None, hints)? == Ok(()));
+    }
+    for hints in OPEN {
+        assert!(rt; replayed(rt.alloc(), &nothing, None, hints)? == Err(RupFault::Open));
+    }
+    Ok(())
+}
+
+#[test]
+fn what_is_denied_counts_where_it_is_hinted(rt: HostRuntime) -> Result<(), Fail> {
+    let negated = normal(rt.alloc(), &[(1, -1)], 1)?;
+    let denied = normal(rt.alloc(), &[(1, 1), (1, 2)], 1)?;
+    let hinted = replayed(rt.alloc(), &negated, Some(&denied), &[2, -1])?;
+    assert!(rt; hinted == Ok(()));
+    let missing = replayed(rt.alloc(), &negated, None, &[2, -1])?;
+    assert!(rt; missing == Err(RupFault::NoSuchId(0)));
+    Ok(())
+}

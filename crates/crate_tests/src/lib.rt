@@ -1,0 +1,31 @@
+//! Tests of the crates below the program, all in one crate: a crate that has tests of its own is proved a
+//! second time with them. They show what no clause says: that calls succeed where there is memory, what
+//! prints, and values that were worked out by hand. It has nothing but tests.
+#![tactic(auto)]
+
+#[cfg(test)]
+mod clauses;
+#[cfg(test)]
+mod constraints_under_assignments;
+#[cfg(test)]
+mod cost_vectors;
+#[cfg(test)]
+mod hinted_conflicts;
+#[cfg(test)]
+mod lines_by_ids;
+#[cfg(test)]
+mod maximised_objectives;
+#[cfg(test)]
+mod normal_forms;
+#[cfg(test)]
+mod numbers_and_lists;
+#[cfg(test)]
+mod real_files;
+#[cfg(test)]
+mod shelves_in_memory;
+#[cfg(test)]
+mod stacks_of_tokens;
+#[cfg(test)]
+mod statements;
+#[cfg(test)]
+mod sums;

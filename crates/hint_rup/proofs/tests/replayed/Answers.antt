@@ -1,9 +1,0 @@
-use Rattle.std.proofs.Common.{subst, sym, length, Option}
-use Rattle.std.specs.Prelude.{option_copied}
-use Rattle.pb_lin.specs.Given.{given_with}
-use Rattle.hint_rup.specs.Hints.{HintsUpTo}
-use Rattle.hint_rup.proofs.HintedVariables.{hints_upto}
-use Rattle.hint_rup.proofs.tests.replayed.Goals as goal
-
-pub replay-requires-clause-hinted : goal.replay-requires-clause-hinted
-replay-requires-clause-hinted c = ?
