@@ -1,11 +1,10 @@
 -- How far one left side can be above another: the greatest excess bounds it, and an assignment reaches it.
 use Rattle.std.proofs.Common.{◌≡◌, ◌≢◌, ◌⊎◌, ℕ, ◌+◌, ◌-◌, ◌<◌, ◌≤◌, ◌==◌, ◌&&◌, ◌||◌, Bool, true, false, not, if◌then◌else◌, List, [], ◌∷◌, suc, length, get_or, map, sum_by, arith, ⊎_elim, subst, sym, ap, ◌∙◌, refl, ltb, inl, inr}
 use Rattle.std.proofs.Math.Bool.{beq}
-use Rattle.std.specs.List.{All, AllPairs, list_any, range_with_len}
+use Rattle.std.specs.List.{AllPairs, list_any, range_with_len}
 use Rattle.std.proofs.lemmas.Bool.{and_left, and_right, and_from, and_parts, ne_eqb, eq-eqb, eqb-true, cases_Bool, cases_eq, cond-true, cond-false, cond_both}
 use Rattle.std.proofs.lemmas.Bool.Decides.{nat_tests}
 use Rattle.std.proofs.lemmas.List.{get_or_default}
-use Rattle.std.proofs.lemmas.List.Elements.{All-head, All-tail}
 use Rattle.std.proofs.lemmas.List.Folds.{list_any_at, Any-from_list_any}
 use Rattle.std.proofs.lemmas.List.FromFn.{get_or-map-range_with_len}
 use Rattle.std.proofs.lemmas.List.Sums.{sum_by-cons, sum_by-le-sum_by, get_or-le-sum_by}

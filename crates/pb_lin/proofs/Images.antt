@@ -1,14 +1,13 @@
 -- What stands for a literal, by the place of its variable's image.
 use Rattle.std.proofs.Common.{◌≡◌, ◌≢◌, ℕ, zero, suc, ◌<◌, ◌≤◌, ◌==◌, Bool, true, false, not, if◌then◌else◌, List, [], ◌∷◌, length, get_or, arith, refl, ap, sym, ◌∙◌, ⊎_elim}
 use Rattle.std.specs.Prelude.{nat_eq, nat_lt}
-use Rattle.std.specs.List.{All, AllPairs, list_any}
-use Rattle.std.proofs.lemmas.Bool.{ne_eqb, eq-eqb, eqb-true, cond-true, cond-false, cases_Bool, false≢true, le-ltb}
+use Rattle.std.specs.List.{All, AllPairs}
+use Rattle.std.proofs.lemmas.Bool.{ne_eqb, eq-eqb, cond-true, cond-false, cases_Bool, le-ltb}
 use Rattle.std.proofs.lemmas.List.{get_or_default}
 use Rattle.std.proofs.lemmas.List.Folds.{list_any_at, list_any_none}
 use Rattle.std.proofs.lemmas.List.Elements.{All-head, All-tail}
 use Rattle.scut_base.specs.Literal.{Literal}
-use Rattle.scut_base.specs.Assignment.{value_of, lit_true}
-use Rattle.pb_lin.specs.Constraint.{opposite}
+use Rattle.scut_base.specs.Assignment.{value_of}
 use Rattle.pb_lin.specs.declared.witness.Image.{Image}
 use Rattle.pb_lin.specs.declared.witness.Image.TheVariants.{Zero, One, Lit}
 use Rattle.pb_lin.specs.Place.{IsPlace}

@@ -1,10 +1,9 @@
 -- Terms that are merged variable by variable: one more or one less at an end.
-use Rattle.std.proofs.Common.{ℕ, suc, ◌<◌, List, [], ◌∷◌, ◌++◌, length, get_or, arith, subst, refl}
+use Rattle.std.proofs.Common.{ℕ, suc, ◌<◌, List, [], ◌∷◌, ◌++◌, arith}
 use Rattle.std.specs.List.{All, AllPairs}
-use Rattle.std.proofs.lemmas.List.{get_or_append_left, get_or_push, length_push}
 use Rattle.std.proofs.lemmas.List.Elements.{All-push, All-weaker}
 use Rattle.std.proofs.lemmas.List.Quantifiers.{all_pairs_push}
-use Rattle.scut_base.proofs.Lists.{All-prefix, All-last, AllPairs-prefix, AllPairs-last}
+use Rattle.scut_base.proofs.Lists.{All-prefix, AllPairs-prefix, AllPairs-last}
 use Rattle.scut_base.specs.Literal.{Literal}
 use Rattle.pb_lin.specs.Constraint.{IsMerged}
 

@@ -1,10 +1,7 @@
 -- Signed sums, and filters that agree.
-use Rattle.std.proofs.Common.{◌≡◌, ◌≢◌, ℕ, zero, suc, ◌+◌, ◌<◌, List, [], ◌∷◌, length, get_or, arith, sum_by, take, refl, ap, ◌∙◌, map, fold, Bool, ℤ, pos, ◌+ℤ◌, ◌≤◌, filter, cond, not}
-use Rattle.std.specs.List.{All}
+use Rattle.std.proofs.Common.{◌≡◌, ℕ, ◌+◌, ◌<◌, List, [], ◌∷◌, length, get_or, arith, take, refl, ap, ◌∙◌, map, fold, Bool, ℤ, pos, ◌+ℤ◌, ◌≤◌, filter, cond}
 use Rattle.std.proofs.lemmas.List.{map_more}
-use Rattle.std.proofs.lemmas.List.Elements.{All-head, All-tail}
-use Rattle.std.proofs.lemmas.List.Filters.{sum_by-filter_both}
-use Rattle.std.proofs.lemmas.List.Sums.{sum_by-cons, fold_push}
+use Rattle.std.proofs.lemmas.List.Sums.{fold_push}
 use Rattle.scut_base.specs.Literal.{Literal}
 use Rattle.scut_base.specs.Assignment.{lit_true}
 use Rattle.std.proofs.lemmas.Bool.{cond_both}

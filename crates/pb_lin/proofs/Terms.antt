@@ -1,10 +1,10 @@
 -- Terms by their literals and stored coefficients.
-use Rattle.std.proofs.Common.{◌≡◌, ℕ, zero, suc, ◌+◌, ◌^◌, ◌≤◌, List, [], ◌∷◌, length, get_or, map, refl, arith, ap, sym, ◌∙◌, Option, Some, subst}
+use Rattle.std.proofs.Common.{◌≡◌, ℕ, zero, suc, ◌+◌, ◌^◌, ◌≤◌, List, [], ◌∷◌, length, get_or, map, refl, ap, sym, ◌∙◌, Some, subst}
 use Rattle.std.specs.Prelude.{slice_get, IsTrue, nat_eq}
 use Rattle.std.proofs.lemmas.Bool.{eqb-true, eq-eqb}
 use Rattle.std.proofs.lemmas.List.Elements.{All-nil, All-cons, All-head, All-tail}
 use Rattle.scut_base.specs.Literal.{Literal}
-use Rattle.pb_lin.specs.Constraint.{IsNormal, AreOnes, literals, ones, opposite, opposite_terms, total}
+use Rattle.pb_lin.specs.Constraint.{AreOnes, literals, ones, opposite, opposite_terms, total}
 use Rattle.pb_lin.specs.Stored.{terms_of, IsStored}
 use Rattle.pb_lin.proofs.OppositeTerms.{normal-opposite}
 

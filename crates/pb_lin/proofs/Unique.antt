@@ -1,5 +1,5 @@
 -- Terms in normal form are fixed by their values.
-use Rattle.std.proofs.Common.{◌≡◌, ◌≢◌, ◌⊎◌, ℕ, ◌+◌, ◌-◌, ◌<◌, ◌≤◌, ◌==◌, Bool, true, false, if◌then◌else◌, List, [], ◌∷◌, suc, get_or, arith, ⊎_elim, sym, ap, ◌∙◌, refl, ℤ, pos, negsuc, ◌-ℤ◌}
+use Rattle.std.proofs.Common.{◌≡◌, ◌≢◌, ◌⊎◌, ℕ, ◌+◌, ◌-◌, ◌<◌, ◌≤◌, ◌==◌, Bool, true, false, if◌then◌else◌, List, [], ◌∷◌, get_or, arith, ⊎_elim, sym, ap, ◌∙◌, refl, ℤ, pos, negsuc, ◌-ℤ◌}
 use Rattle.std.proofs.Math.Bool.{beq}
 use Rattle.std.specs.List.{All, AllPairs}
 use Rattle.std.specs.Int.{int_max}

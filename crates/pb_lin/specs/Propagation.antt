@@ -1,5 +1,5 @@
 -- Partial assignments under which constraints force no literal.
-use Rattle.std.specs.Prelude.{◌≡◌, ℕ, Bool, false, ◌&&◌, Option, List, length, All, ℤ, pos, ◌≤ℤ◌, int_lt}
+use Rattle.std.specs.Prelude.{◌≡◌, ℕ, Bool, false, ◌&&◌, Option, List, length, All, pos, ◌≤ℤ◌, int_lt}
 use Rattle.std.specs.Option.{is_none}
 use Rattle.scut_base.specs.Literal.{Literal}
 use Rattle.scut_base.specs.Assignment.{partial_truth}

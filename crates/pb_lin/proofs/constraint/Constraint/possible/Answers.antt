@@ -1,4 +1,4 @@
-use Rattle.std.proofs.Common.{ℕ, ◌≤◌, List, sum_by, length, arith, ap, sym, ◌∙◌, subst}
+use Rattle.std.proofs.Common.{◌≤◌, List, sum_by, length, arith, ap, sym, ◌∙◌, subst}
 use Rattle.std.specs.List.{All}
 use Rattle.std.proofs.lemmas.List.Elements.{All-map}
 use Rattle.scut_base.specs.Literal.{Literal}

@@ -4,7 +4,7 @@ use Rattle.std.proofs.lemmas.List.{length-map}
 use Rattle.std.proofs.lemmas.List.Kept.{AllPairs-filter}
 use Rattle.std.proofs.lemmas.List.Sums.{length-filter, count_by-le-length}
 use Rattle.scut_base.specs.Literal.{Literal}
-use Rattle.pb_lin.specs.Constraint.{ConstraintValue, literals, ones}
+use Rattle.pb_lin.specs.Constraint.{ConstraintValue, ones}
 use Rattle.pb_lin.specs.Restriction.{is_set, is_among, met_value}
 use Rattle.pb_lin.proofs.Ones.{total_ones, sum_ones, ones-filter, rising-literals}
 use Rattle.pb_lin.proofs.constraint.Constraint.restricted_ones.Goals as goal
