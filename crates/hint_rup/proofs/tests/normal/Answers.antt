@@ -1,4 +1,4 @@
-use Rattle.std.proofs.Common.{ℤ, List, subst, sym}
+use Rattle.std.proofs.Common.{ℤ, subst, sym}
 use Rattle.std.proofs.lemmas.Int.{to_z-of_z}
 use Rattle.std.specs.List.{All}
 use Rattle.scut_base.specs.Literal.{Literal}
