@@ -1,6 +1,6 @@
-// Constraints, cost rows and problems under assignments.
+// Constraints under assignments.
 use crate::sums::{assignment, is, normal, partial};
-use pb_lin::{Constraint, CostRow, PbProblem, row_cost};
+use pb_lin::Constraint;
 use scut_base::{Duplicate, Items, Lit};
 use std::test::Fail;
 
@@ -51,26 +51,5 @@ fn clauses_take_literals_as_they_are(rt: HostRuntime) -> Result<(), Fail> {
     let clause = Constraint::clause(Items::from_vec(lits)).copy(rt.alloc())?;
     assert!(rt; clause.is_clause());
     assert!(rt; is(&clause, &[(1, 1), (1, -2)], 1));
-    Ok(())
-}
-
-#[test]
-fn a_row_costs_its_true_literals_and_its_offset(rt: HostRuntime) -> Result<(), Fail> {
-    let alloc = rt.alloc();
-    let terms = vec![in alloc; (Lit::new(1, false), 2), (Lit::new(2, true), 3)]?;
-    let row = CostRow::from_parts(Items::from_vec(terms), -4).copy(alloc)?;
-    let a = assignment(alloc, &[1])?;
-    assert_eq!(rt; row_cost(&row, &a), 1);
-    Ok(())
-}
-
-#[test]
-fn a_problem_gives_back_its_parts(rt: HostRuntime) -> Result<(), Fail> {
-    let alloc = rt.alloc();
-    let problem = PbProblem::from_parts(2, Items::new(alloc), Items::new(alloc));
-    let copy = problem.copy(alloc)?;
-    assert_eq!(rt; copy.vars(), 2);
-    assert!(rt; copy.rows().is_empty());
-    assert!(rt; copy.costs().is_empty());
     Ok(())
 }

@@ -44,12 +44,3 @@ fn lines_are_walked_in_rising_order_of_ids(rt: HostRuntime) -> Result<(), Fail> 
     );
     Ok(())
 }
-
-#[test]
-fn a_line_is_found_until_it_is_dropped(rt: HostRuntime) -> Result<(), Fail> {
-    let mut lines = lines(rt.alloc(), &[7, 8])?;
-    lines.drop_id(7);
-    assert!(rt; lines.get(7).is_none());
-    assert!(rt; lines.get(8).is_some());
-    Ok(())
-}

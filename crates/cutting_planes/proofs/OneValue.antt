@@ -1,5 +1,5 @@
 -- Tokens have at most one value.
-use Rattle.std.specs.Prelude.{◌≡◌, ℕ, ◌+◌, Bool, List, [], ◌∷◌, unsigned_abs, Option, Some, None, Err, MatchOption, refl}
+use Rattle.std.specs.Prelude.{◌≡◌, List, [], ◌∷◌, Option, Some, None, Err, MatchOption}
 use Rattle.std.proofs.Common.{sym, ◌∙◌, ap, subst, arith}
 use Rattle.std.specs.FinMap.{get}
 use Rattle.pb_lin.specs.Constraint.{ConstraintValue}

@@ -1,8 +1,8 @@
 -- What the rules make of terms: their normal form, and their values under an assignment.
-use Rattle.std.specs.Prelude.{◌≡◌, ℕ, ◌+◌, ◌-◌, ◌*◌, ◌/◌, ◌<◌, ◌≤◌, ◌^◌, ◌==◌, min, Bool, true, false, not, cond, if◌then◌else◌, List, [], ◌∷◌, map, refl, sum_by, AllPairs}
+use Rattle.std.specs.Prelude.{◌≡◌, ℕ, ◌+◌, ◌-◌, ◌*◌, ◌/◌, ◌<◌, ◌≤◌, ◌^◌, ◌==◌, min, Bool, true, false, not, cond, if◌then◌else◌, List, [], ◌∷◌, map, refl, sum_by}
 use Rattle.std.specs.List.{filter}
 use Rattle.std.proofs.Common.{◌∙◌, ap, length, get_or, set, take, drop, ◌++◌, arith}
-use Rattle.std.proofs.lemmas.List.{get_or-map, length-map, get_or-append_right, get_or-drop, get_or_default, length-take-le}
+use Rattle.std.proofs.lemmas.List.{length-map, get_or-append_right, get_or-drop, get_or_default, length-take-le}
 use Rattle.std.proofs.lemmas.List.Edits.{map_over_more}
 use Rattle.std.proofs.lemmas.List.Elements.{All-map, All-weaker, All-filter}
 use Rattle.std.proofs.lemmas.List.Filters.{sum_by-filter_both}

@@ -1,5 +1,5 @@
 -- What the tokens make is implied by what they may name.
-use Rattle.std.specs.Prelude.{◌≡◌, ℕ, ◌<◌, Bool, List, [], ◌∷◌, ℤ, pos, unsigned_abs, Option, Some, None, Ok, Err, MatchOption, IfSome, IfOk, refl, option_copied}
+use Rattle.std.specs.Prelude.{◌≡◌, ℕ, ◌<◌, Bool, List, [], ◌∷◌, ℤ, pos, unsigned_abs, Option, Some, None, Ok, Err, MatchOption, IfOk, refl, option_copied}
 use Rattle.std.proofs.Common.{sym, subst, arith, negsuc, zero, suc, ◌∙◌, ap, ◌+◌, ◌≤◌, length, get_or, drop, drop-cons, Bor, ◌⊎◌, inl, inr}
 use Rattle.std.proofs.lemmas.List.{drop_all}
 use Rattle.std.specs.FinMap.{get}

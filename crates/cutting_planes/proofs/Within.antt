@@ -1,12 +1,12 @@
 -- What tokens make is in normal form, over the variables of what they may name.
-use Rattle.std.specs.Prelude.{◌≡◌, ℕ, ◌+◌, ◌*◌, ◌<◌, ◌≤◌, ◌^◌, ◌==◌, Bool, true, false, not, min, if◌then◌else◌, List, [], ◌∷◌, ℤ, pos, unsigned_abs, nat_lt, int_lt, Option, Some, None, Ok, Err, MatchOption, All, map, refl}
+use Rattle.std.specs.Prelude.{◌≡◌, ℕ, ◌*◌, ◌<◌, ◌≤◌, ◌^◌, ◌==◌, Bool, true, false, not, min, if◌then◌else◌, List, [], ◌∷◌, ℤ, pos, unsigned_abs, nat_lt, int_lt, Option, Some, None, Ok, All, map, refl}
 use Rattle.std.proofs.Common.{sym, subst, arith, negsuc, zero, suc}
 use Rattle.std.specs.FinMap.{get}
 use Rattle.std.proofs.lemmas.Bool.{ltb-false}
 use Rattle.std.proofs.lemmas.List.Elements.{All-nil, All-cons, All-map, All-filter, All-head, All-tail}
 use Rattle.scut_base.specs.Literal.{Literal}
 use Rattle.scut_base.proofs.Options.{if_some}
-use Rattle.pb_lin.specs.Constraint.{ConstraintValue, IsNormal, IsVariable, TermsUpTo, UpTo, size}
+use Rattle.pb_lin.specs.Constraint.{ConstraintValue, IsVariable, TermsUpTo, UpTo, size}
 use Rattle.pb_lin.specs.Given.{Given, GivenWithin, IsWithin}
 use Rattle.pb_lin.proofs.Ones.{normal-ones}
 use Rattle.pb_lin.proofs.Variables.{value-agree, variables_bounded}
@@ -124,3 +124,6 @@ value_within n given within (token ∷ tokens) upto stack c value all =
 
 pub value_upto : (given : Given) (tokens : List PolToken) (c : ConstraintValue) (n : ℕ) → GivenWithin n given → All (TokenUpTo n) tokens → IsValueOn given [] tokens (Ok c) → UpTo n c
 value_upto given tokens c n within upto value = (value_within n given within tokens upto [] c value tt).upto
+
+pub value_is_within : (given : Given) (tokens : List PolToken) (c : ConstraintValue) (n : ℕ) → GivenWithin n given → All (TokenUpTo n) tokens → IsValueOn given [] tokens (Ok c) → IsWithin n c
+value_is_within given tokens c n within upto value = value_within n given within tokens upto [] c value tt

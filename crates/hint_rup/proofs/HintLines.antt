@@ -1,9 +1,8 @@
 -- The lines of hints, from the first hint on.
-use Rattle.std.specs.Prelude.{◌≡◌, ℕ, ◌+◌, ◌<◌, ◌≤◌, Bool, Option, Some, None, List, [], ◌∷◌, length, All, IfSome, cond, replicate, refl}
-use Rattle.std.proofs.Common.{◌∙◌, ap, subst, get_or, drop}
+use Rattle.std.specs.Prelude.{◌≡◌, ℕ, ◌+◌, ◌<◌, ◌≤◌, Bool, Option, Some, None, List, [], ◌∷◌, length, All, cond, replicate, refl}
+use Rattle.std.proofs.Common.{◌∙◌, ap, get_or, drop}
 use Rattle.std.specs.Option.{is_none, option_map}
 use Rattle.std.specs.List.{find}
-use Rattle.std.specs.FinMap.{get}
 use Rattle.std.proofs.Math.ListN.{drop_of_length-le}
 use Rattle.std.proofs.lemmas.List.{drop_more}
 use Rattle.std.proofs.lemmas.List.Elements.{All-nil, All-cons}

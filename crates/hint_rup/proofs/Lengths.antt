@@ -1,5 +1,5 @@
 -- Partial assignments that differ only in how many open variables there are at their end.
-use Rattle.std.specs.Prelude.{◌≡◌, ◌≢◌, ◌⊎◌, ℕ, ◌-◌, ◌<◌, ◌≤◌, Bool, not, ◌&&◌, if◌then◌else◌, Option, Some, None, List, [], ◌∷◌, length, replicate, All, pos, ◌-ℤ◌, ◌<ℤ◌, int_lt, ℤ, refl}
+use Rattle.std.specs.Prelude.{◌≡◌, ◌≢◌, ℕ, ◌-◌, Bool, not, ◌&&◌, if◌then◌else◌, Option, Some, None, List, [], ◌∷◌, length, replicate, All, pos, ◌-ℤ◌, ◌<ℤ◌, int_lt, ℤ, refl}
 use Rattle.std.proofs.Common.{sym, ◌∙◌, ap, subst, get_or, arith, ⊎_elim}
 use Rattle.std.specs.Option.{is_none, option_map}
 use Rattle.std.specs.List.{filter}

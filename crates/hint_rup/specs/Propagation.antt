@@ -1,5 +1,5 @@
 -- Propagation of a list of constraints, each once.
-use Rattle.std.specs.Prelude.{ℕ, ◌-◌, Bool, not, Option, Some, List, [], ◌∷◌, fold, slice_set, pos, ◌<ℤ◌, Any}
+use Rattle.std.specs.Prelude.{◌-◌, Bool, not, Option, Some, List, [], ◌∷◌, fold, slice_set, pos, ◌<ℤ◌, Any}
 use Rattle.std.specs.List.{filter, zip}
 use Rattle.scut_base.specs.Literal.{Literal}
 use Rattle.pb_lin.specs.Constraint.{ConstraintValue, slack}

@@ -1,5 +1,5 @@
 use Rattle.std.proofs.Common.{arith}
-use Rattle.pb_lin.specs.Given.{Given, given_of}
+use Rattle.pb_lin.specs.Given.{given_of}
 use Rattle.cutting_planes.proofs.Truth.{run_end, value_implied}
 use Rattle.cutting_planes.proofs.evaluation.evaluate.Goals as goal
 

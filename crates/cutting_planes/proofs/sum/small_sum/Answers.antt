@@ -1,4 +1,4 @@
-use Rattle.std.proofs.Common.{rules, ◌≡◌, ◌++◌, [], length, ◌⊎◌, inl, inr, arith, ap, ◌∙◌}
+use Rattle.std.proofs.Common.{rules, ◌≡◌, ◌++◌, length, ◌⊎◌, inl, inr, arith, ap, ◌∙◌}
 use Rattle.std.specs.Prelude.{option_to_list}
 use Rattle.cutting_planes.proofs.Terms.{Terms}
 use Rattle.cutting_planes.proofs.Merge.{merge_start, step_left, step_right, step_joined, step_end, left_positive, right_positive, IsJoined}
