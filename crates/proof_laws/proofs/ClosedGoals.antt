@@ -1,7 +1,7 @@
 -- What the requirements of a substitution give, where each is met.
-use Rattle.std.proofs.Common.{◌≡◌, ◌≢◌, ◌⊎◌, ℕ, zero, suc, ◌+◌, ◌*◌, ◌<◌, ◌≤◌, ◌==◌, Bool, true, false, cond, Option, Some, None, List, [], ◌∷◌, ◌++◌, map, filter, length, get_or, sum_by, refl, arith, sym, subst, ap, ◌∙◌, inl, inr, ⊎_elim, Ok, Err, Result, ℤ, pos, ◌-ℤ◌}
+use Rattle.std.proofs.Common.{◌≡◌, ◌⊎◌, ℕ, zero, suc, ◌+◌, ◌*◌, ◌<◌, ◌≤◌, ◌==◌, Bool, true, false, cond, Option, Some, None, List, [], ◌∷◌, ◌++◌, filter, length, get_or, sum_by, arith, sym, subst, ap, ◌∙◌, ⊎_elim, Ok, Err}
 use Rattle.std.specs.Prelude.{MatchOption, nat_lt}
-use Rattle.std.specs.List.{All, Contains, list_any}
+use Rattle.std.specs.List.{All, Contains}
 use Rattle.std.specs.Ordering.{nat_cmp, eq_by_cmp}
 use Rattle.std.specs.FinMap.{get, entries, get-entries, find}
 use Rattle.std.specs.Cmp.{unsigned_tied}
@@ -20,12 +20,11 @@ use Rattle.pb_lin.specs.Substitution.{Images, has_image, touches, value_under}
 use Rattle.pb_lin.specs.Given.{Given, HoldsGiven}
 use Rattle.cutting_planes.specs.Stack.{IsValueOn, Answer}
 use Rattle.cutting_planes.specs.declared.token.PolToken.{PolToken}
-use Rattle.hint_rup.specs.declared.hint.RupFault.{RupFault}
 use Rattle.proof_laws.specs.State.{StateValue, Satisfies, RowsLive, numbered}
 use Rattle.proof_laws.specs.Substituted.{Requirement, IsGoalOf, holds_after, not_risen, none_risen, has_fallen, touched_hold, redundance, dominance}
-use Rattle.proof_laws.specs.Refusal.{FirstOf, fault_unless, size_fault, given_in, contradiction_fault, proof_of, IsProofFault, IsOpenGoalFault, IsGoalFault, IsFirstGoalFault, IsSubstitutionFault}
+use Rattle.proof_laws.specs.Refusal.{FirstOf, size_fault, given_in, contradiction_fault, proof_of, IsProofFault, IsOpenGoalFault, IsGoalFault, IsFirstGoalFault}
 use Rattle.proof_laws.specs.declared.goal.Goal.{Goal}
-use Rattle.proof_laws.specs.declared.goal.Goal.TheVariants.{Row, Itself, Strict}
+use Rattle.proof_laws.specs.declared.goal.Goal.TheVariants.{Row, Itself}
 use Rattle.proof_laws.specs.declared.goal.GoalProof.{GoalProof}
 use Rattle.proof_laws.specs.declared.goal.GoalProof.TheVariants.{Rup as ByRup, Pol as ByPol}
 use Rattle.proof_laws.specs.declared.why.Why.{Why}

@@ -1,14 +1,11 @@
 -- What derivations by propagation and by cutting planes show of assignments.
-use Rattle.std.proofs.Common.{◌≡◌, ℕ, ◌<◌, ◌≤◌, Bool, true, false, cond, not, Option, Some, None, List, [], ◌∷◌, length, replicate, refl, arith, sym, subst, ap, ⊎_elim, Ok, Err, Result}
-use Rattle.std.specs.Prelude.{IfSome, nat_lt}
-use Rattle.std.specs.FinMap.{get}
-use Rattle.std.proofs.lemmas.Bool.{ltb-true}
-use Rattle.pb_lin.specs.Constraint.{ConstraintValue, Holds, negation, size, total, value}
+use Rattle.std.proofs.Common.{◌≡◌, Bool, true, false, Option, Some, None, List, [], refl, Ok, Err, Result}
+use Rattle.pb_lin.specs.Constraint.{ConstraintValue, Holds, negation, size}
 use Rattle.pb_lin.specs.Problem.{ProblemValue}
 use Rattle.pb_lin.specs.Given.{Given, HoldsGiven, IsRefuted}
-use Rattle.cutting_planes.specs.Stack.{IsValueOn, Answer}
+use Rattle.cutting_planes.specs.Stack.{IsValueOn}
 use Rattle.cutting_planes.specs.declared.token.PolToken.{PolToken}
-use Rattle.cutting_planes.proofs.Truth.{value_implied, value_from_run}
+use Rattle.cutting_planes.proofs.Truth.{value_implied}
 use Rattle.hint_rup.specs.declared.hint.Hint.{Hint}
 use Rattle.hint_rup.specs.declared.hint.RupFault.{RupFault}
 use Rattle.hint_rup.specs.declared.hint.RupFault.TheVariants.{NoSuchId as RupNoSuchId, Open}

@@ -1,17 +1,15 @@
 -- A line that neither learns nor deletes keeps what a proof has earned.
-use Rattle.std.proofs.Common.{◌≡◌, ◌⊎◌, ℕ, ◌+◌, Bool, true, false, cond, List, [], ◌∷◌, ◌++◌, length, refl, arith, add-zero, sym, subst, ap, ◌∙◌, inl, inr, ⊎_elim}
-use Rattle.std.specs.List.{All, count_by}
+use Rattle.std.proofs.Common.{◌≡◌, ◌⊎◌, ℕ, ◌+◌, true, false, cond, List, [], ◌∷◌, ◌++◌, length, refl, arith, add-zero, sym, subst, ap, ◌∙◌, inl, inr, ⊎_elim}
+use Rattle.std.specs.List.{count_by}
 use Rattle.std.proofs.lemmas.List.{length-append}
 use Rattle.std.proofs.lemmas.Bool.{cond-false}
 use Rattle.std.proofs.lemmas.List.Sums.{sum_by_push}
 use Rattle.scut_base.proofs.Lists.{head_same, tail_same}
-use Rattle.pb_lin.specs.Constraint.{ConstraintValue}
 use Rattle.pb_lin.specs.Problem.{ProblemValue}
-use Rattle.hint_rup.specs.declared.hint.Hint.{Hint}
 use Rattle.proof_laws.specs.State.{StateValue, start}
 use Rattle.proof_laws.specs.Legal.{IsNext}
 use Rattle.proof_laws.specs.Replay.{Leads, IsReplay}
-use Rattle.proof_laws.specs.Earned.{is_learn, changes_learned, Splits, IsLearnedId, IsEarned, IsNewClause, IsReduction}
+use Rattle.proof_laws.specs.Earned.{is_learn, changes_learned, Splits, IsEarned}
 use Rattle.proof_laws.specs.declared.line.Line.{Line}
 use Rattle.proof_laws.specs.declared.line.Line.TheVariants.{Pol, Rup, Learn, Def, Red, Dom, Sol, Del, Reduce, End}
 

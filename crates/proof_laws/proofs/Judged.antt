@@ -1,5 +1,5 @@
 -- A line is refused, or has a next state: it has a first fault or none, and where it has none there is a state after it.
-use Rattle.std.proofs.Common.{◌≡◌, ◌⊎◌, inl, inr, ℕ, ◌+◌, ◌*◌, ◌<◌, ◌==◌, Bool, true, false, not, cond, if◌then◌else◌, Option, Some, None, List, [], ◌∷◌, ◌++◌, map, filter, get_or, refl, arith, subst, ⊎_elim, Ok, Err, Result}
+use Rattle.std.proofs.Common.{◌≡◌, ◌⊎◌, inl, inr, ℕ, ◌+◌, ◌*◌, ◌<◌, ◌==◌, Bool, true, false, not, cond, if◌then◌else◌, Option, Some, None, List, [], ◌∷◌, ◌++◌, map, filter, get_or, refl, arith, subst, ⊎_elim, Ok, Err}
 use Rattle.std.specs.Prelude.{MatchOption, option_map, nat_lt, ◌^◌}
 use Rattle.std.specs.List.{All, find}
 use Rattle.std.specs.FinMap.{get, entries}
@@ -14,12 +14,11 @@ use Rattle.cutting_planes.specs.declared.token.PolToken.{PolToken}
 use Rattle.cutting_planes.proofs.Terms.{Terms, normal-nil}
 use Rattle.cutting_planes.proofs.Rising.{Above, above_from_normal, normal_from_above}
 use Rattle.hint_rup.specs.declared.hint.Hint.{Hint}
-use Rattle.hint_rup.specs.declared.hint.RupFault.{RupFault}
 use Rattle.proof_laws.specs.WellFormed.{AreTokens, IsSubstitution, IsGoalProof}
 use Rattle.proof_laws.specs.State.{StateValue, IsState, numbered, pcost}
 use Rattle.proof_laws.specs.Steps.{with_line, with_learned, with_definition, with_solution, without_lines, with_end}
 use Rattle.proof_laws.specs.Substituted.{Requirement, IsGoalOf, holds_after, none_risen, has_fallen, touched_hold, redundance, dominance}
-use Rattle.proof_laws.specs.Refusal.{FirstOf, fault_unless, size_fault, rup_fault, pol_fault, contradiction_fault, proof_of, same_goal, is_clause, range_fault, written, def_fault, deletion_fault, end_fault, given_in, IsHintsFault, IsPolFault, IsRupFault, IsProofFault, IsOpenGoalFault, IsGoalFault, IsFirstGoalFault, IsSubstitutionFault, Bounds, IsCutFault, IsSolFault, line_or_none, misplaced, broken_row, assignment_of, IsRuleFault, IsFault}
+use Rattle.proof_laws.specs.Refusal.{FirstOf, fault_unless, size_fault, pol_fault, contradiction_fault, proof_of, same_goal, is_clause, range_fault, written, def_fault, deletion_fault, end_fault, given_in, IsHintsFault, IsPolFault, IsRupFault, IsProofFault, IsOpenGoalFault, IsGoalFault, IsFirstGoalFault, IsSubstitutionFault, Bounds, IsCutFault, IsSolFault, line_or_none, misplaced, broken_row, assignment_of, IsRuleFault, IsFault}
 use Rattle.proof_laws.specs.Legal.{IsRefused, IsNext, Makes}
 use Rattle.proof_laws.specs.Laws.{StandsBefore, LinesAreJudged}
 use Rattle.proof_laws.specs.declared.goal.Goal.{Goal}

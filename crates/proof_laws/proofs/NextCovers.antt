@@ -1,27 +1,22 @@
 -- Each legal line keeps every model covered.
-use Rattle.std.proofs.Common.{◌≡◌, ℕ, ◌+◌, ◌<◌, ◌≤◌, Bool, true, false, not, Option, Some, None, List, [], ◌∷◌, ◌++◌, map, length, get_or, fold, refl, arith, sym, subst, ap, ◌∙◌}
+use Rattle.std.proofs.Common.{◌≡◌, ℕ, ◌+◌, ◌≤◌, not, Some, None, List, [], ◌∷◌, ◌++◌, fold, refl, sym, subst}
 use Rattle.std.specs.Prelude.{nat_lt, ◌^◌}
-use Rattle.std.specs.List.{All, flat_map}
+use Rattle.std.specs.List.{flat_map}
 use Rattle.std.specs.FinMap.{get, remove}
-use Rattle.std.proofs.lemmas.List.Elements.{All-head, All-tail}
-use Rattle.scut_base.specs.Literal.{Literal}
-use Rattle.pb_lin.specs.Constraint.{ConstraintValue, Holds, negation, size}
+use Rattle.pb_lin.specs.Constraint.{ConstraintValue, negation, size}
 use Rattle.pb_lin.specs.LineMap.{LineMap}
 use Rattle.pb_lin.specs.Problem.{ProblemValue}
 use Rattle.pb_lin.specs.Substitution.{Images}
-use Rattle.cutting_planes.specs.declared.token.PolToken.{PolToken}
-use Rattle.hint_rup.specs.declared.hint.Hint.{Hint}
 use Rattle.proof_laws.specs.WellFormed.{IsWellFormed, IsConstraint}
-use Rattle.proof_laws.specs.State.{StateValue, IsState, Fits, Satisfies, CoversAll, pcost}
+use Rattle.proof_laws.specs.State.{StateValue, Fits, CoversAll, pcost}
 use Rattle.proof_laws.specs.Steps.{with_live, with_line, with_learned, with_definition, with_solution, without_lines, with_end, clause, reached_if, reached_only_if}
 use Rattle.proof_laws.specs.Substituted.{redundance, dominance}
-use Rattle.proof_laws.specs.Refusal.{FirstOf, given_in, fault_unless, size_fault, is_clause, range_fault, written, term_variables, image_variables, proof_variables, IsFault, IsRuleFault, IsRupFault, IsFirstGoalFault, assignment_of}
-use Rattle.proof_laws.specs.Legal.{IsNext, IsLegal, Makes}
+use Rattle.proof_laws.specs.Refusal.{FirstOf, given_in, fault_unless, size_fault, is_clause, range_fault, written, term_variables, image_variables, proof_variables, IsRuleFault, IsRupFault, IsFirstGoalFault, assignment_of}
+use Rattle.proof_laws.specs.Legal.{IsNext, IsLegal}
 use Rattle.proof_laws.specs.declared.goal.Goal.{Goal}
 use Rattle.proof_laws.specs.declared.goal.GoalProof.{GoalProof}
 use Rattle.proof_laws.specs.declared.line.Line.{Line}
 use Rattle.proof_laws.specs.declared.line.Line.TheVariants.{Pol, Rup, Learn, Def, Red, Dom, Sol, Del, Reduce, End}
-use Rattle.proof_laws.specs.declared.why.Why.{Why}
 use Rattle.proof_laws.specs.declared.why.Why.TheVariants.{AfterEnd, LogLong, NotClause}
 use Rattle.proof_laws.proofs.Semantics.{AreWithin, IsWithin, with_defined, with_logged}
 use Rattle.proof_laws.proofs.Live.{live_remove}

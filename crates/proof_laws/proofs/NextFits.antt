@@ -1,33 +1,16 @@
 -- What a state and its problem keep from line to line.
-use Rattle.std.proofs.Common.{◌≡◌, ◌≢◌, ◌⊎◌, ℕ, zero, suc, ◌+◌, ◌*◌, ◌^◌, ◌<◌, ◌≤◌, ◌==◌, Bool, true, false, cond, not, Option, Some, None, List, [], ◌∷◌, ◌++◌, map, length, get_or, sum_by, fold, refl, arith, sym, subst, ap, ◌∙◌, inl, inr, ⊎_elim, ℤ}
-use Rattle.std.specs.Prelude.{nat_lt}
-use Rattle.std.specs.List.{All, AllPairs, Contains, flat_map}
+use Rattle.std.proofs.Common.{◌≡◌, ◌⊎◌, ℕ, ◌+◌, ◌<◌, ◌≤◌, true, false, cond, Some, None, List, [], ◌∷◌, length, arith, sym, subst, ◌∙◌, inl, inr, ⊎_elim}
 use Rattle.std.specs.Ordering.{nat_cmp, eq_by_cmp}
 use Rattle.std.specs.Cmp.{nat_cmp_total, unsigned_tied}
-use Rattle.std.specs.FinMap.{get, insert, remove, get-insert, get-empty}
-use Rattle.std.proofs.lemmas.Bool.{cases_Bool, cond-true, cond-false, eqb-true, ltb-true, ltb-false, not-true}
-use Rattle.std.proofs.lemmas.List.{length-map, length_push}
-use Rattle.std.proofs.lemmas.List.Elements.{All-nil, All-cons, All-head, All-tail, All-append, All-map, All-contains, All-push}
-use Rattle.std.proofs.lemmas.List.Kept.{AllPairs-cons}
-use Rattle.std.proofs.lemmas.List.Quantifiers.{all_pairs_push}
-use Rattle.std.proofs.lemmas.List.Sums.{sum_by-cons, sum_by-append}
-use Rattle.scut_base.specs.Literal.{Literal}
-use Rattle.pb_lin.specs.Constraint.{ConstraintValue, IsNormal, TermsUpTo, opposite, size, total}
+use Rattle.std.specs.FinMap.{get, insert, get-insert, get-empty}
+use Rattle.std.proofs.lemmas.Bool.{cases_Bool, cond-true, cond-false, eqb-true}
+use Rattle.std.proofs.lemmas.List.Elements.{All-nil, All-contains}
+use Rattle.pb_lin.specs.Constraint.{ConstraintValue, IsNormal, TermsUpTo}
 use Rattle.pb_lin.specs.LineMap.{LineMap, lines_of}
-use Rattle.pb_lin.specs.CostRow.{row_cost}
 use Rattle.pb_lin.specs.Problem.{ProblemValue, IsProblem}
-use Rattle.proof_laws.specs.WellFormed.{IsWellFormed, IsConstraint}
-use Rattle.proof_laws.specs.State.{StateValue, IsState, Fits, RowsLive, HasContradiction, IsContradiction, numbered, start, pcost}
-use Rattle.proof_laws.specs.Steps.{counted, with_live, with_line, with_learned, with_definition, with_solution, without_lines, with_end, term_of, missed_by, reached_if, reached_only_if, clause}
-use Rattle.proof_laws.specs.Refusal.{fault_unless, size_fault, is_clause, range_fault, term_variables, image_variables, proof_variables, assignment_of, deletion_fault}
-use Rattle.proof_laws.specs.Legal.{IsNext, IsLegal}
-use Rattle.proof_laws.specs.declared.line.Line.{Line}
-use Rattle.proof_laws.specs.declared.line.Line.TheVariants.{Pol, Rup, Learn, Def, Red, Dom, Sol, Del, Reduce, End}
-use Rattle.proof_laws.specs.declared.why.Why.{Why}
-use Rattle.proof_laws.specs.declared.why.Why.TheVariants.{AfterEnd, LogLong, Overflow}
-use Rattle.proof_laws.proofs.Semantics.{AreWithin, IsWithin}
+use Rattle.proof_laws.specs.State.{StateValue, IsState, Fits, numbered, start}
+use Rattle.proof_laws.proofs.Semantics.{IsWithin}
 use Rattle.proof_laws.proofs.Live.{live_numbered}
-use Rattle.proof_laws.proofs.Derivations.{unless_none}
 use Rattle.proof_laws.proofs.KeptWithin.{start_rows_live}
 
 -- a problem and a state that fits it speak of their own variables

@@ -1,32 +1,31 @@
 -- What every legal line keeps: that the state is one, that it fits the problem, and that every model is covered.
-use Rattle.std.proofs.Common.{◌≡◌, ◌⊎◌, ℕ, ◌+◌, ◌^◌, ◌<◌, ◌≤◌, Bool, true, false, not, Option, Some, None, List, [], ◌∷◌, ◌++◌, map, length, get_or, refl, arith, sym, subst, ap, ◌∙◌, ℤ}
+use Rattle.std.proofs.Common.{◌≡◌, ℕ, ◌+◌, ◌^◌, ◌<◌, ◌≤◌, false, not, None, List, [], ◌∷◌, ◌++◌, length, refl, arith, sym, subst}
 use Rattle.std.specs.Prelude.{nat_lt}
 use Rattle.std.specs.List.{All, flat_map}
-use Rattle.std.specs.FinMap.{get}
 use Rattle.std.proofs.lemmas.Bool.{ltb-true, not-true}
 use Rattle.std.proofs.lemmas.List.{length-map}
 use Rattle.std.proofs.lemmas.List.Elements.{All-nil, All-cons, All-head, All-tail, All-map, All-push}
 use Rattle.scut_base.specs.Literal.{Literal}
-use Rattle.pb_lin.specs.Constraint.{ConstraintValue, IsNormal, TermsUpTo, Holds, size, value}
+use Rattle.pb_lin.specs.Constraint.{ConstraintValue, IsNormal, TermsUpTo, size}
 use Rattle.pb_lin.specs.CostRow.{row_cost}
 use Rattle.pb_lin.specs.Problem.{ProblemValue, IsProblem}
-use Rattle.pb_lin.specs.Given.{Given, GivenWithin}
-use Rattle.cutting_planes.specs.Stack.{IsValueOn, TokenUpTo}
+use Rattle.pb_lin.specs.Given.{GivenWithin}
+use Rattle.cutting_planes.specs.Stack.{TokenUpTo}
 use Rattle.cutting_planes.specs.declared.token.PolToken.{PolToken}
 use Rattle.cutting_planes.specs.declared.token.PolToken.TheVariants.{Id, Axiom, Negated, Denied, Add, Mul, Div, Saturate, Weaken}
-use Rattle.proof_laws.specs.WellFormed.{IsWellFormed, IsConstraint, IsToken, AreTokens}
-use Rattle.proof_laws.specs.State.{StateValue, IsState, Fits, CoversAll, Satisfies, HasContradiction, start, pcost}
+use Rattle.proof_laws.specs.WellFormed.{IsWellFormed, IsConstraint, IsToken}
+use Rattle.proof_laws.specs.State.{StateValue, IsState, Fits, CoversAll, start, pcost}
 use Rattle.proof_laws.specs.Steps.{with_line, with_learned, with_definition, with_solution, without_lines, with_end, clause, reached_if, reached_only_if}
-use Rattle.proof_laws.specs.Refusal.{given_in, fault_unless, range_fault, written, term_variables, image_variables, proof_variables, token_variables, assignment_of, deletion_fault, end_fault}
-use Rattle.proof_laws.specs.Legal.{IsNext, IsLegal}
+use Rattle.proof_laws.specs.Refusal.{given_in, image_variables, proof_variables, token_variables, assignment_of, deletion_fault}
+use Rattle.proof_laws.specs.Legal.{IsNext}
 use Rattle.proof_laws.specs.Replay.{Leads, IsReplay}
-use Rattle.proof_laws.specs.Laws.{StartIsSound, StandsBefore, ReplayIsSound, NextFits, NextCovers, ReplaysAreSound, EndedIsEmpty}
+use Rattle.proof_laws.specs.Laws.{StartIsSound, ReplayIsSound, NextFits, NextCovers, ReplaysAreSound, EndedIsEmpty}
 use Rattle.proof_laws.specs.declared.line.Line.{Line}
 use Rattle.proof_laws.specs.declared.line.Line.TheVariants.{Pol, Rup, Learn, Def, Red, Dom, Sol, Del, Reduce, End}
 use Rattle.proof_laws.specs.declared.why.Why.TheVariants.{AfterEnd, LogLong}
 use Rattle.cutting_planes.proofs.Within.{value_is_within}
 use Rattle.proof_laws.proofs.Semantics.{AreWithin}
-use Rattle.proof_laws.proofs.Derivations.{first_of_none, unless_none}
+use Rattle.proof_laws.proofs.Derivations.{unless_none}
 use Rattle.proof_laws.proofs.CoverSteps.{start_is_covered, nothing_satisfies}
 use Rattle.proof_laws.proofs.Ranges.{range_bounds, all_prefix, all_suffix, def_parts, terms_upto, literals_upto}
 use Rattle.proof_laws.proofs.Solutions.{sol_parts}

@@ -1,25 +1,20 @@
 -- The next state is a state, and fits the problem.
-use Rattle.std.proofs.Common.{◌≡◌, ◌≢◌, ◌⊎◌, ℕ, zero, suc, ◌+◌, ◌-◌, ◌*◌, ◌^◌, ◌<◌, ◌≤◌, ◌==◌, eqb, Bool, true, false, cond, not, Option, Some, None, List, [], ◌∷◌, ◌++◌, map, length, get_or, sum_by, fold, refl, arith, sym, subst, ap, ◌∙◌, inl, inr, ⊎_elim, ℤ}
+use Rattle.std.proofs.Common.{◌≡◌, ◌⊎◌, ℕ, zero, suc, ◌+◌, ◌^◌, ◌<◌, ◌≤◌, ◌==◌, eqb, true, false, not, Option, Some, None, List, [], ◌∷◌, ◌++◌, map, length, get_or, fold, refl, arith, sym, subst, ap, ◌∙◌, inl, inr, ⊎_elim, ℤ}
 use Rattle.std.specs.Prelude.{nat_lt, ◌&&◌, option_map}
-use Rattle.std.specs.List.{All, AllPairs, find, list_all}
+use Rattle.std.specs.List.{All, AllPairs, find}
 use Rattle.std.specs.FinMap.{get, insert, remove, contains_key}
 use Rattle.std.proofs.lemmas.Bool.{cases_Bool, cond-true, cond-false, eqb-true, ne_eqb, ltb-true, ltb-false, not-true, not-false, and_parts}
 use Rattle.std.proofs.lemmas.List.{length-map, append-nil, get_or-map}
 use Rattle.std.proofs.lemmas.List.Elements.{All-nil, All-cons, All-head, All-tail, All-append, All-map}
-use Rattle.std.proofs.lemmas.List.Kept.{AllPairs-cons}
 use Rattle.std.proofs.lemmas.List.Quantifiers.{all_pairs_push}
-use Rattle.std.proofs.lemmas.List.Sums.{sum_by-cons, sum_by-append}
+use Rattle.std.proofs.lemmas.List.Sums.{sum_by-cons}
 use Rattle.scut_base.specs.Literal.{Literal}
 use Rattle.pb_lin.specs.Constraint.{ConstraintValue, IsNormal, TermsUpTo, opposite, size, total}
-use Rattle.pb_lin.specs.LineMap.{LineMap}
-use Rattle.pb_lin.specs.CostRow.{row_cost}
 use Rattle.pb_lin.specs.Problem.{ProblemValue}
-use Rattle.proof_laws.specs.State.{StateValue, IsState, Fits, RowsLive, HasContradiction, IsContradiction, pcost}
+use Rattle.proof_laws.specs.State.{StateValue, IsState, Fits, RowsLive, HasContradiction, IsContradiction}
 use Rattle.proof_laws.specs.Steps.{counted, with_live, with_line, with_learned, with_definition, with_solution, without_lines, with_end, term_of, missed_by, reached_if, reached_only_if, clause}
-use Rattle.proof_laws.specs.Refusal.{fault_unless, size_fault, is_deletable, deletion_fault, end_fault}
-use Rattle.proof_laws.specs.declared.why.Why.{Why}
+use Rattle.proof_laws.specs.Refusal.{size_fault, is_deletable, deletion_fault, end_fault}
 use Rattle.proof_laws.specs.declared.why.Why.TheVariants.{Overflow, NoSuchId, NotContradiction}
-use Rattle.proof_laws.proofs.Semantics.{AreWithin}
 use Rattle.proof_laws.proofs.Live.{live_insert}
 use Rattle.proof_laws.proofs.Derivations.{unless_none}
 use Rattle.proof_laws.proofs.Definitions.{zero_or_more}

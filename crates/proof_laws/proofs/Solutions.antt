@@ -1,14 +1,13 @@
 -- A logged model bounds each objective from below where the cut's literals are false.
-use Rattle.std.proofs.Common.{◌≡◌, ◌⊎◌, ℕ, zero, ◌+◌, ◌<◌, ◌≤◌, ◌==◌, Bool, true, false, not, if◌then◌else◌, Option, Some, None, List, [], ◌∷◌, map, get_or, refl, arith, sym, subst, ap, ◌∙◌, ⊎_elim}
-use Rattle.std.specs.Prelude.{MatchOption, IsTrue, option_map}
+use Rattle.std.proofs.Common.{◌≡◌, ◌⊎◌, ℕ, ◌+◌, ◌≤◌, ◌==◌, Bool, true, false, not, if◌then◌else◌, Option, Some, None, List, [], ◌∷◌, map, get_or, refl, arith, sym, ◌∙◌, ⊎_elim}
+use Rattle.std.specs.Prelude.{MatchOption, option_map}
 use Rattle.std.specs.List.{All}
 use Rattle.std.specs.FinMap.{get}
 use Rattle.std.proofs.lemmas.Bool.{cases_Bool, cond-true, cond-false}
 use Rattle.std.proofs.lemmas.List.Elements.{All-nil, All-cons, All-map}
 use Rattle.scut_base.specs.Literal.{Literal}
 use Rattle.scut_base.specs.Assignment.{lit_true, value_of}
-use Rattle.pb_lin.specs.Constraint.{ConstraintValue, Holds, Covers, opposite, value}
-use Rattle.pb_lin.specs.LineMap.{LineMap}
+use Rattle.pb_lin.specs.Constraint.{ConstraintValue, Holds, opposite, value}
 use Rattle.pb_lin.specs.CostRow.{CostRowValue}
 use Rattle.pb_lin.specs.Problem.{ProblemValue}
 use Rattle.pb_lin.specs.Restriction.{restriction}

@@ -1,14 +1,12 @@
 -- A line is refused for one reason at most, or has one next state at most.
-use Rattle.std.proofs.Common.{◌≡◌, ◌⊎◌, ℕ, ◌+◌, ◌*◌, ◌<◌, ◌≤◌, Bool, true, false, not, Option, Some, None, List, [], ◌∷◌, length, replicate, refl, arith, sym, subst, ap, ◌∙◌, ⊎_elim, Ok, Err, Result, ℤ}
+use Rattle.std.proofs.Common.{◌≡◌, ◌⊎◌, ℕ, ◌+◌, ◌*◌, ◌<◌, Bool, not, Option, Some, None, List, [], ◌∷◌, replicate, refl, arith, sym, subst, ap, ◌∙◌, ⊎_elim, Ok, Err, Result}
 use Rattle.std.specs.Prelude.{MatchOption, option_map, nat_lt, ◌^◌}
-use Rattle.pb_lin.specs.Constraint.{ConstraintValue, IsNormal, negation, size}
-use Rattle.pb_lin.specs.NormalForm.{HasExcess}
+use Rattle.pb_lin.specs.Constraint.{ConstraintValue, negation, size}
 use Rattle.pb_lin.specs.LineMap.{LineMap}
 use Rattle.pb_lin.specs.CostRow.{CostRowValue}
 use Rattle.pb_lin.specs.Problem.{ProblemValue}
 use Rattle.scut_base.specs.Literal.{Literal}
 use Rattle.pb_lin.specs.Given.{Given}
-use Rattle.cutting_planes.specs.Stack.{IsValueOn, Answer}
 use Rattle.cutting_planes.specs.declared.token.PolToken.{PolToken}
 use Rattle.cutting_planes.proofs.OneValue.{at_most_one}
 use Rattle.pb_lin.proofs.Unique.{equal_excess}
@@ -17,12 +15,12 @@ use Rattle.hint_rup.specs.Hints.{named, unnamed, IsAnswer}
 use Rattle.hint_rup.specs.declared.hint.Hint.{Hint}
 use Rattle.hint_rup.specs.declared.hint.RupFault.{RupFault}
 use Rattle.hint_rup.specs.declared.hint.RupFault.TheVariants.{NoSuchId as RupNoSuchId, Open}
-use Rattle.proof_laws.specs.State.{StateValue, pcost}
+use Rattle.proof_laws.specs.State.{StateValue}
 use Rattle.proof_laws.specs.Steps.{with_line}
 use Rattle.proof_laws.specs.Substituted.{Requirement, IsGoalOf, redundance, dominance}
-use Rattle.proof_laws.specs.Refusal.{FirstOf, fault_unless, size_fault, rup_fault, pol_fault, contradiction_fault, proof_of, is_clause, range_fault, written, given_in, IsHintsFault, IsPolFault, IsRupFault, IsProofFault, IsOpenGoalFault, IsGoalFault, IsFirstGoalFault, IsSubstitutionFault, Bounds, IsCutFault, IsSolFault, line_or_none, misplaced, broken_row, assignment_of, IsRuleFault, IsFault}
-use Rattle.proof_laws.specs.Legal.{IsRefused, IsNext, Makes, IsLegal}
-use Rattle.proof_laws.specs.Laws.{JudgedOnce, LinesAreJudgedOnce}
+use Rattle.proof_laws.specs.Refusal.{FirstOf, fault_unless, size_fault, rup_fault, pol_fault, contradiction_fault, proof_of, is_clause, range_fault, written, given_in, IsHintsFault, IsPolFault, IsRupFault, IsProofFault, IsOpenGoalFault, IsGoalFault, IsFirstGoalFault, IsSubstitutionFault, Bounds, IsCutFault, line_or_none, misplaced, broken_row, assignment_of, IsRuleFault, IsFault}
+use Rattle.proof_laws.specs.Legal.{Makes}
+use Rattle.proof_laws.specs.Laws.{LinesAreJudgedOnce}
 use Rattle.proof_laws.specs.declared.goal.Goal.{Goal}
 use Rattle.proof_laws.specs.declared.goal.GoalProof.{GoalProof}
 use Rattle.proof_laws.specs.declared.goal.GoalProof.TheVariants.{Rup as ByRup, Pol as ByPol}

@@ -1,5 +1,5 @@
 -- Legal lines: what refuses a line, and the state after one that isn't refused.
-use Rattle.std.specs.Prelude.{◌≡◌, ℕ, List, [], None, Some, Ok}
+use Rattle.std.specs.Prelude.{◌≡◌, [], None, Some, Ok}
 use Rattle.pb_lin.specs.Constraint.{ConstraintValue}
 use Rattle.pb_lin.specs.Problem.{ProblemValue}
 use Rattle.cutting_planes.specs.Stack.{IsValueOn}

@@ -1,6 +1,6 @@
 -- Why a line is refused: its conditions in order, of which the first that fails decides.
-use Rattle.std.specs.Prelude.{◌≡◌, ◌⊎◌, ℕ, ◌+◌, ◌*◌, ◌<◌, ◌^◌, ◌==◌, Bool, true, false, not, nat_lt, ◌||◌, ◌&&◌, if◌then◌else◌, List, [], ◌∷◌, ◌++◌, map, length, replicate, Option, None, Some, option_map, MatchOption, Result, Ok, Err}
-use Rattle.std.specs.List.{find, filter, flat_map, list_all, list_any, position_from}
+use Rattle.std.specs.Prelude.{◌≡◌, ◌⊎◌, ℕ, ◌+◌, ◌*◌, ◌<◌, ◌^◌, ◌==◌, Bool, true, false, not, nat_lt, ◌&&◌, if◌then◌else◌, List, [], ◌∷◌, ◌++◌, map, length, Option, None, Some, option_map, MatchOption, Result, Ok, Err}
+use Rattle.std.specs.List.{find, flat_map, list_all, position_from}
 use Rattle.std.specs.FinMap.{get, contains_key}
 use Rattle.scut_base.specs.Literal.{Literal}
 use Rattle.pb_lin.specs.Constraint.{ConstraintValue, Covers, negation, opposite, size, total, value}
@@ -10,7 +10,7 @@ use Rattle.pb_lin.specs.LineMap.{LineMap}
 use Rattle.pb_lin.specs.Restriction.{restriction}
 use Rattle.pb_lin.specs.Substitution.{Images}
 use Rattle.pb_lin.specs.declared.witness.Image.{Image}
-use Rattle.pb_lin.specs.declared.witness.Image.TheVariants.{Zero, One, Lit}
+use Rattle.pb_lin.specs.declared.witness.Image.TheVariants.{Lit}
 use Rattle.pb_lin.specs.Given.{Given}
 use Rattle.cutting_planes.specs.Stack.{IsValueOn, Answer}
 use Rattle.cutting_planes.specs.declared.token.PolToken.{PolToken}
@@ -21,7 +21,7 @@ use Rattle.hint_rup.specs.Hints.{IsReplayed}
 use Rattle.hint_rup.specs.declared.hint.Hint.{Hint}
 use Rattle.hint_rup.specs.declared.hint.RupFault.{RupFault}
 use Rattle.hint_rup.specs.declared.hint.RupFault.TheVariants.{NoSuchId as RupNoSuchId, Open}
-use Rattle.proof_laws.specs.State.{StateValue, numbered}
+use Rattle.proof_laws.specs.State.{StateValue}
 use Rattle.proof_laws.specs.WellFormed.{goal_kind, goal_number}
 use Rattle.proof_laws.specs.Steps.{reached_if, reached_only_if}
 use Rattle.proof_laws.specs.Substituted.{Requirement, IsGoalOf, redundance, dominance}

@@ -1,8 +1,7 @@
 -- What has to be so after a substitution, as constraints.
-use Rattle.std.specs.Prelude.{◌≡◌, ℕ, ◌+◌, Bool, List, [], ◌∷◌, ◌++◌, map, sum_by, ℤ, pos, ◌-ℤ◌}
+use Rattle.std.specs.Prelude.{ℕ, ◌+◌, Bool, List, [], ◌∷◌, ◌++◌, map, sum_by, ℤ, pos, ◌-ℤ◌}
 use Rattle.std.specs.List.{filter}
 use Rattle.std.specs.FinMap.{entries}
-use Rattle.scut_base.specs.Literal.{Literal}
 use Rattle.pb_lin.specs.Constraint.{ConstraintValue, IsNormal, size, value}
 use Rattle.pb_lin.specs.NormalForm.{HasExcess}
 use Rattle.pb_lin.specs.CostRow.{CostRowValue}

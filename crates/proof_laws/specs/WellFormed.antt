@@ -1,7 +1,7 @@
 -- What a line is made of: fields that a log can spell.
-use Rattle.std.specs.Prelude.{◌≡◌, ◌≢◌, ℕ, ◌<◌, ◌-◌, ◌^◌, ◌⊎◌, List, [], All, AllPairs, ℤ, pos, ◌≤ℤ◌, ◌<ℤ◌}
+use Rattle.std.specs.Prelude.{◌≡◌, ◌≢◌, ℕ, ◌<◌, ◌^◌, ◌⊎◌, List, [], All, AllPairs, ℤ, pos, ◌≤ℤ◌, ◌<ℤ◌}
 use Rattle.scut_base.specs.Literal.{Literal}
-use Rattle.pb_lin.specs.Constraint.{ConstraintValue, IsNormal, TermsUpTo}
+use Rattle.pb_lin.specs.Constraint.{ConstraintValue, IsNormal}
 use Rattle.pb_lin.specs.Substitution.{Images, IsWitness}
 use Rattle.pb_lin.specs.declared.witness.Image.{Image}
 use Rattle.pb_lin.specs.declared.witness.Image.TheVariants.{Zero, One, Lit}
