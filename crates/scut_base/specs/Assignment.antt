@@ -1,5 +1,5 @@
 -- Assignments: the list of the variables' truth values, and the literals that they make true.
-use Rattle.std.specs.Prelude.{ℕ, ◌-◌, Bool, false, not, if◌then◌else◌, List, take, slice_index_or, Option, None, option_map}
+use Rattle.std.specs.Prelude.{ℕ, ◌-◌, Bool, false, not, if◌then◌else◌, List, slice_index_or, Option, None, option_map}
 use Rattle.scut_base.specs.Literal.{Literal}
 
 -- the value of a variable: that of variable 1 is first
@@ -9,10 +9,6 @@ value_of a var = slice_index_or a (var - 1) false
 -- the truth of a literal
 abbrev pub lit_true : List Bool → Literal → Bool
 lit_true a l = if l.neg then not (value_of a l.var) else value_of a l.var
-
--- the assignment of the first n variables
-abbrev pub cut_to : ℕ → List Bool → List Bool
-cut_to n a = take n a
 
 -- the value of a variable in a partial assignment, or none where it is open
 abbrev pub partial_value : List (Option Bool) → ℕ → Option Bool

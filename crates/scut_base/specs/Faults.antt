@@ -1,10 +1,9 @@
 -- Counts of faults, for each kind of call and each name.
-use Rattle.std.specs.Prelude.{◌≡◌, ℕ, ◌+◌, ◌-◌, ◌≤◌, ◌^◌, min, List, Option, Some, None, Result, IsErrOf}
+use Rattle.std.specs.Prelude.{ℕ, ◌+◌, ◌-◌, ◌≤◌, ◌^◌, ◌⊎◌, min, List, [], Option, Some, None, Result, IsErrOf}
 use Rattle.std.specs.declared.cmp.Ordering.{Ordering}
 use Rattle.std.specs.Ordering.{nat_cmp, ordering_then}
 use Rattle.std.specs.Cmp.Lexicographic.{slice_cmp}
-use Rattle.std.specs.FinMap.{FinMap, get, empty, get-empty}
-use Rattle.std.proofs.Common.{ap}
+use Rattle.std.specs.FinMap.{FinMap, get, empty}
 use Rattle.scut_base.specs.declared.shelf.ShelfCall.{ShelfCall}
 use Rattle.scut_base.specs.declared.shelf.ShelfCall.TheVariants.{Read, Begin, Append, Say, Warn}
 use Rattle.scut_base.specs.declared.shelf.ShelfFault.{ShelfFault}
@@ -32,29 +31,39 @@ or_else (Some m) n = m
 unfoldable pub count : Faults → ShelfCall → List ℕ → ℕ
 count f call name = or_else (get f.listed (call, name)) f.others
 
+-- one more, up to the end of a u64
+abbrev pub one_more : ℕ → ℕ
+one_more n = min (n + 1) (2 ^ 64 - 1)
+
 -- The count rose, or is at its end.
 abbrev pub Rose : ℕ → ℕ → Type 0
-Rose before now = min (before + 1) (2 ^ 64 - 1) ≤ now
+Rose before now = one_more before ≤ now
 
 -- no count has fallen
 abbrev pub NoneFell : Faults → Faults → Type 0
 NoneFell before now = (call : ShelfCall) (name : List ℕ) → count before call name ≤ count now call name
 
+-- no count has fallen, and where the call failed its own rose
 pub record HasCause {T : Type 0} (call : ShelfCall) (name : List ℕ) (before now : Faults) (result : Result T ShelfFault) : Type 0 where
   pub later : NoneFell before now
   pub failed : IsErrOf result Failed → Rose (count before call name) (count now call name)
 
+-- a count of the calls that read this file rose
+abbrev pub ReadingFailed : Faults → Faults → List ℕ → Type 0
+ReadingFailed before now name = Rose (count before Read name) (count now Read name)
+
+-- a count of the calls that write this file rose
+abbrev pub WritingFailed : Faults → Faults → List ℕ → Type 0
+WritingFailed before now name = Rose (count before Begin name) (count now Begin name) ⊎ Rose (count before Append name) (count now Append name)
+
+-- the count of the calls that say something rose
+abbrev pub SayingFailed : Faults → Faults → Type 0
+SayingFailed before now = Rose (count before Say []) (count now Say [])
+
+-- the count of the calls that warn of something rose
+abbrev pub WarningFailed : Faults → Faults → Type 0
+WarningFailed before now = Rose (count before Warn []) (count now Warn [])
+
 -- every pair has this count
 unfoldable pub plain : ℕ → Faults
 plain n = record { listed = empty; others = n }
-
-pub count-plain : (n : ℕ) (call : ShelfCall) (name : List ℕ) → count (plain n) call name ≡ n
-unfolding count plain
-count-plain n call name = ap (λ found. or_else found n) (get-empty {X = ℕ} pair_cmp (call, name))
-
--- a cause from one number that counts all faults
-pub plain_cause : {T : Type 0} (call : ShelfCall) (name : List ℕ) (before now : ℕ) (result : Result T ShelfFault) → before ≤ now → (IsErrOf result Failed → Rose before now) → HasCause call name (plain before) (plain now) result
-plain_cause call name before now result later failed = record {
-  later = λ c n. rw (count-plain before c n, count-plain now c n) later;
-  failed = λ e. rw (count-plain before call name, count-plain now call name) (failed e);
-}

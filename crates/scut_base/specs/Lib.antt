@@ -1,8 +1,12 @@
 pub mod Literal
+pub mod LiteralCode
 pub mod Assignment
+pub mod Tracked
 pub mod Number
+pub mod Bytes
+pub mod Fault
 pub mod Files
-pub mod FileLaws
+pub mod FileMap
 pub mod Faults
 pub mod Memory
-pub mod Stored
+pub mod MemoryCode

@@ -1,5 +1,5 @@
 -- Numbers that are read from text.
-use Rattle.std.specs.Prelude.{◌≡◌, ℕ, ◌≤◌, Bool, List, Option, None, Some, drop, ℤ, pos, neg_ℤ, Result, Ok, Err, if◌then◌else◌}
+use Rattle.std.specs.Prelude.{◌≡◌, ℕ, ◌<◌, ◌≤◌, Bool, List, Option, None, Some, drop, ℤ, pos, neg_ℤ, Result, Ok, Err, if◌then◌else◌}
 use Rattle.std.specs.Str.Parse.{IsNumeral, digits_value, starts_with_minus}
 use Rattle.scut_base.specs.declared.number.NumberFault.{NumberFault}
 use Rattle.scut_base.specs.declared.number.NumberFault.TheVariants.{NotDigits, TooWide}
@@ -31,6 +31,14 @@ abbrev pub ReadsAs : {T : Type 0} → Result T NumberFault → Type 0 → Type 0
 ReadsAs (Ok x) IsNumber Fits value = IsNumber × Fits × (x ≡ value)
 ReadsAs (Err NotDigits) IsNumber Fits value = IsNumber → ⊥
 ReadsAs (Err TooWide) IsNumber Fits value = IsNumber × (Fits → ⊥)
+
+-- the same of decimal digits whose value has to be below a limit
+abbrev pub ReadsNatural : Result ℕ NumberFault → ℕ → List ℕ → Type 0
+ReadsNatural result limit text = ReadsAs result (IsNatural text) (natural_value text < limit) (natural_value text)
+
+-- the same of a number with one minus or none, whose value has to fit
+abbrev pub ReadsInteger : Result ℤ NumberFault → (ℤ → Type 0) → List ℕ → Type 0
+ReadsInteger result Fits text = ReadsAs result (IsInteger text) (Fits (integer_value text)) (integer_value text)
 
 -- a running value: the number so far, or none where it has reached the limit
 abbrev pub Keeps : ℕ → Option ℕ → ℕ → Type 0

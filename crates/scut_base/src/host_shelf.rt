@@ -1,7 +1,9 @@
 // The real files and streams. Nothing is claimed of what they hold; each error raises the count.
-ghost use Rattle.std.specs.Prelude.{◌≡◌, ◌≤◌, ℕ, List, length, IfOk, None};
+ghost use Rattle.std.specs.Prelude.{◌≡◌, ◌≤◌, ◌↔◌, ℕ, List, length, IfOk, None};
+ghost use Rattle.std.specs.declared.io.ErrorKind.{ErrorKind};
 ghost use Rattle.scut_base.specs.declared.shelf.ShelfCall.{ShelfCall};
-ghost use Rattle.scut_base.specs.Faults.{plain, HasCause};
+ghost use Rattle.scut_base.specs.declared.shelf.ShelfFault.{ShelfFault};
+ghost use Rattle.scut_base.specs.Faults.{one_more, plain, HasCause};
 
 use crate::{Shelf, ShelfCall, ShelfFault};
 use std::alloc::Allocator;
@@ -19,9 +21,15 @@ struct Opened<F, A: Allocator> {
     file: F,
 }
 
-/// The real files, standard output and standard error. It keeps open the file that it read last and
-/// the one that it wrote last, so that one append more to the same file is one write. It tells none
-/// of their bytes; each error raises its one count of faults.
+/// The real files, standard output and standard error. It tells none of their bytes. Want of memory is
+/// answered as such, also where a call of the system meets it; each other error raises the one count
+/// of faults.
+///
+/// It keeps open the file that it read last and the one that it wrote last, so that one append more to
+/// the same file is one write, and reading on is one read. After a failed call it keeps that file no
+/// longer, since nothing tells where it stands then; the next call opens it anew. A read that a signal
+/// interrupts is made again, a million times at most: each loop here ends, and an outside that does
+/// nothing but interrupt counts as one that fails.
 #[derive(Drop)]
 pub struct HostShelf<R: Runtime> {
     rt: R,
@@ -52,21 +60,35 @@ impl<R: Runtime> HostShelf<R> {
     }
 }
 
-// What a call answers, with one more fault where it failed.
+// What a call answers, with one more fault where it failed for another cause than memory.
 fn counted<T: Drop>(done: io::Result<T>, faults: &mut u64) -> Result<T, ShelfFault>
-    ensures cause { (call : ShelfCall) (name : List ℕ) → HasCause call name (plain faults.old) (plain faults.new) result }
+    ensures cause { (call : ShelfCall) (name : List ℕ)
+        → HasCause call name (plain faults.old) (plain faults.new) result }
     ensures value { IfOk result (λ v. done ≡ Ok v) }
 {
     match done {
         Ok(value) => Ok(value),
-        Err(_) => {
+        Err(error) => Err(fault_of(error.kind(), faults)),
+    }
+}
+
+// The fault of an error. That memory was refused counts as no fault of the outside.
+fn fault_of(kind: ErrorKind, faults: &mut u64) -> ShelfFault
+    ensures memory { (result ≡ ShelfFault.NoMemory) ↔ (kind ≡ ErrorKind.OutOfMemory) }
+    ensures uncounted { result ≡ ShelfFault.NoMemory → faults.new ≡ faults.old }
+    ensures counted { result ≡ ShelfFault.Failed → faults.new ≡ one_more faults.old }
+    ensures later { faults.old ≤ faults.new }
+{
+    match kind {
+        ErrorKind::OutOfMemory => ShelfFault::NoMemory,
+        _ => {
             *faults = faults.saturating_add(1);
-            Err(ShelfFault::Failed)
+            ShelfFault::Failed
         }
     }
 }
 
-// Reads once, and again where it was interrupted.
+// Reads once, and again where it was interrupted. The bound is there because a loop must end.
 fn read_some<F: Read>(file: &mut F, into: &mut [u8]) -> io::Result<usize>
     ensures { IfOk result (λ n. n ≤ length into.old) }
 {
@@ -245,33 +267,21 @@ mod tests {
     use super::*;
     use std::test::Fail;
 
-    #[test]
-    fn a_file_is_written_and_read_in_pieces(rt: HostRuntime) -> Result<(), Fail> {
-        let mut shelf = HostShelf::new(rt);
-        shelf.begin("a.txt")?;
-        shelf.append("a.txt", b"old")?;
-        shelf.begin("a.txt")?;
-        shelf.append("a.txt", b"hel")?;
-        shelf.append("a.txt", b"lo")?;
-        let rows: [(u64, &[u8]); 5] = [(0, b"he"), (2, b"ll"), (4, b"o"), (5, b""), (1, b"el")];
-        for (at, piece) in rows {
-            let mut into = [0u8; 2];
-            let read = shelf.read_at("a.txt", at, &mut into)?;
-            assert_eq!(rt; read, piece.len(), "at {at}");
-            assert_eq!(rt; into.get(..read), Some(piece), "at {at}");
-        }
-        Ok(())
+    fn written(shelf: &mut HostShelf<HostRuntime>, name: &str) -> Result<(), ShelfFault> {
+        shelf.begin(name)?;
+        shelf.append(name, b"hel")?;
+        shelf.append(name, b"lo")
     }
 
     #[test]
-    fn a_missing_file_fails(rt: HostRuntime) -> Result<(), Fail> {
+    fn a_file_is_written_in_pieces_and_read_at_a_place(rt: HostRuntime) -> Result<(), Fail> {
         let mut shelf = HostShelf::new(rt);
-        let mut into = [0u8; 2];
-        assert_eq!(rt;
-            shelf.read_at("b.txt", 0, &mut into),
-            Err(ShelfFault::Failed)
-        );
-        assert_eq!(rt; shelf.append("b.txt", b"x"), Err(ShelfFault::Failed));
+        let mut into = [0u8; 9];
+        assert!(rt; shelf.read_at("none.txt", 0, &mut into).is_err());
+        written(&mut shelf, "a.txt")?;
+        written(&mut shelf, "a.txt")?;
+        let read = shelf.read_at("a.txt", 1, &mut into)?;
+        assert_eq!(rt; &into[..read], b"ello".as_slice());
         shelf.say(b"")?;
         shelf.warn(b"")?;
         Ok(())

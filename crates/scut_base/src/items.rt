@@ -1,5 +1,5 @@
 // A list that contracts see as its elements, whatever room it keeps.
-ghost use Rattle.std.specs.Prelude.{◌≡◌, ◌<◌, ◌≤◌, ◌++◌, [], ◌∷◌, ◌↔◌, length, IsTrue, OnOk, OnErr, MatchOption, slice_get};
+ghost use Rattle.std.specs.Prelude.{◌≡◌, ◌<◌, ◌≤◌, ◌++◌, [], ◌∷◌, ◌↔◌, length, take, IsTrue, IsOk, IfOk, OnOk, OnErr, MatchOption, slice_get, slice_set};
 
 use crate::{Duplicate, NoMemory};
 use std::alloc::Global;
@@ -28,6 +28,15 @@ impl<T> Items<T> {
         Items {
             items: Vec::new(alloc),
         }
+    }
+
+    /// The empty list, with room for so many elements. `NoMemory` where memory was refused.
+    pub fn with_capacity(alloc: Global, capacity: usize) -> Result<Items<T>, NoMemory>
+        ensures { IfOk result (λ list. list ≡ []) }
+    {
+        Ok(Items {
+            items: Vec::with_capacity(alloc, capacity)?,
+        })
     }
 
     /// The list of a `Vec`'s elements.
@@ -67,7 +76,8 @@ impl<T> Items<T> {
 
     /// The element at a place, counted from 0; `None` past the end.
     pub fn get(&self, at: usize) -> Option<&T>
-        ensures { MatchOption result (length self.now ≤ at) (λ x. slice_get self.now at ≡ Some x.now) }
+        ensures { MatchOption result (length self.now ≤ at)
+            (λ x. slice_get self.now at ≡ Some x.now) }
     {
         self.items.get(at)
     }
@@ -80,7 +90,36 @@ impl<T> Items<T> {
         &self.items[at]
     }
 
-    /// Puts an element at the end, in constant time on average.
+    /// Puts an element in place of the one at a place below the length.
+    pub fn set(&mut self, at: usize, item: T)
+    where
+        T: Drop,
+        requires { at < length self.old }
+        ensures { self.new ≡ slice_set self.old at item }
+    {
+        self.items[at] = item;
+    }
+
+    /// Makes room for so many elements more, so that to put them at the end takes no memory. The
+    /// elements stay, also after `NoMemory`.
+    pub fn reserve(&mut self, more: usize) -> Result<(), NoMemory>
+        ensures { self.new ≡ self.old }
+    {
+        self.items.reserve(more)?;
+        Ok(())
+    }
+
+    /// Keeps the first elements, as many as there are up to `len`. Takes no memory and gives none
+    /// back.
+    pub fn truncate(&mut self, len: usize)
+    where
+        T: Drop,
+        ensures { self.new ≡ take len self.old }
+    {
+        self.items.truncate(len);
+    }
+
+    /// Puts an element at the end, in constant time on average. After `NoMemory` nothing has changed.
     pub fn push(&mut self, item: T) -> Result<(), NoMemory>
     where
         T: Drop,
@@ -91,21 +130,28 @@ impl<T> Items<T> {
         Ok(())
     }
 
-    /// Puts copies of these elements at the end.
+    /// Puts copies of these elements at the end, or none after `NoMemory`. Where there are none no
+    /// memory is asked for.
     pub fn extend_from_slice(&mut self, more: &[T]) -> Result<(), NoMemory>
     where
         T: Copy + Drop,
         ensures ok { OnOk result (self.new ≡ self.old ++ more.now) }
         ensures err { OnErr result (self.new ≡ self.old) }
+        ensures nothing { more.now ≡ [] → IsOk result }
     {
+        // A caller that has nothing to put must not meet want of memory.
+        if more.is_empty() {
+            return Ok(());
+        }
         self.items.reserve(more.len())?;
         self.items.extend_from_slice(more)?;
         Ok(())
     }
 
-    /// Takes the last element off.
+    /// Takes the last element off; `None` where there is none. Takes no memory and gives none back.
     pub fn pop(&mut self) -> Option<T>
-        ensures { MatchOption result ((self.old ≡ []) × (self.new ≡ [])) (λ x. self.old ≡ self.new ++ x ∷ []) }
+        ensures { MatchOption result ((self.old ≡ []) × (self.new ≡ []))
+            (λ x. self.old ≡ self.new ++ x ∷ []) }
     {
         self.items.pop()
     }

@@ -1,8 +1,8 @@
 // Numbers from text.
-ghost use Rattle.std.specs.Prelude.{ℕ, ◌≡◌, ◌+◌, ◌*◌, ◌<◌, ◌≤◌, ◌^◌, FitsSigned, SomeIff, Option};
+ghost use Rattle.std.specs.Prelude.{ℕ, ◌≡◌, ◌+◌, ◌*◌, ◌≤◌, ◌^◌, FitsSigned, SomeIff, Option};
 ghost use Rattle.std.specs.Int.{w64, w128};
 ghost use Rattle.std.specs.Str.Parse.{starts_with_minus};
-ghost use Rattle.scut_base.specs.Number.{IsNatural, natural_value, IsInteger, integer_value, magnitude_text, signed_value, ReadsAs, Keeps};
+ghost use Rattle.scut_base.specs.Number.{magnitude_text, signed_value, ReadsNatural, ReadsInteger, Keeps};
 
 use thiserror::Error;
 
@@ -19,7 +19,7 @@ pub enum NumberFault {
 
 /// Reads decimal digits as a number below 2^64. Leading zeros are accepted, signs are not. One pass.
 pub fn read_u64(text: &[u8]) -> Result<u64, NumberFault>
-    ensures { ReadsAs result (IsNatural text.now) (natural_value text.now < 2 ^ 64) (natural_value text.now) }
+    ensures { ReadsNatural result (2 ^ 64) text.now }
 {
     if text.is_empty() {
         return Err(NumberFault::NotDigits);
@@ -36,7 +36,7 @@ pub fn read_u64(text: &[u8]) -> Result<u64, NumberFault>
 
 /// Reads decimal digits, after one optional minus, as a number of 64 bits. One pass.
 pub fn read_i64(text: &[u8]) -> Result<i64, NumberFault>
-    ensures { ReadsAs result (IsInteger text.now) (FitsSigned w64 (integer_value text.now)) (integer_value text.now) }
+    ensures { ReadsInteger result (FitsSigned w64) text.now }
 {
     let (negative, digits) = split_sign(text);
     let magnitude = i128::from(read_u64(digits)?);
@@ -49,7 +49,7 @@ pub fn read_i64(text: &[u8]) -> Result<i64, NumberFault>
 
 /// Reads decimal digits, after one optional minus, as a number of 128 bits. One pass.
 pub fn read_i128(text: &[u8]) -> Result<i128, NumberFault>
-    ensures { ReadsAs result (IsInteger text.now) (FitsSigned w128 (integer_value text.now)) (integer_value text.now) }
+    ensures { ReadsInteger result (FitsSigned w128) text.now }
 {
     let (negative, digits) = split_sign(text);
     let magnitude = read_u128(digits)?;
@@ -72,7 +72,8 @@ fn split_sign(text: &[u8]) -> (bool, &[u8])
 
 // The number of a sign and a magnitude, where it fits.
 fn signed(negative: bool, magnitude: u128) -> Option<i128>
-    ensures { SomeIff result (FitsSigned w128 (signed_value negative magnitude)) (signed_value negative magnitude) }
+    ensures { SomeIff result (FitsSigned w128 (signed_value negative magnitude))
+        (signed_value negative magnitude) }
 {
     if !negative {
         return i128::try_from(magnitude).ok();
@@ -88,7 +89,7 @@ fn signed(negative: bool, magnitude: u128) -> Option<i128>
 
 // Decimal digits as a number of 128 bits.
 fn read_u128(text: &[u8]) -> Result<u128, NumberFault>
-    ensures { ReadsAs result (IsNatural text.now) (natural_value text.now < 2 ^ 128) (natural_value text.now) }
+    ensures { ReadsNatural result (2 ^ 128) text.now }
 {
     if text.is_empty() {
         return Err(NumberFault::NotDigits);

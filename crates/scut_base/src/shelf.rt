@@ -1,6 +1,6 @@
 // The outside as a program sees it: files by name, standard output and standard error.
-ghost use Rattle.std.specs.Prelude.{◌≡◌, ◌<◌, ◌≤◌, ◌++◌, [], ℕ, List, Option, length, IfOk, OnOk, OnErr, IsSome};
-ghost use Rattle.scut_base.specs.Files.{Files, content, with_file, bytes_or_none, IsReadAt, followed, IsPartlyAppended, IsPartlyFollowed, IsTouched, IsTold};
+ghost use Rattle.std.specs.Prelude.{◌≡◌, ◌<◌, ◌≤◌, [], ℕ, List, Option, length, IfOk, OnOk, OnErr, IsSome};
+ghost use Rattle.scut_base.specs.Files.{Files, content, with_file, with_appended, IsReadAt, followed, IsPartlyAppended, IsPartlyFollowed, IsTouched, IsTold};
 ghost use Rattle.scut_base.specs.Faults.{Faults, HasCause};
 
 use std::alloc::{AllocError, AllocFailed};
@@ -74,7 +74,8 @@ pub trait Shelf {
     /// How often each kind of call failed at each name. No count ever falls.
     ghost faults: { Self → Faults };
 
-    /// Copies bytes of a file from a place on; 0 exactly at or past its end.
+    /// Copies bytes of a file from a place on and answers how many; 0 exactly at or past its end. A
+    /// caller asks again for more: fewer than there is room for may come at any place.
     fn read_at(&mut self, name: &str, at: u64, into: &mut [u8]) -> Result<usize, ShelfFault>
         requires { 0 < length into.old }
         ensures bound { IfOk result (λ n. n ≤ length into.old) }
@@ -82,29 +83,36 @@ pub trait Shelf {
         ensures files { files self.new ≡ files self.old }
         ensures said { said self.new ≡ said self.old }
         ensures warned { warned self.new ≡ warned self.old }
-        ensures cause { HasCause ShelfCall.Read name.now (faults self.old) (faults self.new) result };
+        ensures cause { HasCause ShelfCall.Read name.now
+            (faults self.old) (faults self.new) result };
 
     /// Makes the file anew, empty. After a fault it is as before or empty.
     fn begin(&mut self, name: &str) -> Result<(), ShelfFault>
         ensures begun { OnOk result (files self.new ≡ with_file (files self.old) name.now []) }
-        ensures fault { OnErr result (IsTouched (files self.old) (files self.new) name.now (λ bytes. bytes ≡ [])) }
+        ensures fault { OnErr result
+            (IsTouched (files self.old) (files self.new) name.now (λ bytes. bytes ≡ [])) }
         ensures said { said self.new ≡ said self.old }
         ensures warned { warned self.new ≡ warned self.old }
-        ensures cause { HasCause ShelfCall.Begin name.now (faults self.old) (faults self.new) result };
+        ensures cause { HasCause ShelfCall.Begin name.now
+            (faults self.old) (faults self.new) result };
 
-    /// Puts a piece behind the bytes of a file that is there. After a fault a prefix of it was put.
+    /// Puts a piece after the bytes of a file that is there. After a fault a prefix of it was put.
     fn append(&mut self, name: &str, piece: &[u8]) -> Result<(), ShelfFault>
         requires { IsTold (files self.old) → IsSome (content (files self.old) name.now) }
-        ensures appended { OnOk result (files self.new ≡ with_file (files self.old) name.now (bytes_or_none (content (files self.old) name.now) ++ piece.now)) }
-        ensures fault { OnErr result (IsPartlyAppended (files self.old) (files self.new) name.now piece.now) }
+        ensures appended { OnOk result
+            (files self.new ≡ with_appended (files self.old) name.now piece.now) }
+        ensures fault { OnErr result
+            (IsPartlyAppended (files self.old) (files self.new) name.now piece.now) }
         ensures said { said self.new ≡ said self.old }
         ensures warned { warned self.new ≡ warned self.old }
-        ensures cause { HasCause ShelfCall.Append name.now (faults self.old) (faults self.new) result };
+        ensures cause { HasCause ShelfCall.Append name.now
+            (faults self.old) (faults self.new) result };
 
     /// Puts a piece out. After a fault a prefix of it was put out.
     fn say(&mut self, piece: &[u8]) -> Result<(), ShelfFault>
         ensures said { OnOk result (said self.new ≡ followed (said self.old) piece.now) }
-        ensures fault { OnErr result (IsPartlyFollowed (said self.old) (said self.new) piece.now) }
+        ensures fault { OnErr result
+            (IsPartlyFollowed (said self.old) (said self.new) piece.now) }
         ensures files { files self.new ≡ files self.old }
         ensures warned { warned self.new ≡ warned self.old }
         ensures cause { HasCause ShelfCall.Say [] (faults self.old) (faults self.new) result };
@@ -112,7 +120,8 @@ pub trait Shelf {
     /// Puts a piece out as a warning. After a fault a prefix of it was put out.
     fn warn(&mut self, piece: &[u8]) -> Result<(), ShelfFault>
         ensures warned { OnOk result (warned self.new ≡ followed (warned self.old) piece.now) }
-        ensures fault { OnErr result (IsPartlyFollowed (warned self.old) (warned self.new) piece.now) }
+        ensures fault { OnErr result
+            (IsPartlyFollowed (warned self.old) (warned self.new) piece.now) }
         ensures files { files self.new ≡ files self.old }
         ensures said { said self.new ≡ said self.old }
         ensures cause { HasCause ShelfCall.Warn [] (faults self.old) (faults self.new) result };

@@ -1,4 +1,4 @@
-use Rattle.scut_base.specs.FileLaws.{untold-IsPartlyAppended, on_err_anyway}
+use Rattle.scut_base.proofs.FileLaws.{untold-IsPartlyAppended, on_err_anyway}
 use Rattle.scut_base.proofs.host_shelf.HostShelfShelf.append.Goals as goal
 
 pub returns-clause-fault : goal.returns-clause-fault

@@ -1,5 +1,6 @@
 use Rattle.std.proofs.Common.{arith}
-use Rattle.scut_base.proofs.MemoryLaws.{risen_cause, with_file_insert}
+use Rattle.scut_base.proofs.FaultLaws.{risen_cause}
+use Rattle.scut_base.proofs.MemoryLaws.{with_file_insert}
 use Rattle.scut_base.proofs.mem_shelf.MemShelfShelf.begin.Goals as goal
 
 pub returns-then-is_some-clause-cause : goal.returns-then-is_some-clause-cause

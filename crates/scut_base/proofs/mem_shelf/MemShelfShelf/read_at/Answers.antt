@@ -1,5 +1,5 @@
 use Rattle.std.proofs.Common.{arith}
-use Rattle.scut_base.proofs.MemoryLaws.{risen_cause}
+use Rattle.scut_base.proofs.FaultLaws.{risen_cause}
 use Rattle.scut_base.proofs.mem_shelf.MemShelfShelf.read_at.Goals as goal
 
 pub returns-then-is_some-clause-cause : goal.returns-then-is_some-clause-cause

@@ -6,6 +6,7 @@ use Rattle.std.specs.FinMap.{get, insert, get-insert, same_map, slice_cmp-IsAnti
 use Rattle.std.proofs.Common.{sym, ◌∙◌, ap, subst, inr, append_assoc}
 use Rattle.std.proofs.lemmas.Cmp.{nat_list_cmp_total}
 use Rattle.std.proofs.lemmas.List.{append-nil}
+use Rattle.std.proofs.lemmas.Option.{none-some}
 use Rattle.std.proofs.Math.Bool.{true≢false}
 use Rattle.std.proofs.lemmas.Map.Text.{is_eq-slice_cmp}
 use Rattle.std.proofs.lemmas.Slice.Eq.{bytes_eq-Decides}
@@ -70,10 +71,7 @@ on_err_anyway (Err e) p = p
 
 pub told_by_content : (f : Option Files) (n b : List ℕ) → content f n ≡ Some b → IsTold f
 unfolding content
-told_by_content None n b e = absurd (none_not_some e)
-  where
-    none_not_some : {X : Type 0} {x : X} → None ≡ Some x → ⊥
-    none_not_some h = cc
+told_by_content None n b e = absurd (none-some b e)
 told_by_content (Some m) n b e = tt
 
 -- nothing is told of any file
@@ -81,7 +79,7 @@ pub with_file-untold : (n b : List ℕ) → with_file None n b ≡ None
 unfolding with_file
 with_file-untold n b = refl
 
--- a piece behind a file that holds these bytes
+-- a piece after a file that holds these bytes
 pub with_file_append : (f : Option Files) (n a b : List ℕ) → with_file (with_file f n a) n (bytes_or_none (content (with_file f n a) n) ++ b) ≡ with_file f n (a ++ b)
 with_file_append None n a b = rw (with_file-untold n a, with_file-untold n _, with_file-untold n (a ++ b)) refl
 with_file_append (Some m) n a b = rw (content-same (Some m) n a tt) (with_file-twice (Some m) n a (a ++ b))
@@ -90,7 +88,7 @@ with_file_append (Some m) n a b = rw (content-same (Some m) n a tt) (with_file-t
 pub with_file_is_there : (f : Option Files) (n a : List ℕ) → IsTold (with_file f n a) → IsSome (content (with_file f n a) n)
 with_file_is_there f n a told = subst IsSome (sym (content-same f n a (told_before f n a told))) refl
 
--- ---- a file that is written piece by piece: it holds a, and then b behind it
+-- ---- a file that is written piece by piece: it holds a, and then b after it
 
 pub there_by : (g f : Option Files) (n a : List ℕ) → g ≡ with_file f n a → IsTold g → IsSome (content g n)
 there_by g f n a e told = subst (λ h. IsSome (content h n)) (sym e) (with_file_is_there f n a (subst IsTold e told))
@@ -98,8 +96,8 @@ there_by g f n a e told = subst (λ h. IsSome (content h n)) (sym e) (with_file_
 pub appended_by : (g f new : Option Files) (n a b : List ℕ) → g ≡ with_file f n a → new ≡ with_file g n (bytes_or_none (content g n) ++ b) → new ≡ with_file f n (a ++ b)
 appended_by g f new n a b e is = is ∙ ap (λ h. with_file h n (bytes_or_none (content h n) ++ b)) e ∙ with_file_append f n a b
 
--- where an append failed, the file holds a front of the whole text
-pub partly_by : (g f new : Option Files) (n a b rest text : List ℕ) → g ≡ with_file f n a → IsPartlyAppended g new n b → a ++ b ++ rest ≡ text → IsTouched f new n (λ front. IsPrefixOf front text)
+-- where an append failed, the file holds a prefix of the whole text
+pub partly_by : (g f new : Option Files) (n a b rest text : List ℕ) → g ≡ with_file f n a → IsPartlyAppended g new n b → a ++ b ++ rest ≡ text → IsTouched f new n (λ prefix. IsPrefixOf prefix text)
 partly_by g f new n a b rest text e partly whole = inr (a ++ partly.0, (partly.1.0 ++ rest, joined), appended_by g f new n a partly.0 e partly.2)
   where
     joined : (a ++ partly.0) ++ (partly.1.0 ++ rest) ≡ text
@@ -116,11 +114,11 @@ with_file_kept (Some m) n b is = ap Some (same_map nat_list_cmp_total (slice_cmp
     by q true e = sym (ap (get m) (tied_is q n e) ∙ is)
     by q false e = refl
 
--- a file with nothing more behind its bytes
+-- a file with nothing more after its bytes
 pub bytes_kept : (f : Option Files) (n : List ℕ) (o : Option (List ℕ)) → content f n ≡ o → IsSome o → with_file f n (bytes_or_none o ++ []) ≡ f
 bytes_kept f n None is some = absurd (true≢false (sym some))
 bytes_kept f n (Some b) is some = ap (with_file f n) (append-nil b) ∙ with_file_kept f n b is
 
--- nothing of the piece was put behind a file that is there
+-- nothing of the piece was put after a file that is there
 pub nothing_appended : (f : Option Files) (n piece : List ℕ) → IsSome (content f n) → IsPartlyAppended f f n piece
 nothing_appended f n piece some = ([], (piece, refl), sym (bytes_kept f n (content f n) refl some))
