@@ -1,14 +1,15 @@
 -- A text begins with one line of costs at most.
 use Rattle.std.proofs.Common.{◌≡◌, ℕ, ◌+◌, ◌<◌, ◌^◌, Bool, true, false, List, [], ◌∷◌, ◌++◌, length, ℤ, refl, sym, ap, subst, ◌∙◌, arith}
-use Rattle.std.specs.Prelude.{All}
+use Rattle.std.specs.Prelude.{All, Option, None, Some}
 use Rattle.std.specs.List.{flat_map}
 use Rattle.std.specs.Fmt.{signed_decimal}
 use Rattle.std.proofs.lemmas.List.{append_assoc, append-nil}
-use Rattle.std.proofs.lemmas.List.Elements.{All-head, All-tail}
+use Rattle.std.proofs.lemmas.List.Elements.{All-head, All-tail, All-same}
 use Rattle.scut_base.proofs.Lists.{tail_same}
+use Rattle.front_text.proofs.Parts.{All-back}
 use Rattle.front_set.specs.ListText.{costs_line}
 use Rattle.front_text.specs.Spelling.{IsCost}
-use Rattle.front_text.specs.Reading.{EndsWord, TakesCost, BeginsWithNone}
+use Rattle.front_text.specs.Reading.{EndsWord, IsWord, IsValueOf, TakesCost, BeginsWithNone}
 use Rattle.front_text.proofs.Words.{heads_apart, one_cut}
 use Rattle.front_text.proofs.Numbers.{one_cost, cost_joins}
 
@@ -65,3 +66,30 @@ pub record CostsSoFar (old new : List ℕ) (costs : List ℤ) : Type 0 where
 -- the other costs of any line of costs that begins here
 pub other_costs : (old new : List ℕ) (costs : List ℤ) → CostsSoFar old new costs → (ds : List ℤ) (s : List ℕ) → All IsCost ds → old ≡ costs_line ds ++ s → (es : List ℤ) × (new ≡ cost_texts es ++ 10 ∷ s) × (ds ≡ costs ++ es)
 other_costs old new costs so_far ds s right e = costs_rest costs new ds s so_far.valid right so_far.ended (tail_same 111 111 _ _ (sym so_far.is ∙ e ∙ costs_line_is ds s))
+
+-- a word that is a cost
+pub takes_cost : (old new word : List ℕ) (r : Option ℤ) → IsWord word old new → IsValueOf signed_decimal IsCost word r → TakesCost old new r
+takes_cost old new word None taken none = λ c rest cost ends is. none c cost (one_cut word (signed_decimal c) new rest taken.whole (cost_joins c cost) taken.ends ends (sym taken.is ∙ is)).0
+takes_cost old new word (Some c) taken value = (value.0, taken.is ∙ ap (λ w. w ++ new) value.1, taken.ends)
+
+-- where a space but no cost follows, no line of costs begins
+pub no_cost_after_space : (old here next : List ℕ) (costs : List ℤ) → CostsSoFar old here costs → here ≡ 32 ∷ next → ((c : ℤ) (rest : List ℕ) → IsCost c → EndsWord rest → next ≡ signed_decimal c ++ rest → ⊥) → BeginsWithNone costs_line (All IsCost) old
+no_cost_after_space old here next costs so_far space none ds rest valid is =
+    let other = other_costs old here costs so_far ds rest valid is in
+    by other.0 other.1 other.2
+  where
+    by : (es : List ℤ) → here ≡ cost_texts es ++ 10 ∷ rest → ds ≡ costs ++ es → ⊥
+    by [] follows all = heads_apart 32 10 _ _ refl (sym space ∙ follows)
+    by (c ∷ es) follows all =
+        let cost : IsCost c = All-head IsCost c es (All-back IsCost costs (c ∷ es) (All-same IsCost _ _ (sym all) valid)) in
+        none c (cost_texts es ++ 10 ∷ rest) cost (texts_end es (10 ∷ rest) (ended_by es (10 ∷ rest) refl) refl) (tail_same 32 32 _ _ (sym space ∙ follows) ∙ append_assoc (signed_decimal c) (cost_texts es) (10 ∷ rest))
+
+-- where neither a space nor a line feed follows, no line of costs begins
+pub no_end_of_costs : (old here : List ℕ) (costs : List ℤ) → CostsSoFar old here costs → ((rest : List ℕ) → here ≡ 32 ∷ rest → ⊥) → ((rest : List ℕ) → here ≡ 10 ∷ rest → ⊥) → BeginsWithNone costs_line (All IsCost) old
+no_end_of_costs old here costs so_far no_space no_newline ds rest valid is =
+    let other = other_costs old here costs so_far ds rest valid is in
+    by other.0 other.1
+  where
+    by : (es : List ℤ) → here ≡ cost_texts es ++ 10 ∷ rest → ⊥
+    by [] follows = no_newline rest follows
+    by (c ∷ es) follows = no_space _ follows

@@ -1,12 +1,15 @@
 -- A text begins with one list of so many entries at most.
 use Rattle.std.proofs.Common.{◌≡◌, ℕ, suc, ◌+◌, ◌*◌, ◌<◌, ◌≤◌, ◌^◌, Bool, List, [], ◌∷◌, ◌++◌, length, ℤ, refl, sym, ap, ◌∙◌, arith, length-append}
-use Rattle.std.specs.Prelude.{All}
+use Rattle.std.specs.Prelude.{All, Err}
 use Rattle.std.specs.List.{flat_map}
 use Rattle.std.proofs.lemmas.List.{append_assoc}
 use Rattle.std.proofs.lemmas.List.Elements.{All-head, All-tail}
 use Rattle.front_set.specs.declared.entry.Entry.{Entry}
 use Rattle.front_set.specs.ListText.{costs_line, model_line, entry_text}
-use Rattle.front_text.specs.Spelling.{HasCosts}
+use Rattle.front_text.specs.declared.entry.LineFault.{LineFault}
+use Rattle.front_text.specs.declared.entry.LineFault.TheVariants.{Wrong, NoMemory}
+use Rattle.front_text.specs.Spelling.{IsCost, HasCosts}
+use Rattle.front_text.specs.Reading.{Reads}
 use Rattle.front_text.proofs.Costs.{one_costs_line}
 use Rattle.front_text.proofs.Models.{one_model_line, model_line_length}
 
@@ -55,3 +58,9 @@ entries_rest (e ∷ es) (f ∷ fs) t s left right short fewer is =
     let one = one_entry e f _ _ (All-head HasCosts e es left) (All-head HasCosts f fs right) (omega arith) is' in
     let rest = entries_rest es fs t s (All-tail HasCosts e es left) (All-tail HasCosts f fs right) (omega arith) (omega arith) one.1 in
     (rest.0, rest.1, ap (λ x. x ∷ fs) (sym one.0) ∙ ap (λ xs. e ∷ xs) rest.2)
+
+-- where a line of costs but no line of values begins, no entry does
+pub no_entry : (fault : LineFault) (old next new : List ℕ) (costs : List ℤ) → All IsCost costs → old ≡ costs_line costs ++ next → Reads model_line (λ _. Unit {0}) next new (Err fault) → Reads entry_text HasCosts old new (Err fault)
+no_entry NoMemory old next new costs valid begun none = tt
+no_entry Wrong old next new costs valid begun none = λ e rest right is.
+    none e.model rest tt (one_costs_line costs e.costs next (model_line e.model ++ rest) valid right (sym begun ∙ is ∙ append_assoc (costs_line e.costs) (model_line e.model) rest)).1

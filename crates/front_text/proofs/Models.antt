@@ -5,6 +5,7 @@ use Rattle.std.proofs.lemmas.List.{append_assoc, append-nil, append_cancel_left,
 use Rattle.std.proofs.lemmas.Fmt.{first_decimal, decimal_nonempty}
 use Rattle.scut_base.proofs.Lists.{tail_same}
 use Rattle.front_set.specs.ListText.{literal_text, literals_from, model_line}
+use Rattle.front_text.specs.Reading.{Skips, BeginsWithNone}
 use Rattle.front_text.proofs.Words.{heads_apart}
 
 -- how a line of values ends
@@ -92,3 +93,41 @@ pub record ValuesSoFar (old new : List ℕ) (values : List Bool) : Type 0 where
 -- the other literals of any line of values that begins here
 pub other_values : (old new : List ℕ) (values : List Bool) → ValuesSoFar old new values → 1 + length values ≤ 2 ^ 64 → (ds : List Bool) (s : List ℕ) → old ≡ model_line ds ++ s → (es : List Bool) × (new ≡ literals_from (1 + length values) es ++ line_end s) × (ds ≡ values ++ es)
 other_values old new values so_far small ds s e = literals_rest 1 values new ds s (omega arith) small (tail_same 118 118 _ _ (sym so_far.is ∙ e ∙ model_line_is ds s))
+
+-- one value more
+literals_push : (k : ℕ) (bs : List Bool) (b : Bool) (t : List ℕ) → literals_from k (bs ++ b ∷ []) ++ t ≡ literals_from k bs ++ (32 ∷ (literal_text b (k + length bs) ++ t))
+literals_push k [] b t = let same : k ≡ k + 0 = omega arith in ap (λ u. (32 ∷ u) ++ t) (append-nil (literal_text b k)) ∙ ap (λ m. 32 ∷ (literal_text b m ++ t)) same
+literals_push k (c ∷ bs) b t =
+    let place : k + 1 + length bs ≡ k + length (c ∷ bs) = omega arith in
+    append_assoc (32 ∷ literal_text c k) (literals_from (k + 1) (bs ++ b ∷ [])) t
+    ∙ ap (λ u. (32 ∷ literal_text c k) ++ u) (literals_push (k + 1) bs b t ∙ ap (λ m. literals_from (k + 1) bs ++ (32 ∷ (literal_text b m ++ t))) place)
+    ∙ sym (append_assoc (32 ∷ literal_text c k) (literals_from (k + 1) bs) (32 ∷ (literal_text b (k + length (c ∷ bs)) ++ t)))
+
+pub one_value_more : (old here next new : List ℕ) (values more : List Bool) (b : Bool) (k : ℕ) → ValuesSoFar old here values → here ≡ 32 ∷ next → next ≡ literal_text b k ++ new → k ≡ length values + 1 → more ≡ values ++ b ∷ [] → ValuesSoFar old new more
+one_value_more old here next new values more b k so_far space literal place all =
+    let same : k ≡ 1 + length values = omega arith in
+    let follows : here ≡ 32 ∷ (literal_text b (1 + length values) ++ new) = space ∙ ap (λ t. 32 ∷ t) (literal ∙ ap (λ m. literal_text b m ++ new) same) in
+    let grown : literals_from 1 values ++ here ≡ literals_from 1 more ++ new = ap (λ t. literals_from 1 values ++ t) follows ∙ sym (literals_push 1 values b new) ∙ ap (λ bs. literals_from 1 bs ++ new) (sym all) in
+    record { is = so_far.is ∙ ap (λ t. 118 ∷ t) grown }
+
+-- where neither the end of the line nor a literal of the next variable follows, no line of values begins
+pub no_more_values : (old here : List ℕ) (values : List Bool) → ValuesSoFar old here values → 1 + length values ≤ 2 ^ 64 → ((rest : List ℕ) → here ≡ line_end rest → ⊥) → ((b : Bool) (rest : List ℕ) → here ≡ 32 ∷ (literal_text b (1 + length values) ++ rest) → ⊥) → BeginsWithNone model_line (λ _. Unit {0}) old
+no_more_values old here values so_far small no_end no_literal ds rest valid is =
+    let other = other_values old here values so_far small ds rest is in
+    by other.0 other.1
+  where
+    by : (es : List Bool) → here ≡ literals_from (1 + length values) es ++ line_end rest → ⊥
+    by [] follows = no_end rest follows
+    by (b ∷ es) follows = no_literal b (literals_from (1 + length values + 1) es ++ line_end rest) (follows ∙ append_assoc (32 ∷ literal_text b (1 + length values)) (literals_from (1 + length values + 1) es) (line_end rest))
+
+pub no_literal_after_space : (old here next : List ℕ) (values : List Bool) (k : ℕ) → ValuesSoFar old here values → 1 + length values ≤ 2 ^ 64 → ((rest : List ℕ) → here ≡ line_end rest → ⊥) → here ≡ 32 ∷ next → k ≡ length values + 1 → BeginsWithNone (λ b. literal_text b k) (λ _. Unit {0}) next → BeginsWithNone model_line (λ _. Unit {0}) old
+no_literal_after_space old here next values k so_far small no_end space place none =
+    let same : 1 + length values ≡ k = omega arith in
+    no_more_values old here values so_far small no_end (λ b rest follows. none b rest tt (tail_same 32 32 _ _ (sym space ∙ follows) ∙ ap (λ m. literal_text b m ++ rest) same))
+
+-- a literal is one of two texts
+pub no_literal : (old next text : List ℕ) (k : ℕ) (negative : Bool) → 0 < k → k < 2 ^ 64 → text ≡ decimal k → Skips (45 ∷ []) old next negative → ((rest : List ℕ) → next ≡ text ++ rest → ⊥) → BeginsWithNone (λ b. literal_text b k) (λ _. Unit {0}) old
+no_literal old next text k true some small is minus none true rest valid follows = minus_apart k rest next some small (sym follows ∙ minus)
+no_literal old next text k true some small is minus none false rest valid follows = none rest (tail_same 45 45 _ _ (sym minus ∙ follows) ∙ ap (λ t. t ++ rest) (sym is))
+no_literal old next text k false some small is minus none true rest valid follows = none rest (minus.0 ∙ follows ∙ ap (λ t. t ++ rest) (sym is))
+no_literal old next text k false some small is minus none false rest valid follows = minus.1 (decimal k ++ rest) follows

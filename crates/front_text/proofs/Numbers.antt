@@ -1,16 +1,21 @@
 -- How costs and counts are spelled.
-use Rattle.std.proofs.Common.{◌≡◌, ◌≢◌, ℕ, zero, suc, ◌+◌, ◌*◌, ◌^◌, ◌<◌, ◌≤◌, Bool, true, false, List, [], ◌∷◌, ◌++◌, length, get_or, drop, ℤ, pos, negsuc, neg_ℤ, refl, sym, ap, subst, ◌∙◌, inl, inr, arith, cond, ◌==◌}
-use Rattle.std.specs.Prelude.{unsigned_abs, FitsSigned}
+use Rattle.std.proofs.Common.{◌≡◌, ◌≢◌, ℕ, zero, suc, ◌+◌, ◌*◌, ◌^◌, ◌<◌, ◌≤◌, Bool, true, false, not, List, [], ◌∷◌, ◌++◌, length, get_or, drop, ℤ, pos, negsuc, neg_ℤ, refl, sym, ap, subst, ◌∙◌, inl, inr, arith, cond, ◌==◌}
+use Rattle.std.specs.Prelude.{unsigned_abs, FitsSigned, Ok, Err}
 use Rattle.std.specs.Int.{w64, IsInRange}
 use Rattle.std.specs.Fmt.{decimal, signed_decimal}
 use Rattle.std.specs.Str.Parse.{AllDigits, digits_value, starts_with_minus}
+use Rattle.std.specs.Str.{bytes_eq}
 use lib.Signed.{mag}
-use Rattle.std.proofs.lemmas.Int.{ints}
+use mir.Val.{to_z, of_z}
+use Rattle.std.proofs.lemmas.Int.{ints, to_z-of_z}
+use Rattle.std.proofs.lemmas.Slice.Eq.{bytes_eq-Decides}
 use Rattle.std.proofs.lemmas.Bool.{cases_lt}
 use Rattle.std.proofs.lemmas.Bool.Decides.{nat_tests}
 use Rattle.std.proofs.lemmas.Fmt.{decimal_is_IsNumeral, decimal_digit, first_decimal, decimal_nonempty, decimal-digits_value, signed_decimal_injective}
 use Rattle.std.proofs.lemmas.Str.Parse.{IsNumeralModel, numerals_by_value, tells_digits, digit_from_value, digit_at}
-use Rattle.scut_base.specs.Number.{IsNatural, natural_value, magnitude_text, IsInteger, integer_value, signed_value}
+use Rattle.scut_base.specs.declared.number.NumberFault.{NumberFault}
+use Rattle.scut_base.specs.declared.number.NumberFault.TheVariants.{NotDigits, TooWide}
+use Rattle.scut_base.specs.Number.{ReadsInteger, IsNatural, natural_value, magnitude_text, IsInteger, integer_value, signed_value}
 use Rattle.front_text.specs.Spelling.{IsCost, IsCount}
 use Rattle.front_text.specs.Reading.{is_separator, HasNoSeparator}
 
@@ -93,3 +98,33 @@ cost_reads (negsuc n) cost =
     let bound : suc n < 2 ^ 63 = cost in
     let numeral = decimal_is_IsNumeral (suc n) (omega arith) in
     (numeral.0, ap (λ m. neg_ℤ (pos m)) numeral.1)
+
+-- ---- the reader of a cost
+
+-- the text of a cost is a number that fits
+pub no_cost : (fault : NumberFault) (word : List ℕ) → ReadsInteger (Err fault) (FitsSigned w64) word → (c : ℤ) → IsCost c → word ≡ signed_decimal c → ⊥
+no_cost NotDigits word lacks c cost is = lacks (subst (λ (w : List ℕ). IsInteger w) (sym is) (cost_reads c cost).0)
+no_cost TooWide word lacks c cost is =
+    let value : integer_value word ≡ c = ap integer_value is ∙ (cost_reads c cost).1 in
+    lacks.1 (subst (FitsSigned w64) (sym value) (cost_fits c cost))
+
+-- and it is read as that cost
+pub same_cost : (read : ℤ) (word : List ℕ) → ReadsInteger (Ok read) (FitsSigned w64) word → (c : ℤ) → IsCost c → word ≡ signed_decimal c → read ≡ c
+same_cost read word reads c cost is = reads.2 ∙ ap integer_value is ∙ (cost_reads c cost).1
+
+-- the least number of 64 bits is no cost
+pub least_no_cost : (read c : ℤ) → read ≡ c → IsCost c → of_z w64 read ≡ 2 ^ 63 → ⊥
+least_no_cost read (pos n) same cost least = let bound : n < 2 ^ 63 = cost in omega (arith, ints)
+least_no_cost read (negsuc n) same cost least = let bound : suc n < 2 ^ 63 = cost in omega (arith, ints)
+
+-- the text of a cost is what is printed of it
+pub printed_same : (read c : ℤ) (text word : List ℕ) (differ : Bool) → read ≡ c → IsCost c → text ≡ signed_decimal (to_z w64 (of_z w64 read)) → word ≡ signed_decimal c → differ ≡ not (bytes_eq text word) → differ ≡ true → ⊥
+printed_same read c text word differ same cost printed is test differs =
+    let back : to_z w64 (of_z w64 c) ≡ c = to_z-of_z w64 c (cost_fits c cost) in
+    let equal : text ≡ word = printed ∙ ap (λ z. signed_decimal (to_z w64 (of_z w64 z))) same ∙ ap signed_decimal back ∙ sym is in
+    let passed : bytes_eq text word ≡ true = (bytes_eq-Decides text word).1 equal in
+    by (bytes_eq text word) passed test
+  where
+    by : (b : Bool) → b ≡ true → differ ≡ not b → ⊥
+    by true passed test = cc
+    by false passed test = cc

@@ -1,6 +1,6 @@
 -- The laws of texts: one list at most, and one fault at most.
 use Rattle.std.proofs.Common.{◌≡◌, ◌≢◌, ◌⊎◌, inl, inr, ⊎_elim, ℕ, zero, suc, ◌+◌, ◌*◌, ◌<◌, ◌≤◌, ◌^◌, Bool, true, false, List, [], ◌∷◌, ◌++◌, length, refl, sym, ap, subst, ◌∙◌, arith, length-append}
-use Rattle.std.specs.Prelude.{All}
+use Rattle.std.specs.Prelude.{All, Some, min}
 use Rattle.std.specs.List.{flat_map}
 use Rattle.std.specs.Fmt.{decimal}
 use Rattle.std.proofs.lemmas.Bool.{cases_order, cases_lt}
@@ -10,8 +10,13 @@ use Rattle.std.proofs.lemmas.List.Elements.{All-nil, All-head, All-tail, All-sam
 use Rattle.scut_base.specs.Number.{natural_value}
 use Rattle.front_set.specs.declared.entry.Entry.{Entry}
 use Rattle.front_set.specs.ListText.{head_line, entry_text, list_text}
-use Rattle.front_text.specs.Spelling.{IsCount, HasCosts, Spells, BeginsWith, NoEntryAt, GoesWrongAfter, IsSyntaxAt, head_with}
-use Rattle.front_text.proofs.Numbers.{decimal_is_count, value_of_decimal}
+use Rattle.front_text.specs.Spelling.{IsCount, HasCosts, Spells, BeginsWith, IsFaultOf, NoEntryAt, GoesWrongAfter, IsSyntaxAt, head_with}
+use Rattle.front_text.specs.declared.list.ListFault.{ListFault}
+use Rattle.front_text.specs.declared.list.ListFault.TheVariants.{Syntax, NoMemory}
+use Rattle.front_text.specs.declared.head.Head.{Head}
+use Rattle.front_text.specs.Reading.{counted, TakesHead, TakesEntries, IsEntryFault}
+use Rattle.front_text.proofs.Parts.{All-back}
+use Rattle.front_text.proofs.Numbers.{decimal_is_count, value_of_decimal, count_is_decimal}
 use Rattle.front_text.proofs.Entries.{entries_text, entries_length, entries_rest}
 use Rattle.front_text.proofs.Heads.{one_head}
 
@@ -78,16 +83,11 @@ one_list_of text b c es fs short left right =
     all : (gs : List Entry) → fs ≡ es ++ gs → length es ≡ length fs → es ≡ fs
     all [] is same = sym (is ∙ append-nil es)
     all (g ∷ gs) is same =
-      let long : length fs ≡ length (es ++ g ∷ gs) = ap length is in
-      let sum : length (es ++ g ∷ gs) ≡ length es + length (g ∷ gs) = length-append es (g ∷ gs) in
-      absurd (omega arith)
+        let long : length fs ≡ length (es ++ g ∷ gs) = ap length is in
+        let sum : length (es ++ g ∷ gs) ≡ length es + length (g ∷ gs) = length-append es (g ∷ gs) in
+        absurd (omega arith)
 
 -- ---- one fault
-
--- what holds of all holds of the last ones
-All-back : (xs ys : List Entry) → All HasCosts (xs ++ ys) → All HasCosts ys
-All-back [] ys all = all
-All-back (x ∷ xs) ys all = All-back xs ys (All-tail HasCosts x (xs ++ ys) all)
 
 -- a text that goes wrong after k entries begins with no more of those that it counts, and doesn't end there
 no_more : (text : List ℕ) (k n : ℕ) (fs : List Entry) (s : List ℕ) → length text < 2 ^ 64 → GoesWrongAfter text k → BeginsWith text n fs s → k < length fs → length fs ≤ n → ⊥
@@ -101,13 +101,13 @@ no_more text k n fs s short wrong right more within =
     by : (gs : List Entry) → wrong.rest ≡ entries_text gs ++ s → fs ≡ wrong.entries ++ gs → ((k < wrong.count) × NoEntryAt wrong.rest) ⊎ ((k ≡ wrong.count) × (wrong.rest ≢ [])) → k < wrong.count → ⊥
     by gs rest all (inr full) few = let same : k ≡ wrong.count = full.0 in omega arith
     by [] rest all (inl missing) few =
-      let long : length fs ≡ length (wrong.entries ++ []) = ap length all in
-      let sum : length (wrong.entries ++ []) ≡ length wrong.entries = ap length (append-nil wrong.entries) in
-      let size : length wrong.entries ≡ k = wrong.right in
-      omega arith
+        let long : length fs ≡ length (wrong.entries ++ []) = ap length all in
+        let sum : length (wrong.entries ++ []) ≡ length wrong.entries = ap length (append-nil wrong.entries) in
+        let size : length wrong.entries ≡ k = wrong.right in
+        omega arith
     by (g ∷ gs) rest all (inl missing) few =
-      let costs : All HasCosts (wrong.entries ++ g ∷ gs) = All-same HasCosts _ _ (sym all) right.costs in
-      missing.1 g (entries_text gs ++ s) (All-head HasCosts g gs (All-back wrong.entries (g ∷ gs) costs)) (rest ∙ append_assoc (entry_text g) (entries_text gs) s)
+        let costs : All HasCosts (wrong.entries ++ g ∷ gs) = All-same HasCosts _ _ (sym all) right.costs in
+        missing.1 g (entries_text gs ++ s) (All-head HasCosts g gs (All-back HasCosts wrong.entries (g ∷ gs) costs)) (rest ∙ append_assoc (entry_text g) (entries_text gs) s)
 
 -- where all are there that are counted, no more text follows
 no_text : (text : List ℕ) (k n : ℕ) (fs : List Entry) (s : List ℕ) → length text < 2 ^ 64 → GoesWrongAfter text k → BeginsWith text n fs s → length fs ≡ n → k ≡ n → s ≡ [] → ⊥
@@ -119,15 +119,15 @@ no_text text k n fs s short wrong right full last none =
   where
     by : (gs : List Entry) → wrong.rest ≡ entries_text gs ++ s → fs ≡ wrong.entries ++ gs → ((k < wrong.count) × NoEntryAt wrong.rest) ⊎ ((k ≡ wrong.count) × (wrong.rest ≢ [])) → ⊥
     by gs rest all (inl missing) =
-      let few : k < wrong.count = missing.0 in
-      let same : wrong.count ≡ n = (begins_once text wrong.count n wrong.entries fs wrong.rest s short wrong.begins right).count in
-      omega arith
+        let few : k < wrong.count = missing.0 in
+        let same : wrong.count ≡ n = (begins_once text wrong.count n wrong.entries fs wrong.rest s short wrong.begins right).count in
+        omega arith
     by [] rest all (inr more) = more.1 (rest ∙ none)
     by (g ∷ gs) rest all (inr more) =
-      let long : length fs ≡ length (wrong.entries ++ g ∷ gs) = ap length all in
-      let sum : length (wrong.entries ++ g ∷ gs) ≡ length wrong.entries + length (g ∷ gs) = length-append wrong.entries (g ∷ gs) in
-      let size : length wrong.entries ≡ k = wrong.right in
-      omega arith
+        let long : length fs ≡ length (wrong.entries ++ g ∷ gs) = ap length all in
+        let sum : length (wrong.entries ++ g ∷ gs) ≡ length wrong.entries + length (g ∷ gs) = length-append wrong.entries (g ∷ gs) in
+        let size : length wrong.entries ≡ k = wrong.right in
+        omega arith
 
 -- it counts as many entries at least as are right
 counted_at_most : (text : List ℕ) (k : ℕ) → (wrong : GoesWrongAfter text k) → k ≤ wrong.count
@@ -169,3 +169,85 @@ one_fault_of text (suc j) (suc k) short left right =
     ⊎_elim (λ (e : j ≡ k). ap suc e)
     (λ (h : (j < k) ⊎ (k < j)). ⊎_elim (λ (less : j < k). absurd (not_before text j k short left right less)) (λ (more : k < j). absurd (not_before text k j short right left more)) h)
     (cases_order j k)
+
+-- ---- the reader
+
+-- what is wrong with the entries is wrong with the text
+pub entry_fault : (text rest : List ℕ) (head : Head) (fault : ListFault) → TakesHead text rest (Some head) → IsEntryFault rest head.count fault → IsFaultOf text fault
+entry_fault text rest head NoMemory taken wrong = tt
+entry_fault text rest head (Syntax k) taken stops =
+    let entries = stops.entries in
+    let place : suc (length entries) ≡ k = add_one (length entries) ∙ stops.place in
+    subst (IsSyntaxAt text) place (record {
+      count = natural_value taken.0;
+      entries = entries;
+      rest = stops.rest;
+      begins = record {
+        complete = head.complete;
+        digits = taken.0;
+        head = taken.1;
+        value = refl;
+        costs = stops.taken.costs;
+        is = taken.3 ∙ ap (λ t. head_with head.complete taken.0 ++ t) stops.taken.is;
+      };
+      right = refl;
+      wrong = inl (fewer, stops.wrong);
+    })
+  where
+    add_one : (n : ℕ) → suc n ≡ n + 1
+    add_one n = omega arith
+
+    fewer : length stops.entries < natural_value taken.0
+    fewer = let less : length stops.entries < head.count = stops.fewer in let count : head.count ≡ counted taken.0 = taken.2 in omega arith
+
+-- no text has 2^64 - 1 entries, so that a count that is reached is the one that the digits spell
+exact_count : (text rest new : List ℕ) (head : Head) (entries : List Entry) → length text < 2 ^ 64 → (taken : TakesHead text rest (Some head)) → TakesEntries rest new entries → length entries ≡ head.count → natural_value taken.0 ≡ length entries
+exact_count text rest new head entries short taken all reached =
+    let whole : length text ≡ length (head_with head.complete taken.0 ++ rest) = ap length taken.3 in
+    let parts : length (head_with head.complete taken.0 ++ rest) ≡ length (head_with head.complete taken.0) + length rest = length-append (head_with head.complete taken.0) rest in
+    let inner : length rest ≡ length (entries_text entries ++ new) = ap length all.is in
+    let sum : length (entries_text entries ++ new) ≡ length (entries_text entries) + length new = length-append (entries_text entries) new in
+    let many : 5 * length entries ≤ length (entries_text entries) = entries_length entries in
+    let count : head.count ≡ counted taken.0 = taken.2 in
+    omega arith
+
+-- a head line and as many entries are the text of a list
+pub spelled_whole : (text rest new : List ℕ) (head : Head) (entries : List Entry) → length text < 2 ^ 64 → TakesHead text rest (Some head) → TakesEntries rest new entries → length entries ≡ head.count → new ≡ [] → Spells text head.complete entries
+spelled_whole text rest new head entries short taken all reached ended =
+    let value : natural_value taken.0 ≡ length entries = exact_count text rest new head entries short taken all reached in
+    let count : head.count ≡ counted taken.0 = taken.2 in
+    let digits : taken.0 ≡ decimal (length entries) = count_is_decimal taken.0 taken.1 (omega arith) ∙ ap decimal value in
+    record {
+      is = taken.3
+          ∙ ap (λ ds. head_with head.complete ds ++ rest) digits
+          ∙ ap (λ h. h ++ rest) (sym (head_line_is head.complete (length entries)))
+          ∙ ap (λ t. head_line head.complete (length entries) ++ t) (all.is ∙ ap (λ t. entries_text entries ++ t) ended ∙ append-nil (entries_text entries));
+      costs = all.costs;
+    }
+
+-- where as many are there as are counted and more text follows, the text goes wrong after them
+pub more_text : (text rest new : List ℕ) (head : Head) (entries : List Entry) → length text < 2 ^ 64 → TakesHead text rest (Some head) → TakesEntries rest new entries → length entries ≡ head.count → (new ≡ [] → ⊥) → IsSyntaxAt text (head.count + 1)
+more_text text rest new head entries short taken all reached more =
+    let value : natural_value taken.0 ≡ length entries = exact_count text rest new head entries short taken all reached in
+    let place : suc (length entries) ≡ head.count + 1 = omega arith in
+    subst (IsSyntaxAt text) place (record {
+      count = length entries;
+      entries = entries;
+      rest = new;
+      begins = record {
+        complete = head.complete;
+        digits = taken.0;
+        head = taken.1;
+        value = value;
+        costs = all.costs;
+        is = taken.3 ∙ ap (λ t. head_with head.complete taken.0 ++ t) all.is;
+      };
+      right = refl;
+      wrong = inr (refl, more);
+    })
+
+-- ---- print and read
+
+pub read_as_printed : (text : List ℕ) (complete : Bool) (entries : List Entry) (fault : ListFault) → length text < 2 ^ 64 → Spells text complete entries → IsFaultOf text fault → fault ≡ NoMemory
+read_as_printed text complete entries NoMemory short spelled wrong = refl
+read_as_printed text complete entries (Syntax k) short spelled wrong = absurd (right_everywhere text complete entries k short spelled wrong)

@@ -1,10 +1,9 @@
 // The two lines of an entry.
-ghost use Rattle.std.specs.Prelude.{◌≡◌, ◌<◌, ◌^◌, IfOk};
+ghost use Rattle.std.specs.Prelude.{◌≡◌, ◌<◌, All, IfOk};
 ghost use Rattle.std.specs.Fmt.{signed_decimal};
 ghost use Rattle.front_set.specs.ListText.{costs_line, model_line, entry_text, literal_text};
 ghost use Rattle.front_text.specs.Spelling.{IsCost, HasCosts};
 ghost use Rattle.front_text.specs.Reading.{Reads, Takes, TakesCost, IsValueOf, fault_at};
-ghost use Rattle.std.specs.Prelude.{All};
 
 use crate::ListFault;
 use crate::cursor::Cursor;
@@ -103,10 +102,11 @@ fn read_model(alloc: Global, cursor: &mut Cursor<'_>) -> Result<Assignment, Line
     }
     let mut values = Items::new(alloc);
     while !cursor.skip(b" 0\n") {
+        let var = values.len() as u64 + 1;
         if !cursor.skip(b" ") {
             return Err(LineFault::Wrong);
         }
-        match take_literal(cursor, values.len() as u64 + 1) {
+        match take_literal(cursor, var) {
             Some(value) => values.push(value)?,
             None => return Err(LineFault::Wrong),
         }

@@ -1,13 +1,18 @@
 // Texts with the list or the entry of the fault that the format gives them.
 use super::*;
-use std::alloc::Global;
+use front_set::{CostVec, Entry};
+use scut_base::{Assignment, Duplicate};
 use std::fmt::Write;
+use std::process::Abort;
 use std::test::Fail;
 
-// What is read from a text, as text: the list as it is printed, or the entry of the fault.
-fn reading(alloc: Global, text: &[u8]) -> Result<String, Fail> {
+// What is read from a text, as text: the list, or the entry of the fault. A list is printed as it was.
+fn reading(rt: &(impl Abort + AllocGlobal), text: &[u8]) -> Result<String, Fail> {
+    let alloc = rt.alloc();
     match read_list(alloc, text) {
         Ok(list) => {
+            let printed = print_list(alloc, list.complete, list.entries.as_slice())?;
+            assert_eq!(rt; printed.as_slice(), text);
             let mut shown = format!(in alloc; "{}", list.complete)?;
             for entry in list.entries.as_slice() {
                 write!(
@@ -63,8 +68,26 @@ static READINGS: [(&[u8], &str); 24] = [
 #[test]
 fn a_text_is_read_as_the_format_says(rt: HostRuntime) -> Result<(), Fail> {
     for (text, expected) in READINGS.iter() {
-        let given = reading(rt.alloc(), *text)?;
+        let given = reading(&rt, *text)?;
         assert_eq!(rt; given.as_str(), *expected);
     }
+    Ok(())
+}
+
+// The lines of a list, and the list after it was printed and read.
+#[test]
+fn lines_and_a_list_read_back(rt: HostRuntime) -> Result<(), Fail> {
+    let alloc = rt.alloc();
+    let costs = CostVec::from_slice(alloc, &[3, -1])?;
+    let model = Assignment::new(alloc, 2)?;
+    let entries = [Entry { costs, model }];
+    let lines = list_lines(alloc, false, &entries)?;
+    let want: [&[u8]; 3] = [b"s INCOMPLETE 1\n", b"o 3 -1\n", b"v -1 -2 0\n"];
+    assert_eq!(rt; lines.len(), 3);
+    for (line, expected) in lines.as_slice().iter().zip(want) {
+        assert_eq!(rt; line.as_slice(), expected);
+    }
+    let list = read_back(alloc, false, &entries)?.copy(alloc)?;
+    assert_eq!(rt; list.entries.len(), 1);
     Ok(())
 }
