@@ -6,7 +6,7 @@ use Rattle.std.specs.Fmt.{signed_decimal}
 use Rattle.std.proofs.lemmas.List.{append_assoc, append-nil}
 use Rattle.std.proofs.lemmas.List.Elements.{All-head, All-tail, All-same}
 use Rattle.scut_base.proofs.Lists.{tail_same}
-use Rattle.front_text.proofs.Parts.{All-back}
+use Rattle.front_text.proofs.Parts.{cons_same, All-back}
 use Rattle.front_set.specs.ListText.{costs_line}
 use Rattle.front_text.specs.Spelling.{IsCost}
 use Rattle.front_text.specs.Reading.{EndsWord, IsWord, IsValueOf, TakesCost, BeginsWithNone}
@@ -43,7 +43,7 @@ costs_rest (c ∷ cs) t (d ∷ ds) s left right ended e =
     let other : IsCost d = All-head IsCost d ds right in
     let cut = one_cut (signed_decimal c) (signed_decimal d) (cost_texts cs ++ t) (cost_texts ds ++ 10 ∷ s) (cost_joins c cost) (cost_joins d other) (texts_end cs t (ended_by cs t ended) ended) (texts_end ds (10 ∷ s) (ended_by ds (10 ∷ s) refl) refl) e' in
     let rest = costs_rest cs t ds s (All-tail IsCost c cs left) (All-tail IsCost d ds right) (ended_by cs t ended) cut.1 in
-    (rest.0, rest.1, ap (λ x. x ∷ ds) (sym (one_cost c d cost other cut.0)) ∙ ap (λ xs. c ∷ xs) rest.2)
+    (rest.0, rest.1, cons_same d c ds (cs ++ rest.0) (sym (one_cost c d cost other cut.0)) rest.2)
 
 pub one_costs_line : (cs ds : List ℤ) (r s : List ℕ) → All IsCost cs → All IsCost ds → costs_line cs ++ r ≡ costs_line ds ++ s → (cs ≡ ds) × (r ≡ s)
 one_costs_line cs ds r s left right e =

@@ -6,6 +6,7 @@ use Rattle.std.proofs.lemmas.Fmt.{first_decimal, decimal_nonempty}
 use Rattle.scut_base.proofs.Lists.{tail_same}
 use Rattle.front_set.specs.ListText.{literal_text, literals_from, model_line}
 use Rattle.front_text.specs.Reading.{Skips, BeginsWithNone}
+use Rattle.front_text.proofs.Parts.{cons_same}
 use Rattle.front_text.proofs.Words.{heads_apart}
 
 -- how a line of values ends
@@ -55,7 +56,7 @@ literals_rest k (b ∷ bs) t (d ∷ ds) s some small e =
     let one = one_literal b d k _ _ some (omega arith) e' in
     let rest = literals_rest (k + 1) bs t ds s (omega arith) (omega arith) one.1 in
     let place : k + 1 + length bs ≡ k + length (b ∷ bs) = omega arith in
-    (rest.0, rest.1 ∙ ap (λ m. literals_from m rest.0 ++ line_end s) place, ap (λ x. x ∷ ds) (sym one.0) ∙ ap (λ xs. b ∷ xs) rest.2)
+    (rest.0, rest.1 ∙ ap (λ m. literals_from m rest.0 ++ line_end s) place, cons_same d b ds (bs ++ rest.0) (sym one.0) rest.2)
 
 pub one_model_line : (bs ds : List Bool) (r s : List ℕ) → 1 + length bs < 2 ^ 64 → model_line bs ++ r ≡ model_line ds ++ s → (bs ≡ ds) × (r ≡ s)
 one_model_line bs ds r s small e =

@@ -4,6 +4,7 @@ use Rattle.std.specs.List.{position_or_len}
 use Rattle.std.proofs.lemmas.Bool.{eq-eqb}
 use Rattle.scut_base.proofs.Lists.{head_same, tail_same}
 use Rattle.std.proofs.lemmas.List.{take-append-drop}
+use Rattle.front_text.proofs.Parts.{cons_same}
 use Rattle.front_text.specs.Reading.{is_separator, HasNoSeparator, EndsWord, IsWord}
 
 -- two numbers that the test tells apart
@@ -36,7 +37,7 @@ one_cut (x ∷ xs) [] rs (s ∷ ss) nx ny er es e =
     clash a b e p q = cc
 one_cut (x ∷ xs) (y ∷ ys) rs ss nx ny er es e =
     let rest = one_cut xs ys rs ss nx.1 ny.1 er es (tail_same x y (xs ++ rs) (ys ++ ss) e) in
-    (ap (λ z. z ∷ xs) (head_same x y (xs ++ rs) (ys ++ ss) e) ∙ ap (λ zs. y ∷ zs) rest.0, rest.1)
+    (cons_same x y xs ys (head_same x y (xs ++ rs) (ys ++ ss) e) rest.0, rest.1)
 
 -- the place of the first separator cuts off a word
 pub cut_at_first : (text : List ℕ) → HasNoSeparator (take (position_or_len is_separator text) text) × EndsWord (drop (position_or_len is_separator text) text)
