@@ -1,6 +1,6 @@
 -- How costs and counts are spelled.
-use Rattle.std.proofs.Common.{◌≡◌, ◌≢◌, ℕ, zero, suc, ◌+◌, ◌*◌, ◌^◌, ◌<◌, ◌≤◌, Bool, true, false, not, List, [], ◌∷◌, ◌++◌, length, get_or, drop, ℤ, pos, negsuc, neg_ℤ, refl, sym, ap, subst, ◌∙◌, inl, inr, arith, cond, ◌==◌}
-use Rattle.std.specs.Prelude.{unsigned_abs, FitsSigned, Ok, Err}
+use Rattle.std.proofs.Common.{◌≡◌, ℕ, zero, suc, ◌^◌, ◌<◌, Bool, true, false, not, List, [], ◌∷◌, length, get_or, drop, ℤ, pos, negsuc, neg_ℤ, refl, sym, ap, subst, ◌∙◌, arith, cond, ◌==◌}
+use Rattle.std.specs.Prelude.{FitsSigned, Ok, Err}
 use Rattle.std.specs.Int.{w64, IsInRange}
 use Rattle.std.specs.Fmt.{decimal, signed_decimal}
 use Rattle.std.specs.Str.Parse.{AllDigits, digits_value, starts_with_minus}
@@ -9,13 +9,12 @@ use lib.Signed.{mag}
 use mir.Val.{to_z, of_z}
 use Rattle.std.proofs.lemmas.Int.{ints, to_z-of_z}
 use Rattle.std.proofs.lemmas.Slice.Eq.{bytes_eq-Decides}
-use Rattle.std.proofs.lemmas.Bool.{cases_lt}
 use Rattle.std.proofs.lemmas.Bool.Decides.{nat_tests}
 use Rattle.std.proofs.lemmas.Fmt.{decimal_is_IsNumeral, decimal_digit, first_decimal, decimal_nonempty, decimal-digits_value, signed_decimal_injective}
 use Rattle.std.proofs.lemmas.Str.Parse.{IsNumeralModel, numerals_by_value, tells_digits, digit_from_value, digit_at}
 use Rattle.scut_base.specs.declared.number.NumberFault.{NumberFault}
 use Rattle.scut_base.specs.declared.number.NumberFault.TheVariants.{NotDigits, TooWide}
-use Rattle.scut_base.specs.Number.{ReadsInteger, IsNatural, natural_value, magnitude_text, IsInteger, integer_value, signed_value}
+use Rattle.scut_base.specs.Number.{ReadsInteger, IsNatural, natural_value, IsInteger, integer_value, signed_value}
 use Rattle.front_text.specs.Spelling.{IsCost, IsCount}
 use Rattle.front_text.specs.Reading.{is_separator, HasNoSeparator}
 

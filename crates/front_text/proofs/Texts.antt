@@ -1,16 +1,14 @@
 -- The laws of texts: one list at most, and one fault at most.
 use Rattle.std.proofs.Common.{◌≡◌, ◌≢◌, ◌⊎◌, inl, inr, ⊎_elim, ℕ, zero, suc, ◌+◌, ◌*◌, ◌<◌, ◌≤◌, ◌^◌, Bool, true, false, List, [], ◌∷◌, ◌++◌, length, refl, sym, ap, subst, ◌∙◌, arith, length-append}
-use Rattle.std.specs.Prelude.{All, Some, min}
-use Rattle.std.specs.List.{flat_map}
+use Rattle.std.specs.Prelude.{All, Some}
 use Rattle.std.specs.Fmt.{decimal}
 use Rattle.std.proofs.lemmas.Bool.{cases_order, cases_lt}
-use Rattle.std.proofs.lemmas.Fmt.{decimal_injective}
 use Rattle.std.proofs.lemmas.List.{append_assoc, append-nil}
-use Rattle.std.proofs.lemmas.List.Elements.{All-nil, All-head, All-tail, All-same}
+use Rattle.std.proofs.lemmas.List.Elements.{All-nil, All-head, All-same}
 use Rattle.scut_base.specs.Number.{natural_value}
 use Rattle.front_set.specs.declared.entry.Entry.{Entry}
 use Rattle.front_set.specs.ListText.{head_line, entry_text, list_text}
-use Rattle.front_text.specs.Spelling.{IsCount, HasCosts, Spells, BeginsWith, IsFaultOf, NoEntryAt, GoesWrongAfter, IsSyntaxAt, head_with}
+use Rattle.front_text.specs.Spelling.{HasCosts, Spells, BeginsWith, IsFaultOf, NoEntryAt, GoesWrongAfter, IsSyntaxAt, head_with}
 use Rattle.front_text.specs.declared.list.ListFault.{ListFault}
 use Rattle.front_text.specs.declared.list.ListFault.TheVariants.{Syntax, NoMemory}
 use Rattle.front_text.specs.declared.head.Head.{Head}

@@ -1,4 +1,4 @@
-use Rattle.std.proofs.Common.{◌∙◌, sym}
+use Rattle.std.proofs.Common.{◌∙◌}
 use Rattle.front_text.proofs.Costs.{no_cost_after_space, no_end_of_costs}
 use Rattle.front_text.proofs.entry.read_costs.Goals as goal
 

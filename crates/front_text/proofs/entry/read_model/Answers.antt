@@ -1,4 +1,4 @@
-use Rattle.std.proofs.Common.{◌∙◌, sym, ◌+◌, ◌≤◌, ◌^◌, length, rules, arith}
+use Rattle.std.proofs.Common.{◌∙◌, sym, ◌+◌, arith}
 use Rattle.front_text.proofs.Models.{one_value_more, no_more_values, no_literal_after_space}
 use Rattle.front_text.proofs.entry.read_model.Goals as goal
 
