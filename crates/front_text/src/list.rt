@@ -4,10 +4,12 @@ use scut_base::{Duplicate, Items, NoMemory};
 use std::alloc::Global;
 use thiserror::Error;
 
-/// A list of entries, and whether it claims to be the whole front.
+/// A list of entries. They may have different lengths.
 #[derive(Debug, Drop)]
 pub struct FrontList {
+    /// Whether it claims to be the whole front.
     pub complete: bool,
+    /// The entries, in the order of the text.
     pub entries: Items<Entry>,
 }
 
@@ -23,10 +25,10 @@ impl Duplicate for FrontList {
 /// Why a text was not read as a list.
 #[derive(Clone, Copy, Debug, PartialEq, Eq, Error)]
 pub enum ListFault {
-    /// It is the text of no list, and goes wrong at this entry, counted from 1: its line of costs or
-    /// of values is wrong or missing, or it is more than the first line counts. It is 0 where the
-    /// first line is wrong.
-    #[error("the text is not in the grammar")]
+    /// It is the text of no list, and goes wrong at this entry, counted from 1: its line of costs
+    /// or of values is wrong or missing, or it is more than the first line counts. It is 0 where
+    /// the first line is wrong.
+    #[error("the text is that of no list")]
     Syntax { entry: u64 },
     /// Memory was refused.
     #[error("memory was refused")]

@@ -26,6 +26,7 @@ pub fn print_list(alloc: Global, complete: bool, entries: &[Entry]) -> Result<Ve
 }
 
 /// The lines of a list's text, in order: the head line, and for each entry its costs and its model.
+/// Takes memory for all of them.
 pub fn list_lines(
     alloc: Global,
     complete: bool,

@@ -6,7 +6,7 @@ use std::fmt::Write;
 use std::process::Abort;
 use std::test::Fail;
 
-// What is read from a text, as text: the list, or the entry of the fault. A list is printed as it was.
+// What is read from a text, as text: the list, or the entry of the fault. A list prints as it was.
 fn reading(rt: &(impl Abort + AllocGlobal), text: &[u8]) -> Result<String, Fail> {
     let alloc = rt.alloc();
     match read_list(alloc, text) {
