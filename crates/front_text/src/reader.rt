@@ -34,26 +34,6 @@ pub fn read_list(alloc: Global, bytes: &[u8]) -> Result<FrontList, ListFault>
     })
 }
 
-// Takes so many entries.
-fn read_entries(
-    alloc: Global,
-    cursor: &mut Cursor<'_>,
-    count: u64,
-) -> Result<Items<Entry>, ListFault>
-    ensures taken { IfOk result (λ entries. TakesEntries cursor.old cursor.new entries) }
-    ensures count { IfOk result (λ entries. length entries ≡ count) }
-    ensures fault { IfErr result (λ f. IsEntryFault cursor.old count f) }
-{
-    let mut entries = Items::new(alloc);
-    for at in 0..count {
-        match read_entry(alloc, cursor) {
-            Ok(entry) => entries.push(entry)?,
-            Err(fault) => return Err(fault.at_entry(at + 1)),
-        }
-    }
-    Ok(entries)
-}
-
 /// Law: a list that is printed is read back as it was, where there is memory.
 pub fn read_back(alloc: Global, complete: bool, entries: &[Entry]) -> Result<FrontList, ListFault>
     requires { All HasCosts entries.now }
@@ -82,3 +62,23 @@ pub fn one_fault()
     ensures { (text : List ℕ) (j k : ℕ)
         → length text < 2 ^ 64 → IsSyntaxAt text j → IsSyntaxAt text k → j ≡ k }
 {}
+
+// Takes so many entries.
+fn read_entries(
+    alloc: Global,
+    cursor: &mut Cursor<'_>,
+    count: u64,
+) -> Result<Items<Entry>, ListFault>
+    ensures taken { IfOk result (λ entries. TakesEntries cursor.old cursor.new entries) }
+    ensures count { IfOk result (λ entries. length entries ≡ count) }
+    ensures fault { IfErr result (λ f. IsEntryFault cursor.old count f) }
+{
+    let mut entries = Items::new(alloc);
+    for at in 0..count {
+        match read_entry(alloc, cursor) {
+            Ok(entry) => entries.push(entry)?,
+            Err(fault) => return Err(fault.at_entry(at + 1)),
+        }
+    }
+    Ok(entries)
+}
