@@ -1,0 +1,9 @@
+pub mod Parts
+pub mod Lines
+pub mod Words
+pub mod Numbers
+pub mod Costs
+pub mod Models
+pub mod Entries
+pub mod Heads
+pub mod Texts

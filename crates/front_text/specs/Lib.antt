@@ -1,0 +1,4 @@
+pub use Rattle.front_set.specs.ListText
+pub mod Lines
+pub mod Spelling
+pub mod Reading
