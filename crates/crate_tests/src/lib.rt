@@ -29,3 +29,5 @@ mod stacks_of_tokens;
 mod statements;
 #[cfg(test)]
 mod sums;
+#[cfg(test)]
+mod texts_of_lists;

@@ -15,6 +15,3 @@ mod reader;
 pub use list::{FrontList, ListFault};
 pub use print::{list_lines, print_list};
 pub use reader::{no_fault_where_spelled, one_fault, one_list, read_back, read_list};
-
-#[cfg(test)]
-mod tests;

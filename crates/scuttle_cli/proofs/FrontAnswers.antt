@@ -17,7 +17,8 @@ use Rattle.instance.specs.ParetoFront.{IsFront}
 use Rattle.instance.proofs.EmptyFront.{empty_exactly}
 use Rattle.scuttle_cli.specs.World.{World}
 use Rattle.scuttle_cli.specs.InstanceFile.{fault_in}
-use Rattle.scuttle_cli.specs.Lines.{entry_lines, list_lines}
+use Rattle.front_text.specs.Lines.{list_lines}
+use Rattle.front_text.proofs.Lines.{concat-list_lines}
 use Rattle.scuttle_cli.specs.WholeFile.{IsWhole}
 use Rattle.scuttle_cli.specs.Messages.{complete_line}
 use Rattle.scuttle_cli.specs.Answers.{IsFrontOfFile, IsFrontWritten, IsPrefixOfFront, IsInstanceOf, IsCutShort, OwnCountRose, HasNoModel, FrontAnswers, status_of_shelf, status_of_reading}
@@ -25,14 +26,6 @@ use Rattle.scuttle_cli.specs.declared.instance_file.Format.{Format}
 use Rattle.scuttle_cli.proofs.InstanceFiles.{limit_has_line}
 
 -- ---- what stands in the list file
-
--- the lines make the text
-concat-entry_lines : (entries : List Entry) → concat (flat_map entry_lines entries) ≡ flat_map entry_text entries
-concat-entry_lines [] = refl
-concat-entry_lines (e ∷ entries) = grind (arith, concat-entry_lines entries, append_assoc)
-
-concat-list_lines : (entries : List Entry) → concat (list_lines true entries) ≡ list_text true entries
-concat-list_lines entries = ap (λ xs. head_line true (length entries) ++ xs) (concat-entry_lines entries)
 
 no_entries : (entries : List Entry) → length entries ≡ 0 → entries ≡ []
 no_entries [] none = refl
@@ -57,14 +50,14 @@ front_written old mid new format input list i entries lines size of front is cou
       front = record { text = found.0; instance = i; there = found.1; spelled = found.2; few = of.few; front = front };
       counted = counted;
       empty = subst (λ (n : ℕ). (n ≡ 0) ↔ HasNoModel i) counted (size_zero i entries front);
-      written = wrote ∙ ap (λ f. with_file f list (concat lines)) same ∙ ap (λ ls. with_file old list (concat ls)) is ∙ ap (with_file old list) (concat-list_lines entries);
+      written = wrote ∙ ap (λ f. with_file f list (concat lines)) same ∙ ap (λ ls. with_file old list (concat ls)) is ∙ ap (with_file old list) (concat-list_lines true entries);
     }
 
 -- after a fault a prefix of the list may be there
 pub front_partly_written : (old mid new : Option Files) (format : Format) (input list : List ℕ) (i : InstanceValue) (entries : List Entry) (lines : List (List ℕ)) → IsInstanceOf old format input i → IsFront i entries → lines ≡ list_lines true entries → mid ≡ old → IsTouched mid new list (λ bytes. IsPrefixOf bytes (concat lines)) → IsTold old → IsTouched old new list (IsPrefixOfFront old format input)
 front_partly_written old mid new format input list i entries lines of front is same (inl stayed) told = inl (stayed ∙ same)
 front_partly_written old mid new format input list i entries lines of front is same (inr put) told =
-    inr (put.0, (entries, front_of_file old format input i entries of front told, (put.1.0, put.1.1 ∙ ap concat is ∙ concat-list_lines entries)), put.2 ∙ ap (λ f. with_file f list put.0) same)
+    inr (put.0, (entries, front_of_file old format input i entries of front told, (put.1.0, put.1.1 ∙ ap concat is ∙ concat-list_lines true entries)), put.2 ∙ ap (λ f. with_file f list put.0) same)
 
 -- the list that was written whole is a prefix of itself
 pub partly_from_written : (old new : Option Files) (format : Format) (input list : List ℕ) (size : ℕ) → IsFrontWritten old new format input list size → IsTouched old new list (IsPrefixOfFront old format input)

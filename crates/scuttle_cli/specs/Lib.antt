@@ -12,5 +12,4 @@ pub mod Command
 pub mod Answers
 pub mod WholeFile
 pub mod Enumeration
-pub mod Lines
 pub mod Messages

@@ -7,9 +7,9 @@ ghost use Rattle.scuttle_cli.specs.Answers.{FrontAnswers, IsInstanceOf, status_o
 use crate::Status;
 use crate::enumeration::front_of;
 use crate::instance_file::{Format, read_text};
-use crate::list_lines::complete_lines;
 use crate::messages::say_complete;
 use crate::whole_file::{read_whole, write_lines};
+use front_text::list_lines;
 use instance::{Instance, InstanceLimit};
 use scut_base::Shelf;
 use std::alloc::Global;
@@ -36,7 +36,7 @@ pub fn front<H: Shelf>(
     let inst = read_instance(alloc, format, input, shelf)?;
     let entries = front_of(alloc, &inst)?;
     let size = entries.len();
-    let lines = complete_lines(alloc, &entries)?;
+    let lines = list_lines(alloc, true, &entries)?;
     write_lines(shelf, list, lines.as_slice())?;
     say_complete(alloc, size, shelf)?;
     Ok(size as u64)

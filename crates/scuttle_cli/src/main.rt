@@ -8,7 +8,6 @@ mod command;
 mod enumeration;
 mod front_command;
 mod instance_file;
-mod list_lines;
 mod messages;
 mod running;
 mod status;

@@ -3,7 +3,7 @@ use Rattle.std.specs.Prelude.{Option, Err}
 use Rattle.std.proofs.lemmas.Result.{err_from_is_err_and}
 use Rattle.scut_base.specs.Files.{followed}
 use Rattle.scuttle_cli.specs.Messages.{complete_line}
-use Rattle.scuttle_cli.specs.Lines.{list_lines}
+use Rattle.front_text.specs.Lines.{list_lines}
 use Rattle.scuttle_cli.proofs.OwnFaults.{own_rose_at_last}
 use Rattle.scuttle_cli.proofs.FrontAnswers.{front_written, front_partly_written, partly_said, shelf_fault}
 use Rattle.scuttle_cli.proofs.front_command.front.Goals as goal

@@ -1,7 +1,8 @@
 // Texts with the list or the entry of the fault that the format gives them.
-use super::*;
 use front_set::{CostVec, Entry};
+use front_text::{ListFault, list_lines, print_list, read_back, read_list};
 use scut_base::{Assignment, Duplicate};
+use std::alloc::AllocGlobal;
 use std::fmt::Write;
 use std::process::Abort;
 use std::test::Fail;
