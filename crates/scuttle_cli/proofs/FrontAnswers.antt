@@ -1,13 +1,13 @@
 -- How each end of the command `front` is answered.
-use Rattle.std.proofs.Common.{◌≡◌, ℕ, zero, ◌<◌, ◌^◌, ◌++◌, ◌∷◌, List, [], length, true, refl, ◌∙◌, ◌↔◌, ap, subst, inl, inr, arith}
+use Rattle.std.proofs.Common.{◌≡◌, ℕ, zero, ◌<◌, ◌^◌, ◌∷◌, List, [], length, true, refl, ◌∙◌, ◌↔◌, ap, subst, inl, inr}
 use Rattle.std.specs.Prelude.{Option}
-use Rattle.std.specs.List.{concat, flat_map}
-use Rattle.std.proofs.lemmas.List.{append-nil, append_assoc}
+use Rattle.std.specs.List.{concat}
+use Rattle.std.proofs.lemmas.List.{append-nil}
 use Rattle.scut_base.specs.Files.{Files, with_file, IsTold, IsTouched, IsPrefixOf, IsPartlyFollowed}
 use Rattle.scut_base.specs.declared.shelf.ShelfFault.{ShelfFault}
 use Rattle.scut_base.specs.declared.shelf.ShelfFault.TheVariants.{Failed, NoMemory as ShelfNoMemory}
 use Rattle.front_set.specs.declared.entry.Entry.{Entry}
-use Rattle.front_set.specs.ListText.{list_text, entry_text, head_line}
+use Rattle.front_set.specs.ListText.{list_text}
 use Rattle.instance.specs.Shape.{InstanceValue}
 use Rattle.instance.specs.Reading.{IsFaultOf}
 use Rattle.instance.specs.declared.fault.InstanceLimit.TheVariants.{Bytes, Vars}
