@@ -7,7 +7,7 @@ use Rattle.std.proofs.lemmas.List.Elements.{All-nil, All-cons, All-head, All-tai
 use Rattle.scut_base.specs.Literal.{Literal}
 use Rattle.pb_lin.specs.Constraint.{ConstraintValue, negation, opposite, size}
 use Rattle.pb_lin.specs.CostRow.{CostRowValue}
-use Rattle.pb_lin.specs.Problem.{ProblemValue, IsProblem}
+use Rattle.pb_lin.specs.Problem.{ProblemValue, IsProblem, problem_costs}
 use Rattle.pb_lin.specs.Substitution.{Images, touches}
 use Rattle.cutting_planes.specs.Stack.{IsValueOn, Answer}
 use Rattle.cutting_planes.specs.declared.token.PolToken.{PolToken}
@@ -15,7 +15,7 @@ use Rattle.cutting_planes.proofs.Terms.{Terms, normal-nil}
 use Rattle.cutting_planes.proofs.Rising.{Above, above_from_normal, normal_from_above}
 use Rattle.hint_rup.specs.declared.hint.Hint.{Hint}
 use Rattle.proof_laws.specs.WellFormed.{AreTokens, IsSubstitution, IsGoalProof}
-use Rattle.proof_laws.specs.State.{StateValue, IsState, numbered, pcost}
+use Rattle.proof_laws.specs.State.{StateValue, IsState, numbered}
 use Rattle.proof_laws.specs.Steps.{with_line, with_learned, with_definition, with_solution, without_lines, with_end}
 use Rattle.proof_laws.specs.Substituted.{Requirement, IsGoalOf, holds_after, none_risen, has_fallen, touched_hold, redundance, dominance}
 use Rattle.proof_laws.specs.Refusal.{FirstOf, fault_unless, size_fault, pol_fault, contradiction_fault, proof_of, same_goal, is_clause, range_fault, written, def_fault, deletion_fault, end_fault, given_in, IsHintsFault, IsPolFault, IsRupFault, IsProofFault, IsOpenGoalFault, IsGoalFault, IsFirstGoalFault, IsSubstitutionFault, Bounds, IsCutFault, IsSolFault, line_or_none, misplaced, broken_row, assignment_of, IsRuleFault, IsFault}
@@ -236,7 +236,7 @@ makes_exists p s (Learn goal hints) rule = (with_learned s goal, refl)
 makes_exists p s (Def var sum) rule = (with_definition s sum, refl)
 makes_exists p s (Red goal w proofs) rule = (with_line s goal, refl)
 makes_exists p s (Dom goal w proofs) rule = (with_line s goal, refl)
-makes_exists p s (Sol model cut ids) rule = (with_solution s cut (pcost p (assignment_of model)), refl)
+makes_exists p s (Sol model cut ids) rule = (with_solution s cut (problem_costs p (assignment_of model)), refl)
 makes_exists p s (Del ids) rule = (without_lines s ids, refl)
 makes_exists p s (Reduce ids) rule = (without_lines s ids, refl)
 makes_exists p s (End id) rule = (with_end s, refl)

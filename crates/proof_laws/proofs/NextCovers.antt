@@ -5,10 +5,10 @@ use Rattle.std.specs.List.{flat_map}
 use Rattle.std.specs.FinMap.{get, remove}
 use Rattle.pb_lin.specs.Constraint.{ConstraintValue, negation, size}
 use Rattle.pb_lin.specs.LineMap.{LineMap}
-use Rattle.pb_lin.specs.Problem.{ProblemValue}
+use Rattle.pb_lin.specs.Problem.{ProblemValue, problem_costs}
 use Rattle.pb_lin.specs.Substitution.{Images}
 use Rattle.proof_laws.specs.WellFormed.{IsWellFormed, IsConstraint}
-use Rattle.proof_laws.specs.State.{StateValue, Fits, CoversAll, pcost}
+use Rattle.proof_laws.specs.State.{StateValue, Fits, CoversAll}
 use Rattle.proof_laws.specs.Steps.{with_live, with_line, with_learned, with_definition, with_solution, without_lines, with_end, clause, reached_if, reached_only_if}
 use Rattle.proof_laws.specs.Substituted.{redundance, dominance}
 use Rattle.proof_laws.specs.Refusal.{FirstOf, given_in, fault_unless, size_fault, is_clause, range_fault, written, term_variables, image_variables, proof_variables, IsRuleFault, IsRupFault, IsFirstGoalFault, assignment_of}
@@ -98,7 +98,7 @@ module _ (p : ProblemValue) (s : StateValue) (within : IsWithin p s) (fits : Fit
   next_keeps (Red goal w proofs) t formed next = line_covers goal t next.makes (substitution_parts goal w proofs t formed.0 next)
   next_keeps (Dom goal w proofs) t formed next = line_covers goal t next.makes (dominance_parts goal w proofs t next)
   next_keeps (Sol model cut ids) t formed next =
-      let costs = pcost p (assignment_of model) in
+      let costs = problem_costs p (assignment_of model) in
       let covered = model_logged_keeps p s s.next_id cut (assignment_of model) (solution_bounds p s model cut ids (legal_parts p s (Sol model cut ids) next.legal).rule) covers in
       counted_covers (with_logged s s.next_id (clause cut) costs) (with_solution s cut costs) t next.makes refl refl refl covered
   next_keeps (Del ids) t formed next = fewer_covers ids t next.makes

@@ -8,13 +8,13 @@ use Rattle.std.proofs.lemmas.List.Elements.{All-nil, All-cons, All-head, All-tai
 use Rattle.scut_base.specs.Literal.{Literal}
 use Rattle.pb_lin.specs.Constraint.{ConstraintValue, IsNormal, TermsUpTo, size}
 use Rattle.pb_lin.specs.CostRow.{row_cost}
-use Rattle.pb_lin.specs.Problem.{ProblemValue, IsProblem}
+use Rattle.pb_lin.specs.Problem.{ProblemValue, IsProblem, problem_costs}
 use Rattle.pb_lin.specs.Given.{GivenWithin}
 use Rattle.cutting_planes.specs.Stack.{TokenUpTo}
 use Rattle.cutting_planes.specs.declared.token.PolToken.{PolToken}
 use Rattle.cutting_planes.specs.declared.token.PolToken.TheVariants.{Id, Axiom, Negated, Denied, Add, Mul, Div, Saturate, Weaken}
 use Rattle.proof_laws.specs.WellFormed.{IsWellFormed, IsConstraint, IsToken}
-use Rattle.proof_laws.specs.State.{StateValue, IsState, Fits, CoversAll, start, pcost}
+use Rattle.proof_laws.specs.State.{StateValue, IsState, Fits, CoversAll, start}
 use Rattle.proof_laws.specs.Steps.{with_line, with_learned, with_definition, with_solution, without_lines, with_end, clause, reached_if, reached_only_if}
 use Rattle.proof_laws.specs.Refusal.{given_in, image_variables, proof_variables, token_variables, assignment_of, deletion_fault}
 use Rattle.proof_laws.specs.Legal.{IsNext}
@@ -121,7 +121,7 @@ module _ (p : ProblemValue) (s : StateValue) (problem : IsProblem p) (state : Is
   next_fits_all (Sol model cut ids) t formed next =
       let line : Line = Sol model cut ids in
       let parts = legal_parts p s line next.legal in
-      let costs = pcost p (assignment_of model) in
+      let costs = problem_costs p (assignment_of model) in
       let upto : All (λ l. l.var ≤ s.vars) cut = literals_upto s.vars cut (sol_parts p s model cut ids parts.rule).2 in
       let few : s.vars < 2 ^ 63 = let v = state.vars in let l = state.lines in omega arith in
       let normal = clause_is_normal s.vars cut few (λ i d less. (formed.1.0 i d less).0) upto formed.1.1 in

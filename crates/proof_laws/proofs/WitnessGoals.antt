@@ -7,7 +7,7 @@ use Rattle.std.proofs.lemmas.List.FromFn.{length-map-range_with_len}
 use Rattle.scut_base.specs.Literal.{Literal}
 use Rattle.pb_lin.specs.Constraint.{ConstraintValue, Holds, value, negation}
 use Rattle.pb_lin.specs.CostRow.{CostRowValue}
-use Rattle.pb_lin.specs.Problem.{ProblemValue}
+use Rattle.pb_lin.specs.Problem.{ProblemValue, problem_costs}
 use Rattle.pb_lin.specs.Substitution.{Images, IsUnder, variable_under, value_under}
 use Rattle.scut_base.proofs.Lists.{sum_by_same_in}
 use Rattle.pb_lin.proofs.Laws.{Holds-excess}
@@ -16,13 +16,13 @@ use Rattle.proof_laws.proofs.Definitions.{value-opposites}
 use Rattle.proof_laws.proofs.Images.{image_holds, image_value, image_untouched}
 use Rattle.proof_laws.proofs.CoverSteps.{redundant_keeps, dominance_keeps}
 use Rattle.front_set.specs.Vector.{IsBelow}
-use Rattle.proof_laws.specs.State.{StateValue, Satisfies, CoversAll, pcost}
+use Rattle.proof_laws.specs.State.{StateValue, Satisfies, CoversAll}
 use Rattle.proof_laws.specs.Steps.{with_live}
 use Rattle.proof_laws.proofs.Semantics.{AreWithin, IsWithin, weight, image, AreUntouched, Broken, StaysTrue, StaysLow, IsRedundant, IsDominated, IsCostGoal, IsStrictGoal}
 
 -- terms over the state's variables are over those of an assignment that satisfies it
 as_long : (p : ProblemValue) (s : StateValue) (x : List Bool) (terms : List (Literal × ℕ)) → Satisfies p s x → AreWithin s.vars terms → AreWithin (length x) terms
-as_long p s x terms sat within k d short = let w = within k d short in let long = sat.long in (w.0, omega arith)
+as_long p s x terms sat within k d short = let w = within k d short in let long = sat.variables in (w.0, omega arith)
 
 pub untouched_stays : (p : ProblemValue) (s : StateValue) (c : ConstraintValue) (w : Images) (d : ConstraintValue) → AreWithin s.vars d.terms → AreUntouched w d.terms → ((x : List Bool) → Satisfies p s x → Holds x d) → StaysTrue p s c w d
 untouched_stays p s c w d within apart holds x sat breaks =
@@ -66,9 +66,9 @@ length-image : (w : Images) (x : List Bool) → length (image w x) ≡ length x
 length-image w x = length-map-range_with_len (variable_under w x) 1 (length x)
 
 cost_within : (p : ProblemValue) (s : StateValue) (x : List Bool) → IsWithin p s → Satisfies p s x → All (λ r. AreWithin (length x) r.terms) p.costs
-cost_within p s x within sat k d short i t less = let w = within.costs k d short i t less in let vars = within.vars in let long = sat.long in (w.0, omega arith)
+cost_within p s x within sat k d short i t less = let w = within.costs k d short i t less in let vars = within.vars in let long = sat.variables in (w.0, omega arith)
 
-image_below : (p : ProblemValue) (s : StateValue) (c : ConstraintValue) (w : Images) (x : List Bool) → IsWithin p s → Satisfies p s x → (Holds x c → ⊥) → All (StaysLow p s c w) p.costs → IsBelow (pcost p (image w x)) (pcost p x)
+image_below : (p : ProblemValue) (s : StateValue) (c : ConstraintValue) (w : Images) (x : List Bool) → IsWithin p s → Satisfies p s x → (Holds x c → ⊥) → All (StaysLow p s c w) p.costs → IsBelow (problem_costs p (image w x)) (problem_costs p x)
 image_below p s c w x within sat breaks low = below_by_values (image w x) x p.costs (λ k d short.
     let same = image_value w x (get_or p.costs k d).terms (cost_within p s x within sat k d short) in
     let less = low k d short x sat breaks in
@@ -78,7 +78,7 @@ pub witness_redundant : (p : ProblemValue) (s : StateValue) (id : ℕ) (c : Cons
 witness_redundant p s id c w within is = redundant_keeps p s id c (λ x sat breaks. (
   image w x,
   record {
-    long = length-image w x ∙ sat.long;
+    variables = length-image w x ∙ sat.variables;
     rows = λ k d short. is.rows k d short x sat breaks;
     live = λ i d found. is.live i d found x sat breaks;
   },
@@ -93,7 +93,7 @@ image_weight p s w x within sat = sum_by_same_in (λ r. value (image w x) r.term
 pub witness_dominated : (p : ProblemValue) (s : StateValue) (id : ℕ) (c : ConstraintValue) (w : Images) → IsWithin p s → IsDominated p s c w → CoversAll p s → CoversAll p (with_live s id c)
 witness_dominated p s id c w within is = dominance_keeps p s id c within (λ x sat breaks.
     let long = length-image w x in
-    let own = sat.long in
+    let own = sat.variables in
     let vars = within.vars in
     let weights = image_weight p s w x within sat in
     let less = is.sum x sat breaks in (

@@ -6,11 +6,11 @@ use Rattle.scut_base.specs.Literal.{Literal}
 use Rattle.scut_base.specs.Assignment.{partial_truth}
 use Rattle.pb_lin.specs.Constraint.{ConstraintValue, Covers, value}
 use Rattle.pb_lin.specs.CostRow.{CostRowValue}
-use Rattle.pb_lin.specs.Problem.{ProblemValue}
+use Rattle.pb_lin.specs.Problem.{ProblemValue, IsProblemModel}
 use Rattle.pb_lin.specs.Propagation.{IsClosedUnder}
 use Rattle.hint_rup.specs.declared.hint.Hint.{Hint}
 use Rattle.hint_rup.specs.declared.hint.Hint.TheVariants.{Id as IdHint}
-use Rattle.proof_laws.specs.State.{StateValue, IsModel}
+use Rattle.proof_laws.specs.State.{StateValue}
 use Rattle.proof_laws.specs.Refusal.{is_clause, line_or_none}
 use Rattle.proof_laws.specs.Replay.{IsReplay}
 use Rattle.proof_laws.specs.declared.line.Line.{Line}
@@ -89,8 +89,8 @@ HasMore p lines = (n : ℕ) × IsEarned p lines n
 
 -- m is the least value of the row's terms among all models
 pub record IsLeastValue (p : ProblemValue) (r : CostRowValue) (m : ℕ) : Type 0 where
-  pub reached : (b : List Bool) × IsModel p b × (value b r.terms ≡ m)
-  pub least : (b : List Bool) → IsModel p b → m ≤ value b r.terms
+  pub reached : (b : List Bool) × IsProblemModel p b × (value b r.terms ≡ m)
+  pub least : (b : List Bool) → IsProblemModel p b → m ≤ value b r.terms
 
 -- a live line, or "0 >= 0", covers "the row's terms are at least m"
 abbrev pub IsBounded : StateValue → CostRowValue → ℕ → Type 0

@@ -1,9 +1,9 @@
 -- Legal lines: what refuses a line, and the state after one that isn't refused.
 use Rattle.std.specs.Prelude.{◌≡◌, [], None, Some, Ok}
 use Rattle.pb_lin.specs.Constraint.{ConstraintValue}
-use Rattle.pb_lin.specs.Problem.{ProblemValue}
+use Rattle.pb_lin.specs.Problem.{ProblemValue, problem_costs}
 use Rattle.cutting_planes.specs.Stack.{IsValueOn}
-use Rattle.proof_laws.specs.State.{StateValue, pcost}
+use Rattle.proof_laws.specs.State.{StateValue}
 use Rattle.proof_laws.specs.Steps.{with_line, with_learned, with_definition, with_solution, without_lines, with_end}
 use Rattle.proof_laws.specs.Refusal.{IsFault, given_in, assignment_of}
 use Rattle.proof_laws.specs.declared.line.Line.{Line}
@@ -22,7 +22,7 @@ Makes p s (Learn goal hints) t = t ≡ with_learned s goal
 Makes p s (Def var sum) t = t ≡ with_definition s sum
 Makes p s (Red goal w proofs) t = t ≡ with_line s goal
 Makes p s (Dom goal w proofs) t = t ≡ with_line s goal
-Makes p s (Sol model cut ids) t = t ≡ with_solution s cut (pcost p (assignment_of model))
+Makes p s (Sol model cut ids) t = t ≡ with_solution s cut (problem_costs p (assignment_of model))
 Makes p s (Del ids) t = t ≡ without_lines s ids
 Makes p s (Reduce ids) t = t ≡ without_lines s ids
 Makes p s (End id) t = t ≡ with_end s

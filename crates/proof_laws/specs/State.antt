@@ -1,9 +1,8 @@
 -- States of a proof: what is known of a problem, and that every model of it is covered.
-use Rattle.std.specs.Prelude.{◌≡◌, ◌⊎◌, ℕ, ◌+◌, ◌*◌, ◌<◌, ◌≤◌, ◌^◌, Bool, true, false, Some, List, [], ◌∷◌, map, length, slice_index_or, All, Contains, ℤ}
+use Rattle.std.specs.Prelude.{◌≡◌, ◌⊎◌, ℕ, ◌+◌, ◌*◌, ◌<◌, ◌≤◌, ◌^◌, Bool, true, false, Some, List, [], ◌∷◌, length, slice_index_or, All, Contains, ℤ}
 use Rattle.std.specs.FinMap.{get}
 use Rattle.pb_lin.specs.Constraint.{ConstraintValue, Holds, IsNormal, TermsUpTo}
-use Rattle.pb_lin.specs.CostRow.{row_cost}
-use Rattle.pb_lin.specs.Problem.{ProblemValue}
+use Rattle.pb_lin.specs.Problem.{ProblemValue, IsProblemModel, problem_costs}
 use Rattle.pb_lin.specs.LineMap.{LineMap, lines_of}
 use Rattle.front_set.specs.Vector.{IsBelow}
 
@@ -69,18 +68,9 @@ pub record Fits (p : ProblemValue) (s : StateValue) : Type 0 where
   pub vars : p.vars ≤ s.vars
   pub sols : All (λ v. length v ≡ length p.costs) s.sols
 
--- the values of the cost rows
-abbrev pub pcost : ProblemValue → List Bool → List ℤ
-pcost p a = map (row_cost a) p.costs
-
--- an assignment of the problem's variables that makes every row hold
-pub record IsModel (p : ProblemValue) (b : List Bool) : Type 0 where
-  pub long : length b ≡ p.vars
-  pub rows : All (Holds b) p.rows
-
 -- an assignment of the state's variables that makes every row and every live line hold
 pub record Satisfies (p : ProblemValue) (s : StateValue) (x : List Bool) : Type 0 where
-  pub long : length x ≡ s.vars
+  pub variables : length x ≡ s.vars
   pub rows : All (Holds x) p.rows
   pub live : (id : ℕ) (c : ConstraintValue) → get s.live id ≡ Some c → Holds x c
 
@@ -90,8 +80,8 @@ IsLogged s v = (u : List ℤ) × Contains s.sols u × IsBelow u v
 
 -- some assignment satisfies the state at costs below v
 abbrev pub IsReached : ProblemValue → StateValue → List ℤ → Type 0
-IsReached p s v = (x : List Bool) × Satisfies p s x × IsBelow (pcost p x) v
+IsReached p s v = (x : List Bool) × Satisfies p s x × IsBelow (problem_costs p x) v
 
 -- Every model is covered: a logged vector is below its costs, or those of an assignment that satisfies the state are.
 abbrev pub CoversAll : ProblemValue → StateValue → Type 0
-CoversAll p s = (b : List Bool) → IsModel p b → IsLogged s (pcost p b) ⊎ IsReached p s (pcost p b)
+CoversAll p s = (b : List Bool) → IsProblemModel p b → IsLogged s (problem_costs p b) ⊎ IsReached p s (problem_costs p b)
