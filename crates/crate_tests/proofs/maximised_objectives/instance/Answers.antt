@@ -1,11 +1,9 @@
-use Rattle.std.proofs.Common.{◌≡◌, List, [], ◌∷◌, ℕ, length, sym, ap, subst, arith, rules}
+use Rattle.std.proofs.Common.{◌≡◌, [], ◌∷◌, ℕ, length, sym, ap, subst, arith, rules}
 use Rattle.std.specs.Prelude.{All}
 use Rattle.std.specs.List.{sum_by}
 use Rattle.std.proofs.lemmas.List.Elements.{All-nil, All-cons}
 use Rattle.std.proofs.lemmas.List.Sums.{sum_by-cons}
-use Rattle.scut_base.specs.Literal.{Literal}
 use Rattle.instance.specs.declared.objective.Objective.{Objective}
-use Rattle.instance.specs.declared.row.Linear.{Linear}
 use Rattle.instance.specs.Shape.{ClauseUpTo, IsRowWithin, IsObjectiveWithin}
 use Rattle.crate_tests.proofs.maximised_objectives.instance.Goals as goal
 

@@ -1,4 +1,4 @@
-use Rattle.std.proofs.Common.{◌≡◌, ℕ, ◌≤◌, ◌^◌, List, [], ◌∷◌, ◌++◌, ℤ, unsigned_abs, refl, sym, ap, ◌∙◌, subst, arith}
+use Rattle.std.proofs.Common.{◌≡◌, ℕ, ◌≤◌, ◌^◌, List, [], ◌∷◌, ◌++◌, ℤ, unsigned_abs, sym, ap, ◌∙◌, subst, arith}
 use Rattle.std.specs.Prelude.{All}
 use Rattle.std.proofs.lemmas.Int.{ints}
 use Rattle.std.proofs.lemmas.List.Elements.{All-nil, All-cons}
@@ -7,7 +7,6 @@ use Rattle.scut_base.specs.Literal.{Literal}
 use Rattle.instance.specs.Shape.{ClauseUpTo, TermsUpTo, IsObjectiveWithin, weights_sum, terms_magnitude}
 use Rattle.instance.specs.declared.objective.Sense.{Sense}
 use Rattle.instance.specs.declared.objective.Soft.{Soft}
-use Rattle.instance.specs.declared.objective.Objective.{Objective}
 use Rattle.crate_tests.proofs.maximised_objectives.objective.Goals as goal
 
 within : (sense : Sense) (softs : List Soft) (none one two : List (ℤ × Literal)) (offset : ℤ) (s t : ℤ × Literal) → softs ≡ [] → none ≡ [] → one ≡ none ++ s ∷ [] → two ≡ one ++ t ∷ [] → s.1.var ≤ 2 → t.1.var ≤ 2 → unsigned_abs s.0 ≤ 2 ^ 31 → unsigned_abs t.0 ≤ 2 ^ 31 → unsigned_abs offset ≤ 2 ^ 31 → IsObjectiveWithin 2 (record { sense = sense; softs = softs; terms = two; offset = offset })
