@@ -1,0 +1,15 @@
+pub mod Conditions
+pub mod Cuts
+pub mod Definitions
+pub mod Falls
+pub mod FirstFaults
+pub mod GoalFaults
+pub mod LiveLines
+pub mod LiveWalk
+pub mod Models
+pub mod Replays
+pub mod RequirementLists
+pub mod Searches
+pub mod Starts
+pub mod TakingUp
+pub mod Verdicts

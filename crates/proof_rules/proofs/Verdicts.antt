@@ -1,0 +1,34 @@
+-- Verdicts, condition by condition.
+use Rattle.std.proofs.Common.{◌≡◌, ℕ, Option, Some, None, List, map, sym, subst, refl}
+use Rattle.std.specs.Prelude.{option_map, nat_lt, Err}
+use Rattle.std.specs.List.{find}
+use Rattle.scut_base.specs.Literal.{Literal}
+use Rattle.pb_lin.specs.Problem.{ProblemValue}
+use Rattle.proof_laws.specs.State.{StateValue}
+use Rattle.proof_laws.specs.Refusal.{FirstOf, IsCutFault, IsSolFault, assignment_of, broken_row, misplaced, range_fault}
+use Rattle.proof_laws.specs.declared.why.Why.{Why}
+use Rattle.proof_laws.specs.declared.why.Why.TheVariants.{SolRow, VarRange}
+use Rattle.proof_rules.specs.Verdict.{IsVerdict}
+use Rattle.proof_rules.specs.declared.fault.StepFault.{StepFault}
+use Rattle.proof_rules.specs.declared.fault.StepFault.TheVariants.{Refused, NoMemory}
+
+-- a fault of one judgement is one of another that it belongs to
+pub stopped : (T U : Type 0) (J K : Option Why → Type 0) → ((why : Why) → J (Some why) → K (Some why)) → (fault : StepFault) → IsVerdict {T = T} J (Err fault) → IsVerdict {T = U} K (Err fault)
+stopped T U J K each (Refused why) is = each why is
+stopped T U J K each NoMemory is = tt
+
+-- the first condition, of a place that was looked for
+pub found_fault : {X : Type 0} (why : X → Why) (o : Option X) (x : X) (Rest : Option Why → Type 0) → o ≡ Some x → FirstOf (option_map why o) Rest (Some (why x))
+found_fault {X} why o x Rest is = subst (λ (p : Option X). FirstOf (option_map why p) Rest (Some (why x))) (sym is) refl
+
+pub no_fault : {X : Type 0} (why : X → Why) (o : Option X) (Rest : Option Why → Type 0) (fault : Option Why) → o ≡ None → Rest fault → FirstOf (option_map why o) Rest fault
+no_fault {X} why o Rest fault is rest = subst (λ (p : Option X). FirstOf (option_map why p) Rest fault) (sym is) rest
+
+-- a logged model whose places, rows and cut's variables are right has the faults of its ids
+pub fault_of_ids : (p : ProblemValue) (s : StateValue) (model cut : List Literal) (ids : List ℕ) (fault : Option Why) → misplaced 1 p.vars model ≡ None → broken_row (assignment_of model) p.rows ≡ None → find (λ v. nat_lt s.vars v) (map (λ (l : Literal). l.var) cut) ≡ None →
+    IsCutFault s.live cut (assignment_of model) 1 p.costs ids fault → IsSolFault p s model cut ids fault
+fault_of_ids p s model cut ids fault placed holds within rest =
+    let last = IsCutFault s.live cut (assignment_of model) 1 p.costs ids in
+    no_fault VarRange (misplaced 1 p.vars model) (FirstOf (option_map SolRow (broken_row (assignment_of model) p.rows)) (FirstOf (range_fault s.vars (map (λ (l : Literal). l.var) cut)) last)) fault placed
+    (no_fault SolRow (broken_row (assignment_of model) p.rows) (FirstOf (range_fault s.vars (map (λ (l : Literal). l.var) cut)) last) fault holds
+    (no_fault VarRange (find (λ v. nat_lt s.vars v) (map (λ (l : Literal). l.var) cut)) last fault within rest))

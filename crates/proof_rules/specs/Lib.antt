@@ -1,0 +1,12 @@
+pub use Rattle.proof_laws.specs.WellFormed
+pub use Rattle.proof_laws.specs.State
+pub use Rattle.proof_laws.specs.Steps
+pub use Rattle.proof_laws.specs.Substituted
+pub use Rattle.proof_laws.specs.Refusal
+pub use Rattle.proof_laws.specs.Legal
+pub use Rattle.proof_laws.specs.Replay
+pub use Rattle.proof_laws.specs.Earned
+pub use Rattle.proof_laws.specs.Laws
+pub mod Verdict
+pub mod StateCode
+pub mod Recording
