@@ -80,10 +80,10 @@ module _ (live : LineMap) (cut truths : List Literal) (a : List Bool) (i : ℕ) 
     bounds_where c is =
         let sorted = covers_sorted line g truths a r order degree in (
           (λ covers. subst (λ (ts : List Literal). Covers (restriction c ts) (restriction (bound_at a r) ts)) same
-          (subst (λ (p : ConstraintValue). Covers p (restriction (bound_at a r) truths)) is (sorted.0 (subst (λ (q : ConstraintValue). Covers line q) left covers)))),
+              (subst (λ (p : ConstraintValue). Covers p (restriction (bound_at a r) truths)) is (sorted.0 (subst (λ (q : ConstraintValue). Covers line q) left covers)))),
           (λ bounds. subst (λ (q : ConstraintValue). Covers line q) (sym left)
-          (sorted.1 (subst (λ (p : ConstraintValue). Covers p (restriction (bound_at a r) truths)) (sym is)
-          (subst (λ (ts : List Literal). Covers (restriction c ts) (restriction (bound_at a r) ts)) (sym same) bounds)))),
+              (sorted.1 (subst (λ (p : ConstraintValue). Covers p (restriction (bound_at a r) truths)) (sym is)
+              (subst (λ (ts : List Literal). Covers (restriction c ts) (restriction (bound_at a r) ts)) (sym same) bounds)))),
         )
 
     pub line_bounds : Covers line bound → IsCutFault live cut a i (r ∷ []) (id ∷ []) None

@@ -1,7 +1,7 @@
 // Derivations by propagation and by cutting planes over the live constraints.
-ghost use Rattle.std.specs.Prelude.{◌≡◌, ◌≤◌, [], None, Some, Ok, Err, length, IfOk, IfErr, IfSome, option_copied};
+ghost use Rattle.std.specs.Prelude.{◌≡◌, ◌≤◌, length, IfOk, IfSome, option_copied};
 ghost use Rattle.pb_lin.specs.Constraint.{IsNormal, UpTo, negation, size};
-ghost use Rattle.proof_laws.specs.Refusal.{IsHintsFault, IsRupFault, IsTokensFault, size_fault, pol_why};
+ghost use Rattle.proof_laws.specs.Refusal.{IsHintsFault, IsRupFault, IsTokensFault, size_fault};
 ghost use Rattle.proof_rules.specs.Verdict.{IsVerdict, IsEvaluated};
 
 use crate::StepFault;
@@ -30,7 +30,8 @@ pub(crate) fn judge_rup(
     judge_hints(reached, scratch, &negated, None, hints, Why::RupOpen)
 }
 
-// The hints lead to a conflict, or else are refused for the reason that is given.
+// The hints lead to a conflict, or else are refused for the reason that is given. The scratch may have
+// room for more variables than the state's, which changes nothing.
 pub(crate) fn judge_hints(
     reached: &Reached,
     scratch: &mut Partial,
@@ -65,8 +66,8 @@ fn read_denied(denied: Option<&Constraint>)
     }
 }
 
-// The tokens make a contradiction, or else are refused: for the reason that is given where they make
-// another constraint.
+// The tokens make a contradiction, or else are refused: for the reason that is given where they
+// make another constraint. Costs their evaluation.
 pub(crate) fn judge_tokens(
     alloc: Global,
     reached: &Reached,

@@ -17,8 +17,9 @@ use proof_laws::Why;
 use scut_base::{Assignment, Items, Lit, NoMemory};
 use std::alloc::Global;
 
-// The literals are a model of the problem's variables in order, and the named lines bound each objective
-// from below by its value there, where the cut's literals are false. Answers the model.
+// The literals are a model of the problem's variables in order, and the named lines bound each
+// objective from below by its value there, where the cut's literals are false. Answers the model.
+// Costs the problem's rows, and a sort of each objective's terms.
 pub(crate) fn judge_solution(
     alloc: Global,
     problem: &PbProblem,
@@ -124,8 +125,8 @@ fn opposites(alloc: Global, literals: &[Lit]) -> Result<Vec<Lit>, NoMemory>
     Ok(opposites)
 }
 
-// The line of the id bounds the objective of this number from below by its value under the assignment,
-// where the literals are true. What is left of both is compared.
+// The line of the id bounds the objective of this number from below by its value under the
+// assignment, where the literals are true. What is left of both there is compared.
 fn judge_bound(
     alloc: Global,
     objective: u32,
@@ -188,6 +189,7 @@ fn value_of(row: &CostRow, a: &Assignment) -> u64
     ensures value { result ≡ value a.now row.now.terms }
     ensures row { IsCostRow row.now.terms row.now.offset }
 {
+    // The row's limits, by which the difference fits.
     let _row = row.terms();
     (row_cost(row, a) - row.offset()) as u64
 }

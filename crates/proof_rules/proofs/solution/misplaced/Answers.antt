@@ -15,7 +15,7 @@ loop-at-preserved c = record {
 pub returns-then-place-vars : goal.returns-then-place-vars
 returns-then-place-vars c =
     let here : misplaced (c.loop-at.at + 1) c.args.vars (drop c.loop-at.at c.args.model.now) ≡ Some (c.loop-at.at + 1) = elim c.then-place-vars.branch [
-      then-place-vars-via-then-place-vars w ↦ misplaced_beyond c.args.vars c.args.model.now c.loop-at.at c.index-model-at.result c.index-model-at.result c.loop-at-test.true c.index-model-at.is w.if-place-vars.true
+      | then-place-vars-via-then-place-vars w ↦ misplaced_beyond c.args.vars c.args.model.now c.loop-at.at c.index-model-at.result c.index-model-at.result c.loop-at-test.true c.index-model-at.is w.if-place-vars.true
       | then-place-vars-via-else-place-vars+then-var-place w ↦ misplaced_other c.args.vars c.args.model.now c.loop-at.at c.index-model-at.result c.index-model-at.result c.loop-at-test.true c.index-model-at.is w.if-place-vars.false (λ e. w.if-var-place.true (w.var.ensures.value ∙ e))
     ] in
     sym (c.loop-at.invariant.same ∙ here)
