@@ -62,7 +62,7 @@ fn misplaced(model: &[Lit], vars: u64) -> Option<u64>
 }
 
 // The assignment that makes these literals, of the variables in order, true.
-fn assignment_of(alloc: Global, model: &[Lit]) -> Result<Assignment, NoMemory>
+pub(crate) fn assignment_of(alloc: Global, model: &[Lit]) -> Result<Assignment, NoMemory>
     requires { misplaced 1 (length model.now) model.now ≡ None }
     ensures { IfOk result (λ a. a ≡ assignment_of model.now) }
 {
