@@ -19,6 +19,7 @@ use std::alloc::Global;
 
 // A line that substitutes: the constraint that it adds, with its negation, the witness, and the proofs of
 // the goals.
+#[derive(Drop)]
 pub(crate) struct Substitution<'a> {
     pub(crate) goal: &'a Constraint,
     pub(crate) denied: &'a Constraint,
