@@ -1,0 +1,19 @@
+//! The normal form of an instance: constraints in normal form, and sums to be minimised.
+//!
+//! Its public contract: `normalise` gives the problem that is the instance's normal form. Each model of
+//! the instance extends to a model of it with equal costs; each model of it, cut to the instance's
+//! variables, is a model of the instance that costs no more. Both are laws about the definition alone.
+//! The crate searches nothing and writes no proof.
+#![tactic(auto)]
+
+mod clause;
+mod cost;
+mod draft;
+mod laws;
+mod normal;
+mod objective;
+mod rows;
+mod soft;
+
+pub use laws::{models_extend, models_restrict};
+pub use normal::normalise;
