@@ -1,7 +1,7 @@
 // What soft clauses add to a problem.
-ghost use Rattle.std.specs.Prelude.{◌≡◌, ◌≢◌, ◌<◌, ◌-◌, ◌^◌, false, None, IfOk};
+ghost use Rattle.std.specs.Prelude.{◌≡◌, ◌≢◌, ◌<◌, ◌-◌, ◌^◌, false, None, IfOk, MatchOption};
 ghost use Rattle.instance.specs.Shape.{ClauseUpTo};
-ghost use Rattle.instance_normal.specs.NormalForm.{AreDistinct, is_tautology, payment, Relaxed};
+ghost use Rattle.instance_normal.specs.NormalForm.{AreDistinct, is_relaxed, is_tautology, payment, Never, Relaxed};
 ghost use Rattle.instance_normal.specs.Fitting.{IsRelaxationOf};
 
 use crate::clause::{at_least_one, distinct_literals};
@@ -26,13 +26,32 @@ pub(crate) fn relax(alloc: Global, soft: &Soft, var: u64) -> Result<Relaxation, 
     requires free { ClauseUpTo (var - 1) soft.now.lits }
     ensures { IfOk result (IsRelaxationOf soft.now var) }
 {
-    if soft.weight == 0 {
-        return Ok(nothing());
-    }
-    match distinct_literals(alloc, soft.lits.as_slice())? {
+    match paid_literals(alloc, soft)? {
         None => Ok(nothing()),
         Some(distinct) => relaxation_of(soft, distinct, var),
     }
+}
+
+// Whether the soft clause needs a relaxation variable. Costs a sort of a copy of its literals.
+pub(crate) fn is_relaxed(alloc: Global, soft: &Soft) -> Result<bool, NoMemory>
+    ensures { IfOk result (λ needed. needed ≡ is_relaxed soft.now) }
+{
+    match paid_literals(alloc, soft)? {
+        None => Ok(false),
+        Some(distinct) => Ok(distinct.len() > 1),
+    }
+}
+
+// The distinct literals of a soft clause, or none where it is never paid for.
+fn paid_literals(alloc: Global, soft: &Soft) -> Result<Option<Items<Lit>>, NoMemory>
+    ensures { IfOk result (λ found. MatchOption found (payment soft.now ≡ Never)
+        (λ distinct. (soft.now.weight ≢ 0) × (is_tautology soft.now.lits ≡ false)
+        × AreDistinct soft.now.lits distinct)) }
+{
+    if soft.weight == 0 {
+        return Ok(None);
+    }
+    distinct_literals(alloc, soft.lits.as_slice())
 }
 
 // What a soft clause adds that is never paid for.
