@@ -11,3 +11,4 @@ pub mod Sizes
 pub mod Merging
 pub mod Objectives
 pub mod Within
+pub mod Tightening

@@ -26,14 +26,14 @@ use Rattle.instance_normal.proofs.Costs.{row_costs, tight_costs, held_costs, rel
 -- ---- limits
 
 -- without variables no soft clause needs one
-none_relaxed : (os : List Objective) → All (IsObjectiveWithin 0) os → relaxed_of os ≡ []
+pub none_relaxed : (os : List Objective) → All (IsObjectiveWithin 0) os → relaxed_of os ≡ []
 none_relaxed [] within = refl
 none_relaxed (o ∷ os) within =
     let here : filter is_relaxed o.softs ≡ [] = none_kept is_relaxed o.softs (All-weaker (λ (s : Soft). ClauseUpTo 0 s.lits) (λ (s : Soft). is_relaxed s ≡ false) unrelaxed o.softs (All-head (IsObjectiveWithin 0) o os within).clauses) in
     ap (λ (ss : List Soft). ss ++ relaxed_of os) here ∙ none_relaxed os (All-tail (IsObjectiveWithin 0) o os within)
 
 -- the clauses of relaxed soft clauses are within the limit
-relaxed_upto : (n : ℕ) (os : List Objective) → All (IsObjectiveWithin n) os → All (λ s. ClauseUpTo n s.lits) (relaxed_of os)
+pub relaxed_upto : (n : ℕ) (os : List Objective) → All (IsObjectiveWithin n) os → All (λ s. ClauseUpTo n s.lits) (relaxed_of os)
 relaxed_upto n [] within = All-nil (λ s. ClauseUpTo n s.lits)
 relaxed_upto n (o ∷ os) within = All-append (λ (s : Soft). ClauseUpTo n s.lits) (filter is_relaxed o.softs) (relaxed_of os) (All-filter is_relaxed (λ (s : Soft). ClauseUpTo n s.lits) o.softs (All-head (IsObjectiveWithin n) o os within).clauses) (relaxed_upto n os (All-tail (IsObjectiveWithin n) o os within))
 

@@ -18,7 +18,8 @@ use std::alloc::Global;
 /// From an assignment whose first values are a model of the normal form, the model that has the same
 /// values of the instance's variables, and each relaxation variable true exactly where its soft clause is
 /// false. It costs what the instance's model costs, and no more than the given one. Takes one pass over
-/// the soft clauses, with a sort of a copy of each, and one over the values.
+/// the soft clauses, with a sort of a copy of each, and one over the values. The error is that memory
+/// ran out.
 pub fn tighten(
     alloc: Global,
     problem: &PbProblem,
