@@ -85,12 +85,7 @@ fn clause_true(lits: &[Lit], a: &Assignment) -> bool
     requires { ClauseUpTo (length a.now) lits.now }
     ensures { result ≡ clause_true a.now lits.now }
 {
-    for lit in lits {
-        if a.value(*lit) {
-            return true;
-        }
-    }
-    false
+    lits.iter().any(|lit| a.value(*lit))
 }
 
 // The assignment of these values.
