@@ -80,10 +80,10 @@ tautology_from lits l here there = any_from_member (λ k. is_among lits (opposit
     itself true = refl
     itself false = refl
 
-first_below : (x : Literal) (xs : List Literal) → AllPairs (λ l m. l.var < m.var) (x ∷ xs) → All (λ m. x.var < m.var) xs
+pub first_below : (x : Literal) (xs : List Literal) → AllPairs (λ l m. l.var < m.var) (x ∷ xs) → All (λ m. x.var < m.var) xs
 first_below x xs up = λ k d short. up 0 (suc k) d (omega arith) (omega arith)
 
-rest_rising : (x : Literal) (xs : List Literal) → AllPairs (λ l m. l.var < m.var) (x ∷ xs) → AllPairs (λ l m. l.var < m.var) xs
+pub rest_rising : (x : Literal) (xs : List Literal) → AllPairs (λ l m. l.var < m.var) (x ∷ xs) → AllPairs (λ l m. l.var < m.var) xs
 rest_rising x xs up = λ i j d less short. up (suc i) (suc j) d (omega arith) (omega arith)
 
 -- literals of rising variables are told apart by them

@@ -12,3 +12,4 @@ pub mod Merging
 pub mod Objectives
 pub mod Within
 pub mod Tightening
+pub mod OneForm

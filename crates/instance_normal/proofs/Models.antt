@@ -13,8 +13,7 @@ use Rattle.instance.specs.declared.objective.Soft.{Soft}
 use Rattle.instance.specs.Shape.{InstanceValue, IsWithinLimits, IsObjectiveWithin, IsRowWithin, ClauseUpTo}
 use Rattle.instance.specs.Meaning.{IsModel, costs_of, clause_true, row_holds, relates, objective_cost, soft_cost, int_sum_by, terms_value}
 use Rattle.instance.specs.ParetoFront.{problem_vector, problem_numbers}
-use Rattle.pb_lin.specs.Problem.{ProblemValue}
-use Rattle.pb_lin.specs.Problem.{IsProblemModel, problem_costs}
+use Rattle.pb_lin.specs.Problem.{ProblemValue, IsProblemModel, problem_costs}
 use Rattle.instance_normal.specs.NormalForm.{Clause, linear_sources, is_relaxed, relaxed_softs, relaxed_clauses, row_sources, cost_sources, IsNormalFormOf}
 use Rattle.instance_normal.specs.Tightened.{tightened}
 use Rattle.instance_normal.proofs.Members.{all_split, all_unmapped, all_unflattened, all_flattened, all_both, test_from_all, all_from_test, none_kept}

@@ -4,8 +4,7 @@ ghost use Rattle.front_set.specs.Vector.{IsBelow};
 ghost use Rattle.instance.specs.Shape.{InstanceValue, IsWithinLimits};
 ghost use Rattle.instance.specs.Meaning.{IsModel, costs_of};
 ghost use Rattle.instance.specs.ParetoFront.{problem_vector};
-ghost use Rattle.pb_lin.specs.Problem.{ProblemValue};
-ghost use Rattle.pb_lin.specs.Problem.{IsProblemModel, problem_costs};
+ghost use Rattle.pb_lin.specs.Problem.{ProblemValue, IsProblemModel, problem_costs};
 ghost use Rattle.instance_normal.specs.NormalForm.{IsNormalFormOf};
 ghost use Rattle.instance_normal.specs.Tightened.{tightened};
 
@@ -24,4 +23,10 @@ pub fn models_restrict()
         → (b : List Bool) → IsProblemModel p b
         → IsModel i (take i.vars b)
         × IsBelow (problem_vector i (costs_of i (take i.vars b))) (problem_costs p b) }
+{}
+
+/// Law: an instance has one normal form.
+pub fn one_normal_form()
+    ensures { (i : InstanceValue) (p q : ProblemValue) → IsNormalFormOf i p → IsNormalFormOf i q
+        → p ≡ q }
 {}

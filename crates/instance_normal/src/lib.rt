@@ -2,7 +2,8 @@
 //!
 //! Its public contract: `normalise` gives the problem that is the instance's normal form. Each model of
 //! the instance extends to a model of it with equal costs; each model of it, cut to the instance's
-//! variables, is a model of the instance that costs no more. Both are laws about the definition alone.
+//! variables, is a model of the instance that costs no more. Both are laws about the definition alone,
+//! and so is it that an instance has one normal form.
 //! `tighten` gives, for a model of the problem, the one that costs what its model of the instance does.
 //! The crate searches nothing and writes no proof.
 #![tactic(auto)]
@@ -17,6 +18,6 @@ mod rows;
 mod soft;
 mod tight;
 
-pub use laws::{models_extend, models_restrict};
+pub use laws::{models_extend, models_restrict, one_normal_form};
 pub use normal::normalise;
 pub use tight::tighten;
