@@ -2,9 +2,9 @@
 //!
 //! Its public contract: `normalise` gives the problem that is the instance's normal form. Each model of
 //! the instance extends to a model of it with equal costs; each model of it, cut to the instance's
-//! variables, is a model of the instance that costs no more. Both are laws about the definition alone,
-//! and so is it that an instance has one normal form.
-//! `tighten` gives, for a model of the problem, the one that costs what its model of the instance does.
+//! variables, is a model of the instance that costs no more; and an instance has one normal form. These
+//! are laws about the definition alone. `tighten` gives, for a model of the problem, the one that costs
+//! what its model of the instance costs.
 //! The crate searches nothing and writes no proof.
 #![tactic(auto)]
 

@@ -41,8 +41,8 @@ pub fn tighten(
     assigned(alloc, values.as_slice())
 }
 
-// The values of the instance's variables, and then those of the relaxation variables. As many as
-// expected take memory once.
+// The values of the instance's variables, and then those of the relaxation variables. Memory is taken
+// once for as many as are expected.
 fn tight_values(
     alloc: Global,
     expected: u64,
