@@ -1,0 +1,15 @@
+pub mod Relaxations
+pub mod Distinct
+pub mod Members
+pub mod Truth
+pub mod RowTruth
+pub mod Payments
+pub mod Costs
+pub mod Models
+pub mod Adding
+pub mod Sizes
+pub mod Merging
+pub mod Objectives
+pub mod Within
+pub mod Tightening
+pub mod OneForm

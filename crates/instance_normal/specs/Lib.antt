@@ -1,0 +1,10 @@
+pub use Rattle.instance.specs.Shape
+pub use Rattle.instance.specs.Meaning
+pub use Rattle.instance.specs.ParetoFront
+pub use Rattle.pb_lin.specs.Constraint
+pub use Rattle.pb_lin.specs.CostRow
+pub use Rattle.pb_lin.specs.Problem
+pub mod NormalForm
+pub mod Tightened
+pub mod Fitting
+pub mod Merging
