@@ -1,5 +1,5 @@
 -- The first fault of requirements that are judged one after another.
-use Rattle.std.proofs.Common.{◌≡◌, Option, Some, None, List, [], ◌∷◌, ◌++◌, refl, subst, Ok, Err, Result}
+use Rattle.std.proofs.Common.{Option, Some, None, List, [], ◌∷◌, ◌++◌, refl, subst, Ok, Err, Result}
 use Rattle.pb_lin.specs.Constraint.{ConstraintValue}
 use Rattle.proof_laws.specs.State.{StateValue}
 use Rattle.proof_laws.specs.Substituted.{Requirement}

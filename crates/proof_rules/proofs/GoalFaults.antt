@@ -1,12 +1,10 @@
 -- The fault of one goal, by what judges its parts.
-use Rattle.std.proofs.Common.{◌≡◌, ◌⊎◌, inl, inr, ℕ, ◌*◌, ◌<◌, ◌≤◌, Bool, not, Option, Some, None, List, [], ◌∷◌, map, refl, sym, subst, ap, ⊎_elim, Ok, Err, Result}
+use Rattle.std.proofs.Common.{◌≡◌, ◌⊎◌, inr, ℕ, ◌*◌, ◌<◌, ◌≤◌, Bool, not, Option, Some, None, List, sym, subst, ap, ⊎_elim, Result}
 use Rattle.std.specs.Prelude.{MatchOption, ◌^◌}
-use Rattle.std.proofs.lemmas.Bool.{lt-ltb, le-ltb, cases_lt}
+use Rattle.std.proofs.lemmas.Bool.{le-ltb, cases_lt}
 use Rattle.std.proofs.lemmas.List.Elements.{All-map}
 use Rattle.scut_base.specs.Literal.{Literal}
 use Rattle.pb_lin.specs.Constraint.{ConstraintValue, UpTo, negation, opposite, size}
-use Rattle.hint_rup.specs.declared.hint.Hint.{Hint}
-use Rattle.cutting_planes.specs.declared.token.PolToken.{PolToken}
 use Rattle.proof_laws.specs.State.{StateValue}
 use Rattle.proof_laws.specs.Substituted.{Requirement, IsGoalOf}
 use Rattle.proof_laws.specs.Refusal.{FirstOf, fault_unless, size_fault, proof_of, IsHintsFault, IsTokensFault, IsProofFault, IsOpenGoalFault, IsGoalFault}
@@ -17,13 +15,9 @@ use Rattle.proof_laws.specs.declared.why.Why.{Why}
 use Rattle.proof_laws.specs.declared.why.Why.TheVariants.{Overflow, GoalMissing, GoalOpen}
 use Rattle.proof_rules.specs.Verdict.{IsVerdict, IsClosedOrOpen, IsConflictFault}
 use Rattle.proof_rules.specs.declared.fault.StepFault.{StepFault}
-use Rattle.proof_rules.specs.declared.fault.StepFault.TheVariants.{Refused, NoMemory}
 use Rattle.proof_rules.proofs.FirstFaults.{verdict_map}
 
--- a size that is too large, and one that isn't
-size_over : (n : ℕ) → 2 ^ 100 < n → size_fault n ≡ Some Overflow
-size_over n over = ap (λ (b : Bool). fault_unless (not b) Overflow) (lt-ltb (2 ^ 100) n over)
-
+-- a size that isn't too large
 size_fine : (n : ℕ) → (2 ^ 100 < n → ⊥) → size_fault n ≡ None
 size_fine n fine = ⊎_elim
     (λ (over : 2 ^ 100 < n). absurd (fine over))
@@ -44,21 +38,9 @@ module _ (s : StateValue) (c : ConstraintValue) (proofs : List (Goal × GoalProo
   goal_verdict q g fine goal r verdict =
       verdict_map (IsClosedOrOpen s c proofs q.goal g) (IsGoalFault s c proofs q) (λ f is. subst (λ (o : Option Why). FirstOf o (IsJudged q) f) (sym (size_fine (2 * q.size) fine)) (g, goal, is)) r verdict
 
-  pub overflow_fault : (q : Requirement) → 2 ^ 100 < 2 * q.size → IsGoalFault s c proofs q (Some Overflow)
-  overflow_fault q over = subst (λ (o : Option Why). FirstOf o (IsJudged q) (Some Overflow)) (sym (size_over (2 * q.size) over)) refl
-
   -- what a proof of the goal has for a fault, where there is one
   abbrev IsFoundFault : Goal → ConstraintValue → Option Why → Option GoalProof → Type 0
   IsFoundFault name g f found = MatchOption found (f ≡ Some (GoalMissing name)) (λ proof. FirstOf (size_fault (size (negation g))) (IsProofFault s c name g proof) f)
-
-  pub missing_fault : (name : Goal) (g : ConstraintValue) → 0 < g.degree → proof_of name proofs ≡ None → IsClosedOrOpen s c proofs name g (Some (GoalMissing name))
-  missing_fault name g opened none = inr (opened, subst (IsFoundFault name g (Some (GoalMissing name))) (sym none) refl)
-
-  pub negation_fault : (name : Goal) (g : ConstraintValue) (proof : GoalProof) → 0 < g.degree → proof_of name proofs ≡ Some proof → (e : StepFault) →
-      IsVerdict {T = ConstraintValue} (λ f. f ≡ size_fault (size (negation g))) (Err e) → IsVerdict {T = Unit {0}} (IsClosedOrOpen s c proofs name g) (Err e)
-  negation_fault name g proof opened found (Refused why) is =
-      inr (opened, subst (IsFoundFault name g (Some why)) (sym found) (subst (λ (o : Option Why). FirstOf o (IsProofFault s c name g proof) (Some why)) is refl))
-  negation_fault name g proof opened found NoMemory is = tt
 
   conflict_is : (name : Goal) (g negated denied : ConstraintValue) (proof : GoalProof) (f : Option Why) → negated ≡ negation g → denied ≡ negation c → IsConflictFault s negated denied name proof f → IsProofFault s c name g proof f
   conflict_is name g negated denied (ByRup hints) f own line is =

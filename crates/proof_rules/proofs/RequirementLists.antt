@@ -1,5 +1,5 @@
 -- The requirements of a substitution, from one on.
-use Rattle.std.proofs.Common.{◌≡◌, ℕ, ◌+◌, ◌<◌, Bool, true, false, cond, List, [], ◌∷◌, ◌++◌, map, drop, length, get_or, refl, ap, sym, ◌∙◌}
+use Rattle.std.proofs.Common.{◌≡◌, ℕ, ◌+◌, ◌<◌, Bool, List, [], ◌∷◌, ◌++◌, map, drop, length, get_or, ap, sym, ◌∙◌}
 use Rattle.std.specs.List.{filter}
 use Rattle.std.specs.FinMap.{get, entries}
 use Rattle.std.proofs.lemmas.List.{map-append, drop_more}
@@ -10,18 +10,11 @@ use Rattle.pb_lin.specs.LineMap.{LineMap, IsNextAbove}
 use Rattle.pb_lin.specs.Substitution.{Images, touches}
 use Rattle.proof_laws.specs.State.{numbered}
 use Rattle.proof_laws.specs.Substituted.{Requirement, holds_after, not_risen, none_risen, touched_hold}
-use Rattle.proof_laws.specs.declared.goal.Goal.{Goal}
 use Rattle.proof_laws.specs.declared.goal.Goal.TheVariants.{Row}
 use Rattle.proof_rules.specs.Verdict.{line_at}
 use Rattle.proof_rules.proofs.LiveWalk.{above, walk_next}
 
 module _ (w : Images) where
-  pub touched_yes : (id : ℕ) (c : ConstraintValue) → touches w c ≡ true → touched_hold w ((id, c) ∷ []) ≡ holds_after w (Row id) c ∷ []
-  touched_yes id c is = ap (λ (b : Bool). map (λ (e : ℕ × ConstraintValue). holds_after w (Row e.0) e.1) (cond b ((id, c) ∷ []) [])) is
-
-  pub touched_no : (id : ℕ) (c : ConstraintValue) → touches w c ≡ false → touched_hold w ((id, c) ∷ []) ≡ []
-  touched_no id c is = ap (λ (b : Bool). map (λ (e : ℕ × ConstraintValue). holds_after w (Row e.0) e.1) (cond b ((id, c) ∷ []) [])) is
-
   touched-append : (xs ys : List (ℕ × ConstraintValue)) → touched_hold w (xs ++ ys) ≡ touched_hold w xs ++ touched_hold w ys
   touched-append xs ys =
       let after : ℕ × ConstraintValue → Requirement = λ e. holds_after w (Row e.0) e.1 in

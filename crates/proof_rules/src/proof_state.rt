@@ -134,8 +134,9 @@ impl ProofState {
         Ok(())
     }
 
-    /// Takes up a line that is known to be legal, without judging it again; a `pol` line is evaluated.
-    /// Costs the size of the line. `NoMemory` where memory was refused, and then nothing has changed.
+    /// Takes up a line that is known to be legal, without judging it again. `NoMemory` where memory was
+    /// refused, and then nothing has changed. Costs the size of the line, for `pol` its evaluation, and
+    /// for `sol` the terms of the objectives.
     pub fn advance(&mut self, problem: &PbProblem, line: &Line) -> Result<(), NoMemory>
         requires fits { Fits problem.now self.old }
         requires formed { IsWellFormed line.now }
@@ -144,6 +145,7 @@ impl ProofState {
         ensures same { OnErr result (self.new ≡ self.old) }
         ensures fits { OnOk result (Fits problem.now self.new) }
     {
+        // Tells that the problem is within its limits.
         let _vars = problem.vars();
         let made = legal_value(self.alloc, &self.reached, line)?;
         take_up(
@@ -167,6 +169,7 @@ fn legal_value(
     ensures made { IfOk result (IsValueMade reached.now line.now) }
     ensures state { IsState reached.now }
 {
+    // Tells that it is a state.
     let _vars = reached.vars;
     match value_made(alloc, reached, line) {
         Ok(made) => Ok(made),

@@ -224,7 +224,14 @@ fn judge_objectives(
     let rows = problem.costs();
     for (at, row) in rows.iter().enumerate() {
         let goal = not_risen(alloc, row, line.witness)?;
-        judge_goal(alloc, reached, scratch, line, Goal::Objective(at as u32 + 1), &goal)?;
+        judge_goal(
+            alloc,
+            reached,
+            scratch,
+            line,
+            Goal::Objective(at as u32 + 1),
+            &goal,
+        )?;
     }
     Ok(())
 }
@@ -277,7 +284,14 @@ fn judge_proof(
     match proof {
         GoalProof::Rup(hints) => {
             let hints = hints.as_slice();
-            judge_hints(reached, scratch, negated, Some(line.denied), hints, otherwise)
+            judge_hints(
+                reached,
+                scratch,
+                negated,
+                Some(line.denied),
+                hints,
+                otherwise,
+            )
         }
         GoalProof::Pol(tokens) => {
             let tokens = tokens.as_slice();

@@ -2,8 +2,7 @@
 ghost use Rattle.std.specs.Prelude.{◌≡◌, ◌+◌, ◌≤◌, ◌<◌, ◌^◌, None, length, map, All, AllPairs, IfOk, OnOk, OnErr};
 ghost use Rattle.pb_lin.specs.Constraint.{TermsUpTo, UpTo, size};
 ghost use Rattle.pb_lin.specs.CostRow.{row_cost};
-ghost use Rattle.pb_lin.specs.Problem.{IsProblem};
-ghost use Rattle.pb_lin.specs.Problem.{problem_costs};
+ghost use Rattle.pb_lin.specs.Problem.{IsProblem, problem_costs};
 ghost use Rattle.proof_laws.specs.State.{IsState};
 ghost use Rattle.proof_laws.specs.Steps.{with_definition, with_solution, reached_if, reached_only_if};
 ghost use Rattle.proof_laws.specs.Refusal.{assignment_of, misplaced};

@@ -1,10 +1,9 @@
-use Rattle.std.proofs.Common.{ℕ, ℤ, ◌≡◌, ◌≤◌, ◌<◌, Bool, List, length, arith, ap, subst, sym, ◌∙◌, sum_by}
+use Rattle.std.proofs.Common.{ℕ, ◌≤◌, List, length, arith, ap, subst, sym, ◌∙◌, sum_by}
 use Rattle.std.specs.List.{All}
-use Rattle.std.proofs.lemmas.Int.{ints, to_z-of_z}
+use Rattle.std.proofs.lemmas.Int.{ints}
 use Rattle.std.proofs.lemmas.List.{take_all}
 use Rattle.std.proofs.lemmas.List.Sums.{sum_by_more}
-use Rattle.scut_base.specs.Literal.{Literal}
-use Rattle.pb_lin.specs.Constraint.{ConstraintValue, IsNormal, TermsUpTo, UpTo, value}
+use Rattle.pb_lin.specs.Constraint.{ConstraintValue, TermsUpTo, UpTo, value}
 use Rattle.pb_lin.specs.CostRow.{CostRowValue}
 use Rattle.pb_lin.specs.NormalForm.{sum_value}
 use Rattle.pb_lin.specs.Substitution.{value_under}
@@ -49,17 +48,20 @@ loop-row-preserved c =
 pub returns-clause-goal : goal.returns-clause-goal
 returns-clause-goal c =
     both_if_ok c.normal_form.result _ _ (λ (g : ConstraintValue). IsGoalOf g (has_fallen c.args.w.now c.args.problem.now)) c.normal_form.ensures.normal c.normal_form.ensures.form
-    (λ g normal form. (normal, HasExcess-same g _ (has_fallen c.args.w.now c.args.problem.now).excess form (λ a.
-    let whole = take_all c.loop-row.row-index c.costs-rows.result.now c.loop-row-test.false ∙ c.costs-rows.ensures in
-    let values = ap (λ (rs : List CostRowValue). sum_by (λ r. value a r.terms) rs) whole in
-    let unders = ap (λ (rs : List CostRowValue). sum_by (λ r. value_under c.args.w.now a r.terms) rs) whole in
-    let fall = c.loop-row.invariant.value a in
-    let low = c.loop-row.invariant.met in
-    let end = c.loop-row.auto.row-index-end in
-    let few = c.vars-limits.ensures.problem.objectives in
-    let same = ap (λ (rs : List CostRowValue). length rs) c.costs-rows.ensures in
-    let here = ap (sum_value a) c.deref.ensures.value in
-    omega (arith, ints))))
+    (λ g normal form. (
+      normal,
+      HasExcess-same g _ (has_fallen c.args.w.now c.args.problem.now).excess form (λ a.
+          let whole = take_all c.loop-row.row-index c.costs-rows.result.now c.loop-row-test.false ∙ c.costs-rows.ensures in
+          let values = ap (λ (rs : List CostRowValue). sum_by (λ r. value a r.terms) rs) whole in
+          let unders = ap (λ (rs : List CostRowValue). sum_by (λ r. value_under c.args.w.now a r.terms) rs) whole in
+          let fall = c.loop-row.invariant.value a in
+          let low = c.loop-row.invariant.met in
+          let end = c.loop-row.auto.row-index-end in
+          let few = c.vars-limits.ensures.problem.objectives in
+          let same = ap (λ (rs : List CostRowValue). length rs) c.costs-rows.ensures in
+          let here = ap (sum_value a) c.deref.ensures.value in
+          omega (arith, ints)),
+    ))
 
 pub returns-clause-variables : goal.returns-clause-variables
 returns-clause-variables c =

@@ -1,9 +1,8 @@
-use Rattle.std.proofs.Common.{ℕ, ℤ, ◌≡◌, ◌≤◌, ◌<◌, Bool, List, arith, ap, subst, sym}
-use Rattle.std.specs.List.{All}
-use Rattle.std.proofs.lemmas.Int.{ints, to_z-of_z}
+use Rattle.std.proofs.Common.{ℕ, ℤ, arith, ap, subst, sym}
+use Rattle.std.proofs.lemmas.Int.{ints}
 use Rattle.std.proofs.lemmas.List.Elements.{All-nil}
 use Rattle.scut_base.specs.Literal.{Literal}
-use Rattle.pb_lin.specs.Constraint.{ConstraintValue, IsNormal, IsVariable, TermsUpTo, UpTo}
+use Rattle.pb_lin.specs.Constraint.{ConstraintValue, IsVariable, TermsUpTo, UpTo}
 use Rattle.pb_lin.specs.NormalForm.{sum_value}
 use Rattle.pb_lin.proofs.Excess.{HasExcess-same}
 use Rattle.pb_lin.proofs.Variables.{normal_form_upto}
@@ -15,12 +14,15 @@ use Rattle.proof_rules.proofs.goals.not_risen.Goals as goal
 pub returns-clause-goal : goal.returns-clause-goal
 returns-clause-goal c =
     both_if_ok c.normal_form.result _ _ (λ (g : ConstraintValue). (i : ℕ) → IsGoalOf g (not_risen c.args.w.now i c.args.row.now)) c.normal_form.ensures.normal c.normal_form.ensures.form
-    (λ g normal form i. (normal, HasExcess-same g _ (not_risen c.args.w.now i c.args.row.now).excess form (λ a.
-    let fall = c.in_ok-met.ensures.value a in
-    let low = c.in_ok-met.ensures.met in
-    let here = ap (sum_value a) c.deref.ensures.value in
-    let empty = ap (sum_value a) c.new-terms.ensures.items in
-    omega (arith, ints))))
+    (λ g normal form i. (
+      normal,
+      HasExcess-same g _ (not_risen c.args.w.now i c.args.row.now).excess form (λ a.
+          let fall = c.in_ok-met.ensures.value a in
+          let low = c.in_ok-met.ensures.met in
+          let here = ap (sum_value a) c.deref.ensures.value in
+          let empty = ap (sum_value a) c.new-terms.ensures.items in
+          omega (arith, ints)),
+    ))
 
 pub returns-clause-variables : goal.returns-clause-variables
 returns-clause-variables c =

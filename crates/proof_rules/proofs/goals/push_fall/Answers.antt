@@ -1,4 +1,4 @@
-use Rattle.std.proofs.Common.{ℕ, ◌+◌, ◌≤◌, ◌<◌, if◌then◌else◌, arith, ap, subst, sym}
+use Rattle.std.proofs.Common.{ℕ, ◌+◌, ◌<◌, if◌then◌else◌, arith, ap, subst, sym}
 use Rattle.std.specs.List.{All}
 use Rattle.std.proofs.lemmas.Int.{ints}
 use Rattle.std.proofs.lemmas.List.Sums.{sum_by_more, sum_by-take-le}

@@ -1,4 +1,4 @@
-use Rattle.std.proofs.Common.{◌≡◌, ◌≤◌, ◌+◌, ◌*◌, take, ℕ, List, Bool, All, pos, ◌+ℤ◌, ◌-ℤ◌, sum_by, unsigned_abs}
+use Rattle.std.proofs.Common.{◌≡◌, ◌≤◌, ◌+◌, ◌*◌, take, ℕ, List, Bool, pos, ◌+ℤ◌, ◌-ℤ◌, sum_by, unsigned_abs}
 use Rattle.pb_lin.specs.Constraint.{TermsUpTo, total, value}
 use Rattle.pb_lin.specs.NormalForm.{sum_value}
 use Rattle.pb_lin.specs.Substitution.{value_under}

@@ -1,4 +1,4 @@
-use Rattle.std.proofs.Common.{◌≡◌, None, not, drop, length, take}
+use Rattle.std.proofs.Common.{◌≡◌, not, drop}
 use Rattle.std.specs.List.{find}
 use Rattle.proof_laws.specs.Refusal.{is_deletable}
 use Rattle.proof_rules.proofs.judging.judge_deletion.Given as goal

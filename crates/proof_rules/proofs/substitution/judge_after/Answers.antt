@@ -1,4 +1,3 @@
-use Rattle.std.proofs.Common.{◌<◌}
 use Rattle.pb_lin.proofs.Variables.{under_upto}
 use Rattle.proof_laws.specs.Substituted.{holds_after}
 use Rattle.proof_rules.proofs.GoalFaults.{goal_verdict}

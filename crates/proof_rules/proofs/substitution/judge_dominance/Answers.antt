@@ -1,7 +1,7 @@
-use Rattle.std.proofs.Common.{◌<◌, ◌^◌, List, [], ◌∷◌, ◌++◌, Ok, Err, arith}
+use Rattle.std.proofs.Common.{◌<◌, ◌^◌, [], ◌∷◌, ◌++◌, arith}
 use Rattle.std.proofs.lemmas.Result.{err_from_is_err_and}
 use Rattle.proof_laws.specs.State.{numbered}
-use Rattle.proof_laws.specs.Substituted.{Requirement, none_risen, has_fallen, touched_hold, dominance}
+use Rattle.proof_laws.specs.Substituted.{none_risen, has_fallen, touched_hold, dominance}
 use Rattle.proof_rules.proofs.FirstFaults.{decides_all, decides_more, decided, decided_fault, one_verdict}
 use Rattle.proof_rules.proofs.GoalFaults.{goal_verdict}
 use Rattle.proof_rules.proofs.substitution.judge_dominance.Goals as goal

@@ -1,4 +1,4 @@
-use Rattle.std.proofs.Common.{ℕ, ◌<◌, arith, subst, sym}
+use Rattle.std.proofs.Common.{◌<◌, arith, subst, sym}
 use Rattle.pb_lin.specs.Constraint.{UpTo}
 use Rattle.proof_rules.proofs.GoalFaults.{negation_upto, proved_verdict}
 use Rattle.proof_rules.proofs.substitution.judge_goal.Goals as goal

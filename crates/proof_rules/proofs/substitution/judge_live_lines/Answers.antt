@@ -1,7 +1,6 @@
-use Rattle.std.proofs.Common.{ℕ, List, [], refl, subst, sym, ap, ◌∙◌}
+use Rattle.std.proofs.Common.{List, refl, subst, sym, ap, ◌∙◌}
 use Rattle.std.proofs.lemmas.Result.{err_from_is_err_and}
 use Rattle.std.specs.FinMap.{get, entries}
-use Rattle.pb_lin.specs.Constraint.{ConstraintValue}
 use Rattle.pb_lin.specs.LineMap.{LineMap, IsNextAbove, NoneAbove}
 use Rattle.proof_laws.specs.State.{StateValue, IsState}
 use Rattle.proof_laws.specs.Substituted.{Requirement, touched_hold}

@@ -1,4 +1,4 @@
-use Rattle.std.proofs.Common.{◌+◌, ◌<◌, ◌^◌, List, [], ◌∷◌, ◌++◌, drop, subst, ◌∙◌, Ok, Err, arith}
+use Rattle.std.proofs.Common.{◌+◌, ◌<◌, ◌^◌, List, [], ◌∷◌, drop, subst, ◌∙◌, Ok, Err, arith}
 use Rattle.std.proofs.lemmas.Result.{err_from_is_err_and}
 use Rattle.pb_lin.specs.CostRow.{CostRowValue}
 use Rattle.proof_laws.specs.Substituted.{Requirement, not_risen, none_risen}

@@ -1,7 +1,7 @@
-use Rattle.std.proofs.Common.{List, [], ◌∷◌, ◌++◌, Ok, Err}
+use Rattle.std.proofs.Common.{[], ◌∷◌, Ok, Err}
 use Rattle.std.proofs.lemmas.Result.{err_from_is_err_and}
 use Rattle.std.specs.FinMap.{entries}
-use Rattle.proof_laws.specs.Substituted.{Requirement, holds_after, none_risen, touched_hold, redundance}
+use Rattle.proof_laws.specs.Substituted.{holds_after, none_risen, touched_hold, redundance}
 use Rattle.proof_laws.specs.declared.goal.Goal.TheVariants.{Itself}
 use Rattle.proof_rules.proofs.FirstFaults.{decides_all, decides_more, decided, decided_fault, one_verdict}
 use Rattle.proof_rules.proofs.substitution.judge_redundance.Goals as goal

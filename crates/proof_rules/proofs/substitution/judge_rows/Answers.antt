@@ -1,4 +1,4 @@
-use Rattle.std.proofs.Common.{◌+◌, List, [], ◌∷◌, ◌++◌, drop, subst, Err}
+use Rattle.std.proofs.Common.{◌+◌, List, [], ◌∷◌, drop, subst, Err}
 use Rattle.std.proofs.lemmas.Result.{err_from_is_err_and}
 use Rattle.pb_lin.specs.Constraint.{ConstraintValue}
 use Rattle.proof_laws.specs.State.{numbered}
