@@ -12,6 +12,8 @@ mod cost_vectors;
 #[cfg(test)]
 mod hinted_conflicts;
 #[cfg(test)]
+mod instances_in_normal_form;
+#[cfg(test)]
 mod lines_by_ids;
 #[cfg(test)]
 mod maximised_objectives;
