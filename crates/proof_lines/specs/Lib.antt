@@ -1,0 +1,2 @@
+pub use Rattle.proof_laws.specs.WellFormed
+pub mod LineText
