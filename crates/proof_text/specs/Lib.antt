@@ -1,0 +1,4 @@
+pub use Rattle.proof_lines.specs.LineText
+pub mod LogText
+pub mod Reading
+pub mod LogFile

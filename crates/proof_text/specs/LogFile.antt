@@ -1,0 +1,38 @@
+-- What the file of a recorder holds.
+use Rattle.std.specs.Prelude.{◌≡◌, ◌⊎◌, ℕ, Bool, false, List, [], ◌++◌, Option, Some}
+use Rattle.std.specs.Borrow.{MutBor}
+use Rattle.scut_base.specs.Files.{Files, content, IsTold, IsTouched, IsPrefixOf}
+use Rattle.pb_lin.specs.Problem.{ProblemValue}
+use Rattle.proof_laws.specs.WellFormed.{IsWellFormed}
+use Rattle.proof_laws.specs.State.{StateValue}
+use Rattle.proof_laws.specs.declared.line.Line.{Line}
+use Rattle.proof_rules.specs.Recording.{MayBeAdded}
+use Rattle.proof_lines.specs.LineText.{printed}
+use Rattle.proof_text.specs.LogText.{log_text, header_line}
+
+-- a prefix of the text of a line that may follow these
+pub record IsPartOfNext (p : ProblemValue) (lines : List Line) (part : List ℕ) : Type 0 where
+  pub line : Line
+  pub formed : IsWellFormed line
+  pub legal : MayBeAdded p lines line
+  pub prefix : IsPrefixOf part (printed line)
+
+-- The file holds the header and the lines, where the files are told; after a fault a prefix of the next one may follow.
+pub record IsLogFile (files : Option Files) (name : List ℕ) (p : ProblemValue) (lines : List Line) (broken : Bool) : Type 0 where
+  pub part : List ℕ
+  pub file : IsTold files → content files name ≡ Some (log_text lines ++ part)
+  pub whole : broken ≡ false → part ≡ []
+  pub next : (part ≡ []) ⊎ IsPartOfNext p lines part
+
+-- the file is as before, or holds a prefix of the header
+abbrev pub IsNotBegun : Option Files → Option Files → List ℕ → Type 0
+IsNotBegun old new name = IsTouched old new name (λ bytes. IsPrefixOf bytes header_line)
+
+-- a recorder: the shelf that it was lent, the name of its file, the problem, its lines, the state that they reach
+pub record Held (H : Type 0) : Type 0 where
+  pub shelf : MutBor H
+  pub name : List ℕ
+  pub problem : ProblemValue
+  pub lines : List Line
+  pub state : StateValue
+  pub broken : Bool

@@ -1,0 +1,35 @@
+-- What a reader of a log stands for.
+use Rattle.std.specs.Prelude.{◌≡◌, ℕ, Bool, true, false, List, [], ◌∷◌, ◌++◌, length, All, Option, None, Some}
+use Rattle.proof_laws.specs.WellFormed.{IsWellFormed}
+use Rattle.proof_laws.specs.declared.line.Line.{Line}
+use Rattle.proof_text.specs.LogText.{BeginsWith, IsSyntaxAt, HoldsNoFurtherLine}
+use Rattle.proof_text.specs.declared.fault.TextFault.{TextFault}
+use Rattle.proof_text.specs.declared.fault.TextFault.TheVariants.{Syntax, NoMemory}
+
+-- what a reader keeps: the number of lines that it has given, whether the header was there, the bytes that aren't
+-- given yet, and the line that was wrong
+pub record ReaderValue : Type 0 where
+  pub given : ℕ
+  pub begun : Bool
+  pub rest : List ℕ
+  pub wrong : Option ℕ
+
+-- these bytes were fed, and these lines given, while none was wrong
+abbrev pub HasRead : Bool → List ℕ → List ℕ → List Line → Type 0
+HasRead true rest bytes lines = BeginsWith bytes lines rest
+HasRead false rest bytes lines = (lines ≡ []) × (bytes ≡ rest)
+
+-- the same by whether a line was wrong: after that nothing more is kept of the bytes
+abbrev pub HasReadUpTo : Option ℕ → ReaderValue → List ℕ → List Line → Type 0
+HasReadUpTo None r bytes lines = HasRead r.begun r.rest bytes lines
+HasReadUpTo (Some k) r bytes lines = IsSyntaxAt bytes k × All IsWellFormed lines
+
+-- The reader stands for these bytes, which were fed, and these lines, which it has given.
+pub record StandsFor (r : ReaderValue) (bytes : List ℕ) (lines : List Line) : Type 0 where
+  pub given : length lines ≡ r.given
+  pub read : HasReadUpTo r.wrong r bytes lines
+
+-- a further line was given, or there is no further whole line
+abbrev pub GivesNext : ReaderValue → List ℕ → List Line → Option Line → Type 0
+GivesNext new bytes lines (Some line) = StandsFor new bytes (lines ++ line ∷ [])
+GivesNext new bytes lines None = StandsFor new bytes lines × HoldsNoFurtherLine bytes lines
