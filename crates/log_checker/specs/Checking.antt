@@ -1,0 +1,38 @@
+-- What a checker of a log stands for.
+use Rattle.std.specs.Prelude.{◌≡◌, ◌×◌, ℕ, Bool, List, All, Option, None, Some, ℤ}
+use Rattle.pb_lin.specs.Problem.{ProblemValue}
+use Rattle.proof_laws.specs.State.{StateValue}
+use Rattle.proof_laws.specs.Replay.{IsReplay}
+use Rattle.proof_laws.specs.declared.line.Line.{Line}
+use Rattle.proof_laws.specs.declared.why.Why.{Why}
+use Rattle.proof_text.specs.LogText.{HoldsNoFurtherLine}
+use Rattle.proof_text.specs.Reading.{ReaderValue, StandsFor as ReaderStandsFor}
+use Rattle.log_checker.specs.Accepted.{IsCovered}
+use Rattle.log_checker.specs.LogFaults.{IsLogFault}
+
+-- what a checker keeps: the problem, the vectors that may cover, what the reader keeps, the state that the lines reach, the
+-- refusal that was answered, whether memory was refused, and whether the log was finished
+pub record CheckerValue : Type 0 where
+  pub problem : ProblemValue
+  pub vectors : List (List ℤ)
+  pub reader : ReaderValue
+  pub state : StateValue
+  pub refused : Option (ℕ × Why)
+  pub failed : Bool
+  pub finished : Bool
+
+-- every whole line of these bytes was taken up
+pub record HasTaken (c : CheckerValue) (bytes : List ℕ) (lines : List Line) : Type 0 where
+  pub read : ReaderStandsFor c.reader bytes lines
+  pub all : HoldsNoFurtherLine bytes lines
+  pub replay : IsReplay c.problem lines c.state
+  pub covered : All (IsCovered c.vectors) c.state.sols
+
+-- the same by whether a line was refused
+abbrev pub HasJudged : Option (ℕ × Why) → CheckerValue → List ℕ → Type 0
+HasJudged None c bytes = (lines : List Line) × HasTaken c bytes lines
+HasJudged (Some fault) c bytes = IsLogFault c.problem c.vectors bytes fault.0 fault.1
+
+-- the checker stands for these bytes, which were fed
+abbrev pub StandsFor : CheckerValue → List ℕ → Type 0
+StandsFor c bytes = HasJudged c.refused c bytes
