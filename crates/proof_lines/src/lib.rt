@@ -6,6 +6,7 @@
 
 mod print;
 mod reader;
+mod words;
 
 pub use print::append_line;
 pub use reader::{LineFault, one_line, read_line};
