@@ -1,6 +1,7 @@
 -- What the private functions of the reader answer. No public contract stands on it.
 use Rattle.std.specs.Prelude.{◌≡◌, ℕ, ◌<◌, ◌^◌, Bool, true, false, ◌==◌, List, [], ◌∷◌, ◌++◌, length, slice_index, Option, None, Some, Result, Ok, Err, codes}
 use Rattle.std.specs.List.{slice_split}
+use Rattle.std.specs.Str.Parse.{AllDigits, digits_value}
 use Rattle.scut_base.specs.Bytes.{space, zero_digit}
 use Rattle.proof_lines.specs.declared.reader.LineFault.{LineFault}
 use Rattle.proof_lines.specs.declared.reader.LineFault.TheVariants.{Syntax, NoMemory}
@@ -47,6 +48,11 @@ IsNumber n = n < 2 ^ 127
 -- some bytes, of which the first is no zero but in `0`
 abbrev pub IsPlain : List ℕ → Type 0
 IsPlain word = (0 < length word) × (slice_index word 0 ≡ zero_digit → length word ≡ 1)
+
+-- the number that decimal digits spell, or none where it isn't below the limit or these are no digits
+abbrev pub ReadsDigits : ℕ → List ℕ → Option ℕ → Type 0
+ReadsDigits limit word None = AllDigits 10 word → digits_value 10 word < limit → ⊥
+ReadsDigits limit word (Some n) = AllDigits 10 word × (n ≡ digits_value 10 word) × (n < limit)
 
 -- ---- the values of some words
 
