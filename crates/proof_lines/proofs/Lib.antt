@@ -1,2 +1,5 @@
 pub mod Cutting
 pub mod Numbers
+pub mod Items
+pub mod Codes
+pub mod WordParts

@@ -4,6 +4,8 @@
 //! puts that text at the end of another. A text is that of one line at most. It knows no log and no state.
 #![tactic(auto)]
 
+mod hints;
+mod lists;
 mod number;
 mod print;
 mod reader;
