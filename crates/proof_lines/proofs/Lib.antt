@@ -3,3 +3,4 @@ pub mod Numbers
 pub mod Items
 pub mod Codes
 pub mod WordParts
+pub mod RisingLists

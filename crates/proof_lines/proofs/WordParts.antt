@@ -48,3 +48,7 @@ part_wrong word IsValid code old here next_words new items next so_far follows n
 pub one_part : {X : Type 0} (word : X → List ℕ) (IsValid : X → Type 0) → IsWordCode word IsValid → (xs ys : List X) (r s : Words) → All IsValid xs → All IsValid ys → EndsPart r → EndsPart s → map word xs ++ r ≡ map word ys ++ s → (xs ≡ ys) × (r ≡ s)
 one_part word IsValid code xs ys r s left right ends_r ends_s e =
     one_list (one_word word) IsValid AnyFollows EndsPart (part_code word IsValid code) xs ys r s left right ends_r ends_s (ap (λ ws. ws ++ r) (words_map word xs) ∙ e ∙ ap (λ ws. ws ++ s) (sym (words_map word ys)))
+
+-- the list that was read is the only one
+pub only_part : {X : Type 0} (word : X → List ℕ) (IsValid : X → Type 0) → IsWordCode word IsValid → (old new : Words) (xs : List X) → All IsValid xs × (old ≡ map word xs ++ new) × EndsPart new → (ys : List X) (s : Words) → All IsValid ys → EndsPart s → old ≡ map word ys ++ s → ys ≡ xs
+only_part word IsValid code old new xs read ys s valid ends e = (one_part word IsValid code ys xs s new valid read.0 ends read.2 (sym e ∙ read.1)).0
