@@ -4,3 +4,4 @@ pub mod Items
 pub mod Codes
 pub mod WordParts
 pub mod RisingLists
+pub mod TermLists

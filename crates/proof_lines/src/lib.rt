@@ -4,11 +4,13 @@
 //! puts that text at the end of another. A text is that of one line at most. It knows no log and no state.
 #![tactic(auto)]
 
+mod constraint;
 mod hints;
 mod lists;
 mod number;
 mod print;
 mod reader;
+mod terms;
 mod words;
 
 pub use print::append_line;
