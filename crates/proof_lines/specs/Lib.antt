@@ -1,2 +1,3 @@
 pub use Rattle.proof_laws.specs.WellFormed
 pub mod LineText
+pub mod Spaces

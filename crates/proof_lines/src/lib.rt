@@ -4,6 +4,7 @@
 //! puts that text at the end of another. A text is that of one line at most. It knows no log and no state.
 #![tactic(auto)]
 
+mod append;
 mod print;
 mod reader;
 
