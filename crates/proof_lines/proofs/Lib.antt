@@ -1,0 +1,4 @@
+pub mod Appends
+pub mod Printed
+pub mod Sequences
+pub mod Tokens
