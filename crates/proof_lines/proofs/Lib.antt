@@ -1,4 +1,5 @@
 pub mod Appends
-pub mod Printed
 pub mod Sequences
 pub mod Tokens
+pub mod Cutting
+pub mod Numbers

@@ -10,7 +10,7 @@ use Rattle.cutting_planes.specs.declared.token.PolToken.{PolToken}
 use Rattle.cutting_planes.specs.declared.token.PolToken.TheVariants.{Id, Axiom, Negated, Denied, Add, Mul, Div, Saturate, Weaken}
 use Rattle.proof_laws.specs.WellFormed.{IsToken, IsFactor}
 use Rattle.proof_lines.specs.LineText.{literal_word, token_words, variable_word}
-use Rattle.proof_lines.proofs.Printed.{IsShort, decimal_first, decimal_value}
+use Rattle.proof_lines.proofs.Numbers.{decimal_first, decimal_value}
 
 -- the first byte of the first word, or 0
 abbrev pub first_byte : List (List ℕ) → ℕ
@@ -65,10 +65,10 @@ plain_number next n no_product no_quotient = grind (arith, nat_tests)
 plain_variable : (next var : ℕ) → next ≢ 119 → variable_of next var ≡ Axiom (record { var = var; neg = false })
 plain_variable next var no_weakening = grind (arith, nat_tests)
 
-number_token : (n next : ℕ) → IsShort n → token_by (get_or (decimal n) 0 0) next (decimal n) ≡ number_of next n
+number_token : (n next : ℕ) → n < 10 ^ 64 → token_by (get_or (decimal n) 0 0) next (decimal n) ≡ number_of next n
 number_token n next short = by_digit (get_or (decimal n) 0 0) next (decimal n) (decimal_first n short) ∙ ap (number_of next) (decimal_value n short)
 
-literal_token : (var : ℕ) (neg : Bool) (r : List (List ℕ)) → IsShort var → FollowsToken r → token_of (literal_word (record { var = var; neg = neg }) ∷ r) ≡ Axiom (record { var = var; neg = neg })
+literal_token : (var : ℕ) (neg : Bool) (r : List (List ℕ)) → var < 10 ^ 64 → FollowsToken r → token_of (literal_word (record { var = var; neg = neg }) ∷ r) ≡ Axiom (record { var = var; neg = neg })
 literal_token var true r short follows = ap (λ v. Axiom (record { var = v; neg = true })) (decimal_value var short)
 literal_token var false r short follows =
     plain_variable (first_byte r) (digits_value 10 (decimal var)) follows.no_weakening ∙ ap (λ v. Axiom (record { var = v; neg = false })) (decimal_value var short)

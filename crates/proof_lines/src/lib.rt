@@ -5,8 +5,10 @@
 #![tactic(auto)]
 
 mod append;
+mod number;
 mod print;
 mod reader;
+mod words;
 
 pub use print::append_line;
 pub use reader::{LineFault, one_line, read_line};

@@ -1,0 +1,75 @@
+-- What the private functions of the reader answer. No public contract stands on it.
+use Rattle.std.specs.Prelude.{◌≡◌, ℕ, ◌<◌, ◌^◌, Bool, true, false, ◌==◌, List, [], ◌∷◌, ◌++◌, length, slice_index, Option, None, Some, Result, Ok, Err, codes}
+use Rattle.std.specs.List.{slice_split}
+use Rattle.std.specs.Str.Parse.{AllDigits, digits_value}
+use Rattle.scut_base.specs.Bytes.{space, zero_digit}
+use Rattle.proof_lines.specs.declared.reader.LineFault.{LineFault}
+use Rattle.proof_lines.specs.declared.reader.LineFault.TheVariants.{Syntax, NoMemory}
+
+-- ---- words
+
+abbrev pub is_space : ℕ → Bool
+is_space b = b == space
+
+-- the words of a text
+abbrev pub words_of : List ℕ → List (List ℕ)
+words_of text = slice_split is_space text
+
+-- the words of a text that may be missing
+abbrev pub words_left : Option (List ℕ) → List (List ℕ)
+words_left None = []
+words_left (Some text) = words_of text
+
+-- the first of the words is this one
+abbrev pub BeginsWith : List ℕ → List (List ℕ) → Type 0
+BeginsWith word [] = ⊥
+BeginsWith word (first ∷ words) = first ≡ word
+
+-- a part of a line ends here: no word is left, or the next is `:`
+abbrev pub EndsPart : List (List ℕ) → Type 0
+EndsPart [] = Unit {0}
+EndsPart (first ∷ words) = first ≡ codes ":"
+
+-- whether the first of the old words is this one; if so it is taken
+abbrev pub Skips : List ℕ → List (List ℕ) → List (List ℕ) → Bool → Type 0
+Skips word old new true = old ≡ word ∷ new
+Skips word old new false = (new ≡ old) × (BeginsWith word old → ⊥)
+
+-- ---- the values of single words
+
+-- the value of a word, or none where it is the text of no value
+abbrev pub IsValueOf : {X : Type 0} → (X → List ℕ) → (X → Type 0) → List ℕ → Option X → Type 0
+IsValueOf text IsValid word None = (x : _) → IsValid x → word ≡ text x → ⊥
+IsValueOf text IsValid word (Some x) = IsValid x × (word ≡ text x)
+
+abbrev pub IsNumber : ℕ → Type 0
+IsNumber n = n < 2 ^ 127
+
+-- some bytes, of which the first is no zero but in `0`
+abbrev pub IsPlain : List ℕ → Type 0
+IsPlain word = (0 < length word) × (slice_index word 0 ≡ zero_digit → length word ≡ 1)
+
+-- the number that decimal digits spell, or none where it isn't below the limit or these are no digits
+abbrev pub ReadsDigits : ℕ → List ℕ → Option ℕ → Type 0
+ReadsDigits limit word None = AllDigits 10 word → digits_value 10 word < limit → ⊥
+ReadsDigits limit word (Some n) = AllDigits 10 word × (n ≡ digits_value 10 word) × (n < limit)
+
+-- ---- the values of some words
+
+-- the value whose words the old ones begin with, and the new ones after it
+abbrev pub Reads : {X : Type 0} → (X → List (List ℕ)) → (X → Type 0) → List (List ℕ) → List (List ℕ) → Result X LineFault → Type 0
+Reads words IsValid old new (Ok x) = IsValid x × (old ≡ words x ++ new)
+Reads words IsValid old new (Err Syntax) = (x : _) (rest : List (List ℕ)) → IsValid x → old ≡ words x ++ rest → ⊥
+Reads words IsValid old new (Err NoMemory) = Unit {0}
+
+-- the same of a part of a line, up to its end
+abbrev pub ReadsPart : {X : Type 0} → (X → List (List ℕ)) → (X → Type 0) → List (List ℕ) → List (List ℕ) → Result X LineFault → Type 0
+ReadsPart words IsValid old new (Ok x) = IsValid x × (old ≡ words x ++ new) × EndsPart new
+ReadsPart words IsValid old new (Err Syntax) = (x : _) (rest : List (List ℕ)) → IsValid x → EndsPart rest → old ≡ words x ++ rest → ⊥
+ReadsPart words IsValid old new (Err NoMemory) = Unit {0}
+
+-- the same of all words that are left
+abbrev pub ReadsAll : {X : Type 0} → (X → List (List ℕ)) → (X → Type 0) → List (List ℕ) → Result X LineFault → Type 0
+ReadsAll words IsValid old (Ok x) = IsValid x × (old ≡ words x)
+ReadsAll words IsValid old (Err Syntax) = (x : _) → IsValid x → old ≡ words x → ⊥
+ReadsAll words IsValid old (Err NoMemory) = Unit {0}
