@@ -3,3 +3,4 @@ pub mod Sequences
 pub mod Tokens
 pub mod Cutting
 pub mod Numbers
+pub mod Begins
