@@ -72,10 +72,10 @@ plain_no_end words (w ∷ ws) plain end same = plain_no_mark words w ws plain (a
 
 follows_byte : (r : List (List ℕ)) (byte : ℕ) → first_byte r ≡ byte → byte ≢ 42 → byte ≢ 100 → byte ≢ 119 → FollowsToken r
 follows_byte r byte is no_product no_quotient no_weakening = record {
-    no_product = λ e. no_product (sym is ∙ e);
-    no_quotient = λ e. no_quotient (sym is ∙ e);
-    no_weakening = λ e. no_weakening (sym is ∙ e);
-  }
+  no_product = λ e. no_product (sym is ∙ e);
+  no_quotient = λ e. no_quotient (sym is ∙ e);
+  no_weakening = λ e. no_weakening (sym is ∙ e);
+}
 
 pub plain_follows : (words : List (List ℕ)) → BeginsPlain words → FollowsToken words
 plain_follows words plain =

@@ -1,6 +1,11 @@
 pub mod Appends
-pub mod Sequences
 pub mod Tokens
 pub mod Cutting
 pub mod Numbers
 pub mod Begins
+pub mod Items
+pub mod Codes
+pub mod WordParts
+pub mod RisingLists
+pub mod TokenCode
+pub mod ImageCode

@@ -17,7 +17,7 @@ abbrev pub first_byte : List (List ℕ) → ℕ
 first_byte [] = 0
 first_byte (w ∷ ws) = get_or w 0 0
 
-abbrev tail : List ℕ → List ℕ
+abbrev pub tail : List ℕ → List ℕ
 tail [] = []
 tail (b ∷ bs) = bs
 
@@ -46,7 +46,7 @@ token_by byte next word =
     else number_of next (digits_value 10 word)
 
 -- the token that these words begin with
-abbrev token_of : List (List ℕ) → PolToken
+abbrev pub token_of : List (List ℕ) → PolToken
 token_of [] = Add
 token_of (w ∷ ws) = token_by (get_or w 0 0) (first_byte ws) w
 

@@ -5,6 +5,8 @@
 #![tactic(auto)]
 
 mod append;
+mod hints;
+mod lists;
 mod number;
 mod print;
 mod reader;
