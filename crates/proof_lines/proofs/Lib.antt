@@ -9,3 +9,4 @@ pub mod WordParts
 pub mod RisingLists
 pub mod TokenCode
 pub mod ImageCode
+pub mod GoalCode
