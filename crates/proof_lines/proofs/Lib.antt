@@ -10,3 +10,4 @@ pub mod RisingLists
 pub mod TokenCode
 pub mod ImageCode
 pub mod GoalCode
+pub mod Spaced
