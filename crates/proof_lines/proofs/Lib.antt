@@ -1,7 +1,14 @@
+pub mod Appends
+pub mod Tokens
 pub mod Cutting
 pub mod Numbers
+pub mod Begins
 pub mod Items
 pub mod Codes
 pub mod WordParts
 pub mod RisingLists
 pub mod TermLists
+pub mod TokenCode
+pub mod ImageCode
+pub mod GoalCode
+pub mod Spaced

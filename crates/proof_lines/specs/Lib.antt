@@ -1,3 +1,4 @@
 pub use Rattle.proof_laws.specs.WellFormed
 pub mod LineText
+pub mod Spaces
 pub mod Reading

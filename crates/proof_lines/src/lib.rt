@@ -5,6 +5,7 @@
 #![tactic(auto)]
 
 mod constraint;
+mod append;
 mod hints;
 mod lists;
 mod number;
