@@ -1,5 +1,5 @@
 pub mod Appends
-pub mod Tokens
+pub mod TokenWords
 pub mod Cutting
 pub mod Numbers
 pub mod Begins

@@ -12,6 +12,7 @@ mod number;
 mod print;
 mod reader;
 mod terms;
+mod tokens;
 mod words;
 
 pub use print::append_line;
