@@ -12,3 +12,4 @@ pub mod TokenCode
 pub mod ImageCode
 pub mod GoalCode
 pub mod Spaced
+pub mod TokenParts
