@@ -11,3 +11,5 @@ pub mod TokenCode
 pub mod ImageCode
 pub mod GoalCode
 pub mod Spaced
+pub mod TermLists
+pub mod OneLine

@@ -1,8 +1,13 @@
 -- What the private functions of the reader answer. No public contract stands on it.
-use Rattle.std.specs.Prelude.{◌≡◌, ℕ, ◌<◌, ◌^◌, Bool, true, false, ◌==◌, List, [], ◌∷◌, ◌++◌, length, slice_index, Option, None, Some, Result, Ok, Err, codes}
-use Rattle.std.specs.List.{slice_split}
+use Rattle.std.specs.Prelude.{◌≡◌, ℕ, ◌+◌, ◌<◌, ◌≤◌, ◌^◌, Bool, true, false, ◌==◌, List, [], ◌∷◌, ◌++◌, length, slice_index, Option, None, Some, Result, Ok, Err, codes}
+use Rattle.std.specs.List.{slice_split, flat_map}
+use Rattle.std.specs.Fmt.{decimal}
 use Rattle.std.specs.Str.Parse.{AllDigits, digits_value}
 use Rattle.scut_base.specs.Bytes.{space, zero_digit}
+use Rattle.scut_base.specs.Literal.{Literal}
+use Rattle.pb_lin.specs.Constraint.{total}
+use Rattle.proof_laws.specs.WellFormed.{IsVariable, IsConstraint}
+use Rattle.proof_lines.specs.LineText.{literal_word}
 use Rattle.proof_lines.specs.declared.reader.LineFault.{LineFault}
 use Rattle.proof_lines.specs.declared.reader.LineFault.TheVariants.{Syntax, NoMemory}
 
@@ -56,7 +61,12 @@ ReadsDigits limit word (Some n) = AllDigits 10 word × (n ≡ digits_value 10 wo
 
 -- ---- the values of some words
 
--- the value whose words the old ones begin with, and the new ones after it
+-- the value whose words the old ones begin with, and the new ones after it; none where they begin with those of no value
+abbrev pub Takes : {X : Type 0} → (X → List (List ℕ)) → (X → Type 0) → List (List ℕ) → List (List ℕ) → Option X → Type 0
+Takes words IsValid old new None = (x : _) (rest : List (List ℕ)) → IsValid x → old ≡ words x ++ rest → ⊥
+Takes words IsValid old new (Some x) = IsValid x × (old ≡ words x ++ new)
+
+-- the same where memory may be refused
 abbrev pub Reads : {X : Type 0} → (X → List (List ℕ)) → (X → Type 0) → List (List ℕ) → List (List ℕ) → Result X LineFault → Type 0
 Reads words IsValid old new (Ok x) = IsValid x × (old ≡ words x ++ new)
 Reads words IsValid old new (Err Syntax) = (x : _) (rest : List (List ℕ)) → IsValid x → old ≡ words x ++ rest → ⊥
@@ -73,3 +83,27 @@ abbrev pub ReadsAll : {X : Type 0} → (X → List (List ℕ)) → (X → Type 0
 ReadsAll words IsValid old (Ok x) = IsValid x × (old ≡ words x)
 ReadsAll words IsValid old (Err Syntax) = (x : _) → IsValid x → old ≡ words x → ⊥
 ReadsAll words IsValid old (Err NoMemory) = Unit {0}
+
+-- ---- constraints
+
+-- `2 x1`
+abbrev pub term_words : Literal × ℕ → List (List ℕ)
+term_words t = decimal t.1 ∷ literal_word t.0 ∷ []
+
+-- a term that may be none of a constraint
+abbrev pub IsTerm : Literal × ℕ → Type 0
+IsTerm t = IsVariable t.0.var × IsNumber t.1
+
+-- the terms of a constraint
+abbrev pub AreTerms : List (Literal × ℕ) → Type 0
+AreTerms terms = IsConstraint (record { terms = terms; degree = 0 })
+
+-- a term that may follow others, of which the last has this variable, and whose coefficients have this sum
+abbrev pub MayFollow : ℕ → ℕ → Literal × ℕ → Type 0
+MayFollow last sum t = (0 < t.1) × (last < t.0.var) × (sum + t.1 ≤ 2 ^ 100)
+
+-- terms up to and with `>=`, and the sum of their coefficients
+abbrev pub ReadsTerms : List (List ℕ) → List (List ℕ) → Result (List (Literal × ℕ) × ℕ) LineFault → Type 0
+ReadsTerms old new (Ok p) = AreTerms p.0 × (p.1 ≡ total p.0) × (old ≡ flat_map term_words p.0 ++ codes ">=" ∷ new)
+ReadsTerms old new (Err Syntax) = (terms : List (Literal × ℕ)) (rest : List (List ℕ)) → AreTerms terms → old ≡ flat_map term_words terms ++ codes ">=" ∷ rest → ⊥
+ReadsTerms old new (Err NoMemory) = Unit {0}

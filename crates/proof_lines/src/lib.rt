@@ -5,11 +5,13 @@
 #![tactic(auto)]
 
 mod append;
+mod constraint;
 mod hints;
 mod lists;
 mod number;
 mod print;
 mod reader;
+mod terms;
 mod words;
 
 pub use print::append_line;
