@@ -4,7 +4,9 @@ use Rattle.std.specs.Prelude.{if◌then◌else◌, ◌==◌}
 use Rattle.std.specs.List.{All, flat_map}
 use Rattle.std.specs.Int.{IsInRange}
 use Rattle.std.specs.Fmt.{decimal}
+use Rattle.std.specs.Str.{bytes_eq}
 use Rattle.std.proofs.lemmas.Bool.{eq-eqb}
+use Rattle.std.proofs.lemmas.Slice.Eq.{bytes_eq-Decides}
 use Rattle.scut_base.proofs.Lists.{head_same}
 use Rattle.scut_base.specs.Literal.{Literal}
 use Rattle.hint_rup.specs.declared.hint.Hint.{Hint}
@@ -112,3 +114,10 @@ literal_code = record {
 
 pub hint_code : IsWordCode hint_word IsHint
 hint_code = record { one = one_hint; no_mark = no_mark_hint }
+
+-- two texts that the test tells apart
+pub texts_apart : (word text other : List ℕ) (r : Bool) → r ≡ bytes_eq word text → text ≡ other → r ≡ false → word ≡ other → ⊥
+texts_apart word text other r test is failed same = by (bytes_eq word text) ((bytes_eq-Decides word text).1 (same ∙ sym is)) (sym test ∙ failed)
+  where
+    by : (v : Bool) → v ≡ true → v ≡ false → ⊥
+    by v passed none = cc

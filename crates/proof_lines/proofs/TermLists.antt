@@ -53,9 +53,9 @@ last_variable (t ∷ u ∷ terms) = last_variable (u ∷ terms)
 
 -- what the loop over terms keeps of them
 pub record IsSum (terms : List (Literal × ℕ)) (last sum : ℕ) : Type 0 where
-  pub terms : AreTerms terms
-  pub last : last ≡ last_variable terms
-  pub sum : sum ≡ total terms
+  pub formed : AreTerms terms
+  pub last_is : last ≡ last_variable terms
+  pub sum_is : sum ≡ total terms
 
 last_push : (terms : List (Literal × ℕ)) (t : Literal × ℕ) → last_variable (terms ++ t ∷ []) ≡ t.0.var
 last_push [] t = refl
@@ -77,34 +77,34 @@ below_last (t ∷ u ∷ terms) rising =
     All-cons (λ r. r.0.var ≤ last_variable (u ∷ terms)) t (u ∷ terms) (last_below t (u ∷ terms) rising) (below_last (u ∷ terms) (rising_tail t (u ∷ terms) rising))
 
 total_push : (terms : List (Literal × ℕ)) (t : Literal × ℕ) → total (terms ++ t ∷ []) ≡ total terms + t.1
-total_push terms t = sum_by-append (λ (u : Literal × ℕ). u.1) terms (t ∷ []) ∙ ap (λ n. total terms + n) (one t.1)
-  where
-    one : (n : ℕ) → n + 0 ≡ n
-    one n = omega arith
+total_push terms t = let sum = sum_by-append (λ (u : Literal × ℕ). u.1) terms (t ∷ []) in omega (arith, sum)
+
+total_cons : (t : Literal × ℕ) (terms : List (Literal × ℕ)) → total (t ∷ terms) ≡ t.1 + total terms
+total_cons t terms = let sum = sum_by-append (λ (u : Literal × ℕ). u.1) (t ∷ []) terms in omega (arith, sum)
 
 pub no_sum : IsSum [] 0 0
 no_sum = record {
-  terms = record {
+  formed = record {
     normal = record {
       merged = record { positive = All-nil (λ t. 0 < t.1); from_one = All-nil (λ t. 0 < t.0.var); rising = λ i j d lt within. absurd (omega arith) };
       small = omega arith;
     };
     variables = All-nil (λ t. IsVariable t.0.var);
   };
-  last = refl;
-  sum = refl;
+  last_is = refl;
+  sum_is = refl;
 }
 
 pub sum_more : (terms : List (Literal × ℕ)) (last sum : ℕ) (t : Literal × ℕ) → IsSum terms last sum → IsTerm t → MayFollow last sum t → IsSum (terms ++ t ∷ []) t.0.var (sum + t.1)
 sum_more terms last sum t so_far valid follows =
-    let merged = so_far.terms.normal.merged in
-    let here : last ≡ last_variable terms = so_far.last in
+    let merged = so_far.formed.normal.merged in
+    let here : last ≡ last_variable terms = so_far.last_is in
     let more : total (terms ++ t ∷ []) ≡ total terms + t.1 = total_push terms t in
-    let before : sum ≡ total terms = so_far.sum in
+    let before : sum ≡ total terms = so_far.sum_is in
     let bound : sum + t.1 ≤ 2 ^ 100 = follows.2 in
     let above : last < t.0.var = follows.1 in
     record {
-      terms = record {
+      formed = record {
         normal = record {
           merged = record {
             positive = All-push (λ u. 0 < u.1) terms t merged.positive follows.0;
@@ -113,11 +113,15 @@ sum_more terms last sum t so_far valid follows =
           };
           small = omega arith;
         };
-        variables = All-push (λ u. IsVariable u.0.var) terms t so_far.terms.variables valid.0;
+        variables = All-push (λ u. IsVariable u.0.var) terms t so_far.formed.variables valid.0;
       };
-      last = sym (last_push terms t);
-      sum = omega arith;
+      last_is = sym (last_push terms t);
+      sum_is = omega arith;
     }
+
+pub sum_pushed : (terms pushed : List (Literal × ℕ)) (last sum var : ℕ) (t : Literal × ℕ) → pushed ≡ terms ++ t ∷ [] → var ≡ t.0.var → IsSum terms last sum → IsTerm t → MayFollow last sum t → IsSum pushed var (sum + t.1)
+sum_pushed terms pushed last sum var t is var_is so_far valid follows =
+    subst (λ ts. IsSum ts var (sum + t.1)) (sym is) (subst (λ v. IsSum (terms ++ t ∷ []) v (sum + t.1)) (sym var_is) (sum_more terms last sum t so_far valid follows))
 
 rising_after : (terms : List (Literal × ℕ)) (t : Literal × ℕ) (more : List (Literal × ℕ)) → AllPairs (λ x y. x.0.var < y.0.var) (terms ++ t ∷ more) → 0 < t.0.var → last_variable terms < t.0.var
 rising_after [] t more rising some = some
@@ -129,11 +133,12 @@ pub next_follows : (terms : List (Literal × ℕ)) (last sum : ℕ) (t : Literal
 next_follows terms last sum t more so_far all =
     let merged = all.normal.merged in
     let from_one : 0 < t.0.var = All-head (λ u. 0 < u.0.var) t more (All-back (λ u. 0 < u.0.var) terms (t ∷ more) merged.from_one) in
-    let here : last ≡ last_variable terms = so_far.last in
+    let here : last ≡ last_variable terms = so_far.last_is in
     let after : last_variable terms < t.0.var = rising_after terms t more merged.rising from_one in
-    let whole : total (terms ++ t ∷ more) ≡ total terms + (t.1 + total more) = sum_by-append (λ (u : Literal × ℕ). u.1) terms (t ∷ more) in
+    let whole : total (terms ++ t ∷ more) ≡ total terms + total (t ∷ more) = sum_by-append (λ (u : Literal × ℕ). u.1) terms (t ∷ more) in
+    let rest : total (t ∷ more) ≡ t.1 + total more = total_cons t more in
     let small : total (terms ++ t ∷ more) + 0 ≤ 2 ^ 100 = all.normal.small in
-    let before : sum ≡ total terms = so_far.sum in
+    let before : sum ≡ total terms = so_far.sum_is in
     (All-head (λ u. 0 < u.1) t more (All-back (λ u. 0 < u.1) terms (t ∷ more) merged.positive), omega arith, omega arith)
 
 -- ---- how terms are spelled
@@ -142,7 +147,7 @@ next_follows terms last sum t more so_far all =
 coefficient_fits : (terms : List (Literal × ℕ)) → total terms ≤ 2 ^ 100 → All (λ t. t.1 < 2 ^ 127) terms
 coefficient_fits [] small = All-nil (λ t. t.1 < 2 ^ 127)
 coefficient_fits (t ∷ terms) small =
-    let whole : t.1 + total terms ≤ 2 ^ 100 = small in
+    let whole : total (t ∷ terms) ≡ t.1 + total terms = total_cons t terms in
     All-cons (λ u. u.1 < 2 ^ 127) t terms (omega arith) (coefficient_fits terms (omega arith))
 
 both : (terms : List (Literal × ℕ)) → All (λ t. IsVariable t.0.var) terms → All (λ t. t.1 < 2 ^ 127) terms → All IsTerm terms
@@ -173,3 +178,86 @@ term_code = record {
   stops = λ t r valid ends. tt;
   no_end = λ t r valid ends. let coefficient : t.1 < 2 ^ 127 = valid.1 in no_decimal t.1 (omega arith) (62 ∷ 61 ∷ []) (λ digit. omega arith) ends;
 }
+
+-- ---- the reader of terms
+
+abbrev pub TermsSoFar : Words → Words → List (Literal × ℕ) → Type 0
+TermsSoFar old new terms = ItemsSoFar term_words IsTerm AnyFollows old new terms
+
+-- where no words are left, no terms with `>=` after them begin
+pub no_bound : (old here : Words) (terms : List (Literal × ℕ)) → TermsSoFar old here terms → here ≡ [] → (all : List (Literal × ℕ)) (rest : Words) → AreTerms all → old ≡ flat_map term_words all ++ (62 ∷ 61 ∷ []) ∷ rest → ⊥
+no_bound old here terms so_far none all rest formed is =
+    no_item_here term_words IsTerm AnyFollows BeginsBound term_code old here terms so_far
+    (λ begins. subst BeginsBound none begins)
+    (λ t r valid any follows. cc (none, follows))
+    all ((62 ∷ 61 ∷ []) ∷ rest) (terms_valid all formed) refl is
+
+-- where no term follows, neither
+pub no_term_here : (old here next_words : Words) (next : List ℕ) (terms : List (Literal × ℕ)) → TermsSoFar old here terms → here ≡ next ∷ next_words → (next ≡ 62 ∷ 61 ∷ [] → ⊥) → ((t : Literal × ℕ) (r : Words) → IsTerm t → next ∷ next_words ≡ term_words t ++ r → ⊥) → (all : List (Literal × ℕ)) (rest : Words) → AreTerms all → old ≡ flat_map term_words all ++ (62 ∷ 61 ∷ []) ∷ rest → ⊥
+no_term_here old here next_words next terms so_far follows open_bound none all rest formed is =
+    no_item_here term_words IsTerm AnyFollows BeginsBound term_code old here terms so_far
+    (λ begins. open_bound (subst BeginsBound follows begins))
+    (λ t r valid any is_term. none t r valid (sym follows ∙ is_term))
+    all ((62 ∷ 61 ∷ []) ∷ rest) (terms_valid all formed) refl is
+
+-- where a term follows that may not, neither
+pub wrong_term_here : (old here new : Words) (terms : List (Literal × ℕ)) (last sum : ℕ) (t : Literal × ℕ) → TermsSoFar old here terms → IsSum terms last sum → IsTerm t → here ≡ term_words t ++ new → (MayFollow last sum t → ⊥) → (all : List (Literal × ℕ)) (rest : Words) → AreTerms all → old ≡ flat_map term_words all ++ (62 ∷ 61 ∷ []) ∷ rest → ⊥
+wrong_term_here old here new terms last sum t so_far is_sum valid follows wrong all rest formed is =
+    let other = other_items term_words IsTerm AnyFollows BeginsBound term_code old here terms so_far all ((62 ∷ 61 ∷ []) ∷ rest) (terms_valid all formed) refl is in
+    by other.0 other.1 other.2
+  where
+    by : (more : List (Literal × ℕ)) → here ≡ flat_map term_words more ++ (62 ∷ 61 ∷ []) ∷ rest → all ≡ terms ++ more → ⊥
+    by [] begins whole = term_code.no_end t new valid (sym (head_same _ _ _ _ (sym begins ∙ follows)))
+    by (u ∷ more) begins whole =
+        let formed_all : AreTerms (terms ++ u ∷ more) = subst AreTerms whole formed in
+        let u_valid : IsTerm u = All-head IsTerm u more (All-back IsTerm terms (u ∷ more) (terms_valid (terms ++ u ∷ more) formed_all)) in
+        let one = term_code.one u t (flat_map term_words more ++ (62 ∷ 61 ∷ []) ∷ rest) new u_valid valid tt tt (sym begins ∙ follows) in
+        wrong (subst (MayFollow last sum) one.0 (next_follows terms last sum u more is_sum formed_all))
+
+-- one list of terms is spelled before `>=`
+pub one_terms : (terms others : List (Literal × ℕ)) (r s : Words) → AreTerms terms → AreTerms others → flat_map term_words terms ++ (62 ∷ 61 ∷ []) ∷ r ≡ flat_map term_words others ++ (62 ∷ 61 ∷ []) ∷ s → (terms ≡ others) × (r ≡ s)
+one_terms terms others r s left right e =
+    let same = one_list term_words IsTerm AnyFollows BeginsBound term_code terms others ((62 ∷ 61 ∷ []) ∷ r) ((62 ∷ 61 ∷ []) ∷ s) (terms_valid terms left) (terms_valid others right) refl refl e in
+    (same.0, tail_same _ _ _ _ same.1)
+
+-- ---- the reader of a constraint
+
+-- the words of a constraint, and what follows them
+pub constraint_words_is : (c : ConstraintValue) (rest : Words) → constraint_words c ++ rest ≡ flat_map term_words c.terms ++ (62 ∷ 61 ∷ []) ∷ decimal c.degree ∷ rest
+constraint_words_is c rest = append_assoc (flat_map term_words c.terms) ((62 ∷ 61 ∷ []) ∷ decimal c.degree ∷ []) rest
+
+pub terms_of_constraint : (c : ConstraintValue) → IsConstraint c → AreTerms c.terms
+terms_of_constraint c formed =
+    let small : total c.terms + c.degree ≤ 2 ^ 100 = formed.normal.small in
+    record { normal = record { merged = formed.normal.merged; small = omega arith }; variables = formed.variables }
+
+same_constraint : (c d : ConstraintValue) → c.terms ≡ d.terms → c.degree ≡ d.degree → c ≡ d
+same_constraint c d terms degree =
+    let made : List (Literal × ℕ) → ℕ → ConstraintValue = λ ts n. record { terms = ts; degree = n } in
+    ap (λ ts. made ts c.degree) terms ∙ ap (λ n. made d.terms n) degree
+
+-- words begin with one constraint at most
+pub one_constraint : (c d : ConstraintValue) (r s : Words) → IsConstraint c → IsConstraint d → constraint_words c ++ r ≡ constraint_words d ++ s → (c ≡ d) × (r ≡ s)
+one_constraint c d r s left right e =
+    let same = one_terms c.terms d.terms (decimal c.degree ∷ r) (decimal d.degree ∷ s) (terms_of_constraint c left) (terms_of_constraint d right) (sym (constraint_words_is c r) ∙ e ∙ constraint_words_is d s) in
+    let small : total c.terms + c.degree ≤ 2 ^ 100 = left.normal.small in
+    let other_small : total d.terms + d.degree ≤ 2 ^ 100 = right.normal.small in
+    (same_constraint c d same.0 (one_number c.degree d.degree (omega arith) (omega arith) (head_same _ _ _ _ same.1)), tail_same _ _ _ _ same.1)
+
+-- where terms but no degree follow, no constraint begins
+pub no_degree : (old new : Words) (terms : List (Literal × ℕ)) (sum : ℕ) → AreTerms terms → sum ≡ total terms → old ≡ flat_map term_words terms ++ (62 ∷ 61 ∷ []) ∷ new → ((d : ℕ) (rest : Words) → sum + d ≤ 2 ^ 100 → new ≡ decimal d ∷ rest → ⊥) → (c : ConstraintValue) (rest : Words) → IsConstraint c → old ≡ constraint_words c ++ rest → ⊥
+no_degree old new terms sum formed sum_is is none c rest valid spelled =
+    let same = one_terms terms c.terms new (decimal c.degree ∷ rest) formed (terms_of_constraint c valid) (sym is ∙ spelled ∙ constraint_words_is c rest) in
+    let small : total c.terms + c.degree ≤ 2 ^ 100 = valid.normal.small in
+    let sums : total terms ≡ total c.terms = ap total same.0 in
+    none c.degree rest (omega arith) same.1
+
+-- terms and a degree are a constraint
+pub constraint_read : (old new rest : Words) (c : ConstraintValue) (terms : List (Literal × ℕ)) (sum degree : ℕ) → AreTerms terms → sum ≡ total terms → old ≡ flat_map term_words terms ++ (62 ∷ 61 ∷ []) ∷ new → sum + degree ≤ 2 ^ 100 → new ≡ decimal degree ∷ rest → IsNormal terms degree
+constraint_read old new rest c terms sum degree formed sum_is is small follows = record { merged = formed.normal.merged; small = omega arith }
+
+-- a degree that is too large
+pub degree_wrong : (old new : Words) (word : List ℕ) (sum degree : ℕ) → old ≡ word ∷ new → sum ≤ 2 ^ 100 → degree < 2 ^ 127 → word ≡ decimal degree → (sum + degree ≤ 2 ^ 100 → ⊥) → (d : ℕ) (rest : Words) → sum + d ≤ 2 ^ 100 → old ≡ decimal d ∷ rest → ⊥
+degree_wrong old new word sum degree is below fits spelled large d rest small other =
+    let same : degree ≡ d = one_number degree d (omega arith) (omega arith) (sym spelled ∙ head_same _ _ _ _ (sym is ∙ other)) in
+    large (omega arith)

@@ -15,10 +15,7 @@ use std::alloc::Global;
 
 /// Takes a constraint: terms of rising variables, `>=` and the degree. One pass; takes memory for the
 /// constraint, and once more where not all coefficients are 1.
-pub(crate) fn read_constraint(
-    alloc: Global,
-    words: &mut Words<'_>,
-) -> Result<Constraint, LineFault>
+pub(crate) fn read_constraint(alloc: Global, words: &mut Words<'_>) -> Result<Constraint, LineFault>
     ensures { Reads constraint_words IsConstraint words.old words.new result }
 {
     let (terms, sum) = read_terms(alloc, words)?;

@@ -52,11 +52,7 @@ impl Terms {
 
     /// The constraint of these terms and this degree. Takes constant time where all coefficients are 1,
     /// and else two passes.
-    pub(crate) fn into_constraint(
-        self,
-        alloc: Global,
-        degree: u128,
-    ) -> Result<Constraint, NoMemory>
+    pub(crate) fn into_constraint(self, alloc: Global, degree: u128) -> Result<Constraint, NoMemory>
         requires { IsNormal self degree }
         ensures { IfOk result (λ c. c ≡ record { terms = self; degree = degree }) }
     {
