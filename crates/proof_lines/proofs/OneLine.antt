@@ -21,29 +21,13 @@ use Rattle.proof_lines.proofs.Numbers.{one_number}
 use Rattle.proof_lines.proofs.Items.{Words, one_list}
 use Rattle.proof_lines.proofs.Codes.{AnyFollows, one_variable, id_code, literal_code, hint_code}
 use Rattle.proof_lines.proofs.WordParts.{one_part}
-use Rattle.proof_lines.proofs.TermLists.{BeginsBound, term_code}
+use Rattle.proof_lines.proofs.TermLists.{one_constraint}
 use Rattle.proof_lines.proofs.TokenCode.{Follows, token_code}
 use Rattle.proof_lines.proofs.ImageCode.{IsImageOf, image_code}
 use Rattle.proof_lines.proofs.GoalCode.{IsProved, EndsAfter, IsEmpty, proved_code}
-use Rattle.proof_lines.proofs.Spaced.{terms_of_constraint, short_degree, all_proved, words_of-line}
+use Rattle.proof_lines.proofs.Spaced.{all_proved, words_of-line}
 
 -- ---- parts of lines
-
-same_constraint : (c d : ConstraintValue) → c.terms ≡ d.terms → c.degree ≡ d.degree → c ≡ d
-same_constraint c d terms degree =
-    let made : List (Literal × ℕ) → ℕ → ConstraintValue = λ ts n. record { terms = ts; degree = n } in
-    ap (λ ts. made ts c.degree) terms ∙ ap (λ n. made d.terms n) degree
-
--- constraints that are spelled alike are the same, and so is what follows them
-pub one_constraint : (c d : ConstraintValue) (r s : Words) → IsConstraint c → IsConstraint d → constraint_words c ++ r ≡ constraint_words d ++ s → (c ≡ d) × (r ≡ s)
-one_constraint c d r s left right e =
-    let bound : ConstraintValue → Words → Words = λ k ws. codes ">=" ∷ decimal k.degree ∷ ws in
-    let words : flat_map term_words c.terms ++ bound c r ≡ flat_map term_words d.terms ++ bound d s
-        = sym (append_assoc (flat_map term_words c.terms) (bound c []) r) ∙ e ∙ append_assoc (flat_map term_words d.terms) (bound d []) s in
-    let lists = one_list term_words IsTerm AnyFollows BeginsBound term_code c.terms d.terms (bound c r) (bound d s) (terms_of_constraint c left) (terms_of_constraint d right) refl refl words in
-    let after : decimal c.degree ∷ r ≡ decimal d.degree ∷ s = tail_same _ _ _ _ lists.1 in
-    let degree : c.degree ≡ d.degree = one_number c.degree d.degree (short_degree c left) (short_degree d right) (head_same _ _ _ _ after) in
-    (same_constraint c d lists.0 degree, tail_same _ _ _ _ after)
 
 -- the same of words that nothing follows
 ended : (ws vs : Words) → ws ≡ vs → ws ++ [] ≡ vs ++ []

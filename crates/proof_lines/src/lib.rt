@@ -7,6 +7,7 @@
 mod append;
 mod constraint;
 mod hints;
+mod laws;
 mod lists;
 mod number;
 mod print;
@@ -14,5 +15,6 @@ mod reader;
 mod terms;
 mod words;
 
+pub use laws::one_line;
 pub use print::append_line;
-pub use reader::{LineFault, one_line, read_line};
+pub use reader::{LineFault, read_line};
