@@ -13,3 +13,4 @@ pub mod GoalCode
 pub mod Spaced
 pub mod TermLists
 pub mod OneLine
+pub mod ItemParts

@@ -16,6 +16,7 @@ use Rattle.proof_laws.specs.declared.line.Line.TheVariants.{Pol, Rup, Learn, Def
 use Rattle.proof_laws.specs.WellFormed.{IsId, IsVariable, IsConstraint, IsToken, IsHint, IsSubstitution, AreProofs, IsWellFormed}
 use Rattle.proof_lines.specs.LineText.{SpellsLine, literal_word, constraint_words, token_words, hint_word, image_words, goal_words, hinted_words, witnessed_words, line_words, line_text}
 use Rattle.proof_lines.specs.Reading.{EndsPart, IsTerm, term_words, words_of}
+use Rattle.proof_lines.specs.Witnessed.{IsImageOf, IsProved}
 use Rattle.proof_lines.specs.Spaces.{kind_word, solution_words}
 use Rattle.proof_lines.proofs.Numbers.{one_number}
 use Rattle.proof_lines.proofs.Items.{Words, one_list}
@@ -23,8 +24,8 @@ use Rattle.proof_lines.proofs.Codes.{AnyFollows, one_variable, id_code, literal_
 use Rattle.proof_lines.proofs.WordParts.{one_part}
 use Rattle.proof_lines.proofs.TermLists.{one_constraint}
 use Rattle.proof_lines.proofs.TokenCode.{Follows, token_code}
-use Rattle.proof_lines.proofs.ImageCode.{IsImageOf, image_code}
-use Rattle.proof_lines.proofs.GoalCode.{IsProved, EndsAfter, IsEmpty, proved_code}
+use Rattle.proof_lines.proofs.ImageCode.{image_code}
+use Rattle.proof_lines.proofs.GoalCode.{EndsAfter, IsEmpty, proved_code}
 use Rattle.proof_lines.proofs.Spaced.{all_proved, words_of-line}
 
 -- ---- parts of lines

@@ -6,7 +6,9 @@
 
 mod append;
 mod constraint;
+mod goals;
 mod hints;
+mod images;
 mod laws;
 mod lists;
 mod number;
