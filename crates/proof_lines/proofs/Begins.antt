@@ -9,9 +9,9 @@ use Rattle.cutting_planes.specs.declared.token.PolToken.{PolToken}
 use Rattle.cutting_planes.specs.declared.token.PolToken.TheVariants.{Id, Axiom, Negated, Denied, Add, Mul, Div, Saturate, Weaken}
 use Rattle.proof_laws.specs.WellFormed.{IsToken, IsVariable}
 use Rattle.proof_lines.specs.LineText.{literal_word, token_words, variable_word}
-use Rattle.proof_lines.specs.Reading.{EndsPart}
+use Rattle.proof_lines.specs.Reading.{EndsPart, first_letter}
 use Rattle.proof_lines.proofs.Numbers.{decimal_first}
-use Rattle.proof_lines.proofs.Tokens.{first_byte, FollowsToken}
+use Rattle.proof_lines.proofs.TokenWords.{first_byte, FollowsAny}
 
 -- whether a word that begins with this byte may end a part or belong to a token before it
 abbrev pub is_mark : ℕ → Bool
@@ -70,18 +70,24 @@ pub plain_no_end : (words s : List (List ℕ)) → BeginsPlain words → EndsPar
 plain_no_end words [] plain end same = let none : plain.word ∷ plain.rest ≡ [] = sym plain.is ∙ same in cc
 plain_no_end words (w ∷ ws) plain end same = plain_no_mark words w ws plain (ap (λ v. is_mark (get_or v 0 0)) end) same
 
-follows_byte : (r : List (List ℕ)) (byte : ℕ) → first_byte r ≡ byte → byte ≢ 42 → byte ≢ 100 → byte ≢ 119 → FollowsToken r
-follows_byte r byte is no_product no_quotient no_weakening = record {
+follows_letter : (r : List (List ℕ)) (letter : ℕ) → first_letter r ≡ letter → letter ≢ 42 → letter ≢ 100 → letter ≢ 119 → FollowsAny r
+follows_letter r letter is no_product no_quotient no_weakening = record {
   no_product = λ e. no_product (sym is ∙ e);
   no_quotient = λ e. no_quotient (sym is ∙ e);
   no_weakening = λ e. no_weakening (sym is ∙ e);
 }
 
-pub plain_follows : (words : List (List ℕ)) → BeginsPlain words → FollowsToken words
-plain_follows words plain =
-    let byte : ℕ = get_or plain.word 0 0 in
-    follows_byte words byte (ap first_byte plain.is) (λ e. no_mark byte 42 plain.plain refl e) (λ e. no_mark byte 100 plain.plain refl e) (λ e. no_mark byte 119 plain.plain refl e)
+no_letter : (r : List (List ℕ)) → first_letter r ≡ 0 → FollowsAny r
+no_letter r is = follows_letter r 0 is (λ e. omega arith) (λ e. omega arith) (λ e. omega arith)
 
-pub end_follows : (r : List (List ℕ)) → EndsPart r → FollowsToken r
-end_follows [] end = follows_byte [] 0 refl (λ e. omega arith) (λ e. omega arith) (λ e. omega arith)
-end_follows (w ∷ ws) end = follows_byte (w ∷ ws) 58 (ap (λ v. get_or v 0 0) end) (λ e. omega arith) (λ e. omega arith) (λ e. omega arith)
+word_follows : (word : List ℕ) (rest : List (List ℕ)) → is_mark (get_or word 0 0) ≡ false → FollowsAny (word ∷ rest)
+word_follows [] rest plain = no_letter ([] ∷ rest) refl
+word_follows (b ∷ []) rest plain = follows_letter ((b ∷ []) ∷ rest) b refl (λ e. no_mark b 42 plain refl e) (λ e. no_mark b 100 plain refl e) (λ e. no_mark b 119 plain refl e)
+word_follows (b ∷ c ∷ word) rest plain = no_letter ((b ∷ c ∷ word) ∷ rest) refl
+
+pub plain_follows : (words : List (List ℕ)) → BeginsPlain words → FollowsAny words
+plain_follows words plain = subst FollowsAny (sym plain.is) (word_follows plain.word plain.rest plain.plain)
+
+pub end_follows : (r : List (List ℕ)) → EndsPart r → FollowsAny r
+end_follows [] end = no_letter [] refl
+end_follows (w ∷ ws) end = subst (λ (v : List ℕ). FollowsAny (v ∷ ws)) (sym end) (follows_letter ((58 ∷ []) ∷ ws) 58 refl (λ e. omega arith) (λ e. omega arith) (λ e. omega arith))

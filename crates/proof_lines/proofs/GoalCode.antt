@@ -11,13 +11,13 @@ use Rattle.proof_laws.specs.declared.goal.GoalProof.{GoalProof}
 use Rattle.proof_laws.specs.declared.goal.GoalProof.TheVariants.{Rup, Pol}
 use Rattle.proof_laws.specs.WellFormed.{IsGoal, IsGoalProof, IsHint, IsToken}
 use Rattle.proof_lines.specs.LineText.{goal_word, goal_words, proof_words, hint_word, token_words}
-use Rattle.proof_lines.specs.Reading.{EndsPart}
+use Rattle.proof_lines.specs.Reading.{EndsPart, FollowsToken}
 use Rattle.proof_lines.specs.Witnessed.{IsProved}
 use Rattle.proof_lines.proofs.Numbers.{one_number}
 use Rattle.proof_lines.proofs.Items.{IsCode, Words, one_list}
 use Rattle.proof_lines.proofs.Codes.{heads_apart, no_decimal, hint_code}
 use Rattle.proof_lines.proofs.WordParts.{one_part}
-use Rattle.proof_lines.proofs.TokenCode.{Follows, token_code}
+use Rattle.proof_lines.proofs.TokenCode.{token_code}
 
 -- ---- goals
 
@@ -54,7 +54,7 @@ one_proof (Rup hints) (Rup others) r s left right ends end e =
 one_proof (Rup hints) (Pol tokens) r s left right ends end e = absurd (rup_pol _ _ e)
 one_proof (Pol tokens) (Rup hints) r s left right ends end e = absurd (rup_pol _ _ (sym e))
 one_proof (Pol tokens) (Pol others) r s left right ends end e =
-    let both = one_list token_words IsToken Follows EndsPart token_code tokens others r s left.1 right.1 ends end (tail_same _ _ _ _ e) in
+    let both = one_list token_words IsToken FollowsToken EndsPart token_code tokens others r s left.1 right.1 ends end (tail_same _ _ _ _ e) in
     (ap Pol both.0, both.1)
 
 -- ---- goals with their proofs

@@ -1,5 +1,5 @@
 pub mod Appends
-pub mod Tokens
+pub mod TokenWords
 pub mod Cutting
 pub mod Numbers
 pub mod Begins
@@ -7,10 +7,10 @@ pub mod Items
 pub mod Codes
 pub mod WordParts
 pub mod RisingLists
+pub mod TermLists
 pub mod TokenCode
 pub mod ImageCode
 pub mod GoalCode
 pub mod Spaced
-pub mod TermLists
 pub mod OneLine
 pub mod ItemParts

@@ -15,7 +15,7 @@ use Rattle.proof_laws.specs.declared.line.Line.{Line}
 use Rattle.proof_laws.specs.declared.line.Line.TheVariants.{Pol, Rup, Learn, Def, Red, Dom, Sol, Del, Reduce, End}
 use Rattle.proof_laws.specs.WellFormed.{IsId, IsVariable, IsConstraint, IsToken, IsHint, IsSubstitution, AreProofs, IsWellFormed}
 use Rattle.proof_lines.specs.LineText.{SpellsLine, literal_word, constraint_words, token_words, hint_word, image_words, goal_words, hinted_words, witnessed_words, line_words, line_text}
-use Rattle.proof_lines.specs.Reading.{EndsPart, IsTerm, term_words, words_of}
+use Rattle.proof_lines.specs.Reading.{EndsPart, FollowsToken, IsTerm, term_words, words_of}
 use Rattle.proof_lines.specs.Witnessed.{IsImageOf, IsProved}
 use Rattle.proof_lines.specs.Spaces.{kind_word, solution_words}
 use Rattle.proof_lines.proofs.Numbers.{one_number}
@@ -23,7 +23,7 @@ use Rattle.proof_lines.proofs.Items.{Words, one_list}
 use Rattle.proof_lines.proofs.Codes.{AnyFollows, one_variable, id_code, literal_code, hint_code}
 use Rattle.proof_lines.proofs.WordParts.{one_part}
 use Rattle.proof_lines.proofs.TermLists.{one_constraint}
-use Rattle.proof_lines.proofs.TokenCode.{Follows, token_code}
+use Rattle.proof_lines.proofs.TokenCode.{token_code}
 use Rattle.proof_lines.proofs.ImageCode.{image_code}
 use Rattle.proof_lines.proofs.GoalCode.{EndsAfter, IsEmpty, proved_code}
 use Rattle.proof_lines.proofs.Spaced.{all_proved, words_of-line}
@@ -44,7 +44,7 @@ one_ids : (i j : List ℕ) → All IsId i → All IsId j → map decimal i ≡ m
 one_ids i j left right e = (one_part decimal IsId id_code i j [] [] left right tt tt (ended (map decimal i) (map decimal j) e)).0
 
 one_tokens : (t u : List PolToken) → All IsToken t → All IsToken u → flat_map token_words t ≡ flat_map token_words u → t ≡ u
-one_tokens t u left right e = (one_list token_words IsToken Follows EndsPart token_code t u [] [] left right tt tt (ended (flat_map token_words t) (flat_map token_words u) e)).0
+one_tokens t u left right e = (one_list token_words IsToken FollowsToken EndsPart token_code t u [] [] left right tt tt (ended (flat_map token_words t) (flat_map token_words u) e)).0
 
 one_hinted : (c d : ConstraintValue) (h k : List Hint) → IsConstraint c → IsConstraint d → All IsHint h → All IsHint k → hinted_words c h ≡ hinted_words d k → (c ≡ d) × (h ≡ k)
 one_hinted c d h k left right hints others e =

@@ -1,13 +1,15 @@
 -- What the private functions of the reader answer. No public contract stands on it.
-use Rattle.std.specs.Prelude.{◌≡◌, ℕ, ◌+◌, ◌<◌, ◌≤◌, ◌^◌, Bool, true, false, ◌==◌, List, [], ◌∷◌, ◌++◌, length, slice_index, Option, None, Some, Result, Ok, Err, codes}
+use Rattle.std.specs.Prelude.{◌≡◌, ◌≢◌, ℕ, ◌+◌, ◌<◌, ◌≤◌, ◌^◌, Bool, true, false, ◌==◌, List, [], ◌∷◌, ◌++◌, length, slice_index, Option, None, Some, Result, Ok, Err, codes}
 use Rattle.std.specs.List.{slice_split, flat_map}
 use Rattle.std.specs.Fmt.{decimal}
 use Rattle.std.specs.Str.Parse.{AllDigits, digits_value}
 use Rattle.scut_base.specs.Bytes.{space, zero_digit}
 use Rattle.scut_base.specs.Literal.{Literal}
 use Rattle.pb_lin.specs.Constraint.{total}
-use Rattle.proof_laws.specs.WellFormed.{IsVariable, IsConstraint}
-use Rattle.proof_lines.specs.LineText.{literal_word}
+use Rattle.cutting_planes.specs.declared.token.PolToken.{PolToken}
+use Rattle.cutting_planes.specs.declared.token.PolToken.TheVariants.{Id, Axiom, Negated, Denied, Add, Saturate}
+use Rattle.proof_laws.specs.WellFormed.{IsVariable, IsConstraint, IsToken}
+use Rattle.proof_lines.specs.LineText.{literal_word, token_words}
 use Rattle.proof_lines.specs.declared.reader.LineFault.{LineFault}
 use Rattle.proof_lines.specs.declared.reader.LineFault.TheVariants.{Syntax, NoMemory}
 
@@ -107,3 +109,42 @@ abbrev pub ReadsTerms : List (List ℕ) → List (List ℕ) → Result (List (Li
 ReadsTerms old new (Ok p) = AreTerms p.0 × (p.1 ≡ total p.0) × (old ≡ flat_map term_words p.0 ++ codes ">=" ∷ new)
 ReadsTerms old new (Err Syntax) = (terms : List (Literal × ℕ)) (rest : List (List ℕ)) → AreTerms terms → old ≡ flat_map term_words terms ++ codes ">=" ∷ rest → ⊥
 ReadsTerms old new (Err NoMemory) = Unit {0}
+
+-- ---- tokens
+
+-- the letter of a word that is one, or 0
+abbrev pub letter_of : List ℕ → ℕ
+letter_of [] = 0
+letter_of (b ∷ []) = b
+letter_of (b ∷ c ∷ bs) = 0
+
+-- the letter that the first word is, or 0
+abbrev pub first_letter : List (List ℕ) → ℕ
+first_letter [] = 0
+first_letter (w ∷ ws) = letter_of w
+
+-- what follows a token: no word that would make it another
+abbrev pub FollowsToken : PolToken → List (List ℕ) → Type 0
+FollowsToken (Id id) rest = (first_letter rest ≢ 42) × (first_letter rest ≢ 100)
+FollowsToken (Axiom l) rest = first_letter rest ≢ 119
+FollowsToken t rest = Unit {0}
+
+-- the token that the old words begin with, or none
+abbrev pub TakesToken : List (List ℕ) → List (List ℕ) → Option PolToken → Type 0
+TakesToken old new None = (t : PolToken) (rest : List (List ℕ)) → IsToken t → FollowsToken t rest → old ≡ token_words t ++ rest → ⊥
+TakesToken old new (Some t) = IsToken t × (old ≡ token_words t ++ new) × FollowsToken t new
+
+-- tokens that are one letter
+abbrev pub IsSymbol : PolToken → Type 0
+IsSymbol Negated = Unit {0}
+IsSymbol Denied = Unit {0}
+IsSymbol Add = Unit {0}
+IsSymbol Saturate = Unit {0}
+IsSymbol t = ⊥
+
+abbrev pub symbol_word : PolToken → List ℕ
+symbol_word Negated = codes "~"
+symbol_word Denied = codes "!"
+symbol_word Add = codes "+"
+symbol_word Saturate = codes "s"
+symbol_word t = []

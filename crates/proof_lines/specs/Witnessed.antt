@@ -1,5 +1,5 @@
 -- What the private readers of witnesses and goals answer. No public contract stands on it.
-use Rattle.std.specs.Prelude.{ℕ, List, ◌∷◌}
+use Rattle.std.specs.Prelude.{ℕ, ◌<◌, ◌^◌, List, ◌∷◌}
 use Rattle.pb_lin.specs.declared.witness.Image.{Image}
 use Rattle.proof_laws.specs.declared.goal.Goal.{Goal}
 use Rattle.proof_laws.specs.declared.goal.GoalProof.{GoalProof}
@@ -17,3 +17,7 @@ IsProved q = IsGoal q.0 × IsGoalProof q.1
 -- their words after the `:`
 abbrev pub proved_words : Goal × GoalProof → List (List ℕ)
 proved_words q = goal_word q.0 ∷ proof_words q.1
+
+-- the number of an objective
+abbrev pub IsObjective : ℕ → Type 0
+IsObjective i = (0 < i) × (i < 2 ^ 32)

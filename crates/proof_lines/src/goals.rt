@@ -1,10 +1,12 @@
 // Goals with their proofs, word by word.
-ghost use Rattle.std.specs.Prelude.{◌↔◌, ◌∷◌, [], AllPairs, All, IsTrue};
+ghost use Rattle.std.specs.Prelude.{◌≡◌, ◌↔◌, ◌∷◌, [], AllPairs, All, IsTrue};
 ghost use Rattle.std.specs.List.{flat_map};
+ghost use Rattle.std.specs.Fmt.{decimal};
 ghost use Rattle.proof_laws.specs.WellFormed.{AreProofs, ComesBefore, IsGoal, IsGoalProof};
+ghost use Rattle.proof_laws.specs.WellFormed.{goal_kind, goal_number};
 ghost use Rattle.proof_lines.specs.LineText.{goal_word, goal_words, proof_words};
 ghost use Rattle.proof_lines.specs.Reading.{IsValueOf, ReadsAll, ReadsPart, Takes};
-ghost use Rattle.proof_lines.specs.Witnessed.{IsProved, proved_words};
+ghost use Rattle.proof_lines.specs.Witnessed.{IsObjective, IsProved, proved_words};
 
 use crate::LineFault;
 use crate::hints::read_hints;

@@ -15,6 +15,7 @@ mod number;
 mod print;
 mod reader;
 mod terms;
+mod tokens;
 mod words;
 
 pub use laws::one_line;

@@ -11,7 +11,7 @@ use scut_base::Lit;
 const NARROW_DIGITS: usize = 19;
 
 // Ids and variables are at most this.
-const MAX_ID: u64 = (1 << 63) - 1;
+pub(crate) const MAX_ID: u64 = (1 << 63) - 1;
 
 // Numbers are at most this.
 const MAX_NUMBER: u128 = (1 << 127) - 1;
