@@ -8,7 +8,8 @@ use Rattle.std.proofs.lemmas.List.Concat.{flat_map-append}
 use Rattle.std.proofs.lemmas.Option.{slice_get_within, get_or_from_slice_get}
 use Rattle.scut_base.specs.Literal.{Literal}
 use Rattle.proof_lines.specs.LineText.{literal_word}
-use Rattle.proof_lines.specs.Spaces.{after_space, after_spaces, term_words}
+use Rattle.proof_lines.specs.Reading.{term_words}
+use Rattle.proof_lines.specs.Spaces.{after_space, after_spaces}
 
 -- a word of each item
 after_each : {X : Type 0} (f : X → List ℕ) (xs : List X) → after_spaces (map f xs) ≡ flat_map (λ x. after_space (f x)) xs

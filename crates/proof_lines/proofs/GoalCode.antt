@@ -12,15 +12,12 @@ use Rattle.proof_laws.specs.declared.goal.GoalProof.TheVariants.{Rup, Pol}
 use Rattle.proof_laws.specs.WellFormed.{IsGoal, IsGoalProof, IsHint, IsToken}
 use Rattle.proof_lines.specs.LineText.{goal_word, goal_words, proof_words, hint_word, token_words}
 use Rattle.proof_lines.specs.Reading.{EndsPart, FollowsToken}
+use Rattle.proof_lines.specs.Witnessed.{IsProved}
 use Rattle.proof_lines.proofs.Numbers.{one_number}
 use Rattle.proof_lines.proofs.Items.{IsCode, Words, one_list}
 use Rattle.proof_lines.proofs.Codes.{heads_apart, no_decimal, hint_code}
 use Rattle.proof_lines.proofs.WordParts.{one_part}
 use Rattle.proof_lines.proofs.TokenCode.{token_code}
-
--- a goal with its proof, which a line may hold
-abbrev pub IsProved : Goal × GoalProof → Type 0
-IsProved q = IsGoal q.0 × IsGoalProof q.1
 
 -- ---- goals
 

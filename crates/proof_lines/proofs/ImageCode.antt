@@ -4,15 +4,12 @@ use Rattle.scut_base.proofs.Lists.{head_same, tail_same}
 use Rattle.scut_base.specs.Literal.{Literal}
 use Rattle.pb_lin.specs.declared.witness.Image.{Image}
 use Rattle.pb_lin.specs.declared.witness.Image.TheVariants.{Zero, One, Lit}
-use Rattle.proof_laws.specs.WellFormed.{IsVariable, IsImage}
+use Rattle.proof_laws.specs.WellFormed.{IsImage}
 use Rattle.proof_lines.specs.LineText.{variable_word, image_word, image_words}
 use Rattle.proof_lines.specs.Reading.{EndsPart}
+use Rattle.proof_lines.specs.Witnessed.{IsImageOf}
 use Rattle.proof_lines.proofs.Items.{IsCode, Words}
 use Rattle.proof_lines.proofs.Codes.{AnyFollows, heads_apart, one_variable, one_literal, no_literal}
-
--- a variable with its image, which a line may hold
-abbrev pub IsImageOf : ℕ × Image → Type 0
-IsImageOf i = IsVariable i.0 × IsImage i.1
 
 pub one_image : (i j : Image) → IsImage i → IsImage j → image_word i ≡ image_word j → i ≡ j
 one_image Zero Zero left right e = refl

@@ -13,3 +13,5 @@ pub mod ImageCode
 pub mod GoalCode
 pub mod Spaced
 pub mod TokenParts
+pub mod OneLine
+pub mod ItemParts

@@ -9,11 +9,10 @@ use Rattle.std.proofs.lemmas.Bool.Decides.{nat_tests}
 use Rattle.std.proofs.lemmas.Int.{ints}
 use Rattle.std.proofs.lemmas.List.{append-nil}
 use Rattle.std.proofs.lemmas.List.Elements.{All-nil, All-cons, All-head, All-tail}
-use Rattle.std.proofs.lemmas.List.Sums.{get_or-le-sum_by}
 use Rattle.std.proofs.lemmas.List.Splits.{slice_split_none, slice_split_at}
 use Rattle.std.proofs.lemmas.Str.Parse.{digit_from_value}
 use Rattle.scut_base.specs.Literal.{Literal}
-use Rattle.pb_lin.specs.Constraint.{ConstraintValue, total}
+use Rattle.pb_lin.specs.Constraint.{ConstraintValue}
 use Rattle.pb_lin.specs.Substitution.{Images}
 use Rattle.pb_lin.specs.declared.witness.Image.{Image}
 use Rattle.pb_lin.specs.declared.witness.Image.TheVariants.{Zero, One, Lit}
@@ -29,9 +28,9 @@ use Rattle.proof_laws.specs.declared.line.Line.{Line}
 use Rattle.proof_laws.specs.declared.line.Line.TheVariants.{Pol, Rup, Learn, Def, Red, Dom, Sol, Del, Reduce, End}
 use Rattle.proof_laws.specs.WellFormed.{IsId, IsVariable, IsConstraint, IsToken, IsHint, IsImage, IsGoal, IsGoalProof, IsSubstitution, AreProofs, IsWellFormed}
 use Rattle.proof_lines.specs.LineText.{variable_word, literal_word, constraint_words, token_words, hint_word, image_word, image_words, goal_word, goal_words, proof_words, hinted_words, witnessed_words, line_words, spaced}
-use Rattle.proof_lines.specs.Spaces.{after_spaces, term_words}
-use Rattle.proof_lines.specs.Reading.{is_space, words_of}
+use Rattle.proof_lines.specs.Reading.{is_space, words_of, IsTerm, term_words}
 use Rattle.proof_lines.proofs.Numbers.{decimal_digits}
+use Rattle.proof_lines.proofs.TermLists.{terms_of_constraint, terms_valid}
 
 abbrev no_space : List ℕ → Bool
 no_space [] = true
@@ -142,25 +141,15 @@ ids_join ids valid = words_of_each decimal IsId id_joins ids valid
 literals_join : (lits : List Literal) → All (λ l. IsVariable l.var) lits → AreWords (map literal_word lits)
 literals_join lits valid = words_of_each literal_word (λ l. IsVariable l.var) literal_joins lits valid
 
--- a coefficient that can be spelled, of a variable that can be
-abbrev pub IsShortTerm : Literal × ℕ → Type 0
-IsShortTerm t = (t.1 < 10 ^ 64) × IsVariable t.0.var
+term_joins : (t : Literal × ℕ) → IsTerm t → AreWords (term_words t)
+term_joins t valid = let small : t.1 < 2 ^ 127 = valid.1 in (number_joins t.1 (omega arith), (literal_joins t.0 valid.0, tt))
 
-pub short_terms : (c : ConstraintValue) → IsConstraint c → All IsShortTerm c.terms
-short_terms c valid k d lt =
-    let part : (get_or c.terms k d).1 ≤ total c.terms = get_or-le-sum_by (λ t. t.1) c.terms k d lt in
-    let size : total c.terms + c.degree ≤ 2 ^ 100 = valid.normal.small in
-    (omega arith, valid.variables k d lt)
-
-term_joins : (t : Literal × ℕ) → IsShortTerm t → AreWords (term_words t)
-term_joins t valid = (number_joins t.1 valid.0, (literal_joins t.0 valid.1, tt))
-
-pub short_degree : (c : ConstraintValue) → IsConstraint c → c.degree < 10 ^ 64
-short_degree c valid = let size = valid.normal.small in omega arith
+degree_joins : (c : ConstraintValue) → IsConstraint c → no_space (decimal c.degree) ≡ true
+degree_joins c valid = let size = valid.normal.small in number_joins c.degree (omega arith)
 
 constraint_joins : (c : ConstraintValue) → IsConstraint c → AreWords (constraint_words c)
 constraint_joins c valid =
-    words_join (flat_map term_words c.terms) (codes ">=" ∷ decimal c.degree ∷ []) (words_of_all term_words IsShortTerm term_joins c.terms (short_terms c valid)) (refl, (number_joins c.degree (short_degree c valid), tt))
+    words_join (flat_map term_words c.terms) (codes ">=" ∷ decimal c.degree ∷ []) (words_of_all term_words IsTerm term_joins c.terms (terms_valid c.terms (terms_of_constraint c valid))) (refl, (degree_joins c valid, tt))
 
 hinted_join : (c : ConstraintValue) (hints : List Hint) → IsConstraint c → All IsHint hints → AreWords (hinted_words c hints)
 hinted_join c hints constraint valid = words_join (constraint_words c) (codes ":" ∷ map hint_word hints) (constraint_joins c constraint) (refl, hints_join hints valid)

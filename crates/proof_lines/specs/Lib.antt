@@ -2,3 +2,4 @@ pub use Rattle.proof_laws.specs.WellFormed
 pub mod LineText
 pub mod Spaces
 pub mod Reading
+pub mod Witnessed

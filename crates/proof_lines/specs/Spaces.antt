@@ -17,10 +17,6 @@ after_space word = space ∷ word
 abbrev pub after_spaces : List (List ℕ) → List ℕ
 after_spaces words = flat_map after_space words
 
--- the words of a term
-abbrev pub term_words : Literal × ℕ → List (List ℕ)
-term_words t = decimal t.1 ∷ literal_word t.0 ∷ []
-
 abbrev pub definition_words : ℕ → ConstraintValue → List (List ℕ)
 definition_words var sum = variable_word var ∷ codes ":" ∷ constraint_words sum
 

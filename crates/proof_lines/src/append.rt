@@ -5,7 +5,8 @@ ghost use Rattle.std.specs.Fmt.{decimal, signed_decimal};
 ghost use Rattle.proof_lines.specs.LineText.{constraint_words, goal_words, goal_word, hint_word};
 ghost use Rattle.proof_lines.specs.LineText.{image_word, image_words, literal_word};
 ghost use Rattle.proof_lines.specs.LineText.{proof_words, token_words, variable_word};
-ghost use Rattle.proof_lines.specs.Spaces.{after_space, after_spaces, term_words};
+ghost use Rattle.proof_lines.specs.Reading.{term_words};
+ghost use Rattle.proof_lines.specs.Spaces.{after_space, after_spaces};
 
 use cutting_planes::PolToken;
 use hint_rup::Hint;

@@ -4,9 +4,12 @@
 //! puts that text at the end of another. A text is that of one line at most. It knows no log and no state.
 #![tactic(auto)]
 
-mod constraint;
 mod append;
+mod constraint;
+mod goals;
 mod hints;
+mod images;
+mod laws;
 mod lists;
 mod number;
 mod print;
@@ -15,5 +18,6 @@ mod terms;
 mod tokens;
 mod words;
 
+pub use laws::one_line;
 pub use print::append_line;
-pub use reader::{LineFault, one_line, read_line};
+pub use reader::{LineFault, read_line};

@@ -1,5 +1,5 @@
 use Rattle.std.proofs.Common.{◌≤◌, length, arith}
-use Rattle.proof_lines.specs.Spaces.{term_words}
+use Rattle.proof_lines.specs.Reading.{term_words}
 use Rattle.proof_lines.proofs.Appends.{all_put, term_put}
 use Rattle.proof_lines.proofs.append.append_terms.Goals as goal
 
