@@ -15,3 +15,4 @@ pub mod Spaced
 pub mod TokenParts
 pub mod OneLine
 pub mod ItemParts
+pub mod Bodies

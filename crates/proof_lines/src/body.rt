@@ -19,11 +19,7 @@ use scut_base::Items;
 use std::alloc::Global;
 
 /// Takes the other words of a line of this kind.
-pub(crate) fn read_body(
-    alloc: Global,
-    kind: Kind,
-    words: &mut Words<'_>,
-) -> Result<Line, LineFault>
+pub(crate) fn read_body(alloc: Global, kind: Kind, words: &mut Words<'_>) -> Result<Line, LineFault>
     ensures { ReadsBody kind words.old result }
 {
     match kind {
@@ -144,10 +140,7 @@ fn read_all_ids(alloc: Global, words: &mut Words<'_>) -> Result<Items<u64>, Line
 }
 
 // A constraint, `:` and hints.
-fn read_hinted(
-    alloc: Global,
-    words: &mut Words<'_>,
-) -> Result<(Constraint, Items<Hint>), LineFault>
+fn read_hinted(alloc: Global, words: &mut Words<'_>) -> Result<(Constraint, Items<Hint>), LineFault>
     ensures { ReadsHinted words.old result }
 {
     let goal = read_constraint(alloc, words)?;
