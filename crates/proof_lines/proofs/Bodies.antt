@@ -12,21 +12,19 @@ use Rattle.hint_rup.specs.declared.hint.Hint.{Hint}
 use Rattle.proof_laws.specs.declared.goal.Goal.{Goal}
 use Rattle.proof_laws.specs.declared.goal.GoalProof.{GoalProof}
 use Rattle.proof_laws.specs.WellFormed.{AreTokens, AreRisingIds, AreRisingLiterals, AreProofs, IsConstraint, IsHint, IsId, IsSubstitution, IsToken, IsVariable}
-use Rattle.proof_lines.specs.declared.kind.Kind.TheVariants.{Pol, Def, Sol}
+use Rattle.proof_lines.specs.declared.kind.Kind.TheVariants.{Pol, Rup, Learn, Def, Red, Dom, Sol, Del, Reduce}
 use Rattle.proof_lines.specs.declared.reader.LineFault.{LineFault}
 use Rattle.proof_lines.specs.declared.reader.LineFault.TheVariants.{Syntax, NoMemory}
 use Rattle.proof_lines.specs.LineText.{constraint_words, goal_words, hint_word, hinted_words, image_words, literal_word, token_words, variable_word, witnessed_words}
 use Rattle.proof_lines.specs.Spaces.{definition_words, solution_words}
 use Rattle.proof_lines.specs.Reading.{BeginsWith, EndsPart, FollowsToken, Reads, ReadsAll, ReadsPart}
-use Rattle.proof_lines.specs.Witnessed.{IsImageOf}
-use Rattle.proof_lines.specs.Kinds.{IsNoBody, NoHinted, NoIds, NoWitnessed, ReadsBody, ReadsHinted, ReadsIds, ReadsWitnessed}
+use Rattle.proof_lines.specs.Witnessed.{IsWitnessed, words_of_witnessed}
+use Rattle.proof_lines.specs.Kinds.{IsNoBody, NoHinted, NoIds, ReadsBody, ReadsHinted, ReadsIds}
 use Rattle.proof_lines.proofs.Items.{Words, one_list}
 use Rattle.proof_lines.proofs.Codes.{AnyFollows, IsWordCode, id_code, literal_code, hint_code}
 use Rattle.proof_lines.proofs.WordParts.{one_part}
 use Rattle.proof_lines.proofs.TermLists.{one_constraint}
 use Rattle.proof_lines.proofs.TokenCode.{token_code}
-use Rattle.proof_lines.proofs.ImageCode.{image_code}
-use Rattle.proof_lines.proofs.OneLine.{goals_end}
 
 -- where words begin with `:`, they have one
 not_colon : (words rest : Words) → (BeginsWith (58 ∷ []) words → ⊥) → words ≡ (58 ∷ []) ∷ rest → ⊥
@@ -137,28 +135,28 @@ sol_unended old one two three four last model cut rows read colon cut_read secon
 
 -- ---- a constraint, a witness and proofs
 
--- the words after the constraint
-after_goal : (old one : Words) (goal c : ConstraintValue) (w : Images) (p : List (Goal × GoalProof)) → IsConstraint goal × (old ≡ constraint_words goal ++ one) → IsConstraint c → old ≡ witnessed_words c w p → one ≡ (58 ∷ []) ∷ (flat_map image_words w ++ flat_map goal_words p)
-after_goal old one goal c w p read valid e =
-    let whole : old ≡ constraint_words c ++ (58 ∷ []) ∷ (flat_map image_words w ++ flat_map goal_words p) = e ∙ append_assoc (constraint_words c) ((58 ∷ []) ∷ flat_map image_words w) (flat_map goal_words p) in
-    (one_constraint goal c one ((58 ∷ []) ∷ (flat_map image_words w ++ flat_map goal_words p)) read.0 valid (sym read.1 ∙ whole)).1
+pub red_wrong : (f : LineFault) (words : Words) → ReadsAll words_of_witnessed IsWitnessed words (Err f) → ReadsBody Red words (Err f)
+red_wrong Syntax words none = λ goal witness proofs valid witness_valid proofs_valid e. none (goal, witness, proofs) (valid, witness_valid, proofs_valid) e
+red_wrong NoMemory words none = tt
 
-pub unwitnessed : (old one : Words) (goal : ConstraintValue) → IsConstraint goal × (old ≡ constraint_words goal ++ one) → (BeginsWith (58 ∷ []) one → ⊥) → NoWitnessed old
-unwitnessed old one goal read other = λ c w p valid w_valid p_valid e. not_colon one _ other (after_goal old one goal c w p read valid e)
+pub dom_wrong : (f : LineFault) (words : Words) → ReadsAll words_of_witnessed IsWitnessed words (Err f) → ReadsBody Dom words (Err f)
+dom_wrong Syntax words none = λ goal witness proofs valid witness_valid proofs_valid e. none (goal, witness, proofs) (valid, witness_valid, proofs_valid) e
+dom_wrong NoMemory words none = tt
 
-pub witness_wrong : (f : LineFault) (old one two three : Words) (goal : ConstraintValue) → IsConstraint goal × (old ≡ constraint_words goal ++ one) → one ≡ (58 ∷ []) ∷ two → ReadsPart (flat_map image_words) IsSubstitution two three (Err f) → ReadsWitnessed old (Err f)
-witness_wrong Syntax old one two three goal read colon none = λ c w p valid w_valid p_valid e.
-    none w (flat_map goal_words p) w_valid (goals_end p) (tail_same _ _ _ _ (sym colon ∙ after_goal old one goal c w p read valid e))
-witness_wrong NoMemory old one two three goal read colon none = tt
+-- ---- kinds that share a reader
 
-pub proofs_wrong : (f : LineFault) (old one two three : Words) (goal : ConstraintValue) (witness : Images) → IsConstraint goal × (old ≡ constraint_words goal ++ one) → one ≡ (58 ∷ []) ∷ two → IsSubstitution witness × (two ≡ flat_map image_words witness ++ three) × EndsPart three → ReadsAll (flat_map goal_words) AreProofs three (Err f) → ReadsWitnessed old (Err f)
-proofs_wrong Syntax old one two three goal witness read colon witness_read none = λ c w p valid w_valid p_valid e.
-    let rest : two ≡ flat_map image_words w ++ flat_map goal_words p = tail_same _ _ _ _ (sym colon ∙ after_goal old one goal c w p read valid e) in
-    none p p_valid (one_list image_words IsImageOf AnyFollows EndsPart image_code witness w three (flat_map goal_words p) witness_read.0.images w_valid.images witness_read.2 (goals_end p) (sym witness_read.1 ∙ rest)).1
-proofs_wrong NoMemory old one two three goal witness read colon witness_read none = tt
+pub rup_wrong : (f : LineFault) (words : Words) → ReadsHinted words (Err f) → ReadsBody Rup words (Err f)
+rup_wrong Syntax words none = none
+rup_wrong NoMemory words none = tt
 
--- all parts of a constraint, a witness and proofs
-pub witnessed_read : (old one two three : Words) (goal : ConstraintValue) (witness : Images) (proofs : List (Goal × GoalProof)) → old ≡ constraint_words goal ++ one → one ≡ (58 ∷ []) ∷ two → two ≡ flat_map image_words witness ++ three → three ≡ flat_map goal_words proofs → old ≡ witnessed_words goal witness proofs
-witnessed_read old one two three goal witness proofs first colon second third =
-    first ∙ ap (λ ws. constraint_words goal ++ ws) (colon ∙ ap (λ ws. (58 ∷ []) ∷ ws) (second ∙ ap (λ ws. flat_map image_words witness ++ ws) third))
-    ∙ sym (append_assoc (constraint_words goal) ((58 ∷ []) ∷ flat_map image_words witness) (flat_map goal_words proofs))
+pub learn_wrong : (f : LineFault) (words : Words) → ReadsHinted words (Err f) → ReadsBody Learn words (Err f)
+learn_wrong Syntax words none = none
+learn_wrong NoMemory words none = tt
+
+pub del_wrong : (f : LineFault) (words : Words) → ReadsIds words (Err f) → ReadsBody Del words (Err f)
+del_wrong Syntax words none = none
+del_wrong NoMemory words none = tt
+
+pub reduce_wrong : (f : LineFault) (words : Words) → ReadsIds words (Err f) → ReadsBody Reduce words (Err f)
+reduce_wrong Syntax words none = none
+reduce_wrong NoMemory words none = tt

@@ -16,3 +16,4 @@ pub mod TokenParts
 pub mod OneLine
 pub mod ItemParts
 pub mod Bodies
+pub mod LineReading

@@ -68,11 +68,6 @@ ReadsHinted words (Ok p) = IsConstraint p.0 × All IsHint p.1 × (words ≡ hint
 ReadsHinted words (Err Syntax) = NoHinted words
 ReadsHinted words (Err NoMemory) = Unit {0}
 
-abbrev pub ReadsWitnessed : List (List ℕ) → Result (ConstraintValue × Images × List (Goal × GoalProof)) LineFault → Type 0
-ReadsWitnessed words (Ok p) = IsConstraint p.0 × IsSubstitution p.1 × AreProofs p.2 × (words ≡ witnessed_words p.0 p.1 p.2)
-ReadsWitnessed words (Err Syntax) = NoWitnessed words
-ReadsWitnessed words (Err NoMemory) = Unit {0}
-
 -- one id after another, which rise
 abbrev pub ReadsIds : List (List ℕ) → Result (List ℕ) LineFault → Type 0
 ReadsIds words (Ok ids) = AreRisingIds ids × (words ≡ map decimal ids)

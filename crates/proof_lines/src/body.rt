@@ -1,20 +1,19 @@
 // The words of a line after its first, for each kind of line.
 ghost use Rattle.proof_lines.specs.declared.kind.Kind.TheVariants.{Pol, Rup, Learn, Def, Red, Dom, Sol, Del, Reduce, End};
-ghost use Rattle.proof_lines.specs.Kinds.{ReadsBody, ReadsHinted, ReadsIds, ReadsWitnessed};
+ghost use Rattle.proof_lines.specs.Kinds.{ReadsBody, ReadsHinted, ReadsIds};
 
 use crate::LineFault;
 use crate::constraint::read_constraint;
-use crate::goals::read_proofs;
 use crate::hints::read_hints;
-use crate::images::read_witness;
 use crate::kind::Kind;
 use crate::lists::{read_ids, read_literals, read_rising_ids, read_rising_literals};
 use crate::number::{id_of, variable_of};
 use crate::tokens::read_tokens;
+use crate::witnessed::read_witnessed;
 use crate::words::Words;
 use hint_rup::Hint;
-use pb_lin::{Constraint, Witness};
-use proof_laws::{Goal, GoalProof, Line};
+use pb_lin::Constraint;
+use proof_laws::Line;
 use scut_base::Items;
 use std::alloc::Global;
 
@@ -152,20 +151,4 @@ fn read_hinted(alloc: Global, words: &mut Words<'_>) -> Result<(Constraint, Item
         return Err(LineFault::Syntax);
     }
     Ok((goal, hints))
-}
-
-// A constraint, `:`, images of variables, and goals with their proofs.
-fn read_witnessed(
-    alloc: Global,
-    words: &mut Words<'_>,
-) -> Result<(Constraint, Witness, Items<(Goal, GoalProof)>), LineFault>
-    ensures { ReadsWitnessed words.old result }
-{
-    let goal = read_constraint(alloc, words)?;
-    if !words.skip(b':') {
-        return Err(LineFault::Syntax);
-    }
-    let witness = read_witness(alloc, words)?;
-    let proofs = read_proofs(alloc, words)?;
-    Ok((goal, witness, proofs))
 }
