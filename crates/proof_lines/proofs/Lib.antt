@@ -14,3 +14,5 @@ pub mod GoalCode
 pub mod Spaced
 pub mod OneLine
 pub mod ItemParts
+pub mod Ordered
+pub mod GoalReads

@@ -74,12 +74,12 @@ fn goal_of(word: &[u8]) -> Option<Goal>
     ensures { IsValueOf goal_word IsGoal word.now result }
 {
     match word {
-        [b'c'] => Some(Goal::Itself),
-        [b's'] => Some(Goal::Strict),
         [b'o', digits @ ..] => {
             let number = objective_of(digits)?;
             Some(Goal::Objective(number))
         }
+        [b'c'] => Some(Goal::Itself),
+        [b's'] => Some(Goal::Strict),
         _ => {
             let id = id_of(word)?;
             Some(Goal::Row(id))
