@@ -12,6 +12,7 @@ pub mod TokenCode
 pub mod ImageCode
 pub mod GoalCode
 pub mod Spaced
+pub mod TokenParts
 pub mod OneLine
 pub mod ItemParts
 pub mod Ordered
