@@ -24,13 +24,19 @@ not_objective word n x read other valid is =
     ⊎_elim (λ (none : n ≡ 0). omega arith) (λ (large : 2 ^ 32 ≤ n). omega arith) other
 
 -- where no hints follow `rup`
+no_rup : (old here : Words) → old ≡ codes "rup" ∷ here → ((hints : List Hint) (rest : Words) → All IsHint hints → EndsPart rest → here ≡ map hint_word hints ++ rest → ⊥) → (p : GoalProof) (rest : Words) → IsGoalProof p → EndsPart rest → old ≡ proof_words p ++ rest → ⊥
+no_rup old here is none (Rup hints) rest valid ends spelled = none hints rest valid ends (tail_same _ _ _ _ (sym is ∙ spelled))
+no_rup old here is none (Pol tokens) rest valid ends spelled = rup_pol _ _ (sym is ∙ spelled)
+
 pub rup_wrong : (old here new after : Words) (fault : LineFault) → old ≡ codes "rup" ∷ here → ReadsPart (map hint_word) (All IsHint) here new (Err fault) → ReadsPart proof_words IsGoalProof old after (Err fault)
 rup_wrong old here new after NoMemory is wrong = tt
-rup_wrong old here new after Syntax is wrong (Rup hints) rest valid ends spelled = wrong hints rest valid ends (tail_same _ _ _ _ (sym is ∙ spelled))
-rup_wrong old here new after Syntax is wrong (Pol tokens) rest valid ends spelled = rup_pol _ _ (sym is ∙ spelled)
+rup_wrong old here new after Syntax is wrong = no_rup old here is wrong
 
 -- where no tokens follow `pol`
+no_pol : (old here : Words) → old ≡ codes "pol" ∷ here → ((tokens : List PolToken) (rest : Words) → AreTokens tokens → EndsPart rest → here ≡ flat_map token_words tokens ++ rest → ⊥) → (p : GoalProof) (rest : Words) → IsGoalProof p → EndsPart rest → old ≡ proof_words p ++ rest → ⊥
+no_pol old here is none (Rup hints) rest valid ends spelled = rup_pol _ _ (sym spelled ∙ is)
+no_pol old here is none (Pol tokens) rest valid ends spelled = none tokens rest valid ends (tail_same _ _ _ _ (sym is ∙ spelled))
+
 pub pol_wrong : (old here new after : Words) (fault : LineFault) → old ≡ codes "pol" ∷ here → ReadsPart (flat_map token_words) AreTokens here new (Err fault) → ReadsPart proof_words IsGoalProof old after (Err fault)
 pol_wrong old here new after NoMemory is wrong = tt
-pol_wrong old here new after Syntax is wrong (Pol tokens) rest valid ends spelled = wrong tokens rest valid ends (tail_same _ _ _ _ (sym is ∙ spelled))
-pol_wrong old here new after Syntax is wrong (Rup hints) rest valid ends spelled = rup_pol _ _ (sym (sym is ∙ spelled))
+pol_wrong old here new after Syntax is wrong = no_pol old here is wrong
