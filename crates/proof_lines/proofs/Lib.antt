@@ -17,3 +17,4 @@ pub mod OneLine
 pub mod ItemParts
 pub mod Ordered
 pub mod GoalReads
+pub mod WitnessedReads
