@@ -52,7 +52,3 @@ pub substituted_wrong : (old here new : Words) (c : ConstraintValue) (fault : Li
 substituted_wrong old here new c NoMemory read follows wrong = tt
 substituted_wrong old here new c Syntax read follows wrong = λ w valid is.
     wrong (w.1, w.2) (valid.1, valid.2) (tail_same _ _ _ _ (sym follows ∙ rest_same old here c read w valid is))
-
-pub witnessed_read : (old here new : Words) (c : ConstraintValue) (s : Substituted) → IsConstraint c × (old ≡ constraint_words c ++ here) → here ≡ (58 ∷ []) ∷ new → IsSubstituted s × (new ≡ substituted_words s) → IsWitnessed (c, s.0, s.1) × (old ≡ witnessed_words c s.0 s.1)
-witnessed_read old here new c s read follows rest =
-    ((read.0, rest.0.0, rest.0.1), read.1 ∙ ap (λ ws. constraint_words c ++ ws) (follows ∙ ap (λ ws. (58 ∷ []) ∷ ws) rest.1) ∙ sym (after (c, s.0, s.1)))

@@ -33,10 +33,7 @@ pub(crate) fn read_proofs(
 }
 
 // Takes goals with their proofs up to the last word.
-fn read_goals(
-    alloc: Global,
-    words: &mut Words<'_>,
-) -> Result<Items<(Goal, GoalProof)>, LineFault>
+fn read_goals(alloc: Global, words: &mut Words<'_>) -> Result<Items<(Goal, GoalProof)>, LineFault>
     ensures { ReadsAll (flat_map goal_words) (All IsProved) words.old result }
 {
     let mut proofs = Items::new(alloc);
