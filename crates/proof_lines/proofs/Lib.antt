@@ -18,3 +18,4 @@ pub mod ItemParts
 pub mod Ordered
 pub mod GoalReads
 pub mod WitnessedReads
+pub mod Bodies

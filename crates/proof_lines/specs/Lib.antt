@@ -3,3 +3,4 @@ pub mod LineText
 pub mod Spaces
 pub mod Reading
 pub mod Witnessed
+pub mod Kinds

@@ -5,10 +5,12 @@
 #![tactic(auto)]
 
 mod append;
+mod body;
 mod constraint;
 mod goals;
 mod hints;
 mod images;
+mod kind;
 mod laws;
 mod lists;
 mod number;
