@@ -44,7 +44,7 @@ one_goal Strict Strict left right e = refl
 
 -- ---- proofs
 
-rup_pol : (a b : Words) → codes "rup" ∷ a ≡ codes "pol" ∷ b → ⊥
+pub rup_pol : (a b : Words) → codes "rup" ∷ a ≡ codes "pol" ∷ b → ⊥
 rup_pol a b e = heads_apart 114 112 _ _ refl (head_same _ _ _ _ e)
 
 pub one_proof : (p q : GoalProof) (r s : Words) → IsGoalProof p → IsGoalProof q → EndsPart r → EndsPart s → proof_words p ++ r ≡ proof_words q ++ s → (p ≡ q) × (r ≡ s)

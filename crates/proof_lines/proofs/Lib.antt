@@ -15,5 +15,8 @@ pub mod Spaced
 pub mod TokenParts
 pub mod OneLine
 pub mod ItemParts
+pub mod Ordered
+pub mod GoalReads
+pub mod WitnessedReads
 pub mod Bodies
 pub mod LineReading

@@ -70,13 +70,13 @@ fn take_goal(words: &mut Words<'_>) -> Option<Goal>
 fn goal_of(word: &[u8]) -> Option<Goal>
     ensures { IsValueOf goal_word IsGoal word.now result }
 {
+    if let [b'o', digits @ ..] = word {
+        let number = objective_of(digits)?;
+        return Some(Goal::Objective(number));
+    }
     match word {
         [b'c'] => Some(Goal::Itself),
         [b's'] => Some(Goal::Strict),
-        [b'o', digits @ ..] => {
-            let number = objective_of(digits)?;
-            Some(Goal::Objective(number))
-        }
         _ => {
             let id = id_of(word)?;
             Some(Goal::Row(id))

@@ -18,6 +18,7 @@ mod print;
 mod reader;
 mod terms;
 mod tokens;
+mod witnessed;
 mod words;
 
 pub use laws::one_line;
