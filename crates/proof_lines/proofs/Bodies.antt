@@ -12,7 +12,7 @@ use Rattle.hint_rup.specs.declared.hint.Hint.{Hint}
 use Rattle.proof_laws.specs.declared.goal.Goal.{Goal}
 use Rattle.proof_laws.specs.declared.goal.GoalProof.{GoalProof}
 use Rattle.proof_laws.specs.WellFormed.{AreTokens, AreRisingIds, AreRisingLiterals, AreProofs, IsConstraint, IsHint, IsId, IsSubstitution, IsToken, IsVariable}
-use Rattle.proof_lines.specs.declared.kind.Kind.TheVariants.{Pol, Rup, Learn, Def, Red, Dom, Sol, Del, Reduce}
+use Rattle.proof_lines.specs.declared.kind.Kind.TheVariants.{Pol, Def, Red, Dom, Sol}
 use Rattle.proof_lines.specs.declared.reader.LineFault.{LineFault}
 use Rattle.proof_lines.specs.declared.reader.LineFault.TheVariants.{Syntax, NoMemory}
 use Rattle.proof_lines.specs.LineText.{constraint_words, goal_words, hint_word, hinted_words, image_words, literal_word, token_words, variable_word, witnessed_words}
@@ -142,21 +142,3 @@ red_wrong NoMemory words none = tt
 pub dom_wrong : (f : LineFault) (words : Words) → ReadsAll words_of_witnessed IsWitnessed words (Err f) → ReadsBody Dom words (Err f)
 dom_wrong Syntax words none = λ goal witness proofs valid witness_valid proofs_valid e. none (goal, witness, proofs) (valid, witness_valid, proofs_valid) e
 dom_wrong NoMemory words none = tt
-
--- ---- kinds that share a reader
-
-pub rup_wrong : (f : LineFault) (words : Words) → ReadsHinted words (Err f) → ReadsBody Rup words (Err f)
-rup_wrong Syntax words none = none
-rup_wrong NoMemory words none = tt
-
-pub learn_wrong : (f : LineFault) (words : Words) → ReadsHinted words (Err f) → ReadsBody Learn words (Err f)
-learn_wrong Syntax words none = none
-learn_wrong NoMemory words none = tt
-
-pub del_wrong : (f : LineFault) (words : Words) → ReadsIds words (Err f) → ReadsBody Del words (Err f)
-del_wrong Syntax words none = none
-del_wrong NoMemory words none = tt
-
-pub reduce_wrong : (f : LineFault) (words : Words) → ReadsIds words (Err f) → ReadsBody Reduce words (Err f)
-reduce_wrong Syntax words none = none
-reduce_wrong NoMemory words none = tt
