@@ -1,5 +1,5 @@
 -- The words that items begin with, and that none of them is one that ends a part.
-use Rattle.std.proofs.Common.{◌≡◌, ◌≢◌, ℕ, ◌^◌, ◌<◌, ◌==◌, ◌||◌, Bool, true, false, List, [], ◌∷◌, ◌++◌, get_or, ℤ, pos, negsuc, refl, sym, ap, subst, ◌∙◌, arith, codes}
+use Rattle.std.proofs.Common.{◌≡◌, ◌≢◌, ℕ, ◌^◌, ◌<◌, ◌==◌, ◌||◌, Bool, true, false, List, [], ◌∷◌, ◌++◌, get_or, pos, negsuc, refl, sym, ap, subst, ◌∙◌, arith, codes}
 use Rattle.std.specs.Int.{IsInRange}
 use Rattle.std.specs.Fmt.{decimal}
 use Rattle.std.proofs.lemmas.Bool.Decides.{nat_tests}
@@ -7,7 +7,7 @@ use Rattle.std.proofs.lemmas.Int.{ints}
 use Rattle.scut_base.specs.Literal.{Literal}
 use Rattle.cutting_planes.specs.declared.token.PolToken.{PolToken}
 use Rattle.cutting_planes.specs.declared.token.PolToken.TheVariants.{Id, Axiom, Negated, Denied, Add, Mul, Div, Saturate, Weaken}
-use Rattle.proof_laws.specs.WellFormed.{IsToken, IsVariable}
+use Rattle.proof_laws.specs.WellFormed.{IsToken}
 use Rattle.proof_lines.specs.LineText.{literal_word, token_words, variable_word}
 use Rattle.proof_lines.specs.Reading.{EndsPart, first_letter}
 use Rattle.proof_lines.proofs.Numbers.{decimal_first}

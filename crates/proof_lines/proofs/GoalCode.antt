@@ -1,10 +1,7 @@
 -- How goals and their proofs are spelled tells them apart.
-use Rattle.std.proofs.Common.{◌≡◌, ℕ, ◌^◌, ◌<◌, List, [], ◌∷◌, ◌++◌, map, codes, sym, ap, refl, subst, ◌∙◌, arith}
-use Rattle.std.specs.List.{All, flat_map}
+use Rattle.std.proofs.Common.{◌≡◌, ℕ, ◌^◌, ◌<◌, List, [], ◌∷◌, ◌++◌, codes, sym, ap, refl, ◌∙◌, arith}
 use Rattle.std.specs.Fmt.{decimal}
 use Rattle.scut_base.proofs.Lists.{head_same, tail_same}
-use Rattle.cutting_planes.specs.declared.token.PolToken.{PolToken}
-use Rattle.hint_rup.specs.declared.hint.Hint.{Hint}
 use Rattle.proof_laws.specs.declared.goal.Goal.{Goal}
 use Rattle.proof_laws.specs.declared.goal.Goal.TheVariants.{Row, Itself, Objective, Strict}
 use Rattle.proof_laws.specs.declared.goal.GoalProof.{GoalProof}

@@ -1,11 +1,10 @@
 -- How images are spelled tells them apart.
-use Rattle.std.proofs.Common.{◌≡◌, ℕ, List, [], ◌∷◌, ◌++◌, sym, ap, refl, ◌∙◌, arith}
+use Rattle.std.proofs.Common.{◌≡◌, ℕ, [], ◌∷◌, ◌++◌, sym, ap, refl, ◌∙◌, arith}
 use Rattle.scut_base.proofs.Lists.{head_same, tail_same}
-use Rattle.scut_base.specs.Literal.{Literal}
 use Rattle.pb_lin.specs.declared.witness.Image.{Image}
 use Rattle.pb_lin.specs.declared.witness.Image.TheVariants.{Zero, One, Lit}
 use Rattle.proof_laws.specs.WellFormed.{IsImage}
-use Rattle.proof_lines.specs.LineText.{variable_word, image_word, image_words}
+use Rattle.proof_lines.specs.LineText.{image_word, image_words}
 use Rattle.proof_lines.specs.Reading.{EndsPart}
 use Rattle.proof_lines.specs.Witnessed.{IsImageOf}
 use Rattle.proof_lines.proofs.Items.{IsCode, Words}

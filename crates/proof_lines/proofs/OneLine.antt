@@ -15,9 +15,9 @@ use Rattle.proof_laws.specs.declared.line.Line.{Line}
 use Rattle.proof_laws.specs.declared.line.Line.TheVariants.{Pol, Rup, Learn, Def, Red, Dom, Sol, Del, Reduce, End}
 use Rattle.proof_laws.specs.WellFormed.{IsId, IsVariable, IsConstraint, IsToken, IsHint, IsSubstitution, AreProofs, IsWellFormed}
 use Rattle.proof_lines.specs.LineText.{SpellsLine, literal_word, constraint_words, token_words, hint_word, image_words, goal_words, hinted_words, witnessed_words, line_words, line_text}
-use Rattle.proof_lines.specs.Reading.{EndsPart, FollowsToken, IsTerm, term_words, words_of}
+use Rattle.proof_lines.specs.Reading.{EndsPart, FollowsToken, words_of}
 use Rattle.proof_lines.specs.Witnessed.{IsImageOf, IsProved}
-use Rattle.proof_lines.specs.Spaces.{kind_word, solution_words}
+use Rattle.proof_lines.specs.Spaces.{kind_word}
 use Rattle.proof_lines.proofs.Numbers.{one_number}
 use Rattle.proof_lines.proofs.Items.{Words, one_list}
 use Rattle.proof_lines.proofs.Codes.{AnyFollows, one_variable, id_code, literal_code, hint_code}

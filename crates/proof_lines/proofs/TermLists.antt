@@ -1,14 +1,14 @@
 -- Terms of a constraint: how they are kept, how they are spelled, and how they rise.
-use Rattle.std.proofs.Common.{◌≡◌, ℕ, zero, suc, ◌+◌, ◌<◌, ◌≤◌, ◌^◌, Bool, true, false, List, [], ◌∷◌, ◌++◌, map, length, get_or, Option, Some, None, Result, Ok, Err, refl, sym, ap, subst, ◌∙◌, arith}
-use Rattle.std.specs.List.{All, AllPairs, flat_map, sum_by}
+use Rattle.std.proofs.Common.{◌≡◌, ℕ, suc, ◌+◌, ◌<◌, ◌≤◌, ◌^◌, List, [], ◌∷◌, ◌++◌, length, get_or, refl, sym, ap, subst, ◌∙◌, arith}
+use Rattle.std.specs.List.{All, AllPairs, flat_map}
 use Rattle.std.specs.Fmt.{decimal}
 use Rattle.std.proofs.lemmas.List.{append-nil, append_assoc}
-use Rattle.std.proofs.lemmas.List.Elements.{All-nil, All-cons, All-head, All-tail, All-push, All-same, All-weaker, All-get_or}
+use Rattle.std.proofs.lemmas.List.Elements.{All-nil, All-cons, All-head, All-tail, All-push, All-get_or}
 use Rattle.std.proofs.lemmas.List.Sums.{sum_by-append}
 use Rattle.std.proofs.lemmas.List.Quantifiers.{all_pairs_push}
 use Rattle.scut_base.proofs.Lists.{head_same, tail_same}
 use Rattle.scut_base.specs.Literal.{Literal}
-use Rattle.pb_lin.specs.Constraint.{ConstraintValue, IsNormal, IsMerged, total, ones, literals}
+use Rattle.pb_lin.specs.Constraint.{ConstraintValue, IsNormal, total, ones, literals}
 use Rattle.pb_lin.proofs.Ones.{total_ones, AreOnes-ones, rising-literals}
 use Rattle.pb_lin.proofs.Merges.{rising_head, rising_tail}
 use Rattle.proof_laws.specs.WellFormed.{IsVariable, IsConstraint}

@@ -1,18 +1,16 @@
 -- What the words of a constraint with its witness don't spell.
-use Rattle.std.proofs.Common.{◌≡◌, ℕ, List, [], ◌∷◌, ◌++◌, Ok, Err, refl, sym, ap, subst, ◌∙◌}
+use Rattle.std.proofs.Common.{◌≡◌, [], ◌∷◌, ◌++◌, Ok, Err, refl, sym, subst, ◌∙◌}
 use Rattle.std.specs.List.{flat_map}
 use Rattle.std.proofs.lemmas.List.{append_assoc}
 use Rattle.scut_base.proofs.Lists.{tail_same}
 use Rattle.pb_lin.specs.Constraint.{ConstraintValue}
 use Rattle.pb_lin.specs.Substitution.{Images}
-use Rattle.proof_laws.specs.declared.goal.Goal.{Goal}
-use Rattle.proof_laws.specs.declared.goal.GoalProof.{GoalProof}
 use Rattle.proof_laws.specs.WellFormed.{IsConstraint, IsSubstitution, AreProofs}
 use Rattle.proof_lines.specs.declared.reader.LineFault.{LineFault}
 use Rattle.proof_lines.specs.declared.reader.LineFault.TheVariants.{Syntax, NoMemory}
-use Rattle.proof_lines.specs.LineText.{constraint_words, image_words, goal_words, witnessed_words}
+use Rattle.proof_lines.specs.LineText.{constraint_words, image_words, goal_words}
 use Rattle.proof_lines.specs.Reading.{BeginsWith, EndsPart, Reads, ReadsAll, ReadsPart}
-use Rattle.proof_lines.specs.Witnessed.{IsImageOf, Substituted, IsSubstituted, substituted_words, Witnessed, IsWitnessed, words_of_witnessed}
+use Rattle.proof_lines.specs.Witnessed.{IsImageOf, IsSubstituted, substituted_words, Witnessed, IsWitnessed, words_of_witnessed}
 use Rattle.proof_lines.proofs.Items.{Words, one_list}
 use Rattle.proof_lines.proofs.Codes.{AnyFollows}
 use Rattle.proof_lines.proofs.TermLists.{one_constraint}

@@ -1,9 +1,8 @@
 -- Parts of a line whose items are single words.
-use Rattle.std.proofs.Common.{◌≡◌, ℕ, List, [], ◌∷◌, ◌++◌, map, Option, Some, None, Result, Ok, Err, refl, sym, ap, subst, ◌∙◌}
+use Rattle.std.proofs.Common.{◌≡◌, ℕ, List, [], ◌∷◌, ◌++◌, map, Some, None, Ok, Err, refl, sym, ap, subst, ◌∙◌}
 use Rattle.std.specs.List.{All, flat_map}
 use Rattle.scut_base.proofs.Lists.{head_same, tail_same}
-use Rattle.proof_lines.specs.declared.reader.LineFault.{LineFault}
-use Rattle.proof_lines.specs.declared.reader.LineFault.TheVariants.{Syntax, NoMemory}
+use Rattle.proof_lines.specs.declared.reader.LineFault.TheVariants.{Syntax}
 use Rattle.proof_lines.specs.Reading.{EndsPart, IsValueOf, ReadsPart}
 use Rattle.proof_lines.proofs.Items.{IsCode, ItemsSoFar, Words, no_items_yet, one_item_more, no_item_here, one_list}
 use Rattle.proof_lines.proofs.Codes.{IsWordCode, AnyFollows, one_word}
