@@ -10,7 +10,7 @@ use Rattle.proof_lines.specs.Witnessed.{IsImageOf}
 use Rattle.proof_lines.proofs.Items.{IsCode, Words}
 use Rattle.proof_lines.proofs.Codes.{AnyFollows, heads_apart, one_variable, one_literal, no_literal}
 
-pub one_image : (i j : Image) → IsImage i → IsImage j → image_word i ≡ image_word j → i ≡ j
+one_image : (i j : Image) → IsImage i → IsImage j → image_word i ≡ image_word j → i ≡ j
 one_image Zero Zero left right e = refl
 one_image Zero One left right e = absurd (heads_apart 48 49 [] [] refl e)
 one_image Zero (Lit m) left right e = absurd (no_literal m (48 ∷ []) (λ first. omega arith) (sym e))

@@ -63,7 +63,7 @@ pub record SameWitnessed (c d : ConstraintValue) (w v : Images) (p q : List (Goa
   pub proofs : p ≡ q
 
 -- the images, and the proofs after them
-pub one_substitution : (w v : Images) (p q : List (Goal × GoalProof)) → IsSubstitution w → IsSubstitution v → AreProofs p → AreProofs q → flat_map image_words w ++ flat_map goal_words p ≡ flat_map image_words v ++ flat_map goal_words q → (w ≡ v) × (p ≡ q)
+one_substitution : (w v : Images) (p q : List (Goal × GoalProof)) → IsSubstitution w → IsSubstitution v → AreProofs p → AreProofs q → flat_map image_words w ++ flat_map goal_words p ≡ flat_map image_words v ++ flat_map goal_words q → (w ≡ v) × (p ≡ q)
 one_substitution w v p q left right proofs others e =
     let images = one_list image_words IsImageOf AnyFollows EndsPart image_code w v (flat_map goal_words p) (flat_map goal_words q) left.images right.images (goals_end p) (goals_end q) e in
     let goals = one_list goal_words IsProved EndsAfter IsEmpty proved_code p q [] [] (all_proved p proofs) (all_proved q others) refl refl (ended (flat_map goal_words p) (flat_map goal_words q) images.1) in
@@ -87,7 +87,7 @@ kinds_apart : (l m : Line) → sum (kind_word l) ≢ sum (kind_word m) → get_o
 kinds_apart l m apart first other e = apart (ap sum (sym first ∙ ap (λ ws. get_or ws 0 []) e ∙ other))
 
 -- lines of the same words are the same
-pub one_of_words : (l m : Line) → IsWellFormed l → IsWellFormed m → line_words l ≡ line_words m → l ≡ m
+one_of_words : (l m : Line) → IsWellFormed l → IsWellFormed m → line_words l ≡ line_words m → l ≡ m
 one_of_words (Pol tokens) (Pol others) left right e = ap Pol (one_tokens tokens others left.1 right.1 (tail_same _ _ _ _ e))
 one_of_words (Rup goal hints) (Rup other others) left right e =
     let both = one_hinted goal other hints others left.0 right.0 left.1 right.1 (tail_same _ _ _ _ e) in

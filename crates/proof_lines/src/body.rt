@@ -1,5 +1,5 @@
 // The words of a line after its first, for each kind of line.
-ghost use Rattle.proof_lines.specs.declared.kind.Kind.TheVariants.{Pol, Rup, Learn, Def, Red, Dom, Sol, Del, Reduce, End};
+ghost use Rattle.proof_lines.specs.declared.kind.Kind.TheVariants.{Def, End, Pol, Sol};
 ghost use Rattle.proof_lines.specs.Kinds.{ReadsBody, ReadsHinted, ReadsIds};
 
 use crate::LineFault;
