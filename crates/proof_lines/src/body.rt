@@ -1,5 +1,6 @@
 // The words of a line after its first: a reader for each kind of line.
-ghost use Rattle.proof_lines.specs.declared.kind.Kind.TheVariants.{Pol, Rup, Learn, Def, Red, Dom, Sol, Del, Reduce, End};
+ghost use Rattle.proof_lines.specs.declared.kind.Kind.TheVariants.{Pol, Rup, Learn, Def, Red};
+ghost use Rattle.proof_lines.specs.declared.kind.Kind.TheVariants.{Dom, Sol, Del, Reduce, End};
 ghost use Rattle.proof_lines.specs.Kinds.{ReadsBody, ReadsHinted, ReadsIds};
 
 use crate::LineFault;
