@@ -2,7 +2,7 @@
 use Rattle.std.proofs.Common.{◌≡◌, ℕ, List, [], ◌∷◌, ◌++◌, refl, sym, ap, subst, ◌∙◌}
 use Rattle.std.specs.List.{All, flat_map}
 use Rattle.std.proofs.lemmas.List.{append_assoc, append-nil}
-use Rattle.std.proofs.lemmas.List.Elements.{All-nil, All-head, All-tail, All-push, All-same}
+use Rattle.std.proofs.lemmas.List.Elements.{All-head, All-tail, All-push, All-same}
 
 abbrev pub Words : Type 0
 Words = List (List ℕ)
@@ -83,9 +83,6 @@ pub record ItemsSoFar {X : Type 0} (words : X → Words) (IsValid : X → Type 0
   pub is : old ≡ flat_map words items ++ new
   pub valid : All IsValid items
   pub ended : Ended Follows items new
-
-pub no_items_yet : {X : Type 0} (words : X → Words) (IsValid : X → Type 0) (Follows : X → Words → Type 0) (old : Words) → ItemsSoFar words IsValid Follows old old []
-no_items_yet words IsValid Follows old = record { is = refl; valid = All-nil IsValid; ended = tt }
 
 flat_map_push : {X : Type 0} (words : X → Words) (xs : List X) (x : X) (r : Words) → flat_map words (xs ++ x ∷ []) ++ r ≡ flat_map words xs ++ (words x ++ r)
 flat_map_push words [] x r = ap (λ t. t ++ r) (append-nil (words x))
