@@ -6,9 +6,14 @@
 #![tactic(auto)]
 
 mod fault;
+mod file_recorder;
+mod line_feeds;
 mod line_reader;
-mod print;
+mod opening;
+mod pending;
+mod printing;
 
 pub use fault::TextFault;
+pub use file_recorder::{FileRecorder, NotBegun};
 pub use line_reader::LineReader;
-pub use print::print;
+pub use printing::print;
