@@ -96,7 +96,7 @@ impl Pending {
         requires { IsLineOf self.old len }
         ensures { self.new ≡ drop (len + 1) self.old }
     {
-        self.at += len + 1;
+        self.at = self.at + len + 1;
         self.searched = 0;
     }
 

@@ -1,0 +1,5 @@
+pub mod OneLines
+pub mod Words
+pub mod Logs
+pub mod Searched
+pub mod Readings
