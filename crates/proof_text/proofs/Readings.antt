@@ -115,9 +115,9 @@ begins_next : (bytes rest text after : List ℕ) (lines : List Line) (line : Lin
 begins_next bytes rest text after lines line begins whole spells = record {
   formed = All-push IsWellFormed lines line begins.formed spells.formed;
   is = begins.is
-    ∙ ap (λ (t : List ℕ). log_text lines ++ t) (whole.is ∙ ap (λ (t : List ℕ). t ++ newline ∷ after) spells.is ∙ sym (append_assoc (line_text line) (newline ∷ []) after))
-    ∙ sym (append_assoc (log_text lines) (printed line) after)
-    ∙ ap (λ (t : List ℕ). t ++ after) (sym (log_text_push lines line));
+      ∙ ap (λ (t : List ℕ). log_text lines ++ t) (whole.is ∙ ap (λ (t : List ℕ). t ++ newline ∷ after) spells.is ∙ sym (append_assoc (line_text line) (newline ∷ []) after))
+      ∙ sym (append_assoc (log_text lines) (printed line) after)
+      ∙ ap (λ (t : List ℕ). t ++ after) (sym (log_text_push lines line));
 }
 
 begins_of : (r : ReaderValue) → r.wrong ≡ None → r.begun ≡ true → (bytes : List ℕ) (lines : List Line) → StandsFor r bytes lines → BeginsWith bytes lines r.rest

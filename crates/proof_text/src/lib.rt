@@ -7,6 +7,7 @@
 
 mod fault;
 mod file_recorder;
+mod laws;
 mod line_feeds;
 mod line_reader;
 mod opening;
@@ -15,5 +16,6 @@ mod printing;
 
 pub use fault::TextFault;
 pub use file_recorder::{FileRecorder, NotBegun};
+pub use laws::{no_fault_where_spelled, one_fault, one_log, printed_back};
 pub use line_reader::LineReader;
 pub use printing::print;
