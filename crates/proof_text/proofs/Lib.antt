@@ -3,3 +3,5 @@ pub mod Words
 pub mod Logs
 pub mod Searched
 pub mod Readings
+pub mod Replaying
+pub mod LogFiles

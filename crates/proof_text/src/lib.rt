@@ -7,9 +7,11 @@
 
 mod fault;
 mod file_recorder;
+mod keeping;
 mod laws;
 mod line_feeds;
 mod line_reader;
+mod mem_recorder;
 mod opening;
 mod pending;
 mod printing;
@@ -18,4 +20,5 @@ pub use fault::TextFault;
 pub use file_recorder::{FileRecorder, NotBegun};
 pub use laws::{no_fault_where_spelled, one_fault, one_log, printed_back};
 pub use line_reader::LineReader;
+pub use mem_recorder::MemRecorder;
 pub use printing::print;
