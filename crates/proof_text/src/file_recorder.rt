@@ -54,7 +54,7 @@ impl<'a, H: Shelf> Model for FileRecorder<'a, H> {
     } };
 
     ghost invariant = { λ r. IsHeld (H.files r.shelf.now) r.name.now
-      r.problem r.lines r.state r.broken };
+        r.problem r.lines r.state r.broken };
 }
 
 /// Why a log was not begun, with the shelf.

@@ -52,11 +52,7 @@ pub fn pop_last(lines: &mut Items<Line>)
 
 /// Takes up a line that is legal, and answers the first id that it makes, if it makes one. After
 /// `NoMemory` nothing has changed.
-pub fn advance(
-    problem: &PbProblem,
-    state: &mut ProofState,
-    line: &Line,
-) -> Result<u64, NoMemory>
+pub fn advance(problem: &PbProblem, state: &mut ProofState, line: &Line) -> Result<u64, NoMemory>
     requires fits { Fits problem.now state.old }
     requires formed { IsWellFormed line.now }
     requires legal { IsLegal problem.now state.old line.now }
