@@ -2,7 +2,7 @@
 ghost use Rattle.std.specs.Prelude.{◌≡◌, ◌↔◌, ◌≤◌, ◌^◌, ◌++◌, ◌∷◌, ◌+◌, [], true, false, length, MatchBool, IfOk, OnOk, OnErr, IsErrOf};
 ghost use Rattle.scut_base.specs.Faults.{Rose, one_more};
 ghost use Rattle.proof_laws.specs.WellFormed.{IsWellFormed};
-ghost use Rattle.proof_laws.specs.Legal.{IsLegal, IsNext};
+ghost use Rattle.proof_laws.specs.Legal.{IsLegal};
 ghost use Rattle.proof_rules.specs.Recording.{MayBeAdded, IsNextId};
 ghost use Rattle.proof_text.specs.Recorders.{no_lines, IsPlanned, Counts, IsKept};
 
