@@ -8,7 +8,7 @@ use Rattle.proof_laws.specs.WellFormed.{IsWellFormed}
 use Rattle.proof_laws.specs.declared.line.Line.{Line}
 use Rattle.proof_lines.specs.LineText.{line_text, printed, SpellsLine, SpellsNoLine}
 use Rattle.proof_text.specs.LogText.{header_text, header_line, log_text, BeginsWith, SpellsLog, IsOneLine, IsWholeLine, IsWholeLines, HasWrongHeader, IsSyntaxAt, IsWhole, IsUnfinishedAt, HoldsNoFurtherLine}
-use Rattle.proof_text.proofs.OneLines.{cons_same, same_line, not_one, not_empty, ends_one, whole_append}
+use Rattle.proof_text.proofs.OneLines.{nil_right, cons_same, same_line, not_one, not_empty, ends_one, whole_append}
 use Rattle.proof_text.proofs.Words.{one_from_plain, line_text-one}
 
 pub header_one : IsOneLine header_text
@@ -99,11 +99,7 @@ log_some lines rest e = not_empty header_text (flat_map printed lines ++ rest) (
 
 -- a text with no line feed behind whole lines is empty, where all is whole lines
 left_empty : (before text whole : List ℕ) → IsOneLine text → before ++ text ≡ whole → IsWholeLines whole → text ≡ []
-left_empty before text whole one e (inl none) = ends_nil before text (e ∙ none)
-  where
-    ends_nil : (a b : List ℕ) → a ++ b ≡ [] → b ≡ []
-    ends_nil [] b is = is
-    ends_nil (c ∷ a) b is = cc
+left_empty before text whole one e (inl none) = nil_right before text (e ∙ none)
 left_empty before text whole one e (inr front) = ends_one before text front.0 one (e ∙ front.1)
 
 -- and they don't end in the midst of one

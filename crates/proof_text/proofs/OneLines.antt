@@ -50,7 +50,7 @@ not_empty (c ∷ a) b e = cc
 
 -- ---- the last line feed
 
-nil_right : (a b : List ℕ) → a ++ b ≡ [] → b ≡ []
+pub nil_right : (a b : List ℕ) → a ++ b ≡ [] → b ≡ []
 nil_right [] b e = e
 nil_right (c ∷ a) b e = cc
 

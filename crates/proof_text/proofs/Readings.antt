@@ -1,14 +1,14 @@
 -- What a reader stands for after a piece more, and after a line more.
-use Rattle.std.proofs.Common.{◌≡◌, inl, inr, ℕ, zero, suc, ◌+◌, Bool, true, false, Option, None, Some, List, [], ◌∷◌, ◌++◌, length, take, drop, refl, sym, ap, subst, ◌∙◌, arith}
+use Rattle.std.proofs.Common.{◌≡◌, inl, inr, ℕ, zero, suc, ◌+◌, Bool, true, Option, None, Some, List, [], ◌∷◌, ◌++◌, length, take, drop, refl, sym, ap, subst, ◌∙◌, arith}
 use Rattle.std.specs.Option.{is_some}
-use Rattle.std.specs.List.{All, flat_map}
+use Rattle.std.specs.List.{flat_map}
 use Rattle.std.proofs.lemmas.List.{append-nil, append_assoc, length_push}
-use Rattle.std.proofs.lemmas.List.Elements.{All-nil, All-push}
+use Rattle.std.proofs.lemmas.List.Elements.{All-push}
 use Rattle.scut_base.specs.Bytes.{newline}
 use Rattle.proof_laws.specs.WellFormed.{IsWellFormed}
 use Rattle.proof_laws.specs.declared.line.Line.{Line}
-use Rattle.proof_lines.specs.LineText.{line_text, printed, SpellsLine, SpellsNoLine}
-use Rattle.proof_text.specs.LogText.{header_text, header_line, log_text, BeginsWith, IsWholeLine, IsWholeLines, HasWrongHeader, IsSyntaxAt, IsWhole, newlines, IsUnfinishedAt}
+use Rattle.proof_lines.specs.LineText.{line_text, printed, SpellsLine}
+use Rattle.proof_text.specs.LogText.{header_text, header_line, log_text, BeginsWith, IsWholeLine, IsWholeLines, IsSyntaxAt, IsWhole, newlines, IsUnfinishedAt}
 use Rattle.proof_text.specs.Cutting.{IsLineOf}
 use Rattle.proof_text.specs.Reading.{ReaderValue, HasRead, HasReadUpTo, StandsFor}
 use Rattle.proof_text.proofs.OneLines.{cut_last, whole_append, newlines-append, newlines-one}
@@ -48,10 +48,6 @@ wrong_more bytes piece (suc (suc n)) fault = record {
   wrong = fault.wrong;
 }
 
-read_more : (begun : Bool) (rest bytes piece : List ℕ) (lines : List Line) → HasRead begun rest bytes lines → HasRead begun (rest ++ piece) (bytes ++ piece) lines
-read_more true rest bytes piece lines read = begins_more bytes rest piece lines read
-read_more false rest bytes piece lines read = (read.0, ap (λ (t : List ℕ). t ++ piece) read.1)
-
 wrong_kept : (wrong : Option ℕ) (r : ReaderValue) (bytes piece : List ℕ) (lines : List Line) → is_some wrong ≡ true → HasReadUpTo wrong r bytes lines → HasReadUpTo wrong r (bytes ++ piece) lines
 wrong_kept None r bytes piece lines some read = cc
 wrong_kept (Some k) r bytes piece lines some read = (wrong_more bytes piece k read.0, read.1)
@@ -60,54 +56,9 @@ wrong_kept (Some k) r bytes piece lines some read = (wrong_more bytes piece k re
 pub fed_wrong : (r : ReaderValue) (bytes piece : List ℕ) (lines : List Line) → is_some r.wrong ≡ true → StandsFor r bytes lines → StandsFor r (bytes ++ piece) lines
 fed_wrong r bytes piece lines some stands = record { given = stands.given; read = wrong_kept r.wrong r bytes piece lines some stands.read }
 
-sound_read : (wrong : Option ℕ) (r : ReaderValue) (bytes : List ℕ) (lines : List Line) → is_some wrong ≡ false → HasReadUpTo wrong r bytes lines → HasRead r.begun r.rest bytes lines
-sound_read None r bytes lines sound read = read
-sound_read (Some k) r bytes lines sound read = cc
-
+-- a reader, part by part
 abbrev pub reader : ℕ → Bool → List ℕ → Option ℕ → ReaderValue
 reader given begun rest wrong = record { given = given; begun = begun; rest = rest; wrong = wrong }
-
-module _ (given : ℕ) (begun : Bool) (rest : List ℕ) (wrong : Option ℕ) (sound : is_some wrong ≡ false) where
-  unwrong : wrong ≡ None
-  unwrong = by wrong sound
-    where
-      by : (o : Option ℕ) → is_some o ≡ false → o ≡ None
-      by None e = refl
-      by (Some k) e = cc
-
-  read_of : (bytes : List ℕ) (lines : List Line) → StandsFor (reader given begun rest wrong) bytes lines → HasRead begun rest bytes lines
-  read_of bytes lines stands = sound_read wrong (reader given begun rest wrong) bytes lines sound stands.read
-
-  sound_stands : (g : ℕ) (b : Bool) (r bytes : List ℕ) (lines : List Line) → length lines ≡ g → HasRead b r bytes lines → StandsFor (reader g b r wrong) bytes lines
-  sound_stands g b r bytes lines count read = record {
-    given = count;
-    read = subst (λ (o : Option ℕ). HasReadUpTo o (reader g b r wrong) bytes lines) (sym unwrong) read;
-  }
-
-  -- nothing was taken off
-  pub fed_more : (bytes piece : List ℕ) (lines : List Line) → StandsFor (reader given begun rest wrong) bytes lines → StandsFor (reader given begun (rest ++ piece) wrong) (bytes ++ piece) lines
-  fed_more bytes piece lines stands = sound_stands given begun (rest ++ piece) (bytes ++ piece) lines stands.given (read_more begun rest bytes piece lines (read_of bytes lines stands))
-
-  -- the header was there
-  pub fed_header : begun ≡ false → (bytes piece left : List ℕ) (lines : List Line) → rest ++ piece ≡ header_line ++ left → StandsFor (reader given begun rest wrong) bytes lines → StandsFor (reader given true left wrong) (bytes ++ piece) lines
-  fed_header first bytes piece left lines is stands =
-      let read : HasRead false rest bytes lines = subst (λ (b : Bool). HasRead b rest bytes lines) first (read_of bytes lines stands) in
-      sound_stands given true left (bytes ++ piece) lines stands.given (record {
-        formed = subst (λ (ls : List Line). All IsWellFormed ls) (sym read.0) (All-nil IsWellFormed);
-        is = ap (λ (t : List ℕ). t ++ piece) read.1 ∙ is ∙ ap (λ (ls : List Line). log_text ls ++ left) (sym read.0);
-      })
-
-  -- another line was
-  pub fed_headless : begun ≡ false → (bytes piece : List ℕ) (lines : List Line) → HasWrongHeader (rest ++ piece) → StandsFor (reader given begun rest wrong) bytes lines → StandsFor (reader given begun [] (Some 1)) (bytes ++ piece) lines
-  fed_headless first bytes piece lines fault stands =
-      let read : HasRead false rest bytes lines = subst (λ (b : Bool). HasRead b rest bytes lines) first (read_of bytes lines stands) in
-      record {
-        given = stands.given;
-        read = (
-          subst (λ (t : List ℕ). HasWrongHeader t) (sym (ap (λ (t : List ℕ). t ++ piece) read.1)) fault,
-          subst (λ (ls : List Line). All IsWellFormed ls) (sym read.0) (All-nil IsWellFormed),
-        );
-      }
 
 -- ---- a line more
 
@@ -130,27 +81,11 @@ stands_by r sound begun bytes lines count begins = record {
 }
 
 module _ (old : ReaderValue) (sound : old.wrong ≡ None) (begun : old.begun ≡ true) (len : ℕ) (first : IsLineOf old.rest len) where
-  -- the line was given
+  -- the first whole line was given
   pub given_line : (new : ReaderValue) (line : Line) → SpellsLine (take len old.rest) line → new.given ≡ old.given + 1 → new.begun ≡ old.begun → new.rest ≡ drop (len + 1) old.rest → new.wrong ≡ old.wrong → (bytes : List ℕ) (lines : List Line) → StandsFor old bytes lines → StandsFor new bytes (lines ++ line ∷ [])
   given_line new line spells count still rest right bytes lines stands =
       let begins : BeginsWith bytes (lines ++ line ∷ []) (drop (len + 1) old.rest) = begins_next bytes old.rest (take len old.rest) (drop (len + 1) old.rest) lines line (begins_of old sound begun bytes lines stands) first.line spells in
       stands_by new (right ∙ sound) (still ∙ begun) bytes (lines ++ line ∷ []) (length_push lines line ∙ ap (λ (n : ℕ). n + 1) stands.given ∙ sym count) (subst (λ (t : List ℕ). BeginsWith bytes (lines ++ line ∷ []) t) (sym rest) begins)
-
-  -- it was wrong
-  pub wrong_line : SpellsNoLine (take len old.rest) → (bytes : List ℕ) (lines : List Line) → StandsFor old bytes lines → IsSyntaxAt bytes (old.given + 2)
-  wrong_line none bytes lines stands = subst (λ (k : ℕ). IsSyntaxAt bytes k) two (record {
-    lines = lines;
-    rest = old.rest;
-    begins = begins_of old sound begun bytes lines stands;
-    right = stands.given;
-    text = take len old.rest;
-    after = drop (len + 1) old.rest;
-    line = first.line;
-    wrong = none;
-  })
-    where
-      two : suc (suc old.given) ≡ old.given + 2
-      two = omega arith
 
 -- ---- the end
 

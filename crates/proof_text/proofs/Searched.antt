@@ -4,7 +4,7 @@ use Rattle.std.proofs.lemmas.List.{append_assoc, length-append, length-take-le, 
 use Rattle.scut_base.specs.Bytes.{newline}
 use Rattle.proof_text.specs.LogText.{IsOneLine}
 use Rattle.proof_text.specs.Cutting.{IsLineOf, IsSearched}
-use Rattle.proof_text.proofs.OneLines.{one_nil, one_append}
+use Rattle.proof_text.proofs.OneLines.{one_append}
 
 -- what a slice from a place on shows
 pub tail_is : (xs ys : List ℕ) (i : ℕ) → xs ≡ ys → take (length xs - i) (drop i xs) ≡ drop i ys
@@ -68,9 +68,3 @@ module _ (bytes : List ℕ) (at n : ℕ) (searched : IsSearched bytes at n) wher
         within = omega arith;
         one = subst (λ (t : List ℕ). IsOneLine t) (sym (take_all (length bytes - at) pending (omega (arith, length-drop at bytes)))) (found_none one);
       }
-
--- a place behind a line
-pub skipped : (bytes : List ℕ) (at len : ℕ) → IsLineOf (drop at bytes) len → IsSearched bytes (at + len + 1) 0
-skipped bytes at len line =
-    let short : len < length (drop at bytes) = line.short in
-    record { within = omega (arith, length-drop at bytes); one = one_nil }
