@@ -1,6 +1,6 @@
 -- An accepted list is the front.
-use Rattle.std.proofs.Common.{◌≡◌, ◌≢◌, ◌⊎◌, ℕ, ◌<◌, Bool, true, false, List, length, get_or, map, subst, sym, ap, ◌∙◌, ⊎_elim, ℤ}
-use Rattle.std.specs.Prelude.{All, AllPairs, Contains}
+use Rattle.std.proofs.Common.{◌≡◌, ◌≢◌, ◌⊎◌, ℕ, ◌<◌, Bool, true, false, List, length, get_or, subst, sym, ap, ◌∙◌, ⊎_elim, ℤ}
+use Rattle.std.specs.Prelude.{Contains}
 use Rattle.std.proofs.lemmas.Bool.{cases_Bool, cases_order}
 use Rattle.std.proofs.lemmas.List.{get_or_default, length-map}
 use Rattle.std.proofs.lemmas.List.Elements.{All-contains, All-weaker}
@@ -18,9 +18,9 @@ use Rattle.instance_normal.specs.NormalForm.{IsNormalFormOf}
 use Rattle.instance_normal.specs.Tightened.{tightened}
 use Rattle.instance_normal.proofs.Models.{model_extends}
 use Rattle.pb_lin.specs.Problem.{ProblemValue, IsProblem, problem_costs}
-use Rattle.proof_laws.specs.State.{StateValue, IsLogged, IsReached}
+use Rattle.proof_laws.specs.State.{IsLogged, IsReached}
 use Rattle.proof_laws.proofs.NextKept.{replay_law, ended_law}
-use Rattle.log_checker.specs.Accepted.{IsRightModel, AreIncomparable, IsRightList, IsCovered, IsEndedProof, problem_vectors, IsAccepted}
+use Rattle.log_checker.specs.Accepted.{IsRightModel, IsRightList, IsCovered, IsEndedProof, problem_vectors, IsAccepted}
 
 module _ (i : InstanceValue) where
   abbrev pub HasNumbers : List ℤ → Type 0
@@ -132,5 +132,5 @@ accepted_front i list log limits accepted = (
   accepted.entries,
   accepted.spelled.is,
   right_list_is_front i accepted.entries accepted.right
-  (covered_below i accepted.problem (problem_vectors i accepted.entries) log limits accepted.normal accepted.within accepted.proof),
+      (covered_below i accepted.problem (problem_vectors i accepted.entries) log limits accepted.normal accepted.within accepted.proof),
 )

@@ -1,11 +1,11 @@
 -- How the entries of a list are judged; nothing of it has to be believed.
-use Rattle.std.specs.Prelude.{◌≡◌, ℕ, ◌+◌, ◌-◌, ◌≤◌, Bool, ◌||◌, nat_le, if◌then◌else◌, List, ◌∷◌, ◌++◌, length, ℤ}
+use Rattle.std.specs.Prelude.{◌≡◌, ℕ, ◌+◌, ◌-◌, Bool, All, ◌||◌, nat_le, if◌then◌else◌, List, ◌∷◌, ◌++◌, length, ℤ}
 use Rattle.std.specs.List.{list_any}
 use Rattle.front_set.specs.declared.entry.Entry.{Entry}
 use Rattle.instance.specs.declared.objective.Objective.{Objective}
 use Rattle.instance.specs.Shape.{InstanceValue}
 use Rattle.instance.specs.ParetoFront.{weakly_dominates}
-use Rattle.log_checker.specs.Accepted.{IsRightList}
+use Rattle.log_checker.specs.Accepted.{IsRightList, AreIncomparable}
 use Rattle.log_checker.specs.ListFaults.{IsEntryFault}
 use Rattle.log_checker.specs.declared.fault.ListWhy.{ListWhy}
 
@@ -30,3 +30,7 @@ any_comparable os entries costs = list_any (λ e. are_comparable os e.costs cost
 -- the first entry with which a further one is compared
 abbrev pub compared_from : List Objective → List Entry → ℕ
 compared_from os before = if nat_le (length os) 2 then length before - 1 else 0
+
+-- the entry is incomparable to each of these
+abbrev pub IsApartFrom : InstanceValue → List Entry → Entry → Type 0
+IsApartFrom i before e = All (λ f. AreIncomparable i f.costs e.costs) before

@@ -1,5 +1,5 @@
 // The list: models with their costs, rising and incomparable.
-ghost use Rattle.std.specs.Prelude.{◌≡◌, ◌↔◌, ℕ, ◌∷◌, [], ◌++◌, true, All, IsTrue, OnOk, IfOk, None, Some, Err, Ok};
+ghost use Rattle.std.specs.Prelude.{◌≡◌, ◌↔◌, ℕ, ◌∷◌, [], ◌++◌, ◌≤◌, length, true, false, All, IsTrue, OnOk, IfOk, None, Some, Err, Ok};
 ghost use Rattle.front_text.specs.Spelling.{Spells, HasCosts};
 ghost use Rattle.instance.specs.Shape.{InstanceValue};
 ghost use Rattle.instance.specs.ParetoFront.{AreProblemVectors, IsProblemVector};
@@ -8,17 +8,16 @@ ghost use Rattle.front_set.specs.Vector.{AreRising};
 ghost use Rattle.front_set.specs.Front.{vectors_of};
 ghost use Rattle.log_checker.specs.declared.fault.ListWhy.{ListWhy};
 ghost use Rattle.log_checker.specs.Accepted.{IsRightList, IsRightModel, problem_vectors};
-ghost use Rattle.log_checker.specs.ListFaults.{ComesAfter, IsEntryFault, IsListFault};
-ghost use Rattle.log_checker.specs.ListJudging.{IsFirstWrong};
+ghost use Rattle.log_checker.specs.ListFaults.{ComesAfter, HasComparable, IsEntryFault, IsListFault};
+ghost use Rattle.log_checker.specs.ListJudging.{IsApartFrom, IsFirstWrong, compared_from};
 
 use crate::dominance::any_comparable;
 use crate::{CheckFault, ListWhy};
 use front_set::{CostVec, Entry};
 use front_text::{FrontList, ListFault, read_list};
-use instance::Instance;
+use instance::{Instance, Objective};
 use scut_base::{Items, NoMemory};
 use std::alloc::Global;
-use std::cmp::Ordering;
 
 /// Reads the list of a complete front, and checks each entry against the instance and the entries before. A refusal
 /// names the first entry that is wrong.
@@ -118,11 +117,7 @@ fn entry_fault(
 }
 
 // What is wrong with an entry wherever it stands.
-fn model_fault(
-    alloc: Global,
-    inst: &Instance,
-    entry: &Entry,
-) -> Result<Option<ListWhy>, NoMemory>
+fn model_fault(alloc: Global, inst: &Instance, entry: &Entry) -> Result<Option<ListWhy>, NoMemory>
     ensures right { result ≡ Ok None → IsRightModel inst.now entry.now }
     ensures vector { result ≡ Ok None → IsProblemVector inst.now entry.now.costs }
     ensures wrong { (why : ListWhy) → result ≡ Ok (Some why)
@@ -132,10 +127,16 @@ fn model_fault(
         return Ok(Some(ListWhy::NotModel));
     }
     let costs = inst.costs(alloc, &entry.model)?;
-    if costs.as_slice() != entry.costs.as_slice() {
+    if !are_same(&costs, &entry.costs) {
         return Ok(Some(ListWhy::Costs));
     }
     Ok(None)
+}
+
+fn are_same(one: &CostVec, other: &CostVec) -> bool
+    ensures { IsTrue result ↔ (one.now ≡ other.now) }
+{
+    one.as_slice() == other.as_slice()
 }
 
 // What is wrong with the place of an entry, which is right itself.
@@ -149,18 +150,36 @@ fn place_fault(inst: &Instance, before: &[Entry], entry: &Entry) -> Option<ListW
     if !comes_after(before, entry) {
         return Some(ListWhy::Order);
     }
-    // One objective or two: where the entries rise in the first number, the second numbers go one way,
-    // so that the entry before tells for all.
-    let objectives = inst.objectives.as_slice();
-    let from = if objectives.len() <= 2 {
-        before.len().saturating_sub(1)
-    } else {
-        0
-    };
-    if any_comparable(objectives, &before[from..], &entry.costs) {
+    if has_comparable(inst, before, entry) {
         return Some(ListWhy::Comparable);
     }
     None
+}
+
+// Whether some entry before is comparable to this one, which comes after them.
+fn has_comparable(inst: &Instance, before: &[Entry], entry: &Entry) -> bool
+    requires before { IsRightList inst.now before.now }
+    requires entry { IsRightModel inst.now entry.now }
+    requires after { ComesAfter before.now entry.now }
+    ensures found { IsTrue result → HasComparable inst.now before.now entry.now }
+    ensures none { result ≡ false → IsApartFrom inst.now before.now entry.now }
+{
+    let objectives = inst.objectives.as_slice();
+    let from = compared_from(objectives, before);
+    any_comparable(objectives, &before[from..], &entry.costs)
+}
+
+// With one objective or two the entries turn one way: where the first numbers rise, the second ones
+// all rise or all fall, so that the entry before tells for all.
+fn compared_from(objectives: &[Objective], before: &[Entry]) -> usize
+    ensures from { result ≡ compared_from objectives.now before.now }
+    ensures within { result ≤ length before.now }
+{
+    if objectives.len() <= 2 {
+        before.len().saturating_sub(1)
+    } else {
+        0
+    }
 }
 
 // Whether the entry comes after rising ones in lexicographic order.
@@ -169,7 +188,7 @@ fn comes_after(before: &[Entry], entry: &Entry) -> bool
     ensures { IsTrue result ↔ ComesAfter before.now entry.now }
 {
     match before.last() {
-        Some(last) => last.costs.cmp(&entry.costs) == Ordering::Less,
+        Some(last) => last.costs.cmp(&entry.costs).is_lt(),
         None => true,
     }
 }
