@@ -7,3 +7,4 @@ pub mod ListFaults
 pub mod ListJudging
 pub mod LogFaults
 pub mod Checking
+pub mod Judging

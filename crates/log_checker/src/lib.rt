@@ -9,6 +9,7 @@
 mod checker;
 mod dominance;
 mod fault;
+mod judging;
 mod laws;
 mod list;
 

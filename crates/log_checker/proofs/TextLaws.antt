@@ -1,0 +1,5 @@
+-- What the crates below prove of the texts of lines.
+use Rattle.log_checker.proofs.Texts.{LineTexts}
+
+pub line_texts : LineTexts
+line_texts = ?
