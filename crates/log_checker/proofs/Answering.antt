@@ -11,13 +11,15 @@ use Rattle.proof_laws.specs.Replay.{IsReplay}
 use Rattle.proof_laws.specs.declared.line.Line.{Line}
 use Rattle.proof_laws.specs.declared.why.Why.{Why}
 use Rattle.proof_laws.specs.declared.why.Why.TheVariants.{Syntax, NoEnd}
+use Rattle.proof_rules.specs.declared.fault.StepFault.{StepFault}
+use Rattle.proof_rules.specs.declared.fault.StepFault.TheVariants.{Refused as Illegal}
 use Rattle.proof_lines.specs.LineText.{line_text, printed}
 use Rattle.proof_text.specs.LogText.{log_text, header_line, BeginsWith, IsSyntaxAt, IsUnfinishedAt, HoldsNoFurtherLine, IsWhole}
-use Rattle.proof_text.specs.Reading.{ReaderValue, HasRead, HasReadUpTo, HasGiven, StandsFor as ReaderStandsFor}
+use Rattle.proof_text.specs.Reading.{ReaderValue, HasRead, HasReadUpTo, HasGiven, GivesNext, StandsFor as ReaderStandsFor}
 use Rattle.log_checker.specs.Accepted.{IsEndedProof}
 use Rattle.log_checker.specs.LogFaults.{IsLineFault, IsWholeFault, HasNoWholeFault, IsLogFault}
 use Rattle.log_checker.specs.Checking.{CheckerValue, HasTaken, IsFaultBy, HasJudged, StandsFor}
-use Rattle.log_checker.specs.Judging.{IsUnderway, IsWholeReason, IsLogReason, JudgesLines, JudgesEnd, left, left_by, earlier, noted}
+use Rattle.log_checker.specs.Judging.{IsUnderway, IsLineReason, JudgesLines, JudgesEnd, left, left_by, earlier, noted}
 use Rattle.log_checker.specs.declared.fault.CheckFault.{CheckFault}
 use Rattle.log_checker.specs.declared.fault.CheckFault.TheVariants.{Refused, ListRefused, NoMemory}
 use Rattle.log_checker.proofs.Stepping.{AreCovered, leads_more, replay_count}
@@ -38,6 +40,12 @@ given r bytes lines stands = by r.wrong stands.read
 
 pub right_upto : (r : ReaderValue) (bytes : List ℕ) (lines : List Line) (k : ℕ) → ReaderStandsFor r bytes lines → r.wrong ≡ Some k → k ≤ length lines + 2
 right_upto r bytes lines k stands is = (let h : HasReadUpTo (Some k) r bytes lines = subst (λ (o : Option ℕ). HasReadUpTo o r bytes lines) is stands.read in h.1)
+
+pub gives_line : (new : ReaderValue) (bytes : List ℕ) (lines : List Line) (o : Option Line) (line : Line) → o ≡ Some line → GivesNext new bytes lines o → ReaderStandsFor new bytes (lines ++ line ∷ [])
+gives_line new bytes lines o line is given' = (let h : GivesNext new bytes lines (Some line) = subst (λ (x : Option Line). GivesNext new bytes lines x) is given' in h)
+
+pub reason_is : (p : ProblemValue) (vectors : List (List ℤ)) (s : StateValue) (line : Line) (f : StepFault) (why : Why) → f ≡ Illegal why → IsLineReason p vectors s line f → IsLineFault p vectors s line why
+reason_is p vectors s line f why is reason = (let h : IsLineReason p vectors s line (Illegal why) = subst (λ (x : StepFault). IsLineReason p vectors s line x) is reason in h)
 
 no_push : (lines : List Line) (line : Line) → lines ++ line ∷ [] ≡ [] → ⊥
 no_push [] line e = cc
@@ -206,3 +214,17 @@ noted_finished c new answer bytes is finished kept judged stands = subst (λ (d 
     by (Err (Refused n why)) k h = subst (λ (b : Bool). IsFaultBy b c.problem c.vectors bytes n why) (sym finished) h
     by (Err (ListRefused entry why)) k h = absurd h
     by (Err NoMemory) k h = absurd (k refl)
+
+-- what the parts answer, where the checker has refused nothing
+pub judged_fed : (c : CheckerValue) (vectors : List (List ℤ)) (r : ReaderValue) (s : StateValue) (bytes fed : List ℕ) (answer : Result (Unit {0}) CheckFault) → vectors ≡ c.vectors → c.refused ≡ None →
+    ((lines : List Line) → IsUnderway c.problem vectors c.reader c.state bytes lines → JudgesLines c.problem vectors r s fed answer) → StandsFor c bytes → JudgesLines c.problem c.vectors r s fed answer
+judged_fed c vectors r s bytes fed answer is none judges stands =
+    let u = stands_underway c bytes none stands in
+    subst (λ (vs : List (List ℤ)). JudgesLines c.problem vs r s fed answer) is (judges u.0 (subst (λ (vs : List (List ℤ)). IsUnderway c.problem vs c.reader c.state bytes u.0) (sym is) u.1))
+
+pub judged_ended : (c : CheckerValue) (bytes : List ℕ) (answer : Result (Unit {0}) CheckFault) → c.refused ≡ None →
+    ((lines : List Line) → IsUnderway c.problem c.vectors c.reader c.state bytes lines → HoldsNoFurtherLine bytes lines → JudgesEnd c.problem c.vectors bytes answer) → StandsFor c bytes → JudgesEnd c.problem c.vectors bytes answer
+judged_ended c bytes answer none judges stands = let t = stands_taken c bytes none stands in judges t.0 (taken_underway c bytes t.0 t.1) t.1.all
+
+pub lines_have_no_fault : (texts : LineTexts) (p : ProblemValue) (vectors : List (List ℤ)) (r : ReaderValue) (s : StateValue) (bytes : List ℕ) → JudgesLines p vectors r s bytes (Ok tt) → HasNoWholeFault p vectors bytes
+lines_have_no_fault texts p vectors r s bytes h = no_whole_fault texts p vectors bytes h.0 s h.1.replay h.1.covered h.2
