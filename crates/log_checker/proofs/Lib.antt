@@ -6,3 +6,4 @@ pub mod Texts
 pub mod Faults
 pub mod TextLaws
 pub mod Answering
+pub mod ListLaws
