@@ -4,8 +4,23 @@
 //! puts that text at the end of another. A text is that of one line at most. It knows no log and no state.
 #![tactic(auto)]
 
+mod append;
+mod body;
+mod constraint;
+mod goals;
+mod hints;
+mod images;
+mod kind;
+mod laws;
+mod lists;
+mod number;
 mod print;
 mod reader;
+mod terms;
+mod tokens;
+mod witnessed;
+mod words;
 
+pub use laws::one_line;
 pub use print::append_line;
-pub use reader::{LineFault, one_line, read_line};
+pub use reader::{LineFault, read_line};

@@ -1,8 +1,10 @@
 // The reader of a line.
-ghost use Rattle.std.specs.Prelude.{◌≡◌, ℕ, List, IfOk, IsErrOf};
-ghost use Rattle.proof_laws.specs.declared.line.Line.{Line};
+ghost use Rattle.std.specs.Prelude.{IfOk, IsErrOf};
 ghost use Rattle.proof_lines.specs.LineText.{SpellsLine, SpellsNoLine};
 
+use crate::body::read_body;
+use crate::kind::kind_of;
+use crate::words::Words;
 use proof_laws::Line;
 use scut_base::NoMemory;
 use std::alloc::Global;
@@ -32,14 +34,16 @@ impl From<NoMemory> for LineFault {
 
 /// Reads the line whose text, without its line feed, the bytes are; `Syntax` exactly where they are the text
 /// of none. One pass; takes memory for the line.
-pub fn read_line(_alloc: Global, _text: &[u8]) -> Result<Line, LineFault>
-    ensures spelled { IfOk result (SpellsLine _text.now) }
-    ensures syntax { IsErrOf result LineFault.Syntax → SpellsNoLine _text.now }
+pub fn read_line(alloc: Global, text: &[u8]) -> Result<Line, LineFault>
+    ensures spelled { IfOk result (SpellsLine text.now) }
+    ensures syntax { IsErrOf result LineFault.Syntax → SpellsNoLine text.now }
 {
-    Err(LineFault::NoMemory)
+    let mut words = Words::new(text);
+    let Some(word) = words.next() else {
+        return Err(LineFault::Syntax);
+    };
+    let Some(kind) = kind_of(word) else {
+        return Err(LineFault::Syntax);
+    };
+    read_body(alloc, kind, &mut words)
 }
-
-/// Law: a text is that of one line at most.
-pub fn one_line()
-    ensures { (text : List ℕ) (l m : Line) → SpellsLine text l → SpellsLine text m → l ≡ m }
-{}

@@ -1,0 +1,112 @@
+-- The reader of a line.
+use Rattle.std.proofs.Common.{◌≡◌, ◌≢◌, ℕ, Bool, true, false, cond, ◌==◌, List, [], ◌∷◌, ◌++◌, Option, Some, None, Result, Ok, Err, sum, refl, sym, ap, subst, ◌∙◌, arith}
+use Rattle.std.specs.Prelude.{IfOk, IsErrOf}
+use Rattle.std.specs.List.{flat_map, slice_split, onto_first}
+use Rattle.std.proofs.lemmas.Bool.{eqb-true}
+use Rattle.scut_base.proofs.Lists.{head_same, tail_same}
+use Rattle.proof_laws.specs.declared.line.Line.{Line}
+use Rattle.proof_laws.specs.declared.line.Line.TheVariants.{Pol, Rup, Learn, Def, Red, Dom, Sol, Del, Reduce, End}
+use Rattle.proof_laws.specs.WellFormed.{IsWellFormed}
+use Rattle.proof_lines.specs.declared.kind.Kind.{Kind}
+use Rattle.proof_lines.specs.declared.kind.Kind.TheVariants.{Pol as PolKind, Rup as RupKind, Learn as LearnKind, Def as DefKind, Red as RedKind, Dom as DomKind, Sol as SolKind, Del as DelKind, Reduce as ReduceKind, End as EndKind}
+use Rattle.proof_lines.specs.declared.reader.LineFault.{LineFault}
+use Rattle.proof_lines.specs.declared.reader.LineFault.TheVariants.{Syntax, NoMemory}
+use Rattle.proof_lines.specs.LineText.{SpellsLine, SpellsNoLine, line_words, spaced}
+use Rattle.proof_lines.specs.Spaces.{kind_word, later_words}
+use Rattle.proof_lines.specs.Reading.{IsValueOf, is_space, words_of}
+use Rattle.proof_lines.specs.Kinds.{IsNoBody, ReadsBody, word_of}
+use Rattle.proof_lines.proofs.Items.{Words}
+use Rattle.proof_lines.proofs.Cutting.{some_word}
+use Rattle.proof_lines.proofs.Spaced.{words_of-line}
+
+-- ---- the text of its words
+
+spaced_onto : (b : ℕ) (words : Words) → (words ≡ [] → ⊥) → spaced (onto_first b words) ≡ b ∷ spaced words
+spaced_onto b [] some = absurd (some refl)
+spaced_onto b (w ∷ ws) some = refl
+
+spaced_cons : (words : Words) → (words ≡ [] → ⊥) → spaced ([] ∷ words) ≡ 32 ∷ spaced words
+spaced_cons [] some = absurd (some refl)
+spaced_cons (w ∷ ws) some = refl
+
+-- a text is that of its words
+pub spaced_words : (text : List ℕ) → spaced (words_of text) ≡ text
+spaced_words [] = refl
+spaced_words (b ∷ text) = by (is_space b) refl
+  where
+    by : (v : Bool) → is_space b ≡ v → spaced (cond v ([] ∷ words_of text) (onto_first b (words_of text))) ≡ b ∷ text
+    by true is = spaced_cons (words_of text) (some_word text) ∙ ap (λ t. 32 ∷ t) (spaced_words text) ∙ ap (λ c. c ∷ text) (sym (eqb-true b 32 is))
+    by false is = spaced_onto b (words_of text) (some_word text) ∙ ap (λ t. b ∷ t) (spaced_words text)
+
+-- ---- the kinds of lines
+
+kind_of_line : Line → Kind
+kind_of_line (Pol tokens) = PolKind
+kind_of_line (Rup goal hints) = RupKind
+kind_of_line (Learn goal hints) = LearnKind
+kind_of_line (Def var sum) = DefKind
+kind_of_line (Red goal witness proofs) = RedKind
+kind_of_line (Dom goal witness proofs) = DomKind
+kind_of_line (Sol model cut rows) = SolKind
+kind_of_line (Del ids) = DelKind
+kind_of_line (Reduce ids) = ReduceKind
+kind_of_line (End id) = EndKind
+
+first_of_line : (line : Line) → line_words line ≡ word_of (kind_of_line line) ∷ later_words line
+first_of_line (Pol tokens) = refl
+first_of_line (Rup goal hints) = refl
+first_of_line (Learn goal hints) = refl
+first_of_line (Def var sum) = refl
+first_of_line (Red goal witness proofs) = refl
+first_of_line (Dom goal witness proofs) = refl
+first_of_line (Sol model cut rows) = refl
+first_of_line (Del ids) = refl
+first_of_line (Reduce ids) = refl
+first_of_line (End id) = refl
+
+kinds_apart : (kind : Kind) (line : Line) (words : Words) → sum (word_of kind) ≢ sum (word_of (kind_of_line line)) → word_of kind ∷ words ≡ line_words line → ⊥
+kinds_apart kind line words apart e = apart (ap sum (head_same _ _ _ _ (e ∙ first_of_line line)))
+
+-- words that are no body of a kind, after the word of that kind, are no line's
+no_line_of : (kind : Kind) (words : Words) (line : Line) → IsNoBody kind words → IsWellFormed line → word_of kind ∷ words ≡ line_words line → ⊥
+no_line_of PolKind words (Pol tokens) none formed e = none tokens formed (tail_same _ _ _ _ e)
+no_line_of RupKind words (Rup goal hints) none formed e = none goal hints formed.0 formed.1 (tail_same _ _ _ _ e)
+no_line_of LearnKind words (Learn goal hints) none formed e = none goal hints formed.0 formed.1 (tail_same _ _ _ _ e)
+no_line_of DefKind words (Def var sum) none formed e = none var sum formed.0 formed.1 (tail_same _ _ _ _ e)
+no_line_of RedKind words (Red goal witness proofs) none formed e = none goal witness proofs formed.0 formed.1 formed.2 (tail_same _ _ _ _ e)
+no_line_of DomKind words (Dom goal witness proofs) none formed e = none goal witness proofs formed.0 formed.1 formed.2 (tail_same _ _ _ _ e)
+no_line_of SolKind words (Sol model cut rows) none formed e = none model cut rows formed.0 formed.1 formed.2 (tail_same _ _ _ _ e)
+no_line_of DelKind words (Del ids) none formed e = none ids formed (tail_same _ _ _ _ e)
+no_line_of ReduceKind words (Reduce ids) none formed e = none ids formed (tail_same _ _ _ _ e)
+no_line_of EndKind words (End id) none formed e = none id formed (tail_same _ _ _ _ e)
+no_line_of kind words line none formed e = kinds_apart kind line words (λ same. omega arith) e
+
+-- ---- the reader
+
+-- the words of the text that a line has
+words_are : (text : List ℕ) (line : Line) → SpellsLine text line → words_of text ≡ line_words line
+words_are text line spelled = ap words_of spelled.is ∙ words_of-line line spelled.formed
+
+pub line_read : (text word : List ℕ) (rest : Words) (kind : Kind) (line : Line) → words_of text ≡ word ∷ rest → word ≡ word_of kind → IsWellFormed line × (word_of kind ∷ rest ≡ line_words line) → SpellsLine text line
+line_read text word rest kind line cut is read = record {
+  formed = read.0;
+  is = sym (spaced_words text) ∙ ap spaced (cut ∙ ap (λ w. w ∷ rest) is ∙ read.1);
+}
+
+pub no_line : (text word : List ℕ) (rest : Words) (kind : Kind) → words_of text ≡ word ∷ rest → word ≡ word_of kind → IsNoBody kind rest → SpellsNoLine text
+no_line text word rest kind cut is none = λ line spelled.
+    no_line_of kind rest line none spelled.formed (ap (λ w. w ∷ rest) (sym is) ∙ sym cut ∙ words_are text line spelled)
+
+-- a word of no kind begins no line
+pub no_kind : (text word : List ℕ) (rest : Words) → words_of text ≡ word ∷ rest → IsValueOf word_of (λ kind. Unit {0}) word None → SpellsNoLine text
+no_kind text word rest cut none = λ line spelled.
+    none (kind_of_line line) tt (head_same _ _ _ _ (sym cut ∙ words_are text line spelled ∙ first_of_line line))
+
+pub body_spelled : (text word : List ℕ) (rest : Words) (kind : Kind) (r : Result Line LineFault) → words_of text ≡ word ∷ rest → word ≡ word_of kind → ReadsBody kind rest r → IfOk r (SpellsLine text)
+body_spelled text word rest kind (Ok line) cut is read = line_read text word rest kind line cut is read
+body_spelled text word rest kind (Err f) cut is read = tt
+
+pub body_syntax : (text word : List ℕ) (rest : Words) (kind : Kind) (r : Result Line LineFault) → words_of text ≡ word ∷ rest → word ≡ word_of kind → ReadsBody kind rest r → IsErrOf r Syntax → SpellsNoLine text
+body_syntax text word rest kind (Ok line) cut is read fault = cc
+body_syntax text word rest kind (Err Syntax) cut is read fault = no_line text word rest kind cut is read
+body_syntax text word rest kind (Err NoMemory) cut is read fault = cc

@@ -1,0 +1,29 @@
+use Rattle.std.proofs.Common.{◌≡◌, List, ℕ, [], ◌∷◌, refl, sym, ap, subst, ◌∙◌, arith}
+use Rattle.std.proofs.lemmas.Bool.{false≢true}
+use Rattle.proof_lines.specs.Reading.{IsTerm, term_words}
+use Rattle.proof_lines.proofs.Codes.{AnyFollows, texts_apart}
+use Rattle.proof_lines.proofs.Items.{ItemsSoFar, one_item_more}
+use Rattle.proof_lines.proofs.TermLists.{IsSum, sum_pushed, no_bound, no_term_here, wrong_term_here}
+use Rattle.proof_lines.proofs.constraint.read_terms.Goals as goal
+
+pub returns-in_default-take_term : goal.returns-in_default-take_term
+returns-in_default-take_term c =
+    no_term_here c.args.words.now c.loop-word.words c.next.new.self c.in-Some.word.now c.loop-word.terms c.loop-word.invariant.so_far c.in-Some.ensures
+    (texts_apart c.in-Some.word.now c.as_slice.result.now (62 ∷ 61 ∷ []) c.eq.result c.eq.ensures c.as_slice.ensures c.if-eq.false)
+    c.in_default-take_term.ensures
+
+pub returns-then-not-may_follow : goal.returns-then-not-may_follow
+returns-then-not-may_follow c =
+    wrong_term_here c.args.words.now c.loop-word.words c.take_term.new.words c.loop-word.terms c.loop-word.last c.loop-word.sum c.in-Some-take_term.term c.loop-word.invariant.so_far c.loop-word.invariant.sum c.in-Some-take_term.ensures.0
+    (c.in-Some.ensures ∙ c.in-Some-take_term.ensures.1)
+    (λ follows. absurd (false≢true (c.if-not-may_follow.ensures.1 follows)))
+
+pub loop-word-preserved : goal.loop-word-preserved
+loop-word-preserved c = record {
+  so_far = subst (λ ts. ItemsSoFar term_words IsTerm AnyFollows c.args.words.now c.take_term.new.words ts) (sym c.in_ok-push.ensures)
+      (one_item_more term_words IsTerm AnyFollows c.args.words.now c.loop-word.words c.take_term.new.words c.loop-word.terms c.in-Some-take_term.term c.loop-word.invariant.so_far c.in-Some-take_term.ensures.0 (c.in-Some.ensures ∙ c.in-Some-take_term.ensures.1) tt);
+  sum = sum_pushed c.loop-word.terms c.push.new.self c.loop-word.last c.loop-word.sum c.var-last.result c.in-Some-take_term.term c.in_ok-push.ensures c.var-last.ensures.value c.loop-word.invariant.sum c.in-Some-take_term.ensures.0 (c.if-not-may_follow.ensures.0 refl);
+}
+
+pub returns : goal.returns
+returns c = no_bound c.args.words.now c.loop-word.words c.loop-word.terms c.loop-word.invariant.so_far c.in_default.ensures.0

@@ -1,0 +1,40 @@
+// Hints of a line.
+ghost use Rattle.std.specs.Prelude.{map, All};
+ghost use Rattle.proof_laws.specs.WellFormed.{IsHint};
+ghost use Rattle.proof_lines.specs.LineText.{hint_word};
+ghost use Rattle.proof_lines.specs.Reading.{IsValueOf, ReadsPart};
+
+use crate::LineFault;
+use crate::number::id_of;
+use crate::words::Words;
+use hint_rup::Hint;
+use scut_base::Items;
+use std::alloc::Global;
+
+/// Takes hints up to the end of a part. One pass; takes memory for the hints.
+pub(crate) fn read_hints(alloc: Global, words: &mut Words<'_>) -> Result<Items<Hint>, LineFault>
+    ensures { ReadsPart (map hint_word) (All IsHint) words.old words.new result }
+{
+    let mut hints = Items::new(alloc);
+    while let Some(word) = words.next_in_part() {
+        match hint_of(word) {
+            Some(hint) => hints.push(hint)?,
+            None => return Err(LineFault::Syntax),
+        }
+    }
+    Ok(hints)
+}
+
+// The hint that a word spells.
+fn hint_of(word: &[u8]) -> Option<Hint>
+    ensures { IsValueOf hint_word IsHint word.now result }
+{
+    match word {
+        [b'~'] => Some(Hint::Negated),
+        [b'!'] => Some(Hint::Denied),
+        _ => {
+            let id = id_of(word)?;
+            Some(Hint::Id(id))
+        }
+    }
+}

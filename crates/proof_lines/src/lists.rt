@@ -1,0 +1,89 @@
+// Lists of ids and of literals.
+ghost use Rattle.std.specs.Prelude.{◌<◌, ◌↔◌, map, All, AllPairs, IsTrue};
+ghost use Rattle.std.specs.Fmt.{decimal};
+ghost use Rattle.proof_laws.specs.WellFormed.{IsId, IsVariable, AreRisingIds, AreRisingLiterals};
+ghost use Rattle.proof_lines.specs.LineText.{literal_word};
+ghost use Rattle.proof_lines.specs.Reading.{ReadsPart};
+
+use crate::LineFault;
+use crate::number::{id_of, literal_of};
+use crate::words::Words;
+use scut_base::{Items, Lit};
+use std::alloc::Global;
+
+/// Takes ids up to the end of a part. One pass; takes memory for the ids.
+pub(crate) fn read_ids(alloc: Global, words: &mut Words<'_>) -> Result<Items<u64>, LineFault>
+    ensures { ReadsPart (map decimal) (All IsId) words.old words.new result }
+{
+    let mut ids = Items::new(alloc);
+    while let Some(word) = words.next_in_part() {
+        match id_of(word) {
+            Some(id) => ids.push(id)?,
+            None => return Err(LineFault::Syntax),
+        }
+    }
+    Ok(ids)
+}
+
+/// Takes rising ids up to the end of a part, at least one. Costs two passes.
+pub(crate) fn read_rising_ids(alloc: Global, words: &mut Words<'_>) -> Result<Items<u64>, LineFault>
+    ensures { ReadsPart (map decimal) AreRisingIds words.old words.new result }
+{
+    let ids = read_ids(alloc, words)?;
+    if ids.is_empty() || !are_rising(ids.as_slice()) {
+        return Err(LineFault::Syntax);
+    }
+    Ok(ids)
+}
+
+/// Takes literals up to the end of a part. One pass; takes memory for the literals.
+pub(crate) fn read_literals(alloc: Global, words: &mut Words<'_>) -> Result<Items<Lit>, LineFault>
+    ensures { ReadsPart (map literal_word) (All (λ l. IsVariable l.var)) words.old words.new result }
+{
+    let mut lits = Items::new(alloc);
+    while let Some(word) = words.next_in_part() {
+        match literal_of(word) {
+            Some(lit) => lits.push(lit)?,
+            None => return Err(LineFault::Syntax),
+        }
+    }
+    Ok(lits)
+}
+
+/// Takes literals of rising variables up to the end of a part. Costs two passes.
+pub(crate) fn read_rising_literals(
+    alloc: Global,
+    words: &mut Words<'_>,
+) -> Result<Items<Lit>, LineFault>
+    ensures { ReadsPart (map literal_word) AreRisingLiterals words.old words.new result }
+{
+    let lits = read_literals(alloc, words)?;
+    if !variables_rise(lits.as_slice()) {
+        return Err(LineFault::Syntax);
+    }
+    Ok(lits)
+}
+
+// Whether each number is above the one before it.
+fn are_rising(ids: &[u64]) -> bool
+    ensures { IsTrue result ↔ AllPairs (λ i j. i < j) ids.now }
+{
+    for at in 1..ids.len() {
+        if ids[at - 1] >= ids[at] {
+            return false;
+        }
+    }
+    true
+}
+
+// Whether each literal's variable is above that of the one before it.
+fn variables_rise(lits: &[Lit]) -> bool
+    ensures { IsTrue result ↔ AllPairs (λ l m. l.var < m.var) lits.now }
+{
+    for at in 1..lits.len() {
+        if lits[at - 1].var() >= lits[at].var() {
+            return false;
+        }
+    }
+    true
+}

@@ -1,0 +1,123 @@
+// The words of a text, from left to right.
+ghost use Rattle.std.specs.Prelude.{◌≡◌, ◌≢◌, ◌≤◌, ◌↔◌, [], ◌∷◌, length, IsTrue, MatchOption, codes};
+ghost use Rattle.std.specs.List.{position_or_len};
+ghost use Rattle.std.specs.Option.{option_copied};
+ghost use Rattle.scut_base.specs.Bytes.{space};
+ghost use Rattle.proof_lines.specs.Reading.{BeginsWith, EndsPart, Skips, is_space, words_of, words_left};
+
+use std::marker::Model;
+
+/// The words of a text that were not taken yet, with one space between each two. Contracts see it as
+/// their list. Each call finds the next space, so no list is made.
+#[derive(Drop)]
+pub(crate) struct Words<'a> {
+    // `None` once the last word is taken: after a space there is a word still, maybe the empty one.
+    rest: Option<&'a [u8]>,
+}
+
+impl<'a> Model for Words<'a> {
+    ghost use Rattle.std.specs.Prelude.{List, ℕ};
+    ghost use Rattle.std.specs.Option.{option_copied};
+    ghost use Rattle.proof_lines.specs.Reading.{words_left};
+
+    ghost Value = { List (List ℕ) };
+
+    ghost view = { λ w. words_left (option_copied w.rest) };
+}
+
+impl<'a> Words<'a> {
+    /// All words of a text. The empty text is one empty word.
+    pub(crate) fn new(text: &'a [u8]) -> Words<'a>
+        ensures { result ≡ words_of text.entry.now }
+    {
+        Words { rest: Some(text) }
+    }
+
+    /// Whether no word is left.
+    pub(crate) fn is_at_end(&self) -> bool
+        ensures { IsTrue result ↔ (self.now ≡ []) }
+    {
+        self.rest.is_none()
+    }
+
+    /// Whether the next word is this letter.
+    pub(crate) fn is_next(&self, letter: u8) -> bool
+        requires { letter ≢ space }
+        ensures { IsTrue result ↔ BeginsWith (letter ∷ []) self.now }
+    {
+        match self.rest {
+            Some(text) => begins_with(text, letter),
+            None => false,
+        }
+    }
+
+    /// Takes the next word.
+    pub(crate) fn next(&mut self) -> Option<&'a [u8]>
+        ensures { MatchOption result ((self.old ≡ []) × (self.new ≡ []))
+            (λ word. self.old ≡ word.now ∷ self.new) }
+    {
+        match self.rest {
+            Some(text) => {
+                let (word, rest) = cut_word(text);
+                self.rest = rest;
+                Some(word)
+            }
+            None => None,
+        }
+    }
+
+    /// Takes the next word where it is this letter, and else nothing.
+    pub(crate) fn skip(&mut self, letter: u8) -> bool
+        requires { letter ≢ space }
+        ensures { Skips (letter ∷ []) self.old self.new result }
+    {
+        if !self.is_next(letter) {
+            return false;
+        }
+        self.next();
+        true
+    }
+
+    /// Takes the next word of a part of a line, which ends before a `:` and where no word is left.
+    pub(crate) fn next_in_part(&mut self) -> Option<&'a [u8]>
+        ensures { MatchOption result ((self.new ≡ self.old) × EndsPart self.old)
+            (λ word. (self.old ≡ word.now ∷ self.new) × (word.now ≢ codes ":")) }
+    {
+        if self.is_next(b':') {
+            return None;
+        }
+        self.next()
+    }
+}
+
+// The word that a text begins with, and what follows the space after it.
+fn cut_word(text: &[u8]) -> (&[u8], Option<&[u8]>)
+    ensures { words_of text.entry.now ≡ result.0.now ∷ words_left (option_copied result.1) }
+{
+    let end = word_len(text);
+    if end < text.len() {
+        (&text[..end], Some(&text[end + 1..]))
+    } else {
+        (text, None)
+    }
+}
+
+// How many bytes stand before the first space.
+fn word_len(text: &[u8]) -> usize
+    ensures value { result ≡ position_or_len is_space text.now }
+    ensures within { result ≤ length text.now }
+{
+    text.iter().position(|b| *b == b' ').unwrap_or(text.len())
+}
+
+// Whether the first word of a text is this letter.
+fn begins_with(text: &[u8], letter: u8) -> bool
+    requires { letter ≢ space }
+    ensures { IsTrue result ↔ BeginsWith (letter ∷ []) (words_of text.now) }
+{
+    match text {
+        [first] => *first == letter,
+        [first, second, ..] => *first == letter && *second == b' ',
+        [] => false,
+    }
+}
