@@ -6,9 +6,19 @@
 #![tactic(auto)]
 
 mod fault;
+mod file_recorder;
+mod keeping;
+mod laws;
+mod line_feeds;
 mod line_reader;
-mod print;
+mod mem_recorder;
+mod opening;
+mod pending;
+mod printing;
 
 pub use fault::TextFault;
+pub use file_recorder::{FileRecorder, NotBegun};
+pub use laws::{no_fault_where_spelled, one_fault, one_log, printed_back};
 pub use line_reader::LineReader;
-pub use print::print;
+pub use mem_recorder::MemRecorder;
+pub use printing::print;
