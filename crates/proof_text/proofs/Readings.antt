@@ -1,5 +1,5 @@
 -- What a reader stands for after a piece more, and after a line more.
-use Rattle.std.proofs.Common.{◌≡◌, ◌⊎◌, inl, inr, ⊎_elim, ℕ, zero, suc, ◌+◌, Bool, true, false, Option, None, Some, List, [], ◌∷◌, ◌++◌, length, take, drop, refl, sym, ap, subst, ◌∙◌, arith}
+use Rattle.std.proofs.Common.{◌≡◌, ◌⊎◌, inl, inr, ⊎_elim, ℕ, zero, suc, ◌+◌, ◌≤◌, Bool, true, false, Option, None, Some, List, [], ◌∷◌, ◌++◌, length, take, drop, refl, sym, ap, subst, ◌∙◌, arith}
 use Rattle.std.specs.Option.{is_some}
 use Rattle.std.specs.List.{All, flat_map}
 use Rattle.std.proofs.lemmas.List.{append-nil, append_assoc, length_push}
@@ -10,7 +10,7 @@ use Rattle.proof_laws.specs.declared.line.Line.{Line}
 use Rattle.proof_lines.specs.LineText.{line_text, printed, SpellsLine, SpellsNoLine}
 use Rattle.proof_text.specs.LogText.{header_text, header_line, log_text, BeginsWith, IsOneLine, IsWholeLine, IsWholeLines, HasWrongHeader, IsSyntaxAt, IsWhole, newlines, IsUnfinishedAt}
 use Rattle.proof_text.specs.Cutting.{IsLineOf}
-use Rattle.proof_text.specs.Reading.{ReaderValue, HasRead, HasReadUpTo, StandsFor, GivesNext}
+use Rattle.proof_text.specs.Reading.{ReaderValue, HasRead, HasGiven, HasReadUpTo, StandsFor, GivesNext}
 use Rattle.proof_text.proofs.OneLines.{one_nil, ends_one, cut_last, LastCut, whole_append, newlines-append, newlines-one}
 use Rattle.proof_text.proofs.Words.{line_text-one}
 use Rattle.proof_text.proofs.Logs.{header_one, log_text_push, log_whole}
@@ -52,9 +52,13 @@ read_more : (begun : Bool) (rest bytes piece : List ℕ) (lines : List Line) →
 read_more true rest bytes piece lines read = begins_more bytes rest piece lines read
 read_more false rest bytes piece lines read = (read.0, ap (λ (t : List ℕ). t ++ piece) read.1)
 
+given_more : (bytes piece : List ℕ) (lines : List Line) → HasGiven bytes lines → HasGiven (bytes ++ piece) lines
+given_more bytes piece lines (inl none) = inl none
+given_more bytes piece lines (inr given) = inr (given.0 ++ piece, begins_more bytes given.0 piece lines given.1)
+
 wrong_kept : (wrong : Option ℕ) (r : ReaderValue) (bytes piece : List ℕ) (lines : List Line) → is_some wrong ≡ true → HasReadUpTo wrong r bytes lines → HasReadUpTo wrong r (bytes ++ piece) lines
 wrong_kept None r bytes piece lines some read = cc
-wrong_kept (Some k) r bytes piece lines some read = (wrong_more bytes piece k read.0, read.1)
+wrong_kept (Some k) r bytes piece lines some read = (wrong_more bytes piece k read.0, read.1, given_more bytes piece lines read.2)
 
 -- where a line was wrong
 pub fed_wrong : (r : ReaderValue) (bytes piece : List ℕ) (lines : List Line) → is_some r.wrong ≡ true → StandsFor r bytes lines → StandsFor r (bytes ++ piece) lines
@@ -105,7 +109,8 @@ module _ (given : ℕ) (begun : Bool) (rest : List ℕ) (wrong : Option ℕ) (so
         given = stands.given;
         read = (
           subst (λ (t : List ℕ). HasWrongHeader t) (sym (ap (λ (t : List ℕ). t ++ piece) read.1)) fault,
-          subst (λ (ls : List Line). All IsWellFormed ls) (sym read.0) (All-nil IsWellFormed),
+          omega arith,
+          inl read.0,
         );
       }
 
@@ -151,6 +156,14 @@ module _ (old : ReaderValue) (sound : old.wrong ≡ None) (begun : old.begun ≡
     where
       two : suc (suc old.given) ≡ old.given + 2
       two = omega arith
+
+  -- and the reader stands for that
+  pub stands_wrong : (new : ReaderValue) → SpellsNoLine (take len old.rest) → new.given ≡ old.given → new.wrong ≡ Some (old.given + 2) → (bytes : List ℕ) (lines : List Line) → StandsFor old bytes lines → StandsFor new bytes lines
+  stands_wrong new none count is bytes lines stands = record {
+    given = stands.given ∙ sym count;
+    read = subst (λ (o : Option ℕ). HasReadUpTo o new bytes lines) (sym is)
+        (wrong_line none bytes lines stands, omega (arith, stands.given), inr (old.rest, begins_of old sound begun bytes lines stands));
+  }
 
 -- ---- the end
 
