@@ -1,5 +1,5 @@
 -- What the parts of a checker answer, and what it stands for then.
-use Rattle.std.proofs.Common.{◌≡◌, ◌⊎◌, inl, inr, ℕ, zero, suc, ◌+◌, ◌<◌, ◌≤◌, Bool, true, false, List, [], ◌∷◌, ◌++◌, length, refl, sym, subst, ap, ◌∙◌, ⊎_elim, arith, append_assoc, append-nil, length-append, ℤ, Option, None, Some, Result, Ok, Err}
+use Rattle.std.proofs.Common.{◌≡◌, ◌⊎◌, inl, inr, ℕ, ◌+◌, ◌<◌, ◌≤◌, Bool, true, false, List, [], ◌∷◌, ◌++◌, length, refl, sym, subst, ap, ◌∙◌, ⊎_elim, arith, append_assoc, append-nil, length-append, ℤ, Option, None, Some, Result, Ok, Err}
 use Rattle.std.specs.Prelude.{All, OnOk}
 use Rattle.std.specs.List.{flat_map}
 use Rattle.std.proofs.lemmas.List.Elements.{All-nil, All-cons, All-head, All-tail, Contains-push, All-contains}
@@ -7,7 +7,6 @@ use Rattle.pb_lin.specs.Problem.{ProblemValue}
 use Rattle.proof_laws.specs.WellFormed.{IsWellFormed}
 use Rattle.proof_laws.specs.State.{StateValue, start}
 use Rattle.proof_laws.specs.Legal.{IsNext}
-use Rattle.proof_laws.specs.Replay.{IsReplay}
 use Rattle.proof_laws.specs.declared.line.Line.{Line}
 use Rattle.proof_laws.specs.declared.why.Why.{Why}
 use Rattle.proof_laws.specs.declared.why.Why.TheVariants.{Syntax, NoEnd}
@@ -34,6 +33,7 @@ given r bytes lines stands = by r.wrong stands.read
     read : (begun : Bool) → HasRead begun r.rest bytes lines → HasGiven bytes lines
     read true h = inr (r.rest, h)
     read false h = inl h.0
+
     by : (wrong : Option ℕ) → HasReadUpTo wrong r bytes lines → HasGiven bytes lines
     by None h = read r.begun h
     by (Some k) h = h.2
@@ -91,6 +91,7 @@ smaller old new bytes lines line right before after = by new.wrong after.read
   where
     left_old : left old ≡ length old.rest + 1
     left_old = ap (λ (o : Option ℕ). left_by o (length old.rest)) right
+
     long_before : (begun : Bool) → HasRead begun old.rest bytes lines → (rest : List ℕ) → BeginsWith bytes (lines ++ line ∷ []) rest → length rest < length old.rest
     long_before true h rest b =
         let e = ap length (sym h.is ∙ (before_last bytes lines line rest b).is) in
@@ -98,11 +99,14 @@ smaller old new bytes lines line right before after = by new.wrong after.read
     long_before false h rest b =
         let e = ap length (sym h.1 ∙ (before_last bytes lines line rest b).is) in
         omega (arith, e, length-append (log_text lines) (printed line ++ rest), length-append (printed line) rest, printed_long line)
+
     shorter : (rest : List ℕ) → BeginsWith bytes (lines ++ line ∷ []) rest → length rest < length old.rest
     shorter rest b = long_before old.begun (subst (λ (o : Option ℕ). HasReadUpTo o old bytes lines) right before.read) rest b
+
     less : (begun : Bool) → HasRead begun new.rest bytes (lines ++ line ∷ []) → length new.rest < length old.rest
     less true h = shorter new.rest h
     less false h = absurd (no_push lines line h.0)
+
     by : (wrong : Option ℕ) → HasReadUpTo wrong new bytes (lines ++ line ∷ []) → left_by wrong (length new.rest) < left old
     by None h = omega (arith, left_old, less new.begun h)
     by (Some k) h = omega (arith, left_old)

@@ -15,5 +15,8 @@ mod list;
 
 pub use checker::Checker;
 pub use fault::{CheckFault, ListWhy};
-pub use laws::{accepted_is_front, no_list_fault_where_right, no_log_fault_where_ended, one_list_fault, one_log_fault};
+pub use laws::{
+    accepted_is_front, no_list_fault_where_right, no_log_fault_where_ended, one_list_fault,
+    one_log_fault,
+};
 pub use list::{check_list, problem_vectors};

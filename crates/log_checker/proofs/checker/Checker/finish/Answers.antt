@@ -1,11 +1,11 @@
-use Rattle.std.proofs.Common.{◌≡◌, ◌∙◌, ℕ, List, None, Some, Ok, Err, true, Result, ap, sym, subst, refl}
+use Rattle.std.proofs.Common.{◌≡◌, ◌∙◌, ℕ, List, Err, true, Result, ap, sym, subst, refl}
 use Rattle.std.proofs.lemmas.Result.{err_from_is_err_and}
 use Rattle.log_checker.specs.Accepted.{IsEndedProof}
 use Rattle.log_checker.specs.Checking.{CheckerValue, StandsFor}
-use Rattle.log_checker.specs.Judging.{JudgesEnd, earlier, noted}
+use Rattle.log_checker.specs.Judging.{JudgesEnd, earlier}
 use Rattle.log_checker.specs.LogFaults.{IsLogFault}
 use Rattle.log_checker.specs.declared.fault.CheckFault.{CheckFault}
-use Rattle.log_checker.specs.declared.fault.CheckFault.TheVariants.{Refused, NoMemory}
+use Rattle.log_checker.specs.declared.fault.CheckFault.TheVariants.{Refused}
 use Rattle.log_checker.proofs.Answering.{on_ok, nothing_earlier, again_fault, finished_stands, noted_finished, judged_ended}
 use Rattle.log_checker.proofs.checker.Checker.finish.Goals as goal
 
