@@ -18,7 +18,7 @@ use Rattle.proof_text.specs.Reading.{ReaderValue, HasRead, HasReadUpTo, HasGiven
 use Rattle.log_checker.specs.Accepted.{IsEndedProof}
 use Rattle.log_checker.specs.LogFaults.{IsLineFault, IsWholeFault, HasNoWholeFault, IsLogFault}
 use Rattle.log_checker.specs.Checking.{CheckerValue, HasTaken, IsFaultBy, HasJudged, StandsFor}
-use Rattle.log_checker.specs.Judging.{IsUnderway, IsLineReason, JudgesLines, JudgesEnd, left, left_by, earlier, noted}
+use Rattle.log_checker.specs.Judging.{IsUnderway, IsLineReason, IsLogReason, HasEnded, JudgesLines, JudgesEnd, left, left_by, earlier, noted}
 use Rattle.log_checker.specs.declared.fault.CheckFault.{CheckFault}
 use Rattle.log_checker.specs.declared.fault.CheckFault.TheVariants.{Refused, ListRefused, NoMemory}
 use Rattle.log_checker.proofs.Stepping.{AreCovered, leads_more, replay_count}
@@ -210,14 +210,29 @@ pub finished_stands : (o : Option (ℕ × Why)) (c : CheckerValue) (bytes : List
 finished_stands None c bytes stands = (stands.0, record { read = stands.1.read; all = stands.1.all; replay = stands.1.replay; covered = stands.1.covered })
 finished_stands (Some fault) c bytes stands = fault_of_log c.finished c.problem c.vectors bytes fault.0 fault.1 stands
 
-pub noted_finished : (c new : CheckerValue) (answer : Result (Unit {0}) CheckFault) (bytes : List ℕ) → new ≡ noted c answer → c.finished ≡ true → (answer ≡ Err NoMemory → ⊥) → JudgesEnd c.problem c.vectors bytes answer → StandsFor c bytes → StandsFor new bytes
-noted_finished c new answer bytes is finished kept judged stands = subst (λ (d : CheckerValue). StandsFor d bytes) (sym is) (by answer kept judged)
+-- after the end was judged
+pub concluded_stands : (c new : CheckerValue) (answer : Result (Unit {0}) CheckFault) (bytes : List ℕ) → new ≡ record (noted c answer) { finished = true } → (answer ≡ Err NoMemory → ⊥) → JudgesEnd c.problem c.vectors bytes answer → StandsFor c bytes → StandsFor new bytes
+concluded_stands c new answer bytes is kept judged stands = subst (λ (d : CheckerValue). StandsFor d bytes) (sym is) (by answer kept judged)
   where
-    by : (a : Result (Unit {0}) CheckFault) → (a ≡ Err NoMemory → ⊥) → JudgesEnd c.problem c.vectors bytes a → StandsFor (noted c a) bytes
-    by (Ok done) k h = stands
-    by (Err (Refused n why)) k h = subst (λ (b : Bool). IsFaultBy b c.problem c.vectors bytes n why) (sym finished) h
+    by : (a : Result (Unit {0}) CheckFault) → (a ≡ Err NoMemory → ⊥) → JudgesEnd c.problem c.vectors bytes a → StandsFor (record (noted c a) { finished = true }) bytes
+    by (Ok done) k h = finished_stands c.refused c bytes stands
+    by (Err (Refused n why)) k h = h
     by (Err (ListRefused entry why)) k h = absurd h
     by (Err NoMemory) k h = absurd (k refl)
+
+-- an earlier answer is one about the bytes
+pub earlier_judged : (o : Option (ℕ × Why)) (failed : Bool) (c : CheckerValue) (bytes : List ℕ) (e : CheckFault) → earlier o failed ≡ Err e → HasJudged o c bytes → IsLogReason c.problem c.vectors bytes e
+earlier_judged None true c bytes e is stands = let same : NoMemory ≡ e = cc in subst (λ (x : CheckFault). IsLogReason c.problem c.vectors bytes x) same tt
+earlier_judged None false c bytes e is stands = cc
+earlier_judged (Some fault) failed c bytes e is stands =
+    let same : Refused fault.0 fault.1 ≡ e = cc in
+    subst (λ (x : CheckFault). IsLogReason c.problem c.vectors bytes x) same (fault_of_log c.finished c.problem c.vectors bytes fault.0 fault.1 stands)
+
+-- a finished log that has ended is an ended proof
+pub settled_judged : (c : CheckerValue) (bytes : List ℕ) → LineTexts → c.refused ≡ None → HasEnded c.reader c.state → StandsFor c bytes → IsEndedProof c.problem c.vectors bytes
+settled_judged c bytes texts none settled stands =
+    let t = stands_taken c bytes none stands in
+    end_reached texts c.problem c.vectors c.reader c.state bytes t.0 (taken_underway c bytes t.0 t.1) t.1.all (settled.whole bytes t.0 t.1.read) settled.ended
 
 -- what the parts answer, where the checker has refused nothing
 pub judged_fed : (c : CheckerValue) (vectors : List (List ℤ)) (r : ReaderValue) (s : StateValue) (bytes fed : List ℕ) (answer : Result (Unit {0}) CheckFault) → vectors ≡ c.vectors → c.refused ≡ None →
