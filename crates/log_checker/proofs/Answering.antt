@@ -1,5 +1,5 @@
 -- What the parts of a checker answer, and what it stands for then.
-use Rattle.std.proofs.Common.{◌≡◌, ◌⊎◌, inl, inr, ℕ, zero, suc, ◌+◌, ◌<◌, ◌≤◌, Bool, true, false, List, [], ◌∷◌, ◌++◌, length, refl, sym, subst, ap, ◌∙◌, ⊎_elim, arith, append_assoc, append-nil, length-append, ℤ, Option, None, Some, Result, Ok, Err}
+use Rattle.std.proofs.Common.{◌≡◌, ◌⊎◌, inl, inr, ℕ, ◌+◌, ◌<◌, ◌≤◌, Bool, true, false, List, [], ◌∷◌, ◌++◌, length, refl, sym, subst, ap, ◌∙◌, ⊎_elim, arith, append_assoc, append-nil, length-append, ℤ, Option, None, Some, Result, Ok, Err}
 use Rattle.std.specs.Prelude.{All, OnOk}
 use Rattle.std.specs.List.{flat_map}
 use Rattle.std.proofs.lemmas.List.Elements.{All-nil, All-cons, All-head, All-tail, Contains-push, All-contains}
@@ -7,7 +7,6 @@ use Rattle.pb_lin.specs.Problem.{ProblemValue}
 use Rattle.proof_laws.specs.WellFormed.{IsWellFormed}
 use Rattle.proof_laws.specs.State.{StateValue, start}
 use Rattle.proof_laws.specs.Legal.{IsNext}
-use Rattle.proof_laws.specs.Replay.{IsReplay}
 use Rattle.proof_laws.specs.declared.line.Line.{Line}
 use Rattle.proof_laws.specs.declared.why.Why.{Why}
 use Rattle.proof_laws.specs.declared.why.Why.TheVariants.{Syntax, NoEnd}
@@ -19,7 +18,7 @@ use Rattle.proof_text.specs.Reading.{ReaderValue, HasRead, HasReadUpTo, HasGiven
 use Rattle.log_checker.specs.Accepted.{IsEndedProof}
 use Rattle.log_checker.specs.LogFaults.{IsLineFault, IsWholeFault, HasNoWholeFault, IsLogFault}
 use Rattle.log_checker.specs.Checking.{CheckerValue, HasTaken, IsFaultBy, HasJudged, StandsFor}
-use Rattle.log_checker.specs.Judging.{IsUnderway, IsLineReason, JudgesLines, JudgesEnd, left, left_by, earlier, noted}
+use Rattle.log_checker.specs.Judging.{IsUnderway, IsLineReason, IsLogReason, HasEnded, JudgesLines, JudgesEnd, left, left_by, earlier, noted}
 use Rattle.log_checker.specs.declared.fault.CheckFault.{CheckFault}
 use Rattle.log_checker.specs.declared.fault.CheckFault.TheVariants.{Refused, ListRefused, NoMemory}
 use Rattle.log_checker.proofs.Stepping.{AreCovered, leads_more, replay_count}
@@ -34,6 +33,7 @@ given r bytes lines stands = by r.wrong stands.read
     read : (begun : Bool) → HasRead begun r.rest bytes lines → HasGiven bytes lines
     read true h = inr (r.rest, h)
     read false h = inl h.0
+
     by : (wrong : Option ℕ) → HasReadUpTo wrong r bytes lines → HasGiven bytes lines
     by None h = read r.begun h
     by (Some k) h = h.2
@@ -91,6 +91,7 @@ smaller old new bytes lines line right before after = by new.wrong after.read
   where
     left_old : left old ≡ length old.rest + 1
     left_old = ap (λ (o : Option ℕ). left_by o (length old.rest)) right
+
     long_before : (begun : Bool) → HasRead begun old.rest bytes lines → (rest : List ℕ) → BeginsWith bytes (lines ++ line ∷ []) rest → length rest < length old.rest
     long_before true h rest b =
         let e = ap length (sym h.is ∙ (before_last bytes lines line rest b).is) in
@@ -98,11 +99,14 @@ smaller old new bytes lines line right before after = by new.wrong after.read
     long_before false h rest b =
         let e = ap length (sym h.1 ∙ (before_last bytes lines line rest b).is) in
         omega (arith, e, length-append (log_text lines) (printed line ++ rest), length-append (printed line) rest, printed_long line)
+
     shorter : (rest : List ℕ) → BeginsWith bytes (lines ++ line ∷ []) rest → length rest < length old.rest
     shorter rest b = long_before old.begun (subst (λ (o : Option ℕ). HasReadUpTo o old bytes lines) right before.read) rest b
+
     less : (begun : Bool) → HasRead begun new.rest bytes (lines ++ line ∷ []) → length new.rest < length old.rest
     less true h = shorter new.rest h
     less false h = absurd (no_push lines line h.0)
+
     by : (wrong : Option ℕ) → HasReadUpTo wrong new bytes (lines ++ line ∷ []) → left_by wrong (length new.rest) < left old
     by None h = omega (arith, left_old, less new.begun h)
     by (Some k) h = omega (arith, left_old)
@@ -206,14 +210,29 @@ pub finished_stands : (o : Option (ℕ × Why)) (c : CheckerValue) (bytes : List
 finished_stands None c bytes stands = (stands.0, record { read = stands.1.read; all = stands.1.all; replay = stands.1.replay; covered = stands.1.covered })
 finished_stands (Some fault) c bytes stands = fault_of_log c.finished c.problem c.vectors bytes fault.0 fault.1 stands
 
-pub noted_finished : (c new : CheckerValue) (answer : Result (Unit {0}) CheckFault) (bytes : List ℕ) → new ≡ noted c answer → c.finished ≡ true → (answer ≡ Err NoMemory → ⊥) → JudgesEnd c.problem c.vectors bytes answer → StandsFor c bytes → StandsFor new bytes
-noted_finished c new answer bytes is finished kept judged stands = subst (λ (d : CheckerValue). StandsFor d bytes) (sym is) (by answer kept judged)
+-- after the end was judged
+pub concluded_stands : (c new : CheckerValue) (answer : Result (Unit {0}) CheckFault) (bytes : List ℕ) → new ≡ record (noted c answer) { finished = true } → (answer ≡ Err NoMemory → ⊥) → JudgesEnd c.problem c.vectors bytes answer → StandsFor c bytes → StandsFor new bytes
+concluded_stands c new answer bytes is kept judged stands = subst (λ (d : CheckerValue). StandsFor d bytes) (sym is) (by answer kept judged)
   where
-    by : (a : Result (Unit {0}) CheckFault) → (a ≡ Err NoMemory → ⊥) → JudgesEnd c.problem c.vectors bytes a → StandsFor (noted c a) bytes
-    by (Ok done) k h = stands
-    by (Err (Refused n why)) k h = subst (λ (b : Bool). IsFaultBy b c.problem c.vectors bytes n why) (sym finished) h
+    by : (a : Result (Unit {0}) CheckFault) → (a ≡ Err NoMemory → ⊥) → JudgesEnd c.problem c.vectors bytes a → StandsFor (record (noted c a) { finished = true }) bytes
+    by (Ok done) k h = finished_stands c.refused c bytes stands
+    by (Err (Refused n why)) k h = h
     by (Err (ListRefused entry why)) k h = absurd h
     by (Err NoMemory) k h = absurd (k refl)
+
+-- an earlier answer is one about the bytes
+pub earlier_judged : (o : Option (ℕ × Why)) (failed : Bool) (c : CheckerValue) (bytes : List ℕ) (e : CheckFault) → earlier o failed ≡ Err e → HasJudged o c bytes → IsLogReason c.problem c.vectors bytes e
+earlier_judged None true c bytes e is stands = let same : NoMemory ≡ e = cc in subst (λ (x : CheckFault). IsLogReason c.problem c.vectors bytes x) same tt
+earlier_judged None false c bytes e is stands = cc
+earlier_judged (Some fault) failed c bytes e is stands =
+    let same : Refused fault.0 fault.1 ≡ e = cc in
+    subst (λ (x : CheckFault). IsLogReason c.problem c.vectors bytes x) same (fault_of_log c.finished c.problem c.vectors bytes fault.0 fault.1 stands)
+
+-- a finished log that has ended is an ended proof
+pub settled_judged : (c : CheckerValue) (bytes : List ℕ) → LineTexts → c.refused ≡ None → HasEnded c.reader c.state → StandsFor c bytes → IsEndedProof c.problem c.vectors bytes
+settled_judged c bytes texts none settled stands =
+    let t = stands_taken c bytes none stands in
+    end_reached texts c.problem c.vectors c.reader c.state bytes t.0 (taken_underway c bytes t.0 t.1) t.1.all (settled.whole bytes t.0 t.1.read) settled.ended
 
 -- what the parts answer, where the checker has refused nothing
 pub judged_fed : (c : CheckerValue) (vectors : List (List ℤ)) (r : ReaderValue) (s : StateValue) (bytes fed : List ℕ) (answer : Result (Unit {0}) CheckFault) → vectors ≡ c.vectors → c.refused ≡ None →

@@ -1,26 +1,24 @@
 -- Where a log goes wrong: at one place alone, for one reason, and nowhere where it is an ended proof.
-use Rattle.std.proofs.Common.{◌≡◌, ◌⊎◌, inl, inr, ℕ, zero, suc, ◌+◌, ◌<◌, ◌≤◌, Bool, true, false, List, [], ◌∷◌, ◌++◌, length, refl, sym, subst, ap, ◌∙◌, ⊎_elim, arith, append_assoc, append-nil, length-append, ℤ, Option, None, Some}
-use Rattle.std.specs.Prelude.{All, Contains}
+use Rattle.std.proofs.Common.{◌≡◌, ◌⊎◌, inl, inr, ℕ, zero, suc, ◌+◌, ◌≤◌, List, [], ◌∷◌, ◌++◌, length, refl, sym, subst, ap, ◌∙◌, ⊎_elim, arith, append_assoc, length-append, ℤ}
 use Rattle.std.specs.List.{flat_map}
 use Rattle.std.proofs.lemmas.Bool.{false≢true}
-use Rattle.std.proofs.lemmas.List.Elements.{All-append, All-push}
 use Rattle.scut_base.specs.Bytes.{newline}
 use Rattle.pb_lin.specs.Problem.{ProblemValue}
 use Rattle.proof_laws.specs.WellFormed.{IsWellFormed}
 use Rattle.proof_laws.specs.State.{StateValue, start}
 use Rattle.proof_laws.specs.Legal.{IsNext, IsRefused}
-use Rattle.proof_laws.specs.Replay.{Leads, IsReplay}
+use Rattle.proof_laws.specs.Replay.{IsReplay}
 use Rattle.proof_laws.specs.declared.line.Line.{Line}
 use Rattle.proof_laws.specs.declared.why.Why.{Why}
 use Rattle.proof_laws.specs.declared.why.Why.TheVariants.{Syntax, NoEnd, Uncovered}
 use Rattle.proof_laws.proofs.Unique.{judged_once_law}
 use Rattle.proof_lines.specs.LineText.{line_text, printed}
-use Rattle.proof_text.specs.LogText.{log_text, BeginsWith, SpellsLog, IsOneLine, HasWrongHeader, GoesWrongAfter, IsSyntaxAt, IsUnfinishedAt, HoldsNoFurtherLine, IsWhole}
+use Rattle.proof_text.specs.LogText.{log_text, BeginsWith, SpellsLog, IsOneLine, HasWrongHeader, GoesWrongAfter, IsSyntaxAt, IsUnfinishedAt, HoldsNoFurtherLine}
 use Rattle.log_checker.specs.Accepted.{IsEndedProof}
 use Rattle.log_checker.specs.LogFaults.{Reaches, HasNoLine, LogsUncovered, HasRefusedLine, IsLineFault, IsNextFault, IsRefusedAfter, IsWholeFault, HasNoWholeFault, HasNoEnd, IsEndFault, IsLogFault}
 use Rattle.log_checker.proofs.Reasons.{not_syntax}
 use Rattle.log_checker.proofs.Stepping.{AreCovered, leads_once, leads_split, leads_covered}
-use Rattle.log_checker.proofs.Texts.{LineTexts, GoesOn, whole_once, whole_has_newline, printed_is, printed_has_newline, printed_once, right_header, begins_has_newline, begins_align, one_empty, spelled_whole, spelled_finished, unfinished_once}
+use Rattle.log_checker.proofs.Texts.{LineTexts, GoesOn, whole_once, whole_has_newline, printed_is, printed_has_newline, printed_once, right_header, begins_has_newline, begins_align, one_empty, spelled_finished, unfinished_once}
 
 module _ (texts : LineTexts) (p : ProblemValue) (vectors : List (List ℤ)) where
   -- the line that the rest begins with, and why it is refused
@@ -193,12 +191,14 @@ module _ (texts : LineTexts) (p : ProblemValue) (vectors : List (List ℤ)) wher
     where
       reached : Reaches p vectors bytes proof.lines proof.state []
       reached = spelled_reaches bytes proof.lines proof.state proof.spelled proof.replay proof.covered
+
       at_end : EndsWrong bytes k why → ⊥
       at_end (inl a) = spelled_finished bytes proof.lines k proof.spelled a.2
       at_end (inr a) =
           let same = both_end bytes proof.lines a.1.lines proof.state a.1.state [] [] reached a.1.reached one_empty one_empty in
           let state : proof.state ≡ a.1.state = states_same bytes proof.lines a.1.lines proof.state a.1.state [] [] reached a.1.reached same in
           false≢true (sym a.1.unended ∙ sym (ap (λ (s : StateValue). s.ended) state) ∙ proof.ended)
+
       by : IsLogFault p vectors bytes k why → ⊥
       by (inl a) = whole_not_end bytes proof.lines proof.state k why reached a
       by (inr a) = at_end (ends_wrong bytes k why a)
@@ -268,12 +268,16 @@ module _ (texts : LineTexts) (p : ProblemValue) (vectors : List (List ℤ)) wher
   -- ---- more bytes
 
   pub whole_fault_more : (bytes more : List ℕ) (k : ℕ) (why : Why) → IsWholeFault p vectors bytes k why → IsWholeFault p vectors (bytes ++ more) k why
-  whole_fault_more bytes more k why (inl h) = inl (h.0, h.1, record {
-    text = h.2.text;
-    after = h.2.after ++ more;
-    line = record { one = h.2.line.one; is = ap (λ (t : List ℕ). t ++ more) h.2.line.is ∙ append_assoc h.2.text (newline ∷ h.2.after) more };
-    wrong = h.2.wrong;
-  })
+  whole_fault_more bytes more k why (inl h) = inl (
+    h.0,
+    h.1,
+    record {
+      text = h.2.text;
+      after = h.2.after ++ more;
+      line = record { one = h.2.line.one; is = ap (λ (t : List ℕ). t ++ more) h.2.line.is ∙ append_assoc h.2.text (newline ∷ h.2.after) more };
+      wrong = h.2.wrong;
+    },
+  )
   whole_fault_more bytes more k why (inr h) = inr (record {
     lines = h.lines;
     state = h.state;
@@ -289,6 +293,7 @@ module _ (texts : LineTexts) (p : ProblemValue) (vectors : List (List ℤ)) wher
     where
       refused_more : (s : StateValue) (rest : List ℕ) (w : Why) → HasRefusedLine p vectors s rest w → HasRefusedLine p vectors s (rest ++ more) w
       refused_more s rest w f = record { line = f.line; after = f.after ++ more; formed = f.formed; is = ap (λ (t : List ℕ). t ++ more) f.is ∙ append_assoc (printed f.line) f.after more; refused = f.refused }
+
       fault_more : (s : StateValue) (rest : List ℕ) (w : Why) → IsNextFault p vectors s rest w → IsNextFault p vectors s (rest ++ more) w
       fault_more s rest Syntax f = record { text = f.text; after = f.after ++ more; whole = record { one = f.whole.one; is = ap (λ (t : List ℕ). t ++ more) f.whole.is ∙ append_assoc f.text (newline ∷ f.after) more }; wrong = f.wrong }
       fault_more s rest w f = refused_more s rest w f

@@ -1,8 +1,8 @@
 -- Where a list goes wrong: at one entry alone, for one reason, and nowhere where it is right.
-use Rattle.std.proofs.Common.{◌≡◌, ◌⊎◌, inl, inr, ℕ, zero, suc, ◌+◌, ◌<◌, ◌^◌, Bool, true, false, List, [], ◌∷◌, ◌++◌, length, get_or, refl, sym, subst, ap, ◌∙◌, ⊎_elim, arith, append_assoc, length-append}
-use Rattle.std.specs.Prelude.{All, AllPairs, Contains}
+use Rattle.std.proofs.Common.{◌≡◌, ◌⊎◌, inl, inr, ℕ, zero, suc, ◌+◌, ◌<◌, ◌^◌, true, false, List, [], ◌∷◌, ◌++◌, length, get_or, refl, sym, subst, ap, ◌∙◌, ⊎_elim, arith, append_assoc, length-append}
+use Rattle.std.specs.Prelude.{Contains}
 use Rattle.std.proofs.lemmas.Bool.{false≢true}
-use Rattle.std.proofs.lemmas.List.{get_or_append_left, get_or-append-add, get_or_default}
+use Rattle.std.proofs.lemmas.List.{get_or_append_left, get_or-append-add}
 use Rattle.std.proofs.lemmas.List.Elements.{All-contains, Contains-append_right}
 use Rattle.front_set.specs.declared.entry.Entry.{Entry}
 use Rattle.front_set.specs.Vector.{AreRising}
@@ -28,8 +28,10 @@ right_entry i before e after why right = by why
   where
     own : IsRightModel i e
     own = All-contains (IsRightModel i) (before ++ e ∷ after) e right.models (Contains-append_right before (e ∷ after) e (0, omega arith, refl))
+
     follows : ComesAfter before e
     follows = rising_front (before ++ e ∷ []) after (subst (λ (es : List Entry). AreRising (vectors_of es)) (sym (append_assoc before (e ∷ []) after)) right.rising)
+
     apart : (f : Entry) → Contains before f → AreIncomparable i f.costs e.costs
     apart f there =
         let first : get_or (before ++ e ∷ after) there.0 f ≡ f = get_or_append_left before (e ∷ after) f there.0 there.1 ∙ there.2 in
@@ -37,6 +39,7 @@ right_entry i before e after why right = by why
         let second : get_or (before ++ e ∷ after) (length before) f ≡ e = ap (λ (n : ℕ). get_or (before ++ e ∷ after) n f) (sym place) ∙ get_or-append-add before (e ∷ after) 0 f in
         let pair = right.incomparable there.0 (length before) f there.1 (omega (arith, length-append before (e ∷ after))) in
         subst (λ (g : Entry). AreIncomparable i g.costs e.costs) first (subst (λ (g : Entry). AreIncomparable i (get_or (before ++ e ∷ after) there.0 f).costs g.costs) second pair)
+
     by : (w : ListWhy) → IsEntryFault i before e w → ⊥
     by Syntax h = h
     by NotModel h = h own.model

@@ -1,5 +1,5 @@
 -- The rule book refuses a line for no reason that only whole logs have.
-use Rattle.std.proofs.Common.{◌≡◌, ◌⊎◌, ℕ, ◌+◌, ◌*◌, ◌<◌, Bool, true, false, not, Option, Some, None, List, [], ◌∷◌, refl, subst, sym, ⊎_elim, Ok, Err, Result, cond}
+use Rattle.std.proofs.Common.{◌≡◌, ◌⊎◌, ℕ, ◌+◌, ◌*◌, ◌<◌, Bool, true, false, not, Option, Some, None, List, [], ◌∷◌, refl, subst, ⊎_elim, Ok, Err, Result}
 use Rattle.std.specs.Prelude.{MatchOption, option_map, nat_lt, ◌^◌}
 use Rattle.std.specs.List.{find}
 use Rattle.std.proofs.lemmas.Bool.{false≢true}

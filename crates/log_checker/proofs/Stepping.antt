@@ -1,13 +1,11 @@
 -- What lines make of the logged vectors and of the count of lines.
-use Rattle.std.proofs.Common.{◌≡◌, ◌⊎◌, inl, inr, ℕ, ◌+◌, ◌<◌, ◌≤◌, Bool, true, List, [], ◌∷◌, ◌++◌, length, get_or, refl, sym, subst, ap, ◌∙◌, ⊎_elim, ℤ, arith, length-append, Some}
-use Rattle.std.specs.Prelude.{All, Contains, ◌↔◌, IsTrue}
+use Rattle.std.proofs.Common.{◌≡◌, ◌⊎◌, inl, inr, ℕ, ◌+◌, ◌<◌, ◌≤◌, List, [], ◌∷◌, ◌++◌, length, get_or, refl, sym, subst, ap, ◌∙◌, ⊎_elim, ℤ, arith, length-append}
+use Rattle.std.specs.Prelude.{All, ◌↔◌, IsTrue}
 use Rattle.std.specs.List.{list_any}
-use Rattle.std.proofs.lemmas.Bool.{false≢true}
 use Rattle.std.proofs.lemmas.List.{get_or_append_left, get_or-append-add}
 use Rattle.std.proofs.lemmas.List.Elements.{All-push}
 use Rattle.std.proofs.lemmas.List.Folds.{Any-from_list_any, list_any-from_Any}
 use Rattle.front_set.specs.Vector.{is_below}
-use Rattle.pb_lin.specs.Constraint.{ConstraintValue}
 use Rattle.pb_lin.specs.Problem.{ProblemValue}
 use Rattle.proof_laws.specs.State.{StateValue, start}
 use Rattle.proof_laws.specs.Legal.{Makes, IsNext, IsRefused}
@@ -15,7 +13,7 @@ use Rattle.proof_laws.specs.Replay.{Leads, IsReplay}
 use Rattle.proof_laws.specs.declared.line.Line.{Line}
 use Rattle.proof_laws.specs.declared.line.Line.TheVariants.{Pol, Rup, Learn, Def, Red, Dom, Sol, Del, Reduce, End}
 use Rattle.proof_laws.specs.declared.why.Why.{Why}
-use Rattle.proof_laws.specs.declared.why.Why.TheVariants.{Syntax, Uncovered}
+use Rattle.proof_laws.specs.declared.why.Why.TheVariants.{Uncovered}
 use Rattle.proof_laws.proofs.Unique.{judged_once_law}
 use Rattle.log_checker.specs.Accepted.{IsCovered}
 use Rattle.log_checker.specs.LogFaults.{IsLineFault, LogsUncovered}

@@ -1,5 +1,5 @@
 -- Where lines end in a text, and how two readings of a log lie to each other.
-use Rattle.std.proofs.Common.{◌≡◌, ◌≢◌, ◌⊎◌, inl, inr, ℕ, zero, suc, ◌+◌, ◌<◌, ◌≤◌, Bool, true, false, List, [], ◌∷◌, ◌++◌, length, get_or, refl, sym, subst, ap, ◌∙◌, ⊎_elim, arith, append_assoc, append-nil, length-append, cond}
+use Rattle.std.proofs.Common.{◌≡◌, ◌≢◌, ◌⊎◌, inl, inr, ℕ, suc, Bool, true, false, List, [], ◌∷◌, ◌++◌, get_or, refl, sym, subst, ap, ◌∙◌, ⊎_elim, arith, append_assoc, append-nil, cond}
 use Rattle.std.specs.Prelude.{All, Contains, ◌==◌}
 use Rattle.std.specs.List.{flat_map, list_any}
 use Rattle.std.proofs.lemmas.Bool.{false≢true, cases_Bool}
@@ -11,7 +11,7 @@ use Rattle.scut_base.specs.Bytes.{newline}
 use Rattle.proof_laws.specs.WellFormed.{IsWellFormed}
 use Rattle.proof_laws.specs.declared.line.Line.{Line}
 use Rattle.proof_lines.specs.LineText.{line_text, printed, SpellsLine}
-use Rattle.proof_text.specs.LogText.{header_text, header_line, log_text, BeginsWith, SpellsLog, IsOneLine, IsWholeLine, HasWrongHeader, IsWholeLines, IsWhole, newlines, IsUnfinishedAt, HoldsNoFurtherLine}
+use Rattle.proof_text.specs.LogText.{header_text, header_line, log_text, BeginsWith, SpellsLog, IsOneLine, IsWholeLine, HasWrongHeader, IsWhole, newlines, IsUnfinishedAt, HoldsNoFurtherLine}
 
 -- what texts of lines have: each is that of one line alone, and holds no line feed
 pub record LineTexts : Type 0 where
@@ -106,7 +106,7 @@ module _ (texts : LineTexts) where
   align (l ∷ ls) [] r q a b e = inr (inl (record { next = l; more = ls; formed = All-head IsWellFormed l ls a; is = refl; text = sym e ∙ append_assoc (printed l) (flat_map printed ls) r }))
   align (l ∷ ls) (m ∷ ms) r q a b e =
       let both = printed_once l m (flat_map printed ls ++ r) (flat_map printed ms ++ q) (All-head IsWellFormed l ls a) (All-head IsWellFormed m ms b)
-        (sym (append_assoc (printed l) (flat_map printed ls) r) ∙ e ∙ append_assoc (printed m) (flat_map printed ms) q) in
+      (sym (append_assoc (printed l) (flat_map printed ls) r) ∙ e ∙ append_assoc (printed m) (flat_map printed ms) q) in
       ⊎_elim
       (λ (same : (ls ≡ ms) × (r ≡ q)). inl (subst (λ (x : Line). l ∷ ls ≡ x ∷ ms) both.0 (ap (λ (xs : List Line). l ∷ xs) same.0), same.1))
       (λ (other : GoesOn ls ms r q ⊎ GoesOn ms ls q r). inr (⊎_elim
@@ -128,11 +128,11 @@ spelled_whole bytes lines held whole = ⊎_elim
     (λ (one : IsOneLine bytes). absurd (one (subst (λ (t : List ℕ). Contains t newline) (sym (whole.1 ∙ append_assoc header_text (newline ∷ []) whole.0)) (has_newline header_text whole.0))))
     (λ (rest : (r : List ℕ) × BeginsWith bytes lines r × IsOneLine r).
     let after : whole.0 ≡ flat_map printed lines ++ rest.0 = (whole_once header_text header_text whole.0 (flat_map printed lines ++ rest.0) header_one header_one
-      (sym (whole.1 ∙ append_assoc header_text (newline ∷ []) whole.0) ∙ begins_is bytes lines rest.0 rest.1)).1 in
+    (sym (whole.1 ∙ append_assoc header_text (newline ∷ []) whole.0) ∙ begins_is bytes lines rest.0 rest.1)).1 in
     let none : rest.0 ≡ [] = ⊎_elim
-      (λ (empty : whole.0 ≡ []). nothing (flat_map printed lines) rest.0 (sym after ∙ empty))
-      (λ (ends : (before : List ℕ) × (whole.0 ≡ before ++ newline ∷ [])). ⊎_elim (λ (h : rest.0 ≡ []). h) (λ (h : Contains rest.0 newline). absurd (rest.2 h)) (tail_newline (flat_map printed lines) rest.0 ends.0 (sym after ∙ ends.1)))
-      whole.2 in
+    (λ (empty : whole.0 ≡ []). nothing (flat_map printed lines) rest.0 (sym after ∙ empty))
+    (λ (ends : (before : List ℕ) × (whole.0 ≡ before ++ newline ∷ [])). ⊎_elim (λ (h : rest.0 ≡ []). h) (λ (h : Contains rest.0 newline). absurd (rest.2 h)) (tail_newline (flat_map printed lines) rest.0 ends.0 (sym after ∙ ends.1)))
+    whole.2 in
     subst (λ (r : List ℕ). BeginsWith bytes lines r) none rest.1)
     held
   where

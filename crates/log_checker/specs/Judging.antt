@@ -7,7 +7,7 @@ use Rattle.proof_laws.specs.declared.line.Line.{Line}
 use Rattle.proof_laws.specs.declared.why.Why.{Why}
 use Rattle.proof_rules.specs.declared.fault.StepFault.{StepFault}
 use Rattle.proof_rules.specs.declared.fault.StepFault.TheVariants.{Refused as Illegal, NoMemory as StepMemory}
-use Rattle.proof_text.specs.LogText.{HoldsNoFurtherLine}
+use Rattle.proof_text.specs.LogText.{HoldsNoFurtherLine, IsWhole}
 use Rattle.proof_text.specs.Reading.{ReaderValue, StandsFor as ReaderStandsFor}
 use Rattle.log_checker.specs.Accepted.{IsCovered, IsEndedProof}
 use Rattle.log_checker.specs.Checking.{CheckerValue}
@@ -78,3 +78,17 @@ noted c (Ok done) = c
 noted c (Err (Refused k why)) = record c { refused = Some (k, why) }
 noted c (Err (ListRefused entry why)) = c
 noted c (Err NoMemory) = record c { failed = true }
+
+-- an answer after one that goes before it: the same, where that one is an error
+abbrev pub IsAfter : Result (Unit {0}) CheckFault → Result (Unit {0}) CheckFault → Type 0
+IsAfter (Ok done) answer = Unit {0}
+IsAfter (Err fault) answer = answer ≡ Err fault
+
+-- the bytes that the reader stands for end where a log may end, and the proof has ended
+pub record HasEnded (r : ReaderValue) (s : StateValue) : Type 0 where
+  pub whole : (bytes : List ℕ) (lines : List Line) → ReaderStandsFor r bytes lines → IsWhole bytes
+  pub ended : s.ended ≡ true
+
+-- a finished log has ended, unless another answer is to be given again
+abbrev pub IsSettled : Bool → Result (Unit {0}) CheckFault → ReaderValue → StateValue → Type 0
+IsSettled finished answer r s = finished ≡ true → answer ≡ Ok tt → HasEnded r s

@@ -1,12 +1,13 @@
 // The log: judged line by line as it comes.
-ghost use Rattle.std.specs.Prelude.{◌≡◌, ◌++◌, ℕ, List, [], false, true, None, Some, Ok, Err, IfOk, OnOk};
+ghost use Rattle.std.specs.Prelude.{◌≡◌, ◌++◌, ℕ, List, [], false, true, None, Some, Ok, Err, IsOk, IfOk, OnOk};
 ghost use Rattle.proof_laws.specs.State.{Fits};
 ghost use Rattle.proof_laws.specs.declared.line.Line.{Line};
 ghost use Rattle.proof_laws.specs.declared.why.Why.{Why};
 ghost use Rattle.log_checker.specs.Accepted.{IsEndedProof};
 ghost use Rattle.log_checker.specs.LogFaults.{HasNoWholeFault, IsWholeFault, IsLogFault};
 ghost use Rattle.log_checker.specs.Checking.{StandsFor};
-ghost use Rattle.log_checker.specs.Judging.{IsReading, IsUnderway, JudgesLines, earlier, noted};
+ghost use Rattle.log_checker.specs.Judging.{HasEnded, IsAfter, IsReading, IsUnderway, JudgesEnd, JudgesLines};
+ghost use Rattle.log_checker.specs.Judging.{earlier, noted};
 ghost use Rattle.log_checker.specs.declared.fault.ListWhy.{ListWhy};
 
 use crate::CheckFault;
@@ -20,8 +21,8 @@ use scut_base::{Duplicate, Items, NoMemory};
 use std::alloc::Global;
 use std::marker::Model;
 
-/// Judges a log that comes in pieces, over a problem and the vectors of a list. Memory is that of the live lines and of an
-/// unfinished line, never of the log.
+/// Judges a log that comes in pieces, over a problem and the vectors of a list. Memory is that of the
+/// live lines and of an unfinished line, never of the log.
 #[derive(Debug, Drop)]
 pub struct Checker {
     problem: PbProblem,
@@ -38,7 +39,7 @@ impl Model for Checker {
     ghost use Rattle.proof_laws.specs.State.{Fits};
     ghost use Rattle.proof_rules.specs.StateCode.{state_code};
     ghost use Rattle.log_checker.specs.Checking.{CheckerValue};
-    ghost use Rattle.log_checker.specs.Judging.{IsReading};
+    ghost use Rattle.log_checker.specs.Judging.{IsReading, IsSettled, earlier};
 
     ghost Value = { CheckerValue };
 
@@ -54,7 +55,8 @@ impl Model for Checker {
       finished = c.finished;
     } };
 
-    ghost invariant = { λ c. Fits c.problem c.state × IsReading c.reader };
+    ghost invariant = { λ c. Fits c.problem c.state × IsReading c.reader
+        × IsSettled c.finished (earlier c.refused c.failed) c.reader c.state };
 }
 
 impl Checker {
@@ -82,14 +84,14 @@ impl Checker {
         })
     }
 
-    /// Judges the lines that the next piece makes whole. `Refused` with the first line of all bytes that is refused, and
-    /// the same again after it; `NoMemory` where memory was refused, and again after it.
+    /// Judges the lines that the next piece makes whole. `Refused` with the first line of all bytes that
+    /// is refused, and the same again after it; `NoMemory` where memory was refused, and again after it.
     ///
     /// A line costs its step, and what it logs the objectives of each vector.
     pub fn feed(&mut self, piece: &[u8]) -> Result<(), CheckFault>
         requires unfinished { self.old.finished ≡ false }
-        ensures fed { (result ≡ Err CheckFault.NoMemory → ⊥) → (bytes : List ℕ) → StandsFor self.old bytes
-            → StandsFor self.new (bytes ++ piece.now) }
+        ensures fed { (result ≡ Err CheckFault.NoMemory → ⊥) → (bytes : List ℕ)
+            → StandsFor self.old bytes → StandsFor self.new (bytes ++ piece.now) }
         ensures passed { OnOk result ((bytes : List ℕ) → StandsFor self.old bytes
             → HasNoWholeFault self.old.problem self.old.vectors (bytes ++ piece.now)) }
         ensures refused { (k : ℕ) (why : Why) → result ≡ Err (CheckFault.Refused k why)
@@ -103,7 +105,8 @@ impl Checker {
             → (self.new.failed ≡ true) × (self.new.refused ≡ None) }
         ensures fails { self.old.failed ≡ true → self.old.refused ≡ None
             → result ≡ Err CheckFault.NoMemory }
-        ensures no_list { (k : ℕ) (why : ListWhy) → result ≡ Err (CheckFault.ListRefused k why) → ⊥ }
+        ensures no_list { (k : ℕ) (why : ListWhy)
+            → result ≡ Err (CheckFault.ListRefused k why) → ⊥ }
         ensures problem { self.new.problem ≡ self.old.problem }
         ensures vectors { self.new.vectors ≡ self.old.vectors }
         ensures unfinished { self.new.finished ≡ false }
@@ -120,9 +123,9 @@ impl Checker {
         answer
     }
 
-    /// Judges the end of the log; after it nothing is fed. `Refused` with the first line that is refused, or the line in
-    /// whose midst the bytes end, or the line after the last where the proof hasn't ended; and the same again after it.
-    /// `NoMemory` where memory was refused, and again after it.
+    /// Judges the end of the log; after it nothing is fed. `Refused` with the first line that is refused,
+    /// or the line in whose midst the bytes end, or the line after the last where the proof hasn't ended;
+    /// `NoMemory` where memory was refused; and the same answer again after each.
     pub fn finish(&mut self) -> Result<(), CheckFault>
         ensures ended { OnOk result ((bytes : List ℕ) → StandsFor self.old bytes
             → IsEndedProof self.old.problem self.old.vectors bytes) }
@@ -139,16 +142,37 @@ impl Checker {
             → (self.new.failed ≡ true) × (self.new.refused ≡ None) }
         ensures fails { self.old.failed ≡ true → self.old.refused ≡ None
             → result ≡ Err CheckFault.NoMemory }
-        ensures no_list { (k : ℕ) (why : ListWhy) → result ≡ Err (CheckFault.ListRefused k why) → ⊥ }
+        ensures passed { OnOk result ((self.new.failed ≡ false) × (self.new.refused ≡ None)) }
+        ensures passes { self.old.finished ≡ true → self.old.failed ≡ false → self.old.refused ≡ None
+            → IsOk result }
+        ensures no_list { (k : ℕ) (why : ListWhy)
+            → result ≡ Err (CheckFault.ListRefused k why) → ⊥ }
         ensures problem { self.new.problem ≡ self.old.problem }
         ensures vectors { self.new.vectors ≡ self.old.vectors }
         ensures finished { self.new.finished ≡ true }
     {
-        self.finished = true;
-        self.earlier()?;
-        let answer = judge_end(&self.reader, &self.state);
+        let answer = self.conclusion();
         self.note(answer);
+        self.finished = true;
         answer
+    }
+
+    // What the log comes to that has been fed.
+    fn conclusion(&self) -> Result<(), CheckFault>
+        ensures judged { (bytes : List ℕ) → StandsFor self.now bytes
+            → JudgesEnd self.now.problem self.now.vectors bytes result }
+        ensures settled { OnOk result (HasEnded self.now.reader self.now.state) }
+        ensures earlier { IsAfter (earlier self.now.refused self.now.failed) result }
+        ensures passes { self.now.finished ≡ true
+            → earlier self.now.refused self.now.failed ≡ Ok tt → IsOk result }
+        ensures no_list { (k : ℕ) (why : ListWhy)
+            → result ≡ Err (CheckFault.ListRefused k why) → ⊥ }
+    {
+        self.earlier()?;
+        if self.finished {
+            return Ok(());
+        }
+        judge_end(&self.reader, &self.state)
     }
 
     // What was answered before and is to be answered again, if anything.

@@ -6,7 +6,8 @@ ghost use Rattle.log_checker.specs.ListJudging.{any_comparable, are_comparable};
 use front_set::{CostVec, Entry};
 use instance::{Objective, Sense};
 
-// Whether an entry weakly dominates these costs, or the reverse. Costs the objectives of each entry.
+// Whether an entry weakly dominates these costs, or the reverse. Costs the objectives of each
+// entry.
 pub(crate) fn any_comparable(objectives: &[Objective], entries: &[Entry], costs: &CostVec) -> bool
     ensures { result ≡ any_comparable objectives.now entries.now costs.now }
 {

@@ -9,7 +9,8 @@ ghost use Rattle.proof_laws.specs.declared.line.Line.{Line};
 ghost use Rattle.proof_text.specs.LogText.{HoldsNoFurtherLine};
 ghost use Rattle.log_checker.specs.Accepted.{IsCovered};
 ghost use Rattle.log_checker.specs.declared.fault.ListWhy.{ListWhy};
-ghost use Rattle.log_checker.specs.Judging.{IsLineReason, IsReading, IsUnderway, JudgesEnd, JudgesLines, JudgesNext, left};
+ghost use Rattle.log_checker.specs.Judging.{HasEnded, IsLineReason, IsReading, IsUnderway};
+ghost use Rattle.log_checker.specs.Judging.{JudgesEnd, JudgesLines, JudgesNext, left};
 
 use crate::CheckFault;
 use front_set::CostVec;
@@ -40,6 +41,7 @@ pub(crate) fn judge_lines(
 
 // Whether the bytes end where a log may end, and the proof has ended.
 pub(crate) fn judge_end(reader: &LineReader, state: &ProofState) -> Result<(), CheckFault>
+    ensures settled { OnOk result (HasEnded reader.now state.now) }
     ensures no_list { (k : ℕ) (why : ListWhy) → result ≡ Err (CheckFault.ListRefused k why) → ⊥ }
     ensures judged { (p : ProblemValue) (vectors : _) (bytes : List ℕ) (lines : List Line)
         → IsUnderway p vectors reader.now state.now bytes lines → HoldsNoFurtherLine bytes lines

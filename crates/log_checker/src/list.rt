@@ -19,11 +19,11 @@ use instance::{Instance, Objective};
 use scut_base::{Items, NoMemory};
 use std::alloc::Global;
 
-/// Reads the list of a complete front, and checks each entry against the instance and the entries before. A refusal
-/// names the first entry that is wrong.
+/// Reads the list of a complete front, and checks each entry against the instance and the entries
+/// before. A refusal names the first entry that is wrong.
 ///
-/// Costs the text and, for each entry, one pass over the instance. With one objective or two an entry is compared with
-/// the entry before alone; with more with each entry before.
+/// Costs the text and, for each entry, one pass over the instance. With one objective or two an entry
+/// is compared with the entry before alone; with more with each entry before.
 pub fn check_list(alloc: Global, inst: &Instance, bytes: &[u8]) -> Result<FrontList, CheckFault>
     ensures spelled { IfOk result (λ list. Spells bytes.now true list.entries) }
     ensures right { IfOk result (λ list. IsRightList inst.now list.entries) }

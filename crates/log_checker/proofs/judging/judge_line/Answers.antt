@@ -1,4 +1,4 @@
-use Rattle.std.proofs.Common.{◌≡◌, ◌≤◌, ◌+◌, ℕ, List, ℤ, length, get_or, sym, ap, subst, refl, arith}
+use Rattle.std.proofs.Common.{◌≤◌, ◌+◌, ℕ, length, sym, ap, subst, refl, arith}
 use Rattle.std.proofs.lemmas.Bool.{false≢true}
 use Rattle.std.proofs.lemmas.Result.{err_from_is_err_and}
 use Rattle.log_checker.specs.LogFaults.{LogsUncovered}

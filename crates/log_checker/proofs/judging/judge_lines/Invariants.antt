@@ -9,7 +9,7 @@ invariant-lines l = record {
   fits : Fits l.problem l.state;
   reading : IsReading l.reader;
   judged : (bytes : List ℕ) (lines : List Line) → IsUnderway l.problem l.vectors l.initial.reader l.initial.state bytes lines
-    → (more : List Line) × IsUnderway l.problem l.vectors l.reader l.state bytes more;
+      → (more : List Line) × IsUnderway l.problem l.vectors l.reader l.state bytes more;
 }
 
 abbrev pub decreases-lines : goal.decreases-lines

@@ -1,5 +1,4 @@
-use Rattle.std.proofs.Common.{◌≡◌, ℕ, List, Ok, Err, Some, None, ap, sym, subst, ◌∙◌}
-use Rattle.proof_laws.specs.declared.line.Line.{Line}
+use Rattle.std.proofs.Common.{◌≡◌, Err, None, ap, sym, subst}
 use Rattle.log_checker.specs.Judging.{IsWholeReason}
 use Rattle.log_checker.specs.declared.fault.CheckFault.{CheckFault}
 use Rattle.log_checker.proofs.TextLaws.{line_texts}
@@ -34,8 +33,8 @@ pub returns-in-Ok-clause-judged : goal.returns-in-Ok-clause-judged
 returns-in-Ok-clause-judged c = λ bytes lines underway. (
   c.in-Ok-Some.line,
   line_taken line_texts c.args.problem.now c.args.vectors.now c.args.reader.now c.next_line.new.self c.args.state.now c.judge_line.new.state bytes lines c.in-Ok-Some.line underway
-  (gives_line c.next_line.new.self bytes lines c.in-Ok-Some.field-0 c.in-Ok-Some.line c.in-Ok-Some.field-0-is (c.in-Ok-Some.ensures.next bytes lines underway.read))
-  c.in-Ok.ensures.next c.in-Ok.ensures.covered,
+      (gives_line c.next_line.new.self bytes lines c.in-Ok-Some.field-0 c.in-Ok-Some.line c.in-Ok-Some.field-0-is (c.in-Ok-Some.ensures.next bytes lines underway.read))
+      c.in-Ok.ensures.next c.in-Ok.ensures.covered,
 )
 
 pub returns-in-Err-Refused-clause-judged : goal.returns-in-Err-Refused-clause-judged

@@ -1,12 +1,10 @@
-use Rattle.std.proofs.Common.{◌≡◌, ◌++◌, ◌∙◌, ℕ, List, None, Some, Ok, Err, false, Result, ap, sym, subst, refl, Option, Bool, ℤ}
+use Rattle.std.proofs.Common.{◌≡◌, ◌++◌, ◌∙◌, ℕ, List, None, Err, Result, ap, sym, subst}
 use Rattle.std.proofs.lemmas.Result.{err_from_is_err_and}
-use Rattle.pb_lin.specs.Problem.{ProblemValue}
-use Rattle.proof_laws.specs.declared.why.Why.{Why}
 use Rattle.log_checker.specs.Checking.{CheckerValue, StandsFor}
-use Rattle.log_checker.specs.Judging.{JudgesLines, earlier, noted}
+use Rattle.log_checker.specs.Judging.{JudgesLines, earlier}
 use Rattle.log_checker.specs.LogFaults.{HasNoWholeFault, IsWholeFault}
 use Rattle.log_checker.specs.declared.fault.CheckFault.{CheckFault}
-use Rattle.log_checker.specs.declared.fault.CheckFault.TheVariants.{Refused, NoMemory}
+use Rattle.log_checker.specs.declared.fault.CheckFault.TheVariants.{Refused}
 use Rattle.log_checker.proofs.TextLaws.{line_texts}
 use Rattle.log_checker.proofs.Faults.{whole_fault_more}
 use Rattle.log_checker.proofs.Answering.{on_ok, nothing_earlier, again_stands, again_whole, noted_stands, judged_fed, lines_have_no_fault}
