@@ -1,5 +1,5 @@
 -- The words that items begin with, and that none of them is one that ends a part.
-use Rattle.std.proofs.Common.{◌≡◌, ◌≢◌, ℕ, ◌^◌, ◌<◌, ◌==◌, ◌||◌, Bool, true, false, List, [], ◌∷◌, ◌++◌, get_or, ℤ, pos, negsuc, refl, sym, ap, subst, ◌∙◌, arith, codes}
+use Rattle.std.proofs.Common.{◌≡◌, ◌≢◌, ℕ, ◌^◌, ◌<◌, ◌==◌, ◌||◌, Bool, true, false, List, [], ◌∷◌, ◌++◌, get_or, pos, negsuc, refl, sym, ap, subst, ◌∙◌, arith, codes}
 use Rattle.std.specs.Int.{IsInRange}
 use Rattle.std.specs.Fmt.{decimal}
 use Rattle.std.proofs.lemmas.Bool.Decides.{nat_tests}
@@ -7,7 +7,7 @@ use Rattle.std.proofs.lemmas.Int.{ints}
 use Rattle.scut_base.specs.Literal.{Literal}
 use Rattle.cutting_planes.specs.declared.token.PolToken.{PolToken}
 use Rattle.cutting_planes.specs.declared.token.PolToken.TheVariants.{Id, Axiom, Negated, Denied, Add, Mul, Div, Saturate, Weaken}
-use Rattle.proof_laws.specs.WellFormed.{IsToken, IsVariable}
+use Rattle.proof_laws.specs.WellFormed.{IsToken}
 use Rattle.proof_lines.specs.LineText.{literal_word, token_words, variable_word}
 use Rattle.proof_lines.specs.Reading.{EndsPart, first_letter}
 use Rattle.proof_lines.proofs.Numbers.{decimal_first}
@@ -32,14 +32,14 @@ no_mark byte other plain mark same = let both : is_mark byte ≡ is_mark other =
 digit_plain : (byte : ℕ) → IsInRange 48 57 byte → is_mark byte ≡ false
 digit_plain byte digit = grind (arith, nat_tests)
 
-pub number_plain : (n : ℕ) → n < 10 ^ 64 → is_mark (get_or (decimal n) 0 0) ≡ false
+number_plain : (n : ℕ) → n < 10 ^ 64 → is_mark (get_or (decimal n) 0 0) ≡ false
 number_plain n small = digit_plain (get_or (decimal n) 0 0) (decimal_first n small)
 
 signed_plain : (var : ℕ) (neg : Bool) → is_mark (get_or (literal_word (record { var = var; neg = neg })) 0 0) ≡ false
 signed_plain var true = refl
 signed_plain var false = refl
 
-pub literal_plain : (l : Literal) → is_mark (get_or (literal_word l) 0 0) ≡ false
+literal_plain : (l : Literal) → is_mark (get_or (literal_word l) 0 0) ≡ false
 literal_plain l = signed_plain l.var l.neg
 
 begins : (word : List ℕ) (rest : List (List ℕ)) → is_mark (get_or word 0 0) ≡ false → BeginsPlain (word ∷ rest)
@@ -61,7 +61,7 @@ token_begins (Weaken var) r valid = begins (variable_word var) (codes "w" ∷ r)
 -- ---- what ends a part
 
 -- plain words don't begin with a mark
-pub plain_no_mark : (words : List (List ℕ)) (mark : List ℕ) (rest : List (List ℕ)) → BeginsPlain words → is_mark (get_or mark 0 0) ≡ true → words ≡ mark ∷ rest → ⊥
+plain_no_mark : (words : List (List ℕ)) (mark : List ℕ) (rest : List (List ℕ)) → BeginsPlain words → is_mark (get_or mark 0 0) ≡ true → words ≡ mark ∷ rest → ⊥
 plain_no_mark words mark rest plain is same =
     let first : get_or plain.word 0 0 ≡ get_or mark 0 0 = ap first_byte (sym plain.is ∙ same) in
     no_mark (get_or plain.word 0 0) (get_or mark 0 0) plain.plain is first

@@ -1,27 +1,24 @@
 -- The words of a line after its first: where they go wrong, they are no line's.
-use Rattle.std.proofs.Common.{◌≡◌, ℕ, List, [], ◌∷◌, ◌++◌, map, Err, refl, sym, ap, subst, ◌∙◌}
+use Rattle.std.proofs.Common.{◌≡◌, ℕ, List, [], ◌∷◌, ◌++◌, map, Err, refl, sym, subst, ◌∙◌}
 use Rattle.std.specs.List.{All, flat_map}
 use Rattle.std.specs.Fmt.{decimal}
 use Rattle.std.proofs.lemmas.List.{append_assoc, append-nil}
-use Rattle.scut_base.proofs.Lists.{head_same, tail_same}
+use Rattle.scut_base.proofs.Lists.{tail_same}
 use Rattle.scut_base.specs.Literal.{Literal}
 use Rattle.pb_lin.specs.Constraint.{ConstraintValue}
-use Rattle.pb_lin.specs.Substitution.{Images}
 use Rattle.cutting_planes.specs.declared.token.PolToken.{PolToken}
 use Rattle.hint_rup.specs.declared.hint.Hint.{Hint}
-use Rattle.proof_laws.specs.declared.goal.Goal.{Goal}
-use Rattle.proof_laws.specs.declared.goal.GoalProof.{GoalProof}
-use Rattle.proof_laws.specs.WellFormed.{AreTokens, AreRisingIds, AreRisingLiterals, AreProofs, IsConstraint, IsHint, IsId, IsSubstitution, IsToken, IsVariable}
-use Rattle.proof_lines.specs.declared.kind.Kind.TheVariants.{Pol, Rup, Learn, Def, Red, Dom, Sol, Del, Reduce}
+use Rattle.proof_laws.specs.WellFormed.{AreTokens, AreRisingIds, AreRisingLiterals, IsConstraint, IsHint, IsId, IsToken, IsVariable}
+use Rattle.proof_lines.specs.declared.kind.Kind.TheVariants.{Pol, Def, Red, Dom, Sol}
 use Rattle.proof_lines.specs.declared.reader.LineFault.{LineFault}
 use Rattle.proof_lines.specs.declared.reader.LineFault.TheVariants.{Syntax, NoMemory}
-use Rattle.proof_lines.specs.LineText.{constraint_words, goal_words, hint_word, hinted_words, image_words, literal_word, token_words, variable_word, witnessed_words}
+use Rattle.proof_lines.specs.LineText.{constraint_words, hint_word, hinted_words, literal_word, token_words}
 use Rattle.proof_lines.specs.Spaces.{definition_words, solution_words}
 use Rattle.proof_lines.specs.Reading.{BeginsWith, EndsPart, FollowsToken, Reads, ReadsAll, ReadsPart}
 use Rattle.proof_lines.specs.Witnessed.{IsWitnessed, words_of_witnessed}
 use Rattle.proof_lines.specs.Kinds.{IsNoBody, NoHinted, NoIds, ReadsBody, ReadsHinted, ReadsIds}
 use Rattle.proof_lines.proofs.Items.{Words, one_list}
-use Rattle.proof_lines.proofs.Codes.{AnyFollows, IsWordCode, id_code, literal_code, hint_code}
+use Rattle.proof_lines.proofs.Codes.{IsWordCode, id_code, literal_code, hint_code}
 use Rattle.proof_lines.proofs.WordParts.{one_part}
 use Rattle.proof_lines.proofs.TermLists.{one_constraint}
 use Rattle.proof_lines.proofs.TokenCode.{token_code}
@@ -142,21 +139,3 @@ red_wrong NoMemory words none = tt
 pub dom_wrong : (f : LineFault) (words : Words) → ReadsAll words_of_witnessed IsWitnessed words (Err f) → ReadsBody Dom words (Err f)
 dom_wrong Syntax words none = λ goal witness proofs valid witness_valid proofs_valid e. none (goal, witness, proofs) (valid, witness_valid, proofs_valid) e
 dom_wrong NoMemory words none = tt
-
--- ---- kinds that share a reader
-
-pub rup_wrong : (f : LineFault) (words : Words) → ReadsHinted words (Err f) → ReadsBody Rup words (Err f)
-rup_wrong Syntax words none = none
-rup_wrong NoMemory words none = tt
-
-pub learn_wrong : (f : LineFault) (words : Words) → ReadsHinted words (Err f) → ReadsBody Learn words (Err f)
-learn_wrong Syntax words none = none
-learn_wrong NoMemory words none = tt
-
-pub del_wrong : (f : LineFault) (words : Words) → ReadsIds words (Err f) → ReadsBody Del words (Err f)
-del_wrong Syntax words none = none
-del_wrong NoMemory words none = tt
-
-pub reduce_wrong : (f : LineFault) (words : Words) → ReadsIds words (Err f) → ReadsBody Reduce words (Err f)
-reduce_wrong Syntax words none = none
-reduce_wrong NoMemory words none = tt

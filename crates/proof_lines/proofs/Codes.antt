@@ -1,7 +1,6 @@
 -- What tells words apart.
-use Rattle.std.proofs.Common.{◌≡◌, ℕ, ◌+◌, ◌<◌, ◌≤◌, ◌^◌, Bool, true, false, List, [], ◌∷◌, ◌++◌, map, get_or, drop, Option, Some, None, Result, Ok, Err, refl, sym, ap, subst, ◌∙◌, arith}
+use Rattle.std.proofs.Common.{◌≡◌, ℕ, ◌<◌, ◌^◌, Bool, true, false, List, [], ◌∷◌, get_or, drop, refl, sym, ap, subst, ◌∙◌, arith}
 use Rattle.std.specs.Prelude.{if◌then◌else◌, ◌==◌}
-use Rattle.std.specs.List.{All, flat_map}
 use Rattle.std.specs.Int.{IsInRange}
 use Rattle.std.specs.Fmt.{decimal}
 use Rattle.std.specs.Str.{bytes_eq}
@@ -12,12 +11,9 @@ use Rattle.scut_base.specs.Literal.{Literal}
 use Rattle.hint_rup.specs.declared.hint.Hint.{Hint}
 use Rattle.hint_rup.specs.declared.hint.Hint.TheVariants.{Id, Negated, Denied}
 use Rattle.proof_laws.specs.WellFormed.{IsId, IsVariable, IsHint}
-use Rattle.proof_lines.specs.declared.reader.LineFault.{LineFault}
-use Rattle.proof_lines.specs.declared.reader.LineFault.TheVariants.{Syntax, NoMemory}
 use Rattle.proof_lines.specs.LineText.{variable_word, literal_word, hint_word}
-use Rattle.proof_lines.specs.Reading.{EndsPart, IsValueOf, ReadsPart}
 use Rattle.proof_lines.proofs.Numbers.{one_number, decimal_first}
-use Rattle.proof_lines.proofs.Items.{IsCode, ItemsSoFar, Words, no_item_here}
+use Rattle.proof_lines.proofs.Items.{Words}
 
 -- ---- first bytes
 

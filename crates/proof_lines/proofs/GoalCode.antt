@@ -1,10 +1,7 @@
 -- How goals and their proofs are spelled tells them apart.
-use Rattle.std.proofs.Common.{◌≡◌, ℕ, ◌^◌, ◌<◌, List, [], ◌∷◌, ◌++◌, map, codes, sym, ap, refl, subst, ◌∙◌, arith}
-use Rattle.std.specs.List.{All, flat_map}
+use Rattle.std.proofs.Common.{◌≡◌, ℕ, ◌^◌, ◌<◌, List, [], ◌∷◌, ◌++◌, codes, sym, ap, refl, ◌∙◌, arith}
 use Rattle.std.specs.Fmt.{decimal}
 use Rattle.scut_base.proofs.Lists.{head_same, tail_same}
-use Rattle.cutting_planes.specs.declared.token.PolToken.{PolToken}
-use Rattle.hint_rup.specs.declared.hint.Hint.{Hint}
 use Rattle.proof_laws.specs.declared.goal.Goal.{Goal}
 use Rattle.proof_laws.specs.declared.goal.Goal.TheVariants.{Row, Itself, Objective, Strict}
 use Rattle.proof_laws.specs.declared.goal.GoalProof.{GoalProof}
@@ -24,7 +21,7 @@ use Rattle.proof_lines.proofs.TokenCode.{token_code}
 no_number : (id byte : ℕ) (word : List ℕ) → id < 2 ^ 63 → 57 < byte → decimal id ≡ byte ∷ word → ⊥
 no_number id byte word small letter e = no_decimal id (omega arith) (byte ∷ word) (λ digit. omega arith) e
 
-pub one_goal : (g h : Goal) → IsGoal g → IsGoal h → goal_word g ≡ goal_word h → g ≡ h
+one_goal : (g h : Goal) → IsGoal g → IsGoal h → goal_word g ≡ goal_word h → g ≡ h
 one_goal (Row m) (Row n) left right e = ap Row (one_number m n (omega arith) (omega arith) e)
 one_goal (Row m) Itself left right e = absurd (no_number m 99 [] left (omega arith) e)
 one_goal (Row m) (Objective j) left right e = absurd (no_number m 111 (decimal j) left (omega arith) e)
@@ -47,7 +44,7 @@ one_goal Strict Strict left right e = refl
 pub rup_pol : (a b : Words) → codes "rup" ∷ a ≡ codes "pol" ∷ b → ⊥
 rup_pol a b e = heads_apart 114 112 _ _ refl (head_same _ _ _ _ e)
 
-pub one_proof : (p q : GoalProof) (r s : Words) → IsGoalProof p → IsGoalProof q → EndsPart r → EndsPart s → proof_words p ++ r ≡ proof_words q ++ s → (p ≡ q) × (r ≡ s)
+one_proof : (p q : GoalProof) (r s : Words) → IsGoalProof p → IsGoalProof q → EndsPart r → EndsPart s → proof_words p ++ r ≡ proof_words q ++ s → (p ≡ q) × (r ≡ s)
 one_proof (Rup hints) (Rup others) r s left right ends end e =
     let both = one_part hint_word IsHint hint_code hints others r s left right ends end (tail_same _ _ _ _ e) in
     (ap Rup both.0, both.1)

@@ -1,17 +1,16 @@
 -- How images are spelled tells them apart.
-use Rattle.std.proofs.Common.{◌≡◌, ℕ, List, [], ◌∷◌, ◌++◌, sym, ap, refl, ◌∙◌, arith}
+use Rattle.std.proofs.Common.{◌≡◌, ℕ, [], ◌∷◌, ◌++◌, sym, ap, refl, ◌∙◌, arith}
 use Rattle.scut_base.proofs.Lists.{head_same, tail_same}
-use Rattle.scut_base.specs.Literal.{Literal}
 use Rattle.pb_lin.specs.declared.witness.Image.{Image}
 use Rattle.pb_lin.specs.declared.witness.Image.TheVariants.{Zero, One, Lit}
 use Rattle.proof_laws.specs.WellFormed.{IsImage}
-use Rattle.proof_lines.specs.LineText.{variable_word, image_word, image_words}
+use Rattle.proof_lines.specs.LineText.{image_word, image_words}
 use Rattle.proof_lines.specs.Reading.{EndsPart}
 use Rattle.proof_lines.specs.Witnessed.{IsImageOf}
 use Rattle.proof_lines.proofs.Items.{IsCode, Words}
 use Rattle.proof_lines.proofs.Codes.{AnyFollows, heads_apart, one_variable, one_literal, no_literal}
 
-pub one_image : (i j : Image) → IsImage i → IsImage j → image_word i ≡ image_word j → i ≡ j
+one_image : (i j : Image) → IsImage i → IsImage j → image_word i ≡ image_word j → i ≡ j
 one_image Zero Zero left right e = refl
 one_image Zero One left right e = absurd (heads_apart 48 49 [] [] refl e)
 one_image Zero (Lit m) left right e = absurd (no_literal m (48 ∷ []) (λ first. omega arith) (sym e))

@@ -1,5 +1,5 @@
 -- Parts of a line whose items are of several words each.
-use Rattle.std.proofs.Common.{◌≡◌, ℕ, List, [], ◌∷◌, ◌++◌, Some, None, Ok, sym, subst, ◌∙◌}
+use Rattle.std.proofs.Common.{◌≡◌, ℕ, List, [], ◌∷◌, ◌++◌, None, Ok, sym, subst, ◌∙◌}
 use Rattle.std.specs.List.{All, flat_map}
 use Rattle.proof_lines.specs.Reading.{EndsPart, ReadsPart, Takes}
 use Rattle.proof_lines.proofs.Items.{IsCode, ItemsSoFar, Words, one_item_more, no_item_here, one_list}

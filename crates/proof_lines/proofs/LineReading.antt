@@ -1,7 +1,7 @@
 -- The reader of a line.
-use Rattle.std.proofs.Common.{◌≡◌, ◌≢◌, ℕ, Bool, true, false, cond, ◌==◌, List, [], ◌∷◌, ◌++◌, Option, Some, None, Result, Ok, Err, sum, refl, sym, ap, subst, ◌∙◌, arith}
+use Rattle.std.proofs.Common.{◌≡◌, ◌≢◌, ℕ, Bool, true, false, cond, List, [], ◌∷◌, None, Result, Ok, Err, sum, refl, sym, ap, ◌∙◌, arith}
 use Rattle.std.specs.Prelude.{IfOk, IsErrOf}
-use Rattle.std.specs.List.{flat_map, slice_split, onto_first}
+use Rattle.std.specs.List.{onto_first}
 use Rattle.std.proofs.lemmas.Bool.{eqb-true}
 use Rattle.scut_base.proofs.Lists.{head_same, tail_same}
 use Rattle.proof_laws.specs.declared.line.Line.{Line}
@@ -12,7 +12,7 @@ use Rattle.proof_lines.specs.declared.kind.Kind.TheVariants.{Pol as PolKind, Rup
 use Rattle.proof_lines.specs.declared.reader.LineFault.{LineFault}
 use Rattle.proof_lines.specs.declared.reader.LineFault.TheVariants.{Syntax, NoMemory}
 use Rattle.proof_lines.specs.LineText.{SpellsLine, SpellsNoLine, line_words, spaced}
-use Rattle.proof_lines.specs.Spaces.{kind_word, later_words}
+use Rattle.proof_lines.specs.Spaces.{later_words}
 use Rattle.proof_lines.specs.Reading.{IsValueOf, is_space, words_of}
 use Rattle.proof_lines.specs.Kinds.{IsNoBody, ReadsBody, word_of}
 use Rattle.proof_lines.proofs.Items.{Words}
@@ -32,19 +32,19 @@ spaced_cons (w ∷ ws) some = refl
 -- a text is that of its words
 pub spaced_words : (text : List ℕ) → spaced (words_of text) ≡ text
 spaced_words [] = refl
-spaced_words (b ∷ text) = by (is_space b) refl
+spaced_words (b ∷ text) = by (is_space b) refl (spaced_words text)
   where
-    by : (v : Bool) → is_space b ≡ v → spaced (cond v ([] ∷ words_of text) (onto_first b (words_of text))) ≡ b ∷ text
-    by true is = spaced_cons (words_of text) (some_word text) ∙ ap (λ t. 32 ∷ t) (spaced_words text) ∙ ap (λ c. c ∷ text) (sym (eqb-true b 32 is))
-    by false is = spaced_onto b (words_of text) (some_word text) ∙ ap (λ t. b ∷ t) (spaced_words text)
+    by : (v : Bool) → is_space b ≡ v → spaced (words_of text) ≡ text → spaced (cond v ([] ∷ words_of text) (onto_first b (words_of text))) ≡ b ∷ text
+    by true is rest = spaced_cons (words_of text) (some_word text) ∙ ap (λ t. 32 ∷ t) rest ∙ ap (λ c. c ∷ text) (sym (eqb-true b 32 is))
+    by false is rest = spaced_onto b (words_of text) (some_word text) ∙ ap (λ t. b ∷ t) rest
 
 -- ---- the kinds of lines
 
-kind_of_line : Line → Kind
+abbrev kind_of_line : Line → Kind
 kind_of_line (Pol tokens) = PolKind
 kind_of_line (Rup goal hints) = RupKind
 kind_of_line (Learn goal hints) = LearnKind
-kind_of_line (Def var sum) = DefKind
+kind_of_line (Def var sum_is) = DefKind
 kind_of_line (Red goal witness proofs) = RedKind
 kind_of_line (Dom goal witness proofs) = DomKind
 kind_of_line (Sol model cut rows) = SolKind
@@ -56,7 +56,7 @@ first_of_line : (line : Line) → line_words line ≡ word_of (kind_of_line line
 first_of_line (Pol tokens) = refl
 first_of_line (Rup goal hints) = refl
 first_of_line (Learn goal hints) = refl
-first_of_line (Def var sum) = refl
+first_of_line (Def var sum_is) = refl
 first_of_line (Red goal witness proofs) = refl
 first_of_line (Dom goal witness proofs) = refl
 first_of_line (Sol model cut rows) = refl
@@ -72,7 +72,7 @@ no_line_of : (kind : Kind) (words : Words) (line : Line) → IsNoBody kind words
 no_line_of PolKind words (Pol tokens) none formed e = none tokens formed (tail_same _ _ _ _ e)
 no_line_of RupKind words (Rup goal hints) none formed e = none goal hints formed.0 formed.1 (tail_same _ _ _ _ e)
 no_line_of LearnKind words (Learn goal hints) none formed e = none goal hints formed.0 formed.1 (tail_same _ _ _ _ e)
-no_line_of DefKind words (Def var sum) none formed e = none var sum formed.0 formed.1 (tail_same _ _ _ _ e)
+no_line_of DefKind words (Def var sum_is) none formed e = none var sum_is formed.0 formed.1 (tail_same _ _ _ _ e)
 no_line_of RedKind words (Red goal witness proofs) none formed e = none goal witness proofs formed.0 formed.1 formed.2 (tail_same _ _ _ _ e)
 no_line_of DomKind words (Dom goal witness proofs) none formed e = none goal witness proofs formed.0 formed.1 formed.2 (tail_same _ _ _ _ e)
 no_line_of SolKind words (Sol model cut rows) none formed e = none model cut rows formed.0 formed.1 formed.2 (tail_same _ _ _ _ e)

@@ -15,9 +15,9 @@ use Rattle.proof_laws.specs.declared.line.Line.{Line}
 use Rattle.proof_laws.specs.declared.line.Line.TheVariants.{Pol, Rup, Learn, Def, Red, Dom, Sol, Del, Reduce, End}
 use Rattle.proof_laws.specs.WellFormed.{IsId, IsVariable, IsConstraint, IsToken, IsHint, IsSubstitution, AreProofs, IsWellFormed}
 use Rattle.proof_lines.specs.LineText.{SpellsLine, literal_word, constraint_words, token_words, hint_word, image_words, goal_words, hinted_words, witnessed_words, line_words, line_text}
-use Rattle.proof_lines.specs.Reading.{EndsPart, FollowsToken, IsTerm, term_words, words_of}
+use Rattle.proof_lines.specs.Reading.{EndsPart, FollowsToken, words_of}
 use Rattle.proof_lines.specs.Witnessed.{IsImageOf, IsProved}
-use Rattle.proof_lines.specs.Spaces.{kind_word, solution_words}
+use Rattle.proof_lines.specs.Spaces.{kind_word}
 use Rattle.proof_lines.proofs.Numbers.{one_number}
 use Rattle.proof_lines.proofs.Items.{Words, one_list}
 use Rattle.proof_lines.proofs.Codes.{AnyFollows, one_variable, id_code, literal_code, hint_code}
@@ -63,7 +63,7 @@ pub record SameWitnessed (c d : ConstraintValue) (w v : Images) (p q : List (Goa
   pub proofs : p ≡ q
 
 -- the images, and the proofs after them
-pub one_substitution : (w v : Images) (p q : List (Goal × GoalProof)) → IsSubstitution w → IsSubstitution v → AreProofs p → AreProofs q → flat_map image_words w ++ flat_map goal_words p ≡ flat_map image_words v ++ flat_map goal_words q → (w ≡ v) × (p ≡ q)
+one_substitution : (w v : Images) (p q : List (Goal × GoalProof)) → IsSubstitution w → IsSubstitution v → AreProofs p → AreProofs q → flat_map image_words w ++ flat_map goal_words p ≡ flat_map image_words v ++ flat_map goal_words q → (w ≡ v) × (p ≡ q)
 one_substitution w v p q left right proofs others e =
     let images = one_list image_words IsImageOf AnyFollows EndsPart image_code w v (flat_map goal_words p) (flat_map goal_words q) left.images right.images (goals_end p) (goals_end q) e in
     let goals = one_list goal_words IsProved EndsAfter IsEmpty proved_code p q [] [] (all_proved p proofs) (all_proved q others) refl refl (ended (flat_map goal_words p) (flat_map goal_words q) images.1) in
@@ -87,7 +87,7 @@ kinds_apart : (l m : Line) → sum (kind_word l) ≢ sum (kind_word m) → get_o
 kinds_apart l m apart first other e = apart (ap sum (sym first ∙ ap (λ ws. get_or ws 0 []) e ∙ other))
 
 -- lines of the same words are the same
-pub one_of_words : (l m : Line) → IsWellFormed l → IsWellFormed m → line_words l ≡ line_words m → l ≡ m
+one_of_words : (l m : Line) → IsWellFormed l → IsWellFormed m → line_words l ≡ line_words m → l ≡ m
 one_of_words (Pol tokens) (Pol others) left right e = ap Pol (one_tokens tokens others left.1 right.1 (tail_same _ _ _ _ e))
 one_of_words (Rup goal hints) (Rup other others) left right e =
     let both = one_hinted goal other hints others left.0 right.0 left.1 right.1 (tail_same _ _ _ _ e) in

@@ -1,5 +1,5 @@
 -- Lists of which each element comes before the next, and goals in their order.
-use Rattle.std.proofs.Common.{◌≡◌, ◌⊎◌, ℕ, zero, suc, ◌+◌, ◌-◌, ◌<◌, ◌≤◌, List, length, get_or, ⊎_elim, inl, inr, add-one, arith}
+use Rattle.std.proofs.Common.{◌≡◌, ◌⊎◌, ℕ, zero, suc, ◌+◌, ◌<◌, ◌≤◌, List, length, get_or, ⊎_elim, inl, inr, add-one, arith}
 use Rattle.std.specs.List.{AllPairs}
 use Rattle.std.proofs.lemmas.Bool.{cases_lt}
 use Rattle.proof_laws.specs.declared.goal.Goal.{Goal}
@@ -9,15 +9,6 @@ use Rattle.proof_laws.specs.WellFormed.{ComesBefore, goal_kind, goal_number}
 -- each element up to a place comes before the next
 abbrev pub OrderedUpTo : {X : Type 0} → (X → X → Type 0) → List X → ℕ → Type 0
 OrderedUpTo {X} R xs at = (k : ℕ) (d : X) → k + 1 < at → R (get_or xs k d) (get_or xs (k + 1) d)
-
-pub ordered_more : {X : Type 0} (R : X → X → Type 0) (xs : List X) (at : ℕ) → 1 ≤ at → OrderedUpTo R xs at → ((d : X) → R (get_or xs (at - 1) d) (get_or xs at d)) → OrderedUpTo R xs (at + 1)
-ordered_more {X} R xs at some so_far last k d lt = ⊎_elim (λ before. so_far k d before) (λ here. at_last (omega arith)) (cases_lt (k + 1) at)
-  where
-    at_last : at ≡ k + 1 → R (get_or xs k d) (get_or xs (k + 1) d)
-    at_last same =
-        let before : at - 1 ≡ k = omega arith in
-        let one : R (get_or xs (at - 1) d) (get_or xs at d) = last d in
-        rw (before, same) at one
 
 pub ordered_pairs : {X : Type 0} (R : X → X → Type 0) (xs : List X) (at : ℕ) → ((x y z : X) → R x y → R y z → R x z) → length xs ≤ at → OrderedUpTo R xs at → AllPairs R xs
 ordered_pairs {X} R xs at joins past ordered i zero d lt within = absurd (omega arith)

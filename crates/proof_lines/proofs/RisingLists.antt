@@ -1,20 +1,11 @@
 -- Lists that rise.
-use Rattle.std.proofs.Common.{◌≡◌, ℕ, zero, suc, ◌+◌, ◌-◌, ◌<◌, ◌≤◌, List, [], ◌∷◌, length, get_or, ⊎_elim, refl, sym, ap, subst, ◌∙◌, add-one, arith}
+use Rattle.std.proofs.Common.{◌≡◌, ℕ, zero, suc, ◌+◌, ◌<◌, ◌≤◌, List, length, get_or, ⊎_elim, add-one, arith}
 use Rattle.std.specs.List.{AllPairs}
 use Rattle.std.proofs.lemmas.Bool.{cases_lt}
 
 -- each element up to a place is below the next
 abbrev pub RisesUpTo : {X : Type 0} → (X → ℕ) → List X → ℕ → Type 0
 RisesUpTo {X} number xs at = (k : ℕ) (d : X) → k + 1 < at → number (get_or xs k d) < number (get_or xs (k + 1) d)
-
-pub rises_more : {X : Type 0} (number : X → ℕ) (xs : List X) (at : ℕ) → 1 ≤ at → RisesUpTo number xs at → ((d : X) → number (get_or xs (at - 1) d) < number (get_or xs at d)) → RisesUpTo number xs (at + 1)
-rises_more {X} number xs at some so_far last k d lt = ⊎_elim (λ before. so_far k d before) (λ here. at_last (omega arith)) (cases_lt (k + 1) at)
-  where
-    at_last : at ≡ k + 1 → number (get_or xs k d) < number (get_or xs (k + 1) d)
-    at_last same =
-        let before : at - 1 ≡ k = omega arith in
-        let one : number (get_or xs (at - 1) d) < number (get_or xs at d) = last d in
-        rw (before, same) at one
 
 pub rising_pairs : {X : Type 0} (number : X → ℕ) (xs : List X) (at : ℕ) → length xs ≤ at → RisesUpTo number xs at → AllPairs (λ x y. number x < number y) xs
 rising_pairs {X} number xs at past rises i zero d lt within = absurd (omega arith)

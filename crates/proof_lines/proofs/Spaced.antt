@@ -1,8 +1,8 @@
 -- The words of a line are those of its text.
-use Rattle.std.proofs.Common.{◌≡◌, ◌≢◌, ℕ, ◌^◌, ◌<◌, ◌≤◌, ◌+◌, if◌then◌else◌, Bool, true, false, List, [], ◌∷◌, ◌++◌, length, map, get_or, codes, ℤ, pos, negsuc, refl, sym, ap, ◌∙◌, arith}
+use Rattle.std.proofs.Common.{◌≡◌, ◌≢◌, ℕ, ◌^◌, ◌<◌, if◌then◌else◌, Bool, true, false, List, [], ◌∷◌, ◌++◌, map, codes, pos, negsuc, refl, ap, ◌∙◌, arith}
 use Rattle.std.specs.List.{All, flat_map}
 use Rattle.std.specs.Int.{IsInRange}
-use Rattle.std.specs.Fmt.{decimal, signed_decimal}
+use Rattle.std.specs.Fmt.{decimal}
 use Rattle.std.specs.Str.Parse.{AllDigits}
 use Rattle.std.proofs.lemmas.Bool.{cond-false}
 use Rattle.std.proofs.lemmas.Bool.Decides.{nat_tests}
@@ -53,7 +53,7 @@ spaceless (b ∷ bs) plain =
     let parts = spaceless_from b bs (is_space b) refl plain in
     All-cons (λ b. is_space b ≡ false) b bs parts.0 (spaceless bs parts.1)
 
-pub words_of_spaced : (w : List ℕ) (ws : List (List ℕ)) → AreWords (w ∷ ws) → words_of (spaced (w ∷ ws)) ≡ w ∷ ws
+words_of_spaced : (w : List ℕ) (ws : List (List ℕ)) → AreWords (w ∷ ws) → words_of (spaced (w ∷ ws)) ≡ w ∷ ws
 words_of_spaced w [] plain = ap words_of (append-nil w) ∙ slice_split_none is_space w (spaceless w plain.0)
 words_of_spaced w (v ∷ vs) plain =
     slice_split_at is_space w 32 (spaced (v ∷ vs)) (spaceless w plain.0) refl ∙ ap (λ ws. w ∷ ws) (words_of_spaced v vs plain.1)

@@ -1,14 +1,14 @@
 -- Terms of a constraint: how they are kept, how they are spelled, and how they rise.
-use Rattle.std.proofs.Common.{◌≡◌, ℕ, zero, suc, ◌+◌, ◌<◌, ◌≤◌, ◌^◌, Bool, true, false, List, [], ◌∷◌, ◌++◌, map, length, get_or, Option, Some, None, Result, Ok, Err, refl, sym, ap, subst, ◌∙◌, arith}
-use Rattle.std.specs.List.{All, AllPairs, flat_map, sum_by}
+use Rattle.std.proofs.Common.{◌≡◌, ℕ, suc, ◌+◌, ◌<◌, ◌≤◌, ◌^◌, List, [], ◌∷◌, ◌++◌, length, get_or, refl, sym, ap, subst, ◌∙◌, arith}
+use Rattle.std.specs.List.{All, AllPairs, flat_map}
 use Rattle.std.specs.Fmt.{decimal}
 use Rattle.std.proofs.lemmas.List.{append-nil, append_assoc}
-use Rattle.std.proofs.lemmas.List.Elements.{All-nil, All-cons, All-head, All-tail, All-push, All-same, All-weaker, All-get_or}
+use Rattle.std.proofs.lemmas.List.Elements.{All-nil, All-cons, All-head, All-tail, All-push, All-get_or}
 use Rattle.std.proofs.lemmas.List.Sums.{sum_by-append}
 use Rattle.std.proofs.lemmas.List.Quantifiers.{all_pairs_push}
 use Rattle.scut_base.proofs.Lists.{head_same, tail_same}
 use Rattle.scut_base.specs.Literal.{Literal}
-use Rattle.pb_lin.specs.Constraint.{ConstraintValue, IsNormal, IsMerged, total, ones, literals}
+use Rattle.pb_lin.specs.Constraint.{ConstraintValue, IsNormal, total, ones, literals}
 use Rattle.pb_lin.proofs.Ones.{total_ones, AreOnes-ones, rising-literals}
 use Rattle.pb_lin.proofs.Merges.{rising_head, rising_tail}
 use Rattle.proof_laws.specs.WellFormed.{IsVariable, IsConstraint}
@@ -81,19 +81,6 @@ total_push terms t = let sum = sum_by-append (λ (u : Literal × ℕ). u.1) term
 
 total_cons : (t : Literal × ℕ) (terms : List (Literal × ℕ)) → total (t ∷ terms) ≡ t.1 + total terms
 total_cons t terms = let sum = sum_by-append (λ (u : Literal × ℕ). u.1) (t ∷ []) terms in omega (arith, sum)
-
-pub no_sum : IsSum [] 0 0
-no_sum = record {
-  formed = record {
-    normal = record {
-      merged = record { positive = All-nil (λ t. 0 < t.1); from_one = All-nil (λ t. 0 < t.0.var); rising = λ i j d lt within. absurd (omega arith) };
-      small = omega arith;
-    };
-    variables = All-nil (λ t. IsVariable t.0.var);
-  };
-  last_is = refl;
-  sum_is = refl;
-}
 
 pub sum_more : (terms : List (Literal × ℕ)) (last sum : ℕ) (t : Literal × ℕ) → IsSum terms last sum → IsTerm t → MayFollow last sum t → IsSum (terms ++ t ∷ []) t.0.var (sum + t.1)
 sum_more terms last sum t so_far valid follows =
@@ -251,10 +238,6 @@ no_degree old new terms sum formed sum_is is none c rest valid spelled =
     let small : total c.terms + c.degree ≤ 2 ^ 100 = valid.normal.small in
     let sums : total terms ≡ total c.terms = ap total same.0 in
     none c.degree rest (omega arith) same.1
-
--- terms and a degree are a constraint
-pub constraint_read : (old new rest : Words) (c : ConstraintValue) (terms : List (Literal × ℕ)) (sum degree : ℕ) → AreTerms terms → sum ≡ total terms → old ≡ flat_map term_words terms ++ (62 ∷ 61 ∷ []) ∷ new → sum + degree ≤ 2 ^ 100 → new ≡ decimal degree ∷ rest → IsNormal terms degree
-constraint_read old new rest c terms sum degree formed sum_is is small follows = record { merged = formed.normal.merged; small = omega arith }
 
 -- a degree that is too large
 pub degree_wrong : (old new : Words) (word : List ℕ) (sum degree : ℕ) → old ≡ word ∷ new → sum ≤ 2 ^ 100 → degree < 2 ^ 127 → word ≡ decimal degree → (sum + degree ≤ 2 ^ 100 → ⊥) → (d : ℕ) (rest : Words) → sum + d ≤ 2 ^ 100 → old ≡ decimal d ∷ rest → ⊥

@@ -1,5 +1,5 @@
 -- How tokens are spelled tells them apart.
-use Rattle.std.proofs.Common.{◌≡◌, ℕ, List, ◌++◌, sym, ap, refl, ◌∙◌}
+use Rattle.std.proofs.Common.{◌≡◌, ◌++◌, sym, ap, refl, ◌∙◌}
 use Rattle.std.proofs.lemmas.List.{append_cancel_left}
 use Rattle.cutting_planes.specs.declared.token.PolToken.{PolToken}
 use Rattle.proof_laws.specs.WellFormed.{IsToken}

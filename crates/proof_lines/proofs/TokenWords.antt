@@ -1,15 +1,14 @@
 -- A token is told by its words and the letter that follows them.
-use Rattle.std.proofs.Common.{◌≡◌, ◌≢◌, ℕ, zero, suc, ◌+◌, ◌-◌, ◌^◌, ◌<◌, ◌≤◌, ◌==◌, if◌then◌else◌, Bool, true, false, List, [], ◌∷◌, ◌++◌, get_or, ℤ, pos, negsuc, refl, sym, ap, subst, ◌∙◌, arith, codes}
+use Rattle.std.proofs.Common.{◌≡◌, ◌≢◌, ℕ, ◌^◌, ◌<◌, ◌==◌, if◌then◌else◌, Bool, true, false, List, [], ◌∷◌, ◌++◌, get_or, pos, negsuc, refl, ap, ◌∙◌, arith}
 use Rattle.std.specs.Int.{IsInRange}
-use Rattle.std.specs.Fmt.{decimal, signed_decimal}
+use Rattle.std.specs.Fmt.{decimal}
 use Rattle.std.specs.Str.Parse.{digits_value}
 use Rattle.std.proofs.lemmas.Bool.Decides.{nat_tests}
 use Rattle.std.proofs.lemmas.Int.{ints}
-use Rattle.scut_base.specs.Literal.{Literal}
 use Rattle.cutting_planes.specs.declared.token.PolToken.{PolToken}
 use Rattle.cutting_planes.specs.declared.token.PolToken.TheVariants.{Id, Axiom, Negated, Denied, Add, Mul, Div, Saturate, Weaken}
-use Rattle.proof_laws.specs.WellFormed.{IsToken, IsFactor}
-use Rattle.proof_lines.specs.LineText.{literal_word, token_words, variable_word}
+use Rattle.proof_laws.specs.WellFormed.{IsToken}
+use Rattle.proof_lines.specs.LineText.{literal_word, token_words}
 use Rattle.proof_lines.specs.Reading.{first_letter, FollowsToken as Follows}
 use Rattle.proof_lines.proofs.Numbers.{decimal_first, decimal_value}
 

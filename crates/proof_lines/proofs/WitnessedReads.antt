@@ -1,18 +1,16 @@
 -- What the words of a constraint with its witness don't spell.
-use Rattle.std.proofs.Common.{◌≡◌, ℕ, List, [], ◌∷◌, ◌++◌, Ok, Err, refl, sym, ap, subst, ◌∙◌}
+use Rattle.std.proofs.Common.{◌≡◌, [], ◌∷◌, ◌++◌, Ok, Err, refl, sym, subst, ◌∙◌}
 use Rattle.std.specs.List.{flat_map}
 use Rattle.std.proofs.lemmas.List.{append_assoc}
 use Rattle.scut_base.proofs.Lists.{tail_same}
 use Rattle.pb_lin.specs.Constraint.{ConstraintValue}
 use Rattle.pb_lin.specs.Substitution.{Images}
-use Rattle.proof_laws.specs.declared.goal.Goal.{Goal}
-use Rattle.proof_laws.specs.declared.goal.GoalProof.{GoalProof}
 use Rattle.proof_laws.specs.WellFormed.{IsConstraint, IsSubstitution, AreProofs}
 use Rattle.proof_lines.specs.declared.reader.LineFault.{LineFault}
 use Rattle.proof_lines.specs.declared.reader.LineFault.TheVariants.{Syntax, NoMemory}
-use Rattle.proof_lines.specs.LineText.{constraint_words, image_words, goal_words, witnessed_words}
-use Rattle.proof_lines.specs.Reading.{BeginsWith, EndsPart, Reads, ReadsAll, ReadsPart}
-use Rattle.proof_lines.specs.Witnessed.{IsImageOf, Substituted, IsSubstituted, substituted_words, Witnessed, IsWitnessed, words_of_witnessed}
+use Rattle.proof_lines.specs.LineText.{constraint_words, image_words, goal_words}
+use Rattle.proof_lines.specs.Reading.{BeginsWith, EndsPart, ReadsAll, ReadsPart}
+use Rattle.proof_lines.specs.Witnessed.{IsImageOf, IsSubstituted, substituted_words, Witnessed, IsWitnessed, words_of_witnessed}
 use Rattle.proof_lines.proofs.Items.{Words, one_list}
 use Rattle.proof_lines.proofs.Codes.{AnyFollows}
 use Rattle.proof_lines.proofs.TermLists.{one_constraint}
@@ -36,10 +34,6 @@ proofs_wrong old new w Syntax read wrong = λ s valid is.
 -- the words after the constraint
 after : (w : Witnessed) → words_of_witnessed w ≡ constraint_words w.0 ++ ((58 ∷ []) ∷ substituted_words (w.1, w.2))
 after w = append_assoc (constraint_words w.0) ((58 ∷ []) ∷ flat_map image_words w.1) (flat_map goal_words w.2)
-
-pub constraint_wrong : (old new : Words) (fault : LineFault) → Reads constraint_words IsConstraint old new (Err fault) → ReadsAll words_of_witnessed IsWitnessed old (Err fault)
-constraint_wrong old new NoMemory wrong = tt
-constraint_wrong old new Syntax wrong = λ w valid is. wrong w.0 ((58 ∷ []) ∷ substituted_words (w.1, w.2)) valid.0 (is ∙ after w)
 
 -- what follows a constraint that was read
 rest_same : (old here : Words) (c : ConstraintValue) → IsConstraint c × (old ≡ constraint_words c ++ here) → (w : Witnessed) → IsWitnessed w → old ≡ words_of_witnessed w → here ≡ (58 ∷ []) ∷ substituted_words (w.1, w.2)

@@ -1,11 +1,10 @@
 -- Parts of a line whose items are single words.
-use Rattle.std.proofs.Common.{◌≡◌, ℕ, List, [], ◌∷◌, ◌++◌, map, Option, Some, None, Result, Ok, Err, refl, sym, ap, subst, ◌∙◌}
+use Rattle.std.proofs.Common.{◌≡◌, ℕ, List, [], ◌∷◌, ◌++◌, map, Some, None, Err, refl, sym, ap, subst, ◌∙◌}
 use Rattle.std.specs.List.{All, flat_map}
 use Rattle.scut_base.proofs.Lists.{head_same, tail_same}
-use Rattle.proof_lines.specs.declared.reader.LineFault.{LineFault}
-use Rattle.proof_lines.specs.declared.reader.LineFault.TheVariants.{Syntax, NoMemory}
+use Rattle.proof_lines.specs.declared.reader.LineFault.TheVariants.{Syntax}
 use Rattle.proof_lines.specs.Reading.{EndsPart, IsValueOf, ReadsPart}
-use Rattle.proof_lines.proofs.Items.{IsCode, ItemsSoFar, Words, no_items_yet, one_item_more, no_item_here, one_list}
+use Rattle.proof_lines.proofs.Items.{IsCode, ItemsSoFar, Words, one_item_more, no_item_here, one_list}
 use Rattle.proof_lines.proofs.Codes.{IsWordCode, AnyFollows, one_word}
 
 pub words_map : {X : Type 0} (word : X → List ℕ) (xs : List X) → flat_map (one_word word) xs ≡ map word xs
@@ -24,17 +23,9 @@ part_code word IsValid code = record {
 abbrev pub WordsSoFar : {X : Type 0} → (X → List ℕ) → (X → Type 0) → Words → Words → List X → Type 0
 WordsSoFar word IsValid old new items = ItemsSoFar (one_word word) IsValid AnyFollows old new items
 
-pub no_words_yet : {X : Type 0} (word : X → List ℕ) (IsValid : X → Type 0) (old : Words) → WordsSoFar word IsValid old old []
-no_words_yet word IsValid old = no_items_yet (one_word word) IsValid AnyFollows old
-
 pub one_word_more : {X : Type 0} (word : X → List ℕ) (IsValid : X → Type 0) (old here new : Words) (items more : List X) (x : X) (next : List ℕ) → WordsSoFar word IsValid old here items → here ≡ next ∷ new → IsValueOf word IsValid next (Some x) → more ≡ items ++ x ∷ [] → WordsSoFar word IsValid old new more
 one_word_more word IsValid old here new items more x next so_far follows value is =
     subst (WordsSoFar word IsValid old new) (sym is) (one_item_more (one_word word) IsValid AnyFollows old here new items x so_far value.0 (follows ∙ ap (λ w. w ∷ new) value.1) tt)
-
--- at the end of the part
-pub part_read : {X : Type 0} (word : X → List ℕ) (IsValid : X → Type 0) (old here new : Words) (items : List X) → WordsSoFar word IsValid old here items → new ≡ here → EndsPart here → ReadsPart (map word) (All IsValid) old new (Ok items)
-part_read word IsValid old here new items so_far same ends =
-    (so_far.valid, so_far.is ∙ ap (λ ws. ws ++ here) (words_map word items) ∙ ap (λ ws. map word items ++ ws) (sym same), subst EndsPart (sym same) ends)
 
 -- where the next word spells no item
 pub part_wrong : {X : Type 0} (word : X → List ℕ) (IsValid : X → Type 0) → IsWordCode word IsValid → (old here next_words new : Words) (items : List X) (next : List ℕ) → WordsSoFar word IsValid old here items → here ≡ next ∷ next_words → (next ≡ 58 ∷ [] → ⊥) → IsValueOf word IsValid next None → ReadsPart (map word) (All IsValid) old new (Err Syntax)

@@ -1,5 +1,6 @@
-// The words of a line after its first, for each kind of line.
-ghost use Rattle.proof_lines.specs.declared.kind.Kind.TheVariants.{Pol, Rup, Learn, Def, Red, Dom, Sol, Del, Reduce, End};
+// The words of a line after its first: a reader for each kind of line.
+ghost use Rattle.proof_lines.specs.declared.kind.Kind.TheVariants.{Pol, Rup, Learn, Def, Red};
+ghost use Rattle.proof_lines.specs.declared.kind.Kind.TheVariants.{Dom, Sol, Del, Reduce, End};
 ghost use Rattle.proof_lines.specs.Kinds.{ReadsBody, ReadsHinted, ReadsIds};
 
 use crate::LineFault;
@@ -23,40 +24,14 @@ pub(crate) fn read_body(alloc: Global, kind: Kind, words: &mut Words<'_>) -> Res
 {
     match kind {
         Kind::Pol => read_pol(alloc, words),
-        Kind::Rup => {
-            let (goal, hints) = read_hinted(alloc, words)?;
-            Ok(Line::Rup { goal, hints })
-        }
-        Kind::Learn => {
-            let (goal, hints) = read_hinted(alloc, words)?;
-            Ok(Line::Learn { goal, hints })
-        }
+        Kind::Rup => read_rup(alloc, words),
+        Kind::Learn => read_learn(alloc, words),
         Kind::Def => read_def(alloc, words),
-        Kind::Red => {
-            let (goal, witness, proofs) = read_witnessed(alloc, words)?;
-            Ok(Line::Red {
-                goal,
-                witness,
-                proofs,
-            })
-        }
-        Kind::Dom => {
-            let (goal, witness, proofs) = read_witnessed(alloc, words)?;
-            Ok(Line::Dom {
-                goal,
-                witness,
-                proofs,
-            })
-        }
+        Kind::Red => read_red(alloc, words),
+        Kind::Dom => read_dom(alloc, words),
         Kind::Sol => read_sol(alloc, words),
-        Kind::Del => {
-            let ids = read_all_ids(alloc, words)?;
-            Ok(Line::Del { ids })
-        }
-        Kind::Reduce => {
-            let ids = read_all_ids(alloc, words)?;
-            Ok(Line::Reduce { ids })
-        }
+        Kind::Del => read_del(alloc, words),
+        Kind::Reduce => read_reduce(alloc, words),
         Kind::End => read_end(words),
     }
 }
@@ -70,6 +45,22 @@ fn read_pol(alloc: Global, words: &mut Words<'_>) -> Result<Line, LineFault>
         return Err(LineFault::Syntax);
     }
     Ok(Line::Pol { tokens })
+}
+
+// A constraint, `:` and hints.
+fn read_rup(alloc: Global, words: &mut Words<'_>) -> Result<Line, LineFault>
+    ensures { ReadsBody Rup words.old result }
+{
+    let (goal, hints) = read_hinted(alloc, words)?;
+    Ok(Line::Rup { goal, hints })
+}
+
+// The same of a clause that was learned.
+fn read_learn(alloc: Global, words: &mut Words<'_>) -> Result<Line, LineFault>
+    ensures { ReadsBody Learn words.old result }
+{
+    let (goal, hints) = read_hinted(alloc, words)?;
+    Ok(Line::Learn { goal, hints })
 }
 
 // A variable, `:` and a constraint.
@@ -92,6 +83,30 @@ fn read_def(alloc: Global, words: &mut Words<'_>) -> Result<Line, LineFault>
     Ok(Line::Def { var, sum })
 }
 
+// A constraint, `:`, a witness, and goals with their proofs.
+fn read_red(alloc: Global, words: &mut Words<'_>) -> Result<Line, LineFault>
+    ensures { ReadsBody Red words.old result }
+{
+    let (goal, witness, proofs) = read_witnessed(alloc, words)?;
+    Ok(Line::Red {
+        goal,
+        witness,
+        proofs,
+    })
+}
+
+// The same of a line that goes by the sum of the costs.
+fn read_dom(alloc: Global, words: &mut Words<'_>) -> Result<Line, LineFault>
+    ensures { ReadsBody Dom words.old result }
+{
+    let (goal, witness, proofs) = read_witnessed(alloc, words)?;
+    Ok(Line::Dom {
+        goal,
+        witness,
+        proofs,
+    })
+}
+
 // The literals of a model, `:`, those of the cut, `:` and the ids of rows.
 fn read_sol(alloc: Global, words: &mut Words<'_>) -> Result<Line, LineFault>
     ensures { ReadsBody Sol words.old result }
@@ -109,6 +124,22 @@ fn read_sol(alloc: Global, words: &mut Words<'_>) -> Result<Line, LineFault>
         return Err(LineFault::Syntax);
     }
     Ok(Line::Sol { model, cut, rows })
+}
+
+// The ids of lines that go.
+fn read_del(alloc: Global, words: &mut Words<'_>) -> Result<Line, LineFault>
+    ensures { ReadsBody Del words.old result }
+{
+    let ids = read_all_ids(alloc, words)?;
+    Ok(Line::Del { ids })
+}
+
+// The ids of learned lines that go.
+fn read_reduce(alloc: Global, words: &mut Words<'_>) -> Result<Line, LineFault>
+    ensures { ReadsBody Reduce words.old result }
+{
+    let ids = read_all_ids(alloc, words)?;
+    Ok(Line::Reduce { ids })
 }
 
 // One id.

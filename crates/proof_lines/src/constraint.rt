@@ -3,7 +3,8 @@ ghost use Rattle.std.specs.Prelude.{◌+◌, ◌≤◌, ◌^◌, ◌∷◌, [], 
 ghost use Rattle.std.specs.Fmt.{decimal};
 ghost use Rattle.proof_laws.specs.WellFormed.{IsConstraint};
 ghost use Rattle.proof_lines.specs.LineText.{constraint_words};
-ghost use Rattle.proof_lines.specs.Reading.{Reads, ReadsTerms, Takes, IsTerm, MayFollow, term_words};
+ghost use Rattle.proof_lines.specs.Reading.{IsTerm, MayFollow, Reads, ReadsTerms, Takes};
+ghost use Rattle.proof_lines.specs.Reading.{term_words};
 
 use crate::LineFault;
 use crate::number::{literal_of, number_of};
@@ -13,8 +14,8 @@ use pb_lin::{Constraint, SIZE_LIMIT};
 use scut_base::Lit;
 use std::alloc::Global;
 
-/// Takes a constraint: terms of rising variables, `>=` and the degree. One pass; takes memory for the
-/// constraint, and once more where not all coefficients are 1.
+/// Takes a constraint: terms of rising variables, `>=` and the degree. One pass; takes memory for
+/// the constraint, and once more where not all coefficients are 1.
 pub(crate) fn read_constraint(alloc: Global, words: &mut Words<'_>) -> Result<Constraint, LineFault>
     ensures { Reads constraint_words IsConstraint words.old words.new result }
 {

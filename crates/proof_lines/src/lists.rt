@@ -38,7 +38,8 @@ pub(crate) fn read_rising_ids(alloc: Global, words: &mut Words<'_>) -> Result<It
 
 /// Takes literals up to the end of a part. One pass; takes memory for the literals.
 pub(crate) fn read_literals(alloc: Global, words: &mut Words<'_>) -> Result<Items<Lit>, LineFault>
-    ensures { ReadsPart (map literal_word) (All (λ l. IsVariable l.var)) words.old words.new result }
+    ensures { ReadsPart (map literal_word) (All (λ l. IsVariable l.var))
+        words.old words.new result }
 {
     let mut lits = Items::new(alloc);
     while let Some(word) = words.next_in_part() {

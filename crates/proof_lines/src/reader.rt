@@ -32,8 +32,8 @@ impl From<NoMemory> for LineFault {
     }
 }
 
-/// Reads the line whose text, without its line feed, the bytes are; `Syntax` exactly where they are the text
-/// of none. One pass; takes memory for the line.
+/// Reads the line whose text, without its line feed, the bytes are; `Syntax` exactly where they are
+/// the text of none. One pass; takes memory for the line.
 pub fn read_line(alloc: Global, text: &[u8]) -> Result<Line, LineFault>
     ensures spelled { IfOk result (SpellsLine text.now) }
     ensures syntax { IsErrOf result LineFault.Syntax → SpellsNoLine text.now }

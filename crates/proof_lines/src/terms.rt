@@ -7,8 +7,8 @@ use scut_base::{Items, Lit, NoMemory};
 use std::alloc::Global;
 use std::marker::Model;
 
-/// Terms in order. Contracts see it as their list. Takes 8 bytes a term while all coefficients are 1,
-/// as in a clause.
+/// Terms in order. Contracts see it as their list. Takes 8 bytes a term while all coefficients are
+/// 1, as in a clause.
 #[derive(Drop)]
 pub(crate) struct Terms {
     // The literals before the first coefficient that isn't 1.
@@ -50,8 +50,8 @@ impl Terms {
         Ok(())
     }
 
-    /// The constraint of these terms and this degree. Takes constant time where all coefficients are 1,
-    /// and else two passes.
+    /// The constraint of these terms and this degree. Takes constant time where all coefficients
+    /// are 1, and else three passes and memory for the terms.
     pub(crate) fn into_constraint(self, alloc: Global, degree: u128) -> Result<Constraint, NoMemory>
         requires { IsNormal self degree }
         ensures { IfOk result (λ c. c ≡ record { terms = self; degree = degree }) }

@@ -4,7 +4,8 @@ ghost use Rattle.std.specs.List.{flat_map};
 ghost use Rattle.std.specs.Fmt.{decimal};
 ghost use Rattle.proof_laws.specs.WellFormed.{AreTokens, IsVariable};
 ghost use Rattle.proof_lines.specs.LineText.{literal_word, token_words};
-ghost use Rattle.proof_lines.specs.Reading.{IsSymbol, IsValueOf, ReadsPart, TakesToken, symbol_word};
+ghost use Rattle.proof_lines.specs.Reading.{IsSymbol, IsValueOf, ReadsPart, TakesToken};
+ghost use Rattle.proof_lines.specs.Reading.{symbol_word};
 
 use crate::LineFault;
 use crate::number::{MAX_ID, literal_of, number_of};

@@ -1,14 +1,16 @@
 // The words of a text, from left to right.
-ghost use Rattle.std.specs.Prelude.{◌≡◌, ◌≢◌, ◌≤◌, ◌↔◌, [], ◌∷◌, length, IsTrue, MatchOption, codes};
+ghost use Rattle.std.specs.Prelude.{◌≡◌, ◌≢◌, ◌≤◌, ◌↔◌, [], ◌∷◌, length, codes};
+ghost use Rattle.std.specs.Prelude.{IsTrue, MatchOption};
 ghost use Rattle.std.specs.List.{position_or_len};
 ghost use Rattle.std.specs.Option.{option_copied};
 ghost use Rattle.scut_base.specs.Bytes.{space};
-ghost use Rattle.proof_lines.specs.Reading.{BeginsWith, EndsPart, Skips, is_space, words_of, words_left};
+ghost use Rattle.proof_lines.specs.Reading.{BeginsWith, EndsPart, Skips, is_space};
+ghost use Rattle.proof_lines.specs.Reading.{words_left, words_of};
 
 use std::marker::Model;
 
-/// The words of a text that were not taken yet, with one space between each two. Contracts see it as
-/// their list. Each call finds the next space, so no list is made.
+/// The words of a text that were not taken yet, with one space between each two. Contracts see it
+/// as their list. Each call finds the next space, so no list is made.
 #[derive(Drop)]
 pub(crate) struct Words<'a> {
     // `None` once the last word is taken: after a space there is a word still, maybe the empty one.
@@ -40,8 +42,8 @@ impl<'a> Words<'a> {
         self.rest.is_none()
     }
 
-    /// Whether the next word is this letter.
-    pub(crate) fn is_next(&self, letter: u8) -> bool
+    // Whether the next word is this letter.
+    fn is_next(&self, letter: u8) -> bool
         requires { letter ≢ space }
         ensures { IsTrue result ↔ BeginsWith (letter ∷ []) self.now }
     {

@@ -1,4 +1,3 @@
-use Rattle.std.proofs.Common.{true, sym, refl, ◌∙◌}
 use Rattle.std.proofs.lemmas.Bool.{false≢true}
 use Rattle.std.proofs.lemmas.Result.{err_from_is_err_and}
 use Rattle.proof_lines.proofs.Bodies.{pol_wrong, pol_unended}

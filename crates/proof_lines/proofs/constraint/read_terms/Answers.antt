@@ -1,9 +1,9 @@
-use Rattle.std.proofs.Common.{◌≡◌, List, ℕ, [], ◌∷◌, refl, sym, ap, subst, ◌∙◌, arith}
+use Rattle.std.proofs.Common.{[], ◌∷◌, refl, sym, subst, ◌∙◌}
 use Rattle.std.proofs.lemmas.Bool.{false≢true}
 use Rattle.proof_lines.specs.Reading.{IsTerm, term_words}
 use Rattle.proof_lines.proofs.Codes.{AnyFollows, texts_apart}
 use Rattle.proof_lines.proofs.Items.{ItemsSoFar, one_item_more}
-use Rattle.proof_lines.proofs.TermLists.{IsSum, sum_pushed, no_bound, no_term_here, wrong_term_here}
+use Rattle.proof_lines.proofs.TermLists.{sum_pushed, no_bound, no_term_here, wrong_term_here}
 use Rattle.proof_lines.proofs.constraint.read_terms.Goals as goal
 
 pub returns-in_default-take_term : goal.returns-in_default-take_term

@@ -1,5 +1,4 @@
 use Rattle.std.proofs.Common.{◌≡◌, get_or, refl, arith}
-use Rattle.std.proofs.lemmas.Grind.{common_steps}
 use Rattle.proof_lines.proofs.GoalReads.{no_objective}
 use Rattle.proof_lines.proofs.goals.goal_of.Goals as goal
 

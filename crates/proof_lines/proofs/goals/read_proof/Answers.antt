@@ -1,4 +1,4 @@
-use Rattle.std.proofs.Common.{◌≡◌, ◌∷◌, [], ap, codes, arith, ◌∙◌}
+use Rattle.std.proofs.Common.{◌≡◌, ◌∷◌, ap, codes, arith, ◌∙◌}
 use Rattle.std.proofs.lemmas.Grind.{common_steps}
 use Rattle.proof_lines.proofs.GoalReads.{rup_wrong, pol_wrong}
 use Rattle.std.proofs.lemmas.Result.{err_from_is_err_and}

@@ -1,4 +1,4 @@
-use Rattle.std.proofs.Common.{◌≡◌, ◌<◌, ◌-◌, ◌+◌, ◌*◌, ◌^◌, ◌≤◌, get_or, length, rules, arith, subst, sym, ◌∙◌, ap}
+use Rattle.std.proofs.Common.{◌^◌, get_or, rules, arith, ◌∙◌}
 use Rattle.std.specs.Int.{IsInRange}
 use Rattle.proof_lines.proofs.Numbers.{not_all_digits, one_digit_more, one_value_more, too_wide}
 use Rattle.proof_lines.proofs.number.wide.Goals as goal
