@@ -1,13 +1,12 @@
 -- The file of a recorder, call by call.
-use Rattle.std.proofs.Common.{◌≡◌, ◌⊎◌, inl, inr, ⊎_elim, ℕ, Bool, true, false, cond, Option, None, Some, List, [], ◌∷◌, ◌++◌, length, take, refl, sym, ap, subst, ◌∙◌, arith}
-use Rattle.std.specs.Prelude.{IsSome, MatchOption}
-use Rattle.std.specs.List.{flat_map}
+use Rattle.std.proofs.Common.{◌≡◌, inl, inr, ℕ, Bool, true, false, cond, Option, None, Some, List, [], ◌∷◌, ◌++◌, length, take, refl, sym, ap, subst, ◌∙◌, arith}
+use Rattle.std.specs.Prelude.{MatchOption}
 use Rattle.std.specs.Ordering.{nat_cmp, eq_by_cmp}
 use Rattle.std.specs.Cmp.Lexicographic.{slice_cmp}
-use Rattle.std.specs.FinMap.{get, insert, remove, get-insert, get-remove, same_map, slice_cmp-IsAntisymmetric, nat_cmp-IsAntisymmetric}
+use Rattle.std.specs.FinMap.{get, insert, get-insert, get-remove, same_map, slice_cmp-IsAntisymmetric, nat_cmp-IsAntisymmetric}
 use Rattle.std.proofs.lemmas.Cmp.{nat_list_cmp_total}
 use Rattle.std.proofs.lemmas.List.{append-nil, length-append, take_at}
-use Rattle.scut_base.specs.Files.{Files, content, with_file, with_appended, bytes_or_none, IsTold, IsPrefixOf, IsPartlyAppended}
+use Rattle.scut_base.specs.Files.{Files, content, with_file, with_appended, bytes_or_none, IsTold}
 use Rattle.scut_base.proofs.FileLaws.{content-same, told_before, tied_other}
 use Rattle.pb_lin.specs.Problem.{ProblemValue}
 use Rattle.proof_laws.specs.WellFormed.{IsWellFormed}
@@ -17,8 +16,8 @@ use Rattle.proof_laws.specs.declared.line.Line.{Line}
 use Rattle.proof_rules.specs.Recording.{MayBeAdded}
 use Rattle.proof_lines.specs.LineText.{printed}
 use Rattle.proof_text.specs.LogText.{header_line, log_text}
-use Rattle.proof_text.specs.LogFile.{IsPartOfNext, IsLogFile}
-use Rattle.proof_text.specs.Recorders.{IsKept, IsHeld, IsPutPartly, without_file}
+use Rattle.proof_text.specs.LogFile.{IsLogFile}
+use Rattle.proof_text.specs.Recorders.{IsHeld, IsPutPartly, without_file}
 use Rattle.proof_text.proofs.Logs.{log_text_push}
 use Rattle.proof_text.proofs.Replaying.{kept_none, kept_more}
 

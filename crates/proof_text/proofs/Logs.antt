@@ -1,14 +1,14 @@
 -- Logs, line by line.
-use Rattle.std.proofs.Common.{◌≡◌, ◌⊎◌, inl, inr, ⊎_elim, ℕ, zero, suc, ◌+◌, ◌≤◌, List, [], ◌∷◌, ◌++◌, length, refl, sym, ap, subst, ◌∙◌, arith}
+use Rattle.std.proofs.Common.{◌≡◌, inl, inr, ⊎_elim, ℕ, zero, suc, ◌≤◌, List, [], ◌∷◌, ◌++◌, length, refl, sym, ap, subst, ◌∙◌, arith}
 use Rattle.std.specs.List.{All, flat_map}
 use Rattle.std.proofs.lemmas.List.{append-nil, append_assoc, append_cancel_left, flat_map_more}
-use Rattle.std.proofs.lemmas.List.Elements.{All-nil, All-head, All-tail, All-push}
+use Rattle.std.proofs.lemmas.List.Elements.{All-head, All-tail}
 use Rattle.scut_base.specs.Bytes.{newline}
 use Rattle.proof_laws.specs.WellFormed.{IsWellFormed}
 use Rattle.proof_laws.specs.declared.line.Line.{Line}
 use Rattle.proof_lines.specs.LineText.{line_text, printed, SpellsLine, SpellsNoLine}
-use Rattle.proof_text.specs.LogText.{header_text, header_line, log_text, BeginsWith, SpellsLog, IsOneLine, IsWholeLine, IsWholeLines, HasWrongHeader, GoesWrongAfter, IsSyntaxAt, IsWhole, newlines, IsUnfinishedAt, HoldsNoFurtherLine}
-use Rattle.proof_text.proofs.OneLines.{cons_same, one_nil, same_line, not_one, not_empty, ends_one, cut_last, LastCut, whole_append, newlines-append, newlines-one}
+use Rattle.proof_text.specs.LogText.{header_text, header_line, log_text, BeginsWith, SpellsLog, IsOneLine, IsWholeLine, IsWholeLines, HasWrongHeader, IsSyntaxAt, IsWhole, IsUnfinishedAt, HoldsNoFurtherLine}
+use Rattle.proof_text.proofs.OneLines.{cons_same, same_line, not_one, not_empty, ends_one, whole_append}
 use Rattle.proof_text.proofs.Words.{one_from_plain, line_text-one}
 
 pub header_one : IsOneLine header_text

@@ -1,5 +1,5 @@
 -- What a reader stands for after a piece more, and after a line more.
-use Rattle.std.proofs.Common.{◌≡◌, ◌⊎◌, inl, inr, ⊎_elim, ℕ, zero, suc, ◌+◌, ◌≤◌, Bool, true, false, Option, None, Some, List, [], ◌∷◌, ◌++◌, length, take, drop, refl, sym, ap, subst, ◌∙◌, arith}
+use Rattle.std.proofs.Common.{◌≡◌, inl, inr, ℕ, zero, suc, ◌+◌, Bool, true, false, Option, None, Some, List, [], ◌∷◌, ◌++◌, length, take, drop, refl, sym, ap, subst, ◌∙◌, arith}
 use Rattle.std.specs.Option.{is_some}
 use Rattle.std.specs.List.{All, flat_map}
 use Rattle.std.proofs.lemmas.List.{append-nil, append_assoc, length_push}
@@ -8,10 +8,10 @@ use Rattle.scut_base.specs.Bytes.{newline}
 use Rattle.proof_laws.specs.WellFormed.{IsWellFormed}
 use Rattle.proof_laws.specs.declared.line.Line.{Line}
 use Rattle.proof_lines.specs.LineText.{line_text, printed, SpellsLine, SpellsNoLine}
-use Rattle.proof_text.specs.LogText.{header_text, header_line, log_text, BeginsWith, IsOneLine, IsWholeLine, IsWholeLines, HasWrongHeader, IsSyntaxAt, IsWhole, newlines, IsUnfinishedAt}
+use Rattle.proof_text.specs.LogText.{header_text, header_line, log_text, BeginsWith, IsWholeLine, IsWholeLines, HasWrongHeader, IsSyntaxAt, IsWhole, newlines, IsUnfinishedAt}
 use Rattle.proof_text.specs.Cutting.{IsLineOf}
-use Rattle.proof_text.specs.Reading.{ReaderValue, HasRead, HasGiven, HasReadUpTo, StandsFor, GivesNext}
-use Rattle.proof_text.proofs.OneLines.{one_nil, ends_one, cut_last, LastCut, whole_append, newlines-append, newlines-one}
+use Rattle.proof_text.specs.Reading.{ReaderValue, HasRead, HasGiven, HasReadUpTo, StandsFor}
+use Rattle.proof_text.proofs.OneLines.{cut_last, whole_append, newlines-append, newlines-one}
 use Rattle.proof_text.proofs.Words.{line_text-one}
 use Rattle.proof_text.proofs.Logs.{header_one, log_text_push, log_whole}
 

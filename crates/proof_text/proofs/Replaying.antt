@@ -1,17 +1,15 @@
 -- Proofs that grow by a line.
-use Rattle.std.proofs.Common.{◌≡◌, ◌≢◌, ◌⊎◌, inl, inr, ⊎_elim, ℕ, zero, suc, ◌+◌, ◌*◌, ◌^◌, ◌<◌, ◌≤◌, ◌==◌, Bool, true, false, not, Option, None, Some, List, [], ◌∷◌, ◌++◌, map, length, refl, sym, ap, subst, ◌∙◌, arith, Result, Ok, Err}
-use Rattle.std.specs.Prelude.{MatchOption, option_map, nat_lt, ◌&&◌}
-use Rattle.std.specs.List.{All, find}
+use Rattle.std.proofs.Common.{◌≡◌, ◌≢◌, ◌⊎◌, ⊎_elim, ℕ, ◌+◌, ◌*◌, ◌^◌, ◌<◌, ◌≤◌, ◌==◌, Bool, true, false, not, Option, None, Some, List, [], ◌∷◌, ◌++◌, map, length, refl, sym, ap, subst, ◌∙◌, arith, Result, Ok, Err}
+use Rattle.std.specs.Prelude.{MatchOption, option_map, nat_lt}
+use Rattle.std.specs.List.{find}
 use Rattle.std.specs.FinMap.{get}
 use Rattle.std.proofs.lemmas.Bool.{lt-ltb, cases_order}
-use Rattle.std.proofs.lemmas.List.{length_push}
 use Rattle.std.proofs.lemmas.List.Elements.{All-nil, All-push}
 use Rattle.pb_lin.specs.Constraint.{ConstraintValue, negation, size}
 use Rattle.pb_lin.specs.CostRow.{CostRowValue}
 use Rattle.pb_lin.specs.LineMap.{LineMap}
 use Rattle.pb_lin.specs.Problem.{ProblemValue}
 use Rattle.scut_base.specs.Literal.{Literal}
-use Rattle.cutting_planes.specs.declared.token.PolToken.{PolToken}
 use Rattle.cutting_planes.specs.declared.fault.PolFault.{PolFault}
 use Rattle.cutting_planes.specs.declared.fault.PolFault.TheVariants.{NoSuchId as PolNoSuchId, Stack as PolStack, BadFactor as PolBadFactor, Overflow as PolOverflow, NoMemory as PolNoMemory}
 use Rattle.cutting_planes.specs.Stack.{Answer}
@@ -22,7 +20,7 @@ use Rattle.proof_laws.specs.WellFormed.{IsWellFormed}
 use Rattle.proof_laws.specs.State.{StateValue, IsState, Fits, start}
 use Rattle.proof_laws.specs.Steps.{reached_if, reached_only_if}
 use Rattle.proof_laws.specs.Substituted.{Requirement, redundance, dominance}
-use Rattle.proof_laws.specs.Refusal.{FirstOf, fault_unless, first_fault, range_fault, size_fault, written, term_variables, pol_why, pol_fault, contradiction_fault, rup_fault, given_in, IsHintsFault, IsRupFault, IsPolFault, IsProofFault, IsOpenGoalFault, IsGoalFault, IsFirstGoalFault, IsSubstitutionFault, proof_of, is_clause, def_fault, assignment_of, misplaced, broken_row, line_or_none, Bounds, IsCutFault, IsSolFault, deletion_fault, end_fault, IsRuleFault, IsFault}
+use Rattle.proof_laws.specs.Refusal.{FirstOf, fault_unless, first_fault, range_fault, size_fault, written, term_variables, pol_why, pol_fault, contradiction_fault, rup_fault, IsHintsFault, IsRupFault, IsProofFault, IsGoalFault, IsFirstGoalFault, IsSubstitutionFault, proof_of, is_clause, def_fault, assignment_of, misplaced, broken_row, line_or_none, Bounds, IsCutFault, end_fault, IsRuleFault}
 use Rattle.proof_laws.specs.Legal.{IsLegal, IsRefused, IsNext, Makes}
 use Rattle.proof_laws.specs.Replay.{Leads, IsReplay}
 use Rattle.proof_laws.specs.declared.goal.Goal.{Goal}
@@ -31,7 +29,7 @@ use Rattle.proof_laws.specs.declared.goal.GoalProof.TheVariants.{Rup as ByRup, P
 use Rattle.proof_laws.specs.declared.line.Line.{Line}
 use Rattle.proof_laws.specs.declared.line.Line.TheVariants.{Pol, Rup, Learn, Def, Red, Dom, Sol, Del, Reduce, End}
 use Rattle.proof_laws.specs.declared.why.Why.{Why}
-use Rattle.proof_laws.specs.declared.why.Why.TheVariants.{NoSuchId, VarRange, NotFresh, Overflow, Stack, BadFactor, RupOpen, GoalOpen, GoalMissing, SolRow, CutOpen, NotClause, NotContradiction, AfterEnd, LogLong}
+use Rattle.proof_laws.specs.declared.why.Why.TheVariants.{NoSuchId, VarRange, NotFresh, Overflow, RupOpen, GoalOpen, GoalMissing, SolRow, CutOpen, NotClause, NotContradiction, AfterEnd, LogLong}
 use Rattle.proof_laws.proofs.Unique.{judged_once_law}
 use Rattle.proof_rules.specs.Recording.{MayBeAdded, IsNextId}
 use Rattle.proof_text.specs.Recorders.{IsKept}

@@ -1,5 +1,5 @@
 -- Bytes that are taken off the front, and how far they were searched for a line feed.
-use Rattle.std.proofs.Common.{◌≡◌, ℕ, ◌+◌, ◌-◌, ◌<◌, ◌≤◌, List, [], ◌∷◌, ◌++◌, length, take, drop, refl, sym, ap, subst, ◌∙◌, arith}
+use Rattle.std.proofs.Common.{◌≡◌, ℕ, ◌+◌, ◌-◌, ◌<◌, ◌≤◌, List, [], ◌∷◌, ◌++◌, length, take, drop, sym, ap, subst, ◌∙◌, arith}
 use Rattle.std.proofs.lemmas.List.{append_assoc, length-append, length-take-le, length-drop, length_push, take-append-drop, take_at, drop_at, drop-drop, take_all, take_rest}
 use Rattle.scut_base.specs.Bytes.{newline}
 use Rattle.proof_text.specs.LogText.{IsOneLine}

@@ -2,8 +2,6 @@
 use Rattle.std.specs.Prelude.{◌≡◌, ◌⊎◌, ℕ, ◌+◌, ◌≤◌, Bool, true, false, List, [], ◌∷◌, ◌++◌, length, Option, None, Some}
 use Rattle.proof_laws.specs.declared.line.Line.{Line}
 use Rattle.proof_text.specs.LogText.{BeginsWith, IsSyntaxAt, HoldsNoFurtherLine}
-use Rattle.proof_text.specs.declared.fault.TextFault.{TextFault}
-use Rattle.proof_text.specs.declared.fault.TextFault.TheVariants.{Syntax, NoMemory}
 
 -- what a reader keeps: the number of lines that it has given, whether the header was there, the bytes that aren't
 -- given yet, and the line that was wrong

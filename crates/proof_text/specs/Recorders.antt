@@ -3,7 +3,6 @@ use Rattle.std.specs.Prelude.{◌≡◌, ◌⊎◌, ℕ, ◌+◌, Bool, false, L
 use Rattle.std.specs.FinMap.{remove}
 use Rattle.scut_base.specs.Files.{Files, IsPartlyAppended}
 use Rattle.scut_base.specs.Faults.{Faults, NoneFell, Rose, count, one_more}
-use Rattle.scut_base.specs.declared.shelf.ShelfCall.{ShelfCall}
 use Rattle.scut_base.specs.declared.shelf.ShelfCall.TheVariants.{Append}
 use Rattle.scut_base.specs.declared.shelf.ShelfFault.{ShelfFault}
 use Rattle.scut_base.specs.declared.shelf.ShelfFault.TheVariants.{Failed as ShelfFailed, NoMemory as ShelfNoMemory}

@@ -1,5 +1,5 @@
 // A proof in a file of a shelf that is lent for the recorder's life.
-ghost use Rattle.std.specs.Prelude.{◌≡◌, [], false, IfOk, IfErr, OnOk, OnErr, IsErrOf, IsSome};
+ghost use Rattle.std.specs.Prelude.{◌≡◌, ◌≢◌, [], false, IfOk, IfErr, OnOk, OnErr, IsErrOf, IsSome};
 ghost use Rattle.scut_base.specs.Files.{content, with_file, with_appended, IsTold};
 ghost use Rattle.scut_base.specs.Faults.{NoneFell, WritingFailed};
 ghost use Rattle.proof_laws.specs.WellFormed.{IsWellFormed};
@@ -57,17 +57,19 @@ impl<'a, H: Shelf> Model for FileRecorder<'a, H> {
         r.problem r.lines r.state r.broken };
 }
 
-/// Why a log was not begun, with the shelf.
+/// A log that was not begun.
 #[derive(Drop)]
 pub struct NotBegun<'a, H: Shelf> {
+    /// The shelf that was lent.
     pub shelf: &'a mut H,
+    /// `Failed` or `NoMemory`.
     pub fault: RecordFault,
 }
 
 impl<'a, H: Shelf> FileRecorder<'a, H> {
-    /// Begins the file anew with the header, and no lines. After a fault it is as before or holds a part
-    /// of the header: `Failed` where the shelf failed to begin or to append, `NoMemory` where memory was
-    /// refused. Copies the problem.
+    /// Begins the file anew with the header, and no lines. After a fault it is as before or holds a
+    /// part of the header: `Failed` where the shelf failed to begin or to append, `NoMemory` where
+    /// memory was refused. Copies the problem.
     pub fn new(
         alloc: Global,
         shelf: &'a mut H,
@@ -94,6 +96,7 @@ impl<'a, H: Shelf> FileRecorder<'a, H> {
             (λ e. NoneFell (H.faults shelf.old) (H.faults e.shelf.now)) }
         ensures cause { IfErr result (λ e. e.fault ≡ RecordFault.Failed
             → WritingFailed (H.faults shelf.old) (H.faults e.shelf.now) name.entry.now) }
+        ensures never_full { IfErr result (λ e. e.fault ≢ RecordFault.Full) }
     {
         let started = start(alloc, problem);
         match started {
@@ -211,6 +214,7 @@ fn begin_log<H: Shelf>(shelf: &mut H, name: &str) -> Result<(), RecordFault>
     ensures later { NoneFell (H.faults shelf.old) (H.faults shelf.new) }
     ensures cause { IsErrOf result RecordFault.Failed
         → WritingFailed (H.faults shelf.old) (H.faults shelf.new) name.now }
+    ensures never_full { IsErrOf result RecordFault.Full → ⊥ }
 {
     if let Err(fault) = shelf.begin(name) {
         return Err(fault_of(fault));

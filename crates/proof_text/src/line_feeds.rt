@@ -1,5 +1,5 @@
 // Line feeds in bytes.
-ghost use Rattle.std.specs.Prelude.{◌≡◌, ◌≤◌, length, MatchOption, MatchBool};
+ghost use Rattle.std.specs.Prelude.{◌≡◌, MatchOption, MatchBool};
 ghost use Rattle.proof_text.specs.LogText.{IsOneLine, IsWholeLines, newlines};
 ghost use Rattle.proof_text.specs.Cutting.{IsLineOf};
 

@@ -15,8 +15,8 @@ use scut_base::NoMemory;
 use std::alloc::Global;
 use std::marker::Model;
 
-/// Reads a log that comes in pieces. It keeps the bytes of lines that aren't given yet, and how the bytes were cut
-/// changes no answer.
+/// Reads a log that comes in pieces. It keeps the bytes of lines that aren't given yet, and how the
+/// bytes were cut changes no answer.
 #[derive(Debug, Drop)]
 pub struct LineReader {
     alloc: Global,
@@ -60,7 +60,8 @@ impl LineReader {
         }
     }
 
-    /// Takes a piece after the bytes that were fed. After `NoMemory` nothing has changed.
+    /// Takes a piece after the bytes that were fed. After `NoMemory` nothing has changed. Costs the
+    /// piece, on average over all pieces.
     pub fn feed(&mut self, piece: &[u8]) -> Result<(), NoMemory>
         ensures fed { OnOk result ((bytes : List ℕ) (lines : List Line)
             → StandsFor self.old bytes lines → StandsFor self.new (bytes ++ piece.now) lines) }
@@ -87,8 +88,9 @@ impl LineReader {
         }
     }
 
-    /// The next line, or none where no further whole line was fed. `Syntax` where the next whole line is
-    /// wrong, and the same again after it; after `NoMemory` nothing has changed. Costs the line.
+    /// The next line, or none where no further whole line was fed. `Syntax` where the next whole line
+    /// is wrong, and the same again after it; `NoMemory` where memory was refused, or the number of
+    /// the line passes 2^64 - 1, and then nothing has changed. Costs the line.
     pub fn next_line(&mut self) -> Result<Option<Line>, TextFault>
         ensures next { IfOk result (λ line. (bytes : List ℕ) (lines : List Line)
             → StandsFor self.old bytes lines → GivesNext self.new bytes lines line) }
@@ -143,9 +145,10 @@ impl LineReader {
         }
     }
 
-    /// Whether the bytes that were fed end where a log may end. `Syntax` where the header is missing, or bytes
-    /// without a line feed are left, with the number of their line; and the same again where a line was
-    /// wrong. It reads no whole line that isn't given yet.
+    /// Whether the bytes that were fed end where a log may end. `Syntax` where the header is missing,
+    /// or bytes without a line feed are left, with the number of their line; and the same again where
+    /// a line was wrong; `NoMemory` where that number passes 2^64 - 1. It reads no whole line that
+    /// isn't given yet, and costs one pass over the bytes that aren't.
     pub fn finish(&self) -> Result<(), TextFault>
         ensures whole { IsOk result → (bytes : List ℕ) (lines : List Line)
             → StandsFor self.now bytes lines → IsWhole bytes }

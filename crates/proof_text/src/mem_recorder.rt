@@ -2,7 +2,7 @@
 ghost use Rattle.std.specs.Prelude.{◌≡◌, ◌↔◌, ◌≤◌, ◌^◌, ◌++◌, ◌∷◌, ◌+◌, [], true, false, length, MatchBool, IfOk, OnOk, OnErr, IsErrOf};
 ghost use Rattle.scut_base.specs.Faults.{Rose, one_more};
 ghost use Rattle.proof_laws.specs.WellFormed.{IsWellFormed};
-ghost use Rattle.proof_laws.specs.Legal.{IsLegal, IsNext};
+ghost use Rattle.proof_laws.specs.Legal.{IsLegal};
 ghost use Rattle.proof_rules.specs.Recording.{MayBeAdded, IsNextId};
 ghost use Rattle.proof_text.specs.Recorders.{no_lines, IsPlanned, Counts, IsKept};
 
@@ -21,6 +21,7 @@ pub struct MemRecorder {
     problem: PbProblem,
     lines: Items<Line>,
     state: ProofState,
+    // How many calls of `add_line` there were, and the number of the one that is to fail.
     calls: u64,
     fail_at: u64,
     faults: u64,
@@ -50,8 +51,9 @@ impl Model for MemRecorder {
 }
 
 impl MemRecorder {
-    /// No lines yet. Call `fail_at` of `add_line`, counted from 1, answers `Failed`; none does where it is 0.
-    /// Copies the problem.
+    /// No lines yet. Call `fail_at` of `add_line`, counted from 1, answers `Failed`; none does where
+    /// it is 0. Calls that answer `Full` aren't counted. Copies the problem; `NoMemory` where memory
+    /// was refused.
     pub fn new(alloc: Global, problem: &PbProblem, fail_at: u64) -> Result<MemRecorder, NoMemory>
         ensures { IfOk result (λ r. r ≡ no_lines problem.now fail_at) }
     {

@@ -8,9 +8,9 @@ use scut_base::NoMemory;
 use std::alloc::Global;
 use std::marker::Model;
 
-/// Bytes that are put at the end and taken off the front, line by line. No byte is searched twice for a line
-/// feed, and each is moved once at most on average: what was taken off is dropped only when it is at least as
-/// long as the rest.
+/// Bytes that are put at the end and taken off the front, line by line. No byte is searched twice for
+/// a line feed, and each is moved once at most on average: what was taken off is dropped only when it
+/// is at least as long as the rest.
 #[derive(Debug, Drop)]
 pub struct Pending {
     bytes: Vec<u8>,
@@ -73,8 +73,8 @@ impl Pending {
         self.at = 0;
     }
 
-    /// How many bytes stand before the first line feed; `None` where there is none. Searches only what wasn't
-    /// searched yet.
+    /// How many bytes stand before the first line feed; `None` where there is none. Searches only
+    /// what wasn't searched yet.
     pub fn line_len(&mut self) -> Option<usize>
         ensures len { MatchOption result (IsOneLine self.old) (IsLineOf self.old) }
         ensures same { self.new ≡ self.old }

@@ -1,4 +1,4 @@
-use Rattle.std.proofs.Common.{◌≡◌, ℕ, List, subst, sym, ap, ◌∙◌}
+use Rattle.std.proofs.Common.{ℕ, List, subst, sym, ap, ◌∙◌}
 use Rattle.proof_text.specs.Reading.{ReaderValue, StandsFor}
 use Rattle.proof_text.proofs.Readings.{reader}
 use Rattle.proof_text.proofs.line_reader.LineReader.next_line.Goals as goal

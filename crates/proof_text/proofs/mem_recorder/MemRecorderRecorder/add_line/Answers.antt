@@ -1,4 +1,4 @@
-use Rattle.std.proofs.Common.{◌≡◌, subst, sym, ◌∙◌}
+use Rattle.std.proofs.Common.{subst, sym, ◌∙◌}
 use Rattle.proof_laws.specs.Legal.{IsLegal}
 use Rattle.proof_rules.specs.Recording.{MayBeAdded}
 use Rattle.proof_text.specs.Recorders.{MemoryLog}
