@@ -10,7 +10,7 @@ use Rattle.proof_laws.specs.declared.line.Line.{Line}
 use Rattle.proof_lines.specs.LineText.{line_text, printed, SpellsLine}
 use Rattle.proof_text.specs.LogText.{header_text, header_line, log_text, BeginsWith, IsWholeLine, IsWholeLines, IsSyntaxAt, IsWhole, newlines, IsUnfinishedAt}
 use Rattle.proof_text.specs.Cutting.{IsLineOf}
-use Rattle.proof_text.specs.Reading.{ReaderValue, HasRead, HasReadUpTo, StandsFor}
+use Rattle.proof_text.specs.Reading.{ReaderValue, HasRead, HasGiven, HasReadUpTo, StandsFor}
 use Rattle.proof_text.proofs.OneLines.{cut_last, whole_append, newlines-append, newlines-one}
 use Rattle.proof_text.proofs.Words.{line_text-one}
 use Rattle.proof_text.proofs.Logs.{header_one, log_text_push, log_whole}
@@ -48,9 +48,13 @@ wrong_more bytes piece (suc (suc n)) fault = record {
   wrong = fault.wrong;
 }
 
+given_more : (bytes piece : List ℕ) (lines : List Line) → HasGiven bytes lines → HasGiven (bytes ++ piece) lines
+given_more bytes piece lines (inl none) = inl none
+given_more bytes piece lines (inr given) = inr (given.0 ++ piece, begins_more bytes given.0 piece lines given.1)
+
 wrong_kept : (wrong : Option ℕ) (r : ReaderValue) (bytes piece : List ℕ) (lines : List Line) → is_some wrong ≡ true → HasReadUpTo wrong r bytes lines → HasReadUpTo wrong r (bytes ++ piece) lines
 wrong_kept None r bytes piece lines some read = cc
-wrong_kept (Some k) r bytes piece lines some read = (wrong_more bytes piece k read.0, read.1)
+wrong_kept (Some k) r bytes piece lines some read = (wrong_more bytes piece k read.0, read.1, given_more bytes piece lines read.2)
 
 -- where a line was wrong
 pub fed_wrong : (r : ReaderValue) (bytes piece : List ℕ) (lines : List Line) → is_some r.wrong ≡ true → StandsFor r bytes lines → StandsFor r (bytes ++ piece) lines
