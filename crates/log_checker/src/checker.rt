@@ -1,6 +1,7 @@
 // The log: judged line by line as it comes.
 ghost use Rattle.std.specs.Prelude.{◌≡◌, ◌++◌, ℕ, List, [], false, true, Some, Ok, Err, IfOk, OnOk};
 ghost use Rattle.proof_laws.specs.declared.why.Why.{Why};
+ghost use Rattle.log_checker.specs.declared.fault.ListWhy.{ListWhy};
 ghost use Rattle.log_checker.specs.Accepted.{IsEndedProof};
 ghost use Rattle.log_checker.specs.LogFaults.{HasNoWholeFault, IsWholeFault, IsLogFault};
 ghost use Rattle.log_checker.specs.Checking.{StandsFor};
@@ -68,11 +69,25 @@ impl Checker {
             → IsWholeFault self.old.problem self.old.vectors (bytes ++ piece.now) k why }
         ensures again { (k : ℕ) (why : Why) → self.old.refused ≡ Some (k, why)
             → result ≡ Err (CheckFault.Refused k why) }
+        ensures no_list { (k : ℕ) (why : ListWhy) → result ≡ Err (CheckFault.ListRefused k why) → ⊥ }
         ensures problem { self.new.problem ≡ self.old.problem }
         ensures vectors { self.new.vectors ≡ self.old.vectors }
         ensures open { self.new.finished ≡ false }
     {
         let _len = piece.len();
+        Err(CheckFault::NoMemory)
+    }
+
+    /// Judges the end of the log: `Refused` where it isn't accepted, with its first fault, and the same again after it.
+    pub fn finish(&mut self) -> Result<(), CheckFault>
+        ensures ended { OnOk result ((bytes : List ℕ) → StandsFor self.old bytes
+            → IsEndedProof self.old.problem self.old.vectors bytes) }
+        ensures refused { (k : ℕ) (why : Why) → result ≡ Err (CheckFault.Refused k why)
+            → (bytes : List ℕ) → StandsFor self.old bytes
+            → IsLogFault self.old.problem self.old.vectors bytes k why }
+        ensures no_list { (k : ℕ) (why : ListWhy) → result ≡ Err (CheckFault.ListRefused k why) → ⊥ }
+    {
+        let _len = self.vectors.len();
         Err(CheckFault::NoMemory)
     }
 }

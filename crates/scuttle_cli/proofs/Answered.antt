@@ -8,7 +8,9 @@ use Rattle.instance.specs.declared.fault.InstanceLimit.TheVariants.{Bytes, Vars}
 use Rattle.scuttle_cli.specs.World.{World}
 use Rattle.scuttle_cli.specs.Command.{Request, FrontOf}
 use Rattle.scuttle_cli.specs.Messages.{complete_line}
-use Rattle.scuttle_cli.specs.Answers.{Answers, FrontAnswers, UsageAnswers, IsComplete, IsRefused, IsCutShort, IsUntouched, IsFrontWritten, IsPrefixOfFront}
+use Rattle.scuttle_cli.specs.Answers.{Answers, UsageAnswers}
+use Rattle.scuttle_cli.specs.FrontAnswers.{FrontAnswers, IsComplete, IsCutShort, IsFrontWritten, IsPrefixOfFront}
+use Rattle.scuttle_cli.specs.Causes.{IsRefused, IsUntouched}
 use Rattle.scuttle_cli.specs.declared.instance_file.Format.{Format}
 use Rattle.scuttle_cli.specs.declared.status.Status.{Status}
 use Rattle.scuttle_cli.specs.declared.status.Status.TheVariants.{Complete, Usage, BadInput, TooLarge, NoMemory, ShelfFailed}

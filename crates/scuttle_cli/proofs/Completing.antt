@@ -12,7 +12,9 @@ use Rattle.instance.specs.declared.fault.ReadFault.TheVariants.{Bad, Limit}
 use Rattle.scuttle_cli.specs.World.{World}
 use Rattle.scuttle_cli.specs.Command.{Request, FrontOf}
 use Rattle.scuttle_cli.specs.InstanceFile.{HasFault, HasFewVariables, HasManyVariables}
-use Rattle.scuttle_cli.specs.Answers.{Answers, Completes, FrontAnswers, FrontCompletes, HasText}
+use Rattle.scuttle_cli.specs.Answers.{Answers, Completes}
+use Rattle.scuttle_cli.specs.FrontAnswers.{FrontAnswers, FrontCompletes}
+use Rattle.scuttle_cli.specs.Causes.{HasText}
 use Rattle.scuttle_cli.specs.declared.instance_file.Format.{Format}
 use Rattle.scuttle_cli.specs.declared.status.Status.{Status}
 use Rattle.scuttle_cli.specs.declared.status.Status.TheVariants.{Complete, Usage, BadInput, TooLarge, NoMemory, ShelfFailed}

@@ -5,6 +5,6 @@ pub mod ReadSoFar
 pub mod Written
 pub mod InstanceFiles
 pub mod OwnFaults
-pub mod FrontAnswers
+pub mod FrontEnds
 pub mod Answered
 pub mod Completing

@@ -2,7 +2,7 @@
 use Rattle.std.proofs.Common.{ℕ, ◌≤◌, List, [], inl, inr, arith}
 use Rattle.scut_base.specs.Faults.{Faults, Rose, NoneFell}
 use Rattle.scut_base.specs.declared.shelf.ShelfCall.TheVariants.{Read, Begin, Append, Say}
-use Rattle.scuttle_cli.specs.Answers.{OwnCountRose}
+use Rattle.scuttle_cli.specs.FrontAnswers.{OwnCountRose}
 
 rose_at_last : (a b c : ℕ) → a ≤ b → Rose b c → Rose a c
 rose_at_last a b c earlier rose = omega arith

@@ -1,7 +1,7 @@
 use Rattle.std.proofs.Common.{ℕ, List, subst}
 use Rattle.instance.specs.Reading.{IsFaultOf}
 use Rattle.scuttle_cli.specs.InstanceFile.{fault_in}
-use Rattle.scuttle_cli.proofs.FrontAnswers.{reading_fault}
+use Rattle.scuttle_cli.proofs.FrontEnds.{reading_fault}
 use Rattle.scuttle_cli.proofs.front_command.read_instance.Goals as goal
 
 pub returns-in-Err-clause-refused : goal.returns-in-Err-clause-refused

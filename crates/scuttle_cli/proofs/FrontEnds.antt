@@ -21,7 +21,8 @@ use Rattle.front_text.specs.Lines.{list_lines}
 use Rattle.front_text.proofs.Lines.{concat-list_lines}
 use Rattle.scuttle_cli.specs.WholeFile.{IsWhole}
 use Rattle.scuttle_cli.specs.Messages.{complete_line}
-use Rattle.scuttle_cli.specs.Answers.{IsFrontOfFile, IsFrontWritten, IsPrefixOfFront, IsInstanceOf, IsCutShort, OwnCountRose, HasNoModel, FrontAnswers, status_of_shelf, status_of_reading}
+use Rattle.scuttle_cli.specs.FrontAnswers.{IsFrontOfFile, IsFrontWritten, IsPrefixOfFront, IsInstanceOf, IsCutShort, OwnCountRose, HasNoModel, FrontAnswers}
+use Rattle.scuttle_cli.specs.Statuses.{status_of_shelf, status_of_reading}
 use Rattle.scuttle_cli.specs.declared.instance_file.Format.{Format}
 use Rattle.scuttle_cli.proofs.InstanceFiles.{limit_has_line}
 
