@@ -1,5 +1,5 @@
 -- What a checker of a log stands for.
-use Rattle.std.specs.Prelude.{◌≡◌, ◌×◌, ℕ, Bool, List, All, Option, None, Some, ℤ}
+use Rattle.std.specs.Prelude.{◌≡◌, ℕ, Bool, List, All, Option, None, Some, ℤ}
 use Rattle.pb_lin.specs.Problem.{ProblemValue}
 use Rattle.proof_laws.specs.State.{StateValue}
 use Rattle.proof_laws.specs.Replay.{IsReplay}

@@ -73,7 +73,7 @@ pub record HasNoEnd (p : ProblemValue) (vectors : List (List ℤ)) (bytes : List
   pub lines : List Line
   pub state : StateValue
   pub reached : Reaches p vectors bytes lines state []
-  pub open : state.ended ≡ false
+  pub unended : state.ended ≡ false
   pub number : length lines + 2 ≡ k
 
 -- No whole line is refused, and the bytes end in the midst of one, or the proof hasn't ended.

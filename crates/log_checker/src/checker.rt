@@ -34,8 +34,15 @@ impl Model for Checker {
 
     ghost Value = { CheckerValue };
 
-    ghost view = { λ c. record { problem = c.problem; vectors = c.vectors; reader = c.reader;
-        state = c.state; refused = c.refused; failed = c.failed; finished = c.finished } };
+    ghost view = { λ c. record {
+      problem = c.problem;
+      vectors = c.vectors;
+      reader = c.reader;
+      state = c.state;
+      refused = c.refused;
+      failed = c.failed;
+      finished = c.finished;
+    } };
 }
 
 impl Checker {

@@ -1,5 +1,5 @@
 // Laws of what is accepted.
-ghost use Rattle.std.specs.Prelude.{◌≡◌, ◌×◌, ℕ, List, true};
+ghost use Rattle.std.specs.Prelude.{◌≡◌, ℕ, List, true};
 ghost use Rattle.front_set.specs.declared.entry.Entry.{Entry};
 ghost use Rattle.front_set.specs.ListText.{list_text};
 ghost use Rattle.instance.specs.Shape.{InstanceValue, IsWithinLimits};

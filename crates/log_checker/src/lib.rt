@@ -7,6 +7,7 @@
 #![tactic(auto)]
 
 mod checker;
+mod dominance;
 mod fault;
 mod laws;
 mod list;

@@ -1,0 +1,2 @@
+pub mod AcceptedFront
+pub mod Comparing
