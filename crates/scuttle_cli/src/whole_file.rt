@@ -5,8 +5,8 @@ ghost use Rattle.scut_base.specs.Faults.{NoneFell, HasCause, WritingFailed};
 ghost use Rattle.scut_base.specs.Files.{with_file, IsTouched, IsPrefixOf};
 ghost use Rattle.scuttle_cli.specs.WholeFile.{IsWhole, IsLarge};
 
-use scut_base::{Items, Shelf, ShelfCall, ShelfFault};
-use std::alloc::{AllocError, Global};
+use scut_base::{Items, NoMemory, Shelf, ShelfCall, ShelfFault};
+use std::alloc::Global;
 
 /// How many bytes one read asks for: so many that a file of megabytes takes few calls, and so few
 /// that the buffer stays in the processor's cache.
@@ -67,8 +67,8 @@ pub fn write_lines<H: Shelf>(
 }
 
 /// A buffer of this many bytes.
-pub fn zeros(alloc: Global, len: usize) -> Result<Vec<u8>, AllocError>
+pub fn zeros(alloc: Global, len: usize) -> Result<Vec<u8>, NoMemory>
     ensures { IfOk result (λ v. vec_len v ≡ len) }
 {
-    vec![in alloc; 0u8; len]
+    Ok(vec![in alloc; 0u8; len]?)
 }
