@@ -30,9 +30,13 @@ pub struct Checker {
 }
 
 impl Model for Checker {
+    ghost use Rattle.std.specs.Coded.{codes};
+    ghost use Rattle.proof_rules.specs.StateCode.{state_code};
     ghost use Rattle.log_checker.specs.Checking.{CheckerValue};
 
     ghost Value = { CheckerValue };
+
+    ghost coded = { Prim.hlevel (codes, state_code) };
 
     ghost view = { λ c. record {
       problem = c.problem;
@@ -74,8 +78,6 @@ impl Checker {
         ensures refused { (k : ℕ) (why : Why) → result ≡ Err (CheckFault.Refused k why)
             → (bytes : List ℕ) → StandsFor self.old bytes
             → IsWholeFault self.old.problem self.old.vectors (bytes ++ piece.now) k why }
-        ensures again { (k : ℕ) (why : Why) → self.old.refused ≡ Some (k, why)
-            → result ≡ Err (CheckFault.Refused k why) }
         ensures no_list { (k : ℕ) (why : ListWhy) → result ≡ Err (CheckFault.ListRefused k why) → ⊥ }
         ensures problem { self.new.problem ≡ self.old.problem }
         ensures vectors { self.new.vectors ≡ self.old.vectors }

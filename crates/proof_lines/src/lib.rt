@@ -8,4 +8,4 @@ mod print;
 mod reader;
 
 pub use print::append_line;
-pub use reader::{LineFault, one_line, read_line};
+pub use reader::{LineFault, read_line};

@@ -1,6 +1,5 @@
 // The reader of a line.
-ghost use Rattle.std.specs.Prelude.{◌≡◌, ℕ, List, IfOk, IsErrOf};
-ghost use Rattle.proof_laws.specs.declared.line.Line.{Line};
+ghost use Rattle.std.specs.Prelude.{IfOk, IsErrOf};
 ghost use Rattle.proof_lines.specs.LineText.{SpellsLine, SpellsNoLine};
 
 use proof_laws::Line;
@@ -38,8 +37,3 @@ pub fn read_line(_alloc: Global, _text: &[u8]) -> Result<Line, LineFault>
 {
     Err(LineFault::NoMemory)
 }
-
-/// Law: a text is that of one line at most.
-pub fn one_line()
-    ensures { (text : List ℕ) (l m : Line) → SpellsLine text l → SpellsLine text m → l ≡ m }
-{}

@@ -7,8 +7,8 @@
 
 mod fault;
 mod line_reader;
-mod print;
+mod printing;
 
 pub use fault::TextFault;
 pub use line_reader::LineReader;
-pub use print::print;
+pub use printing::print;

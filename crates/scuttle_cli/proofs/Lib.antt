@@ -6,5 +6,9 @@ pub mod Written
 pub mod InstanceFiles
 pub mod OwnFaults
 pub mod FrontEnds
+pub mod Commands
+pub mod InputStops
+pub mod CheckEnds
+pub mod LogFed
 pub mod Answered
 pub mod Completing

@@ -29,16 +29,19 @@ pub fn read_command(words: &[String]) -> Option<Command<'_>>
     if words.is_empty() {
         return None;
     }
-    match words[0].as_str() {
-        "front" => read_front(words),
-        "check" => read_check(words),
-        _ => None,
+    let word = words[0].as_str();
+    if word == "front" {
+        return read_front(words);
     }
+    if word == "check" {
+        return read_check(words);
+    }
+    None
 }
 
 // `front IN LIST`.
 fn read_front(words: &[String]) -> Option<Command<'_>>
-    requires { slice_get (map string_bytes words.entry.now) 0 ≡ Some (codes "front") }
+    requires { slice_get (map string_bytes words.now) 0 ≡ Some (codes "front") }
     ensures { IsCommandOf (map string_bytes words.entry.now) result }
 {
     if words.len() != 3 {
@@ -59,7 +62,7 @@ fn read_front(words: &[String]) -> Option<Command<'_>>
 
 // `check IN LIST LOG`.
 fn read_check(words: &[String]) -> Option<Command<'_>>
-    requires { slice_get (map string_bytes words.entry.now) 0 ≡ Some (codes "check") }
+    requires { slice_get (map string_bytes words.now) 0 ≡ Some (codes "check") }
     ensures { IsCommandOf (map string_bytes words.entry.now) result }
 {
     if words.len() != 4 {

@@ -1,0 +1,91 @@
+-- How each end of the command `check` is answered.
+use Rattle.std.proofs.Common.{◌≡◌, ℕ, zero, ◌<◌, ◌^◌, List, length, true, refl, sym, ◌∙◌, ap, subst, inl, inr}
+use Rattle.std.specs.Prelude.{Option, ℤ}
+use Rattle.scut_base.specs.Files.{Files, followed, IsPartlyFollowed}
+use Rattle.scut_base.specs.Faults.{Faults, ReadingFailed}
+use Rattle.front_set.specs.declared.entry.Entry.{Entry}
+use Rattle.front_text.specs.Spelling.{Spells}
+use Rattle.instance.specs.declared.fault.InstanceLimit.TheVariants.{Bytes}
+use Rattle.instance.specs.Shape.{InstanceValue}
+use Rattle.instance_normal.specs.NormalForm.{IsNormalFormOf}
+use Rattle.pb_lin.specs.Problem.{ProblemValue, IsProblem}
+use Rattle.log_checker.specs.declared.fault.CheckFault.TheVariants.{Refused as LineRefused, ListRefused}
+use Rattle.log_checker.specs.Accepted.{IsRightList, IsEndedProof, problem_vectors}
+use Rattle.scuttle_cli.specs.World.{World}
+use Rattle.scuttle_cli.specs.Causes.{HasText}
+use Rattle.scuttle_cli.specs.CheckAnswers.{CheckAnswers, OfInstance, OfLog, OfRightList, IsTakenAndAccepted, IsCutOff}
+use Rattle.scuttle_cli.specs.InstanceFile.{IsTextOf}
+use Rattle.scuttle_cli.specs.Stops.{IsListStop, IsLogStop}
+use Rattle.scuttle_cli.specs.declared.instance_file.Format.{Format}
+use Rattle.scuttle_cli.specs.declared.status.Status.{Status}
+use Rattle.scuttle_cli.specs.declared.status.Status.TheVariants.{Complete, Accepted, Refused, Usage, BadInput, TooLarge, NoMemory, ShelfFailed}
+
+-- what is so of the instance that IN spells
+of_instance : (files : Option Files) (format : Format) (input : List ℕ) (i : InstanceValue) (P : InstanceValue → Type 0) → HasText files input (IsTextOf format i) → P i → OfInstance files format input P
+of_instance files format input i P read holds = λ told. let found = read told in (found.0, found.1, (i, found.2, holds))
+
+-- nothing was said yet
+pub nothing_said : (before after : World) (format : Format) (input list log : List ℕ) → after.files ≡ before.files → after.said ≡ before.said → IsCutOff before after format input list log
+nothing_said before after format input list log files said = record { files = files; said = inl said }
+
+-- the list isn't read, or isn't right
+pub list_stopped : (status : Status) (before after : World) (format : Format) (input list log : List ℕ) (i : InstanceValue) → HasText before.files input (IsTextOf format i) → IsListStop i list status before.files before.faults after.faults → after.files ≡ before.files → after.said ≡ before.said → CheckAnswers format input list log status before after
+list_stopped (Complete size) before after format input list log i read stop files said = absurd stop
+list_stopped Accepted before after format input list log i read stop files said = absurd stop
+list_stopped (Refused (ListRefused k why)) before after format input list log i read stop files said = record { cause = of_instance before.files format input i _ read stop; files = files; said = said }
+list_stopped (Refused fault) before after format input list log i read stop files said = absurd stop
+list_stopped Usage before after format input list log i read stop files said = absurd stop
+list_stopped (BadInput line kind) before after format input list log i read stop files said = absurd stop
+list_stopped (TooLarge zero Bytes) before after format input list log i read stop files said = record { cause = inr (inl (of_instance before.files format input i _ read stop)); files = files; said = said }
+list_stopped (TooLarge line which) before after format input list log i read stop files said = absurd stop
+list_stopped NoMemory before after format input list log i read stop files said = nothing_said before after format input list log files said
+list_stopped ShelfFailed before after format input list log i read stop files said = (nothing_said before after format input list log files said, inr (inl stop))
+
+-- what is known where the list is right
+pub record IsListed (files : Option Files) (format : Format) (input list : List ℕ) (i : InstanceValue) (entries : List Entry) (p : ProblemValue) (vectors : List (List ℤ)) : Type 0 where
+  pub read : HasText files input (IsTextOf format i)
+  pub listed : HasText files list (λ listed. (length listed < 2 ^ 32) × Spells listed true entries)
+  pub right : IsRightList i entries
+  pub normal : IsNormalFormOf i p
+  pub within : IsProblem p
+  pub vectors_are : vectors ≡ problem_vectors i entries
+
+-- what is so of the log
+of_log : (files : Option Files) (format : Format) (input list log : List ℕ) (i : InstanceValue) (entries : List Entry) (p : ProblemValue) (vectors : List (List ℤ)) (P : List ℕ → ProblemValue → List (List ℤ) → Type 0) → IsListed files format input list i entries p vectors
+    → HasText files log (λ bytes. P bytes p vectors) → OfLog files format input list log (λ j listed bytes. OfRightList j listed (P bytes))
+of_log files format input list log i entries p vectors P known stop =
+    of_instance files format input i _ known.read (λ told. let l = known.listed told in (l.0, l.1, (l.2.0, λ told'. let g = stop told' in (g.0, g.1, record {
+      entries = entries;
+      spelled = l.2.1;
+      right = known.right;
+      problem = p;
+      normal = known.normal;
+      holds = subst (P g.0 p) known.vectors_are g.2;
+    }))))
+
+-- the log isn't read, or isn't accepted
+pub log_stopped : (status : Status) (before after : World) (format : Format) (input list log : List ℕ) (i : InstanceValue) (entries : List Entry) (p : ProblemValue) (vectors : List (List ℤ)) → IsListed before.files format input list i entries p vectors → IsLogStop p vectors log status before.files before.faults after.faults → after.files ≡ before.files → after.said ≡ before.said → CheckAnswers format input list log status before after
+log_stopped (Complete size) before after format input list log i entries p vectors known stop files said = absurd stop
+log_stopped Accepted before after format input list log i entries p vectors known stop files said = absurd stop
+log_stopped (Refused (LineRefused k why)) before after format input list log i entries p vectors known stop files said = record { cause = of_log before.files format input list log i entries p vectors _ known stop; files = files; said = said }
+log_stopped (Refused fault) before after format input list log i entries p vectors known stop files said = absurd stop
+log_stopped Usage before after format input list log i entries p vectors known stop files said = absurd stop
+log_stopped (BadInput line kind) before after format input list log i entries p vectors known stop files said = absurd stop
+log_stopped (TooLarge zero Bytes) before after format input list log i entries p vectors known stop files said = record { cause = inr (inr (of_log before.files format input list log i entries p vectors _ known stop)); files = files; said = said }
+log_stopped (TooLarge line which) before after format input list log i entries p vectors known stop files said = absurd stop
+log_stopped NoMemory before after format input list log i entries p vectors known stop files said = nothing_said before after format input list log files said
+log_stopped ShelfFailed before after format input list log i entries p vectors known stop files said = (nothing_said before after format input list log files said, inr (inr (inl stop)))
+
+-- list and log are accepted
+pub accepted : (files : Option Files) (format : Format) (input list log : List ℕ) (i : InstanceValue) (entries : List Entry) (p : ProblemValue) (vectors : List (List ℤ)) → IsListed files format input list i entries p vectors
+    → HasText files log (λ bytes. (length bytes < 2 ^ 62) × IsEndedProof p vectors bytes) → OfLog files format input list log IsTakenAndAccepted
+accepted files format input list log i entries p vectors known ended =
+    of_instance files format input i _ known.read (λ told. let l = known.listed told in (l.0, l.1, (l.2.0, λ told'. let g = ended told' in (g.0, g.1, (g.2.0, record {
+      entries = entries;
+      spelled = l.2.1;
+      right = known.right;
+      problem = p;
+      normal = known.normal;
+      within = known.within;
+      proof = subst (λ (vs : List (List ℤ)). IsEndedProof p vs g.0) known.vectors_are g.2.1;
+    })))))
