@@ -1,13 +1,15 @@
 -- What a command's answer says after a warning, and of the words.
-use Rattle.std.proofs.Common.{◌≡◌, ◌≢◌, ℕ, zero, ◌↔◌, List, refl, sym, ◌∙◌, subst, inl, inr}
-use Rattle.std.specs.Prelude.{Option, Some, None}
+use Rattle.std.proofs.Common.{◌≡◌, ◌≢◌, ℕ, zero, ◌↔◌, List, [], refl, sym, ◌∙◌, subst, inl, inr}
+use Rattle.std.specs.Prelude.{Option, Some, None, Result, Ok, Err}
+use Rattle.std.proofs.lemmas.List.{append-nil}
+use Rattle.scut_base.specs.declared.shelf.ShelfFault.{ShelfFault}
 use Rattle.std.proofs.lemmas.Option.{none-some}
 use Rattle.scut_base.specs.Files.{IsTouched, IsPartlyFollowed}
 use Rattle.scut_base.specs.Faults.{NoneFell}
 use Rattle.instance.specs.declared.fault.InstanceLimit.TheVariants.{Bytes, Vars}
 use Rattle.scuttle_cli.specs.World.{World}
 use Rattle.scuttle_cli.specs.Command.{Request, FrontOf, CheckOf}
-use Rattle.scuttle_cli.specs.Messages.{accepted_line, complete_line}
+use Rattle.scuttle_cli.specs.Messages.{accepted_line, complete_line, IsWarned}
 use Rattle.scuttle_cli.specs.Answers.{Answers, UsageAnswers}
 use Rattle.scuttle_cli.specs.FrontAnswers.{FrontAnswers, IsComplete, IsCutShort, IsFrontWritten, IsPrefixOfFront}
 use Rattle.scuttle_cli.specs.Causes.{IsRefused, IsUntouched}
@@ -126,3 +128,10 @@ usage_exactly (Some (FrontOf format input list)) status before after was memory 
     (λ is. absurd (no_usage format input list status before after was is), λ is. absurd (none-some (FrontOf format input list) (sym is)))
 usage_exactly (Some (CheckOf format input list log)) status before after was memory =
     (λ is. absurd (no_check_usage format input list log status before after was is), λ is. absurd (none-some (CheckOf format input list log) (sym is)))
+
+-- ---- warnings
+
+-- a line that was put out whole is a prefix of itself
+pub warned_partly : (warning : Result (Unit {0}) ShelfFault) (line : List ℕ) (before after : World) → IsWarned line before after warning → IsPartlyFollowed before.warned after.warned line
+warned_partly (Ok done) line before after was = (line, ([], append-nil line), was.whole)
+warned_partly (Err fault) line before after was = was.cut

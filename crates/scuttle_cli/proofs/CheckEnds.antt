@@ -1,8 +1,11 @@
 -- How each end of the command `check` is answered.
-use Rattle.std.proofs.Common.{◌≡◌, ℕ, zero, ◌<◌, ◌^◌, List, length, true, refl, sym, ◌∙◌, ap, subst, inl, inr}
+use Rattle.std.proofs.Common.{◌≡◌, ℕ, zero, ◌<◌, ◌≤◌, ◌^◌, List, [], length, true, arith, refl, sym, ◌∙◌, ap, subst, inl, inr}
 use Rattle.std.specs.Prelude.{Option, ℤ}
 use Rattle.scut_base.specs.Files.{Files, followed, IsPartlyFollowed}
-use Rattle.scut_base.specs.Faults.{Faults, ReadingFailed}
+use Rattle.scut_base.specs.Faults.{Faults, NoneFell, ReadingFailed, SayingFailed}
+use Rattle.scut_base.specs.declared.shelf.ShelfCall.TheVariants.{Read, Say}
+use Rattle.scut_base.specs.declared.shelf.ShelfFault.{ShelfFault}
+use Rattle.scut_base.specs.declared.shelf.ShelfFault.TheVariants.{Failed, NoMemory as ShelfNoMemory}
 use Rattle.front_set.specs.declared.entry.Entry.{Entry}
 use Rattle.front_text.specs.Spelling.{Spells}
 use Rattle.instance.specs.declared.fault.InstanceLimit.TheVariants.{Bytes}
@@ -13,8 +16,11 @@ use Rattle.log_checker.specs.declared.fault.CheckFault.TheVariants.{Refused as L
 use Rattle.log_checker.specs.Accepted.{IsRightList, IsEndedProof, problem_vectors}
 use Rattle.scuttle_cli.specs.World.{World}
 use Rattle.scuttle_cli.specs.Causes.{HasText}
-use Rattle.scuttle_cli.specs.CheckAnswers.{CheckAnswers, OfInstance, OfLog, OfRightList, IsTakenAndAccepted, IsCutOff}
+use Rattle.scuttle_cli.specs.CheckAnswers.{CheckAnswers, OfInstance, OfLog, OfRightList, IsTakenAndAccepted, IsTakenFault, IsTooLarge, IsCutOff}
 use Rattle.scuttle_cli.specs.InstanceFile.{IsTextOf}
+use Rattle.log_checker.specs.ListFaults.{IsListFault}
+use Rattle.scuttle_cli.specs.Messages.{accepted_line}
+use Rattle.scuttle_cli.specs.Statuses.{status_of_shelf}
 use Rattle.scuttle_cli.specs.Stops.{IsListStop, IsLogStop}
 use Rattle.scuttle_cli.specs.declared.instance_file.Format.{Format}
 use Rattle.scuttle_cli.specs.declared.status.Status.{Status}
@@ -49,6 +55,17 @@ pub record IsListed (files : Option Files) (format : Format) (input list : List 
   pub normal : IsNormalFormOf i p
   pub within : IsProblem p
   pub vectors_are : vectors ≡ problem_vectors i entries
+
+pub is_listed : (files now : Option Files) (format : Format) (input list : List ℕ) (i : InstanceValue) (entries slice : List Entry) (p made : ProblemValue) (vectors given : List (List ℤ)) → now ≡ files → HasText files input (IsTextOf format i) → HasText now list (λ listed. (length listed < 2 ^ 32) × Spells listed true entries)
+    → IsRightList i entries → IsNormalFormOf i made → IsProblem made → p ≡ made → vectors ≡ given → given ≡ problem_vectors i slice → slice ≡ entries → IsListed files format input list i entries p vectors
+is_listed files now format input list i entries slice p made vectors given same read listed right normal within is vectors_is given_is slice_is = record {
+  read = read;
+  listed = subst (λ (fs : Option Files). HasText fs list (λ listed. (length listed < 2 ^ 32) × Spells listed true entries)) same listed;
+  right = right;
+  normal = subst (IsNormalFormOf i) (sym is) normal;
+  within = subst IsProblem (sym is) within;
+  vectors_are = vectors_is ∙ given_is ∙ ap (problem_vectors i) slice_is;
+}
 
 -- what is so of the log
 of_log : (files : Option Files) (format : Format) (input list log : List ℕ) (i : InstanceValue) (entries : List Entry) (p : ProblemValue) (vectors : List (List ℤ)) (P : List ℕ → ProblemValue → List (List ℤ) → Type 0) → IsListed files format input list i entries p vectors
@@ -89,3 +106,46 @@ accepted files format input list log i entries p vectors known ended =
       within = known.within;
       proof = subst (λ (vs : List (List ℤ)). IsEndedProof p vs g.0) known.vectors_are g.2.1;
     })))))
+
+-- ---- what an earlier part of a run left as it was
+
+reading_earlier : (before mid after : Faults) (name : List ℕ) → NoneFell before mid → ReadingFailed mid after name → ReadingFailed before after name
+reading_earlier before mid after name later rose = let fell = later Read name in omega (arith, fell, rose)
+
+pub list_stop_earlier : (status : Status) (files now : Option Files) (before mid after : Faults) (i : InstanceValue) (list : List ℕ) → now ≡ files → NoneFell before mid → IsListStop i list status now mid after → IsListStop i list status files before after
+list_stop_earlier (Complete size) files now before mid after i list same later stop = stop
+list_stop_earlier Accepted files now before mid after i list same later stop = stop
+list_stop_earlier (Refused (ListRefused k why)) files now before mid after i list same later stop = subst (λ (fs : Option Files). HasText fs list (λ listed. (length listed < 2 ^ 32) × IsListFault i listed k why)) same stop
+list_stop_earlier (Refused fault) files now before mid after i list same later stop = absurd stop
+list_stop_earlier Usage files now before mid after i list same later stop = stop
+list_stop_earlier (BadInput line kind) files now before mid after i list same later stop = stop
+list_stop_earlier (TooLarge zero Bytes) files now before mid after i list same later stop = subst (λ (fs : Option Files). HasText fs list (λ listed. 2 ^ 32 ≤ length listed)) same stop
+list_stop_earlier (TooLarge line which) files now before mid after i list same later stop = absurd stop
+list_stop_earlier NoMemory files now before mid after i list same later stop = tt
+list_stop_earlier ShelfFailed files now before mid after i list same later stop = reading_earlier before mid after list later stop
+
+pub log_stop_earlier : (status : Status) (files now : Option Files) (before mid after : Faults) (p : ProblemValue) (vectors : List (List ℤ)) (log : List ℕ) → now ≡ files → NoneFell before mid → IsLogStop p vectors log status now mid after → IsLogStop p vectors log status files before after
+log_stop_earlier (Complete size) files now before mid after p vectors log same later stop = stop
+log_stop_earlier Accepted files now before mid after p vectors log same later stop = stop
+log_stop_earlier (Refused (LineRefused k why)) files now before mid after p vectors log same later stop = subst (λ (fs : Option Files). HasText fs log (λ bytes. IsTakenFault bytes k why p vectors)) same stop
+log_stop_earlier (Refused fault) files now before mid after p vectors log same later stop = absurd stop
+log_stop_earlier Usage files now before mid after p vectors log same later stop = stop
+log_stop_earlier (BadInput line kind) files now before mid after p vectors log same later stop = stop
+log_stop_earlier (TooLarge zero Bytes) files now before mid after p vectors log same later stop = subst (λ (fs : Option Files). HasText fs log (λ bytes. IsTooLarge bytes p vectors)) same stop
+log_stop_earlier (TooLarge line which) files now before mid after p vectors log same later stop = absurd stop
+log_stop_earlier NoMemory files now before mid after p vectors log same later stop = tt
+log_stop_earlier ShelfFailed files now before mid after p vectors log same later stop = reading_earlier before mid after log later stop
+
+pub ended_earlier : (files now : Option Files) (log : List ℕ) (p : ProblemValue) (vectors : List (List ℤ)) → now ≡ files → HasText now log (λ bytes. (length bytes < 2 ^ 62) × IsEndedProof p vectors bytes) → HasText files log (λ bytes. (length bytes < 2 ^ 62) × IsEndedProof p vectors bytes)
+ended_earlier files now log p vectors same ended = subst (λ (fs : Option Files). HasText fs log (λ bytes. (length bytes < 2 ^ 62) × IsEndedProof p vectors bytes)) same ended
+
+-- ---- saying
+
+-- saying was cut off
+pub saying_stopped : (fault : ShelfFault) (before after : World) (format : Format) (input list log : List ℕ) (mid : Option (List ℕ)) (between : Faults) → OfLog before.files format input list log IsTakenAndAccepted → after.files ≡ before.files → mid ≡ before.said → IsPartlyFollowed mid after.said accepted_line
+    → NoneFell before.faults between → (fault ≡ Failed → SayingFailed between after.faults) → CheckAnswers format input list log (status_of_shelf fault) before after
+saying_stopped Failed before after format input list log mid between cause files same partly later rose =
+    (record { files = files; said = inr record { cause = cause; said = subst (λ (text : Option (List ℕ)). IsPartlyFollowed text after.said accepted_line) same partly } },
+    inr (inr (inr (let fell = later Say [] in let r = rose refl in omega (arith, fell, r)))))
+saying_stopped ShelfNoMemory before after format input list log mid between cause files same partly later rose =
+    record { files = files; said = inr record { cause = cause; said = subst (λ (text : Option (List ℕ)). IsPartlyFollowed text after.said accepted_line) same partly } }

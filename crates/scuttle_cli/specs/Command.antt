@@ -1,5 +1,5 @@
 -- What the words of a command line ask for.
-use Rattle.std.specs.Prelude.{◌≡◌, ℕ, ◌||◌, if◌then◌else◌, List, [], ◌∷◌, codes, Option, Some, None}
+use Rattle.std.specs.Prelude.{◌≡◌, ℕ, if◌then◌else◌, List, [], ◌∷◌, codes, Option, Some, None}
 use Rattle.std.specs.Str.{bytes_eq}
 use Rattle.std.specs.Option.{option_map}
 use Rattle.scuttle_cli.specs.InstanceFile.{format_of}
@@ -22,7 +22,9 @@ front_request input list =
 -- `check IN LIST LOG` with three different names, the first of an instance file
 abbrev pub check_request : List ℕ → List ℕ → List ℕ → Option Request
 check_request input list log =
-    if bytes_eq input list || (bytes_eq input log || bytes_eq list log) then None else option_map (λ format. CheckOf format input list log) (format_of input)
+    if bytes_eq input list then None
+    else (if bytes_eq input log then None
+    else (if bytes_eq list log then None else option_map (λ format. CheckOf format input list log) (format_of input)))
 
 -- What the words ask for. Words that are none of a command ask for nothing.
 abbrev pub request_of : List (List ℕ) → Option Request

@@ -1,5 +1,5 @@
 // What the words of the command line ask for.
-ghost use Rattle.std.specs.Prelude.{◌≡◌, Some, codes, map, slice_get, string_bytes};
+ghost use Rattle.std.specs.Prelude.{◌≡◌, length, map, string_bytes};
 ghost use Rattle.scuttle_cli.specs.Command.{IsCommandOf};
 
 use crate::instance_file::{Format, format_of};
@@ -26,25 +26,19 @@ pub enum Command<'a> {
 pub fn read_command(words: &[String]) -> Option<Command<'_>>
     ensures { IsCommandOf (map string_bytes words.entry.now) result }
 {
-    if words.is_empty() {
-        return None;
+    match words.len() {
+        3 => read_front(words),
+        4 => read_check(words),
+        _ => None,
     }
-    let word = words[0].as_str();
-    if word == "front" {
-        return read_front(words);
-    }
-    if word == "check" {
-        return read_check(words);
-    }
-    None
 }
 
 // `front IN LIST`.
 fn read_front(words: &[String]) -> Option<Command<'_>>
-    requires { slice_get (map string_bytes words.now) 0 ≡ Some (codes "front") }
+    requires { length words.now ≡ 3 }
     ensures { IsCommandOf (map string_bytes words.entry.now) result }
 {
-    if words.len() != 3 {
+    if words[0].as_str() != "front" {
         return None;
     }
     let input = words[1].as_str();
@@ -62,16 +56,22 @@ fn read_front(words: &[String]) -> Option<Command<'_>>
 
 // `check IN LIST LOG`.
 fn read_check(words: &[String]) -> Option<Command<'_>>
-    requires { slice_get (map string_bytes words.now) 0 ≡ Some (codes "check") }
+    requires { length words.now ≡ 4 }
     ensures { IsCommandOf (map string_bytes words.entry.now) result }
 {
-    if words.len() != 4 {
+    if words[0].as_str() != "check" {
         return None;
     }
     let input = words[1].as_str();
     let list = words[2].as_str();
     let log = words[3].as_str();
-    if input == list || input == log || list == log {
+    if input == list {
+        return None;
+    }
+    if input == log {
+        return None;
+    }
+    if list == log {
         return None;
     }
     let format = format_of(input)?;
