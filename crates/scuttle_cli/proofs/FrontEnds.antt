@@ -21,7 +21,8 @@ use Rattle.front_text.specs.Lines.{list_lines}
 use Rattle.front_text.proofs.Lines.{concat-list_lines}
 use Rattle.scuttle_cli.specs.WholeFile.{IsWhole}
 use Rattle.scuttle_cli.specs.Messages.{complete_line}
-use Rattle.scuttle_cli.specs.Answers.{IsFrontOfFile, IsFrontWritten, IsPrefixOfFront, IsInstanceOf, IsCutShort, OwnCountRose, HasNoModel, FrontAnswers, status_of_shelf, status_of_reading}
+use Rattle.scuttle_cli.specs.FrontAnswers.{IsFrontOfFile, IsFrontWritten, IsPrefixOfFront, IsInstanceOf, IsCutShort, OwnCountRose, HasNoModel, FrontAnswers}
+use Rattle.scuttle_cli.specs.Statuses.{status_of_shelf, status_of_reading}
 use Rattle.scuttle_cli.specs.declared.instance_file.Format.{Format}
 use Rattle.scuttle_cli.proofs.InstanceFiles.{limit_has_line}
 
@@ -79,11 +80,3 @@ partly_said before after format input list size mid written same partly = record
 pub shelf_fault : (fault : ShelfFault) (before after : World) (format : Format) (input list : List ℕ) → IsCutShort before after format input list → (fault ≡ Failed → OwnCountRose before.faults after.faults input list) → FrontAnswers format input list (status_of_shelf fault) before after
 shelf_fault Failed before after format input list cut rose = (cut, rose refl)
 shelf_fault ShelfNoMemory before after format input list cut rose = cut
-
--- the first fault of the text
-pub reading_fault : (fault : ReadFault) (before after : World) (format : Format) (input list bytes : List ℕ) → IsWhole before.files input bytes → length bytes < 2 ^ 32 → IsFaultOf (fault_in format bytes) fault → after.files ≡ before.files → after.said ≡ before.said → FrontAnswers format input list (status_of_reading fault) before after
-reading_fault (Bad line kind) before after format input list bytes read small first files said = record { cause = λ told. (bytes, read told, record { taken = small; first = first }); files = files; said = said }
-reading_fault (Limit zero Bytes) before after format input list bytes read small first files said = absurd (limit_has_line format bytes Bytes first)
-reading_fault (Limit zero Vars) before after format input list bytes read small first files said = absurd (limit_has_line format bytes Vars first)
-reading_fault (Limit line which) before after format input list bytes read small first files said = record { cause = λ told. (bytes, read told, record { taken = small; first = first }); files = files; said = said }
-reading_fault ReadNoMemory before after format input list bytes read small first files said = nothing_done before after format input list files said
