@@ -9,11 +9,12 @@ use Rattle.scut_base.specs.declared.shelf.ShelfFault.TheVariants.{Failed, NoMemo
 use Rattle.front_set.specs.declared.entry.Entry.{Entry}
 use Rattle.front_text.specs.Spelling.{Spells}
 use Rattle.instance.specs.declared.fault.InstanceLimit.TheVariants.{Bytes}
-use Rattle.instance.specs.Shape.{InstanceValue}
+use Rattle.instance.specs.Shape.{InstanceValue, IsWithinLimits}
 use Rattle.instance_normal.specs.NormalForm.{IsNormalFormOf}
 use Rattle.pb_lin.specs.Problem.{ProblemValue, IsProblem}
 use Rattle.log_checker.specs.declared.fault.CheckFault.TheVariants.{Refused as LineRefused, ListRefused}
-use Rattle.log_checker.specs.Accepted.{IsRightList, IsEndedProof, problem_vectors}
+use Rattle.log_checker.specs.Accepted.{IsAccepted, IsRightList, IsEndedProof, problem_vectors}
+use Rattle.log_checker.proofs.AcceptedFront.{accepted_front}
 use Rattle.scuttle_cli.specs.World.{World}
 use Rattle.scuttle_cli.specs.Causes.{HasText}
 use Rattle.scuttle_cli.specs.CheckAnswers.{CheckAnswers, OfInstance, OfLog, OfRightList, IsTakenAndAccepted, IsTakenFault, IsTooLarge, IsCutOff}
@@ -54,16 +55,18 @@ pub record IsListed (files : Option Files) (format : Format) (input list : List 
   pub right : IsRightList i entries
   pub normal : IsNormalFormOf i p
   pub within : IsProblem p
+  pub limits : IsWithinLimits i
   pub vectors_are : vectors ≡ problem_vectors i entries
 
 pub is_listed : (files now : Option Files) (format : Format) (input list : List ℕ) (i : InstanceValue) (entries slice : List Entry) (p made : ProblemValue) (vectors given : List (List ℤ)) → now ≡ files → HasText files input (IsTextOf format i) → HasText now list (λ listed. (length listed < 2 ^ 32) × Spells listed true entries)
-    → IsRightList i entries → IsNormalFormOf i made → IsProblem made → p ≡ made → vectors ≡ given → given ≡ problem_vectors i slice → slice ≡ entries → IsListed files format input list i entries p vectors
-is_listed files now format input list i entries slice p made vectors given same read listed right normal within is vectors_is given_is slice_is = record {
+    → IsRightList i entries → IsNormalFormOf i made → IsProblem made → IsWithinLimits i → p ≡ made → vectors ≡ given → given ≡ problem_vectors i slice → slice ≡ entries → IsListed files format input list i entries p vectors
+is_listed files now format input list i entries slice p made vectors given same read listed right normal within limits is vectors_is given_is slice_is = record {
   read = read;
   listed = subst (λ (fs : Option Files). HasText fs list (λ listed. (length listed < 2 ^ 32) × Spells listed true entries)) same listed;
   right = right;
   normal = subst (IsNormalFormOf i) (sym is) normal;
   within = subst IsProblem (sym is) within;
+  limits = limits;
   vectors_are = vectors_is ∙ given_is ∙ ap (problem_vectors i) slice_is;
 }
 
@@ -71,14 +74,25 @@ is_listed files now format input list i entries slice p made vectors given same 
 of_log : (files : Option Files) (format : Format) (input list log : List ℕ) (i : InstanceValue) (entries : List Entry) (p : ProblemValue) (vectors : List (List ℤ)) (P : List ℕ → ProblemValue → List (List ℤ) → Type 0) → IsListed files format input list i entries p vectors
     → HasText files log (λ bytes. P bytes p vectors) → OfLog files format input list log (λ j listed bytes. OfRightList j listed (P bytes))
 of_log files format input list log i entries p vectors P known stop =
-    of_instance files format input i _ known.read (λ told. let l = known.listed told in (l.0, l.1, (l.2.0, λ told'. let g = stop told' in (g.0, g.1, record {
-      entries = entries;
-      spelled = l.2.1;
-      right = known.right;
-      problem = p;
-      normal = known.normal;
-      holds = subst (P g.0 p) known.vectors_are g.2;
-    }))))
+    of_instance files format input i _ known.read (λ told. let l = known.listed told in (
+      l.0,
+      l.1,
+      (
+        l.2.0,
+        λ told'. let g = stop told' in (
+          g.0,
+          g.1,
+          record {
+            entries = entries;
+            spelled = l.2.1;
+            right = known.right;
+            problem = p;
+            normal = known.normal;
+            holds = subst (P g.0 p) known.vectors_are g.2;
+          },
+        ),
+      ),
+    ))
 
 -- the log isn't read, or isn't accepted
 pub log_stopped : (status : Status) (before after : World) (format : Format) (input list log : List ℕ) (i : InstanceValue) (entries : List Entry) (p : ProblemValue) (vectors : List (List ℤ)) → IsListed before.files format input list i entries p vectors → IsLogStop p vectors log status before.files before.faults after.faults → after.files ≡ before.files → after.said ≡ before.said → CheckAnswers format input list log status before after
@@ -97,15 +111,20 @@ log_stopped ShelfFailed before after format input list log i entries p vectors k
 pub accepted : (files : Option Files) (format : Format) (input list log : List ℕ) (i : InstanceValue) (entries : List Entry) (p : ProblemValue) (vectors : List (List ℤ)) → IsListed files format input list i entries p vectors
     → HasText files log (λ bytes. (length bytes < 2 ^ 62) × IsEndedProof p vectors bytes) → OfLog files format input list log IsTakenAndAccepted
 accepted files format input list log i entries p vectors known ended =
-    of_instance files format input i _ known.read (λ told. let l = known.listed told in (l.0, l.1, (l.2.0, λ told'. let g = ended told' in (g.0, g.1, (g.2.0, record {
-      entries = entries;
-      spelled = l.2.1;
-      right = known.right;
-      problem = p;
-      normal = known.normal;
-      within = known.within;
-      proof = subst (λ (vs : List (List ℤ)). IsEndedProof p vs g.0) known.vectors_are g.2.1;
-    })))))
+    of_instance files format input i _ known.read (λ told. let l = known.listed told in (l.0, l.1, (l.2.0, λ told'. let g = ended told' in (g.0, g.1, taken l.0 g.0 l.2.1 g.2.0 g.2.1))))
+  where
+    taken : (listed bytes : List ℕ) → Spells listed true entries → length bytes < 2 ^ 62 → IsEndedProof p vectors bytes → IsTakenAndAccepted i listed bytes
+    taken listed bytes spelled small proof =
+        let both : IsAccepted i listed bytes = record {
+          entries = entries;
+          spelled = spelled;
+          right = known.right;
+          problem = p;
+          normal = known.normal;
+          within = known.within;
+          proof = subst (λ (vs : List (List ℤ)). IsEndedProof p vs bytes) known.vectors_are proof;
+        } in
+        record { taken = small; accepted = both; front = accepted_front i listed bytes known.limits both }
 
 -- ---- what an earlier part of a run left as it was
 
@@ -144,8 +163,9 @@ ended_earlier files now log p vectors same ended = subst (λ (fs : Option Files)
 -- saying was cut off
 pub saying_stopped : (fault : ShelfFault) (before after : World) (format : Format) (input list log : List ℕ) (mid : Option (List ℕ)) (between : Faults) → OfLog before.files format input list log IsTakenAndAccepted → after.files ≡ before.files → mid ≡ before.said → IsPartlyFollowed mid after.said accepted_line
     → NoneFell before.faults between → (fault ≡ Failed → SayingFailed between after.faults) → CheckAnswers format input list log (status_of_shelf fault) before after
-saying_stopped Failed before after format input list log mid between cause files same partly later rose =
-    (record { files = files; said = inr record { cause = cause; said = subst (λ (text : Option (List ℕ)). IsPartlyFollowed text after.said accepted_line) same partly } },
-    inr (inr (inr (let fell = later Say [] in let r = rose refl in omega (arith, fell, r)))))
+saying_stopped Failed before after format input list log mid between cause files same partly later rose = (
+  record { files = files; said = inr record { cause = cause; said = subst (λ (text : Option (List ℕ)). IsPartlyFollowed text after.said accepted_line) same partly } },
+  inr (inr (inr (let fell = later Say [] in let r = rose refl in omega (arith, fell, r)))),
+)
 saying_stopped ShelfNoMemory before after format input list log mid between cause files same partly later rose =
     record { files = files; said = inr record { cause = cause; said = subst (λ (text : Option (List ℕ)). IsPartlyFollowed text after.said accepted_line) same partly } }

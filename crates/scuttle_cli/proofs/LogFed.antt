@@ -123,13 +123,23 @@ finished_stops fault files before after log c p vectors n fed short same_problem
 
 pub finished_ended : (files : Option Files) (log : List ℕ) (c : CheckerValue) (p : ProblemValue) (vectors : List (List ℤ)) (n : ℕ) → IsFedWhole files log c n → n < 2 ^ 62 → c.problem ≡ p → c.vectors ≡ vectors
     → ((bytes : List ℕ) → StandsFor c bytes → IsEndedProof c.problem c.vectors bytes) → HasText files log (λ bytes. (length bytes < 2 ^ 62) × IsEndedProof p vectors bytes)
-finished_ended files log c p vectors n fed short same_problem same_vectors ended = λ told.
-    (fed.so_far.fed, fed.whole told, (omega (arith, short, fed.so_far.count),
-    subst (λ (q : ProblemValue). IsEndedProof q vectors fed.so_far.fed) same_problem (subst (λ (vs : List (List ℤ)). IsEndedProof c.problem vs fed.so_far.fed) same_vectors (ended fed.so_far.fed fed.so_far.stands))))
+finished_ended files log c p vectors n fed short same_problem same_vectors ended = λ told. (
+  fed.so_far.fed,
+  fed.whole told,
+  (
+    omega (arith, short, fed.so_far.count),
+    subst (λ (q : ProblemValue). IsEndedProof q vectors fed.so_far.fed) same_problem (subst (λ (vs : List (List ℤ)). IsEndedProof c.problem vs fed.so_far.fed) same_vectors (ended fed.so_far.fed fed.so_far.stands)),
+  ),
+)
 
 pub too_large : (files : Option Files) (log : List ℕ) (c : CheckerValue) (p : ProblemValue) (vectors : List (List ℤ)) (n : ℕ) → IsFedSoFar files log c n → n ≡ 2 ^ 62 - 1 → c.problem ≡ p → c.vectors ≡ vectors → HasText files log (λ bytes. n < length bytes) → HasText files log (λ bytes. IsTooLarge bytes p vectors)
 too_large files log c p vectors n so_far most same_problem same_vectors more = λ told.
     let f = more told in
-    let first : so_far.fed ≡ take (2 ^ 62 - 1) f.0 = so_far.first f.0 f.1 ∙ ap (λ (k : ℕ). take k f.0) (so_far.count ∙ most) in
-    (f.0, f.1, (omega (arith, f.2, most),
-    subst (HasNoWholeFault p vectors) first (subst (λ (q : ProblemValue). HasNoWholeFault q vectors so_far.fed) same_problem (subst (λ (vs : List (List ℤ)). HasNoWholeFault c.problem vs so_far.fed) same_vectors so_far.passed))))
+    let first : so_far.fed ≡ take (2 ^ 62 - 1) f.0 = so_far.first f.0 f.1 ∙ ap (λ (k : ℕ). take k f.0) (so_far.count ∙ most) in (
+      f.0,
+      f.1,
+      (
+        omega (arith, f.2, most),
+        subst (HasNoWholeFault p vectors) first (subst (λ (q : ProblemValue). HasNoWholeFault q vectors so_far.fed) same_problem (subst (λ (vs : List (List ℤ)). HasNoWholeFault c.problem vs so_far.fed) same_vectors so_far.passed)),
+      ),
+    )

@@ -3,10 +3,12 @@ use Rattle.std.specs.Prelude.{◌≡◌, ℕ, zero, ◌-◌, ◌<◌, ◌≤◌,
 use Rattle.scut_base.specs.Files.{Files, content, followed, IsPartlyFollowed}
 use Rattle.scut_base.specs.Faults.{Faults, ReadingFailed, SayingFailed}
 use Rattle.front_set.specs.declared.entry.Entry.{Entry}
+use Rattle.front_set.specs.ListText.{list_text}
 use Rattle.front_text.specs.Spelling.{Spells}
 use Rattle.instance.specs.declared.fault.InstanceLimit.TheVariants.{Bytes}
 use Rattle.instance.specs.declared.fault.ReadFault.TheVariants.{Bad, Limit}
 use Rattle.instance.specs.Shape.{InstanceValue}
+use Rattle.instance.specs.ParetoFront.{IsFront}
 use Rattle.instance_normal.specs.NormalForm.{IsNormalFormOf}
 use Rattle.pb_lin.specs.Problem.{ProblemValue}
 use Rattle.proof_laws.specs.declared.why.Why.{Why}
@@ -37,9 +39,15 @@ OfList files format input list P = OfInstance files format input (λ i. HasText 
 abbrev pub OfLog : Option Files → Format → (input list log : List ℕ) → (InstanceValue → List ℕ → List ℕ → Type 0) → Type 0
 OfLog files format input list log P = OfList files format input list (λ i listed. HasText files log (P i listed))
 
--- the log is one that is taken, and it is accepted with the list
-abbrev pub IsTakenAndAccepted : InstanceValue → List ℕ → List ℕ → Type 0
-IsTakenAndAccepted i listed log = (length log < 2 ^ 62) × IsAccepted i listed log
+-- the list is the text of the instance's front
+abbrev pub IsFrontText : InstanceValue → List ℕ → Type 0
+IsFrontText i listed = (entries : List Entry) × (listed ≡ list_text true entries) × IsFront i entries
+
+-- The log is one that is taken, it is accepted with the list, and the list is that of the front.
+pub record IsTakenAndAccepted (i : InstanceValue) (listed log : List ℕ) : Type 0 where
+  pub taken : length log < 2 ^ 62
+  pub accepted : IsAccepted i listed log
+  pub front : IsFrontText i listed
 
 -- The list is that of right entries, and P holds of the instance's normal form and of the entries' vectors.
 pub record OfRightList (i : InstanceValue) (listed : List ℕ) (P : ProblemValue → List (List ℤ) → Type 0) : Type 0 where
@@ -71,7 +79,8 @@ abbrev pub OwnCountRose : Faults → Faults → (input list log : List ℕ) → 
 OwnCountRose before now input list log =
     ReadingFailed before now input ⊎ (ReadingFailed before now list ⊎ (ReadingFailed before now log ⊎ SayingFailed before now))
 
--- Accepted: IN spells an instance, and LIST and LOG are accepted for it. No file has changed.
+-- Accepted: IN spells an instance, LIST and LOG are accepted for it, and LIST is the list of its front. No file has
+-- changed.
 pub record IsAcceptedSaid (before after : World) (format : Format) (input list log : List ℕ) : Type 0 where
   pub cause : OfLog before.files format input list log IsTakenAndAccepted
   pub files : after.files ≡ before.files

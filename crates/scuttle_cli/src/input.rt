@@ -1,6 +1,7 @@
 // Reading an instance file.
 ghost use Rattle.std.specs.Prelude.{◌≡◌, IfOk, IfErr};
 ghost use Rattle.scut_base.specs.Faults.{NoneFell};
+ghost use Rattle.instance.specs.Shape.{IsWithinLimits};
 ghost use Rattle.scuttle_cli.specs.Causes.{HasText};
 ghost use Rattle.scuttle_cli.specs.InstanceFile.{IsTextOf};
 ghost use Rattle.scuttle_cli.specs.Stops.{IsInputStop};
@@ -21,6 +22,7 @@ pub fn read_instance<H: Shelf>(
 ) -> Result<Instance, Status>
     ensures read { IfOk result (λ inst.
         HasText (H.files shelf.old) input.now (IsTextOf format inst)) }
+    ensures limits { IfOk result IsWithinLimits }
     ensures stop { IfErr result (λ status. IsInputStop format input.now status
         (H.files shelf.old) (H.faults shelf.old) (H.faults shelf.new)) }
     ensures files { H.files shelf.new ≡ H.files shelf.old }
@@ -38,7 +40,11 @@ pub fn read_instance<H: Shelf>(
         }
     };
     match read_text(alloc, format, &bytes) {
-        Ok(inst) => Ok(inst),
+        Ok(inst) => {
+            // Tells that the instance is within its limits.
+            let _vars = inst.vars();
+            Ok(inst)
+        }
         Err(fault) => Err(Status::from(fault)),
     }
 }
