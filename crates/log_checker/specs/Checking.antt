@@ -1,5 +1,5 @@
 -- What a checker of a log stands for.
-use Rattle.std.specs.Prelude.{◌≡◌, ◌×◌, ℕ, Bool, List, All, Option, None, Some, ℤ}
+use Rattle.std.specs.Prelude.{ℕ, Bool, true, false, List, All, Option, None, Some, ℤ}
 use Rattle.pb_lin.specs.Problem.{ProblemValue}
 use Rattle.proof_laws.specs.State.{StateValue}
 use Rattle.proof_laws.specs.Replay.{IsReplay}
@@ -8,7 +8,7 @@ use Rattle.proof_laws.specs.declared.why.Why.{Why}
 use Rattle.proof_text.specs.LogText.{HoldsNoFurtherLine}
 use Rattle.proof_text.specs.Reading.{ReaderValue, StandsFor as ReaderStandsFor}
 use Rattle.log_checker.specs.Accepted.{IsCovered}
-use Rattle.log_checker.specs.LogFaults.{IsLogFault}
+use Rattle.log_checker.specs.LogFaults.{IsWholeFault, IsLogFault}
 
 -- what a checker keeps: the problem, the vectors that may cover, what the reader keeps, the state that the lines reach, the
 -- refusal that was answered, whether memory was refused, and whether the log was finished
@@ -28,10 +28,15 @@ pub record HasTaken (c : CheckerValue) (bytes : List ℕ) (lines : List Line) : 
   pub replay : IsReplay c.problem lines c.state
   pub covered : All (IsCovered c.vectors) c.state.sols
 
+-- a fault of these bytes: by their whole lines alone, while the log isn't finished
+abbrev pub IsFaultBy : Bool → ProblemValue → List (List ℤ) → List ℕ → ℕ → Why → Type 0
+IsFaultBy false p vectors bytes k why = IsWholeFault p vectors bytes k why
+IsFaultBy true p vectors bytes k why = IsLogFault p vectors bytes k why
+
 -- the same by whether a line was refused
 abbrev pub HasJudged : Option (ℕ × Why) → CheckerValue → List ℕ → Type 0
 HasJudged None c bytes = (lines : List Line) × HasTaken c bytes lines
-HasJudged (Some fault) c bytes = IsLogFault c.problem c.vectors bytes fault.0 fault.1
+HasJudged (Some fault) c bytes = IsFaultBy c.finished c.problem c.vectors bytes fault.0 fault.1
 
 -- the checker stands for these bytes, which were fed
 abbrev pub StandsFor : CheckerValue → List ℕ → Type 0

@@ -4,5 +4,7 @@ pub use Rattle.instance_normal.specs.NormalForm
 pub use Rattle.proof_text.specs.LogText
 pub mod Accepted
 pub mod ListFaults
+pub mod ListJudging
 pub mod LogFaults
 pub mod Checking
+pub mod Judging

@@ -1,5 +1,5 @@
 -- Why a list isn't accepted: the first entry that is wrong, and what is wrong with it.
-use Rattle.std.specs.Prelude.{◌≡◌, ◌≢◌, ◌⊎◌, ℕ, zero, suc, true, false, List, [], ◌∷◌, ◌++◌, length, AllPairs, Contains, ℤ}
+use Rattle.std.specs.Prelude.{◌≡◌, ◌≢◌, ℕ, zero, suc, true, false, List, [], ◌∷◌, ◌++◌, length, Contains}
 use Rattle.front_set.specs.declared.entry.Entry.{Entry}
 use Rattle.front_set.specs.Vector.{AreRising}
 use Rattle.front_set.specs.Front.{vectors_of}

@@ -1,5 +1,5 @@
 -- Why a log isn't accepted: the first line that is refused, and its reason.
-use Rattle.std.specs.Prelude.{◌≡◌, ◌⊎◌, ℕ, ◌+◌, false, List, [], ◌∷◌, ◌++◌, length, All, ℤ}
+use Rattle.std.specs.Prelude.{◌≡◌, ◌⊎◌, ℕ, ◌+◌, false, List, [], ◌++◌, length, All, ℤ}
 use Rattle.pb_lin.specs.Problem.{ProblemValue}
 use Rattle.proof_laws.specs.WellFormed.{IsWellFormed}
 use Rattle.proof_laws.specs.State.{StateValue}
@@ -9,7 +9,7 @@ use Rattle.proof_laws.specs.declared.line.Line.{Line}
 use Rattle.proof_laws.specs.declared.why.Why.{Why}
 use Rattle.proof_laws.specs.declared.why.Why.TheVariants.{Syntax, NoEnd, Uncovered}
 use Rattle.proof_lines.specs.LineText.{printed, SpellsNoLine}
-use Rattle.proof_text.specs.LogText.{BeginsWith, IsWholeLine, HasWrongHeader, IsUnfinishedAt, SpellsLog}
+use Rattle.proof_text.specs.LogText.{BeginsWith, IsWholeLine, HasWrongHeader, IsUnfinishedAt}
 use Rattle.log_checker.specs.Accepted.{IsCovered}
 
 -- The bytes begin with these lines, which are legal, each where it stands, lead to this state, and log covered vectors alone;
@@ -73,7 +73,7 @@ pub record HasNoEnd (p : ProblemValue) (vectors : List (List ℤ)) (bytes : List
   pub lines : List Line
   pub state : StateValue
   pub reached : Reaches p vectors bytes lines state []
-  pub open : state.ended ≡ false
+  pub unended : state.ended ≡ false
   pub number : length lines + 2 ≡ k
 
 -- No whole line is refused, and the bytes end in the midst of one, or the proof hasn't ended.

@@ -26,7 +26,8 @@ pub enum CheckFault {
     /// This line of the log, counted from 1, is the first that is refused.
     #[error("a line of the log is refused")]
     Refused { line: u64, why: Why },
-    /// This entry of the list, counted from 1, is the first that is wrong; 0 stands for the first line.
+    /// This entry of the list, counted from 1, is the first that is wrong; 0 stands for the first
+    /// line.
     #[error("the list is refused")]
     ListRefused { entry: u64, why: ListWhy },
     /// Memory was refused.

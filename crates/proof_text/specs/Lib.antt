@@ -1,4 +1,6 @@
 pub use Rattle.proof_lines.specs.LineText
 pub mod LogText
 pub mod Reading
+pub mod Cutting
 pub mod LogFile
+pub mod Recorders

@@ -1,10 +1,7 @@
 -- What a reader of a log stands for.
-use Rattle.std.specs.Prelude.{◌≡◌, ℕ, Bool, true, false, List, [], ◌∷◌, ◌++◌, length, All, Option, None, Some}
-use Rattle.proof_laws.specs.WellFormed.{IsWellFormed}
+use Rattle.std.specs.Prelude.{◌≡◌, ◌⊎◌, ℕ, ◌+◌, ◌≤◌, Bool, true, false, List, [], ◌∷◌, ◌++◌, length, Option, None, Some}
 use Rattle.proof_laws.specs.declared.line.Line.{Line}
 use Rattle.proof_text.specs.LogText.{BeginsWith, IsSyntaxAt, HoldsNoFurtherLine}
-use Rattle.proof_text.specs.declared.fault.TextFault.{TextFault}
-use Rattle.proof_text.specs.declared.fault.TextFault.TheVariants.{Syntax, NoMemory}
 
 -- what a reader keeps: the number of lines that it has given, whether the header was there, the bytes that aren't
 -- given yet, and the line that was wrong
@@ -19,10 +16,14 @@ abbrev pub HasRead : Bool → List ℕ → List ℕ → List Line → Type 0
 HasRead true rest bytes lines = BeginsWith bytes lines rest
 HasRead false rest bytes lines = (lines ≡ []) × (bytes ≡ rest)
 
--- the same by whether a line was wrong: after that nothing more is kept of the bytes
+-- the lines that were given are those that the bytes begin with
+abbrev pub HasGiven : List ℕ → List Line → Type 0
+HasGiven bytes lines = (lines ≡ []) ⊎ ((rest : List ℕ) × BeginsWith bytes lines rest)
+
+-- The same by whether a line was wrong. It is the header or the line after those that were given; nothing more is kept of the bytes after it.
 abbrev pub HasReadUpTo : Option ℕ → ReaderValue → List ℕ → List Line → Type 0
 HasReadUpTo None r bytes lines = HasRead r.begun r.rest bytes lines
-HasReadUpTo (Some k) r bytes lines = IsSyntaxAt bytes k × All IsWellFormed lines
+HasReadUpTo (Some k) r bytes lines = IsSyntaxAt bytes k × (k ≤ length lines + 2) × HasGiven bytes lines
 
 -- The reader stands for these bytes, which were fed, and these lines, which it has given.
 pub record StandsFor (r : ReaderValue) (bytes : List ℕ) (lines : List Line) : Type 0 where

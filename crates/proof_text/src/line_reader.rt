@@ -1,31 +1,49 @@
 // The reader of a log, piece by piece.
-ghost use Rattle.std.specs.Prelude.{◌≡◌, ◌++◌, ◌⊎◌, [], ℕ, List, None, Some, IsOk, IfOk, OnOk, OnErr, Ok, Err};
+ghost use Rattle.std.specs.Prelude.{◌≡◌, ◌++◌, ◌+◌, ◌⊎◌, [], ℕ, List, true, None, Some, IsOk, IfOk, OnOk, OnErr, IfSome, Ok, Err};
 ghost use Rattle.proof_laws.specs.declared.line.Line.{Line};
-ghost use Rattle.proof_text.specs.LogText.{IsSyntaxAt, IsUnfinishedAt, IsWhole};
+ghost use Rattle.proof_text.specs.LogText.{IsSyntaxAt, IsUnfinishedAt, IsWhole, newlines};
 ghost use Rattle.proof_text.specs.Reading.{StandsFor, GivesNext};
+ghost use Rattle.proof_text.specs.Cutting.{IsLineOf};
 
 use crate::TextFault;
+use crate::line_feeds::{count_line_feeds, ends_whole};
+use crate::opening::{Opening, take_header};
+use crate::pending::Pending;
 use proof_laws::Line;
-use scut_base::{Items, NoMemory};
+use proof_lines::{LineFault, read_line};
+use scut_base::NoMemory;
 use std::alloc::Global;
 use std::marker::Model;
 
-/// Reads a log that comes in pieces. It keeps the bytes of lines that aren't given yet, and how the bytes were cut
-/// changes no answer.
+/// Reads a log that comes in pieces. It keeps the bytes of lines that aren't given yet, and how the
+/// bytes were cut changes no answer.
 #[derive(Debug, Drop)]
 pub struct LineReader {
-    rest: Items<u8>,
+    alloc: Global,
+    pending: Pending,
+    // How many lines were given.
     given: u64,
+    // Whether the header was there. Before that no line feed is pending.
     begun: bool,
+    // The line that was wrong. Nothing is pending then.
     wrong: Option<u64>,
 }
 
 impl Model for LineReader {
+    ghost use Rattle.std.specs.Prelude.{◌≡◌, false};
+    ghost use Rattle.proof_text.specs.LogText.{IsOneLine};
     ghost use Rattle.proof_text.specs.Reading.{ReaderValue};
 
     ghost Value = { ReaderValue };
 
-    ghost view = { λ r. record { given = r.given; begun = r.begun; rest = r.rest; wrong = r.wrong } };
+    ghost view = { λ r. record {
+      given = r.given;
+      begun = r.begun;
+      rest = r.pending;
+      wrong = r.wrong;
+    } };
+
+    ghost invariant = { λ r. r.begun ≡ false → IsOneLine r.pending };
 }
 
 impl LineReader {
@@ -34,53 +52,132 @@ impl LineReader {
         ensures { StandsFor result [] [] }
     {
         LineReader {
-            rest: Items::new(alloc),
+            alloc,
+            pending: Pending::new(alloc),
             given: 0,
             begun: false,
             wrong: None,
         }
     }
 
-    /// Takes a piece after the bytes that were fed. After `NoMemory` nothing has changed.
+    /// Takes a piece after the bytes that were fed. After `NoMemory` nothing has changed. Costs the
+    /// piece, on average over all pieces.
     pub fn feed(&mut self, piece: &[u8]) -> Result<(), NoMemory>
-        ensures fed { OnOk result ((bytes : List ℕ) (lines : List Line) → StandsFor self.old bytes lines
-            → StandsFor self.new (bytes ++ piece.now) lines) }
+        ensures fed { OnOk result ((bytes : List ℕ) (lines : List Line)
+            → StandsFor self.old bytes lines → StandsFor self.new (bytes ++ piece.now) lines) }
         ensures same { OnErr result (self.new ≡ self.old) }
     {
-        let _len = piece.len();
-        Err(NoMemory)
+        if self.wrong.is_some() {
+            return Ok(());
+        }
+        self.pending.extend(piece)?;
+        if self.begun {
+            return Ok(());
+        }
+        match take_header(&mut self.pending) {
+            Opening::Missing => Ok(()),
+            Opening::There => {
+                self.begun = true;
+                Ok(())
+            }
+            Opening::Wrong => {
+                self.pending.forget();
+                self.wrong = Some(1);
+                Ok(())
+            }
+        }
     }
 
-    /// The next line, or none where no further whole line was fed. `Syntax` where the next whole line is wrong, and the same again after
-    /// it; after `NoMemory` nothing has changed. Costs the line.
+    /// The next line, or none where no further whole line was fed. `Syntax` where the next whole line
+    /// is wrong, and the same again after it; `NoMemory` where memory was refused, or the number of
+    /// the line passes 2^64 - 1, and then nothing has changed. Costs the line.
     pub fn next_line(&mut self) -> Result<Option<Line>, TextFault>
         ensures next { IfOk result (λ line. (bytes : List ℕ) (lines : List Line)
             → StandsFor self.old bytes lines → GivesNext self.new bytes lines line) }
-        ensures syntax { (k : ℕ) → result ≡ Err (TextFault.Syntax k) → (bytes : List ℕ) (lines : List Line)
+        ensures syntax { (k : ℕ) → result ≡ Err (TextFault.Syntax k)
+            → (bytes : List ℕ) (lines : List Line)
             → StandsFor self.old bytes lines → IsSyntaxAt bytes k × StandsFor self.new bytes lines }
         ensures wrong { (k : ℕ) → result ≡ Err (TextFault.Syntax k) → self.new.wrong ≡ Some k }
         ensures again { (k : ℕ) → self.old.wrong ≡ Some k → result ≡ Err (TextFault.Syntax k) }
         ensures same { result ≡ Err TextFault.NoMemory → self.new ≡ self.old }
     {
-        match self.wrong {
-            Some(line) => Err(TextFault::Syntax { line }),
-            None => Err(TextFault::NoMemory),
+        if let Some(line) = self.wrong {
+            return Err(TextFault::Syntax { line });
+        }
+        if !self.begun {
+            return Ok(None);
+        }
+        match self.pending.line_len() {
+            Some(len) => self.take_line(len),
+            None => Ok(None),
         }
     }
 
-    /// Whether the bytes that were fed end where a log may end. `Syntax` where the header is missing, or bytes
-    /// without a line feed are left, with the number of their line; and the same again where a line was wrong. It looks at no whole line that
-    /// isn't given yet.
+    // The next line, of so many bytes.
+    fn take_line(&mut self, len: usize) -> Result<Option<Line>, TextFault>
+        requires sound { self.old.wrong ≡ None }
+        requires begun { self.old.begun ≡ true }
+        requires line { IsLineOf self.old.rest len }
+        ensures next { IfOk result (λ line. (bytes : List ℕ) (lines : List Line)
+            → StandsFor self.old bytes lines → GivesNext self.new bytes lines line) }
+        ensures syntax { (k : ℕ) → result ≡ Err (TextFault.Syntax k)
+            → (bytes : List ℕ) (lines : List Line)
+            → StandsFor self.old bytes lines → IsSyntaxAt bytes k × StandsFor self.new bytes lines }
+        ensures wrong { (k : ℕ) → result ≡ Err (TextFault.Syntax k) → self.new.wrong ≡ Some k }
+        ensures same { result ≡ Err TextFault.NoMemory → self.new ≡ self.old }
+    {
+        let number = match self.given.checked_add(2) {
+            Some(number) => number,
+            None => return Err(TextFault::NoMemory),
+        };
+        match read_line(self.alloc, &self.pending.as_slice()[..len]) {
+            Ok(line) => {
+                self.pending.skip_line(len);
+                self.given += 1;
+                Ok(Some(line))
+            }
+            Err(LineFault::Syntax) => {
+                self.pending.forget();
+                self.wrong = Some(number);
+                Err(TextFault::Syntax { line: number })
+            }
+            Err(LineFault::NoMemory) => Err(TextFault::NoMemory),
+        }
+    }
+
+    /// Whether the bytes that were fed end where a log may end. `Syntax` where the header is missing,
+    /// or bytes without a line feed are left, with the number of their line; and the same again where
+    /// a line was wrong; `NoMemory` where that number passes 2^64 - 1. It reads no whole line that
+    /// isn't given yet, and costs one pass over the bytes that aren't.
     pub fn finish(&self) -> Result<(), TextFault>
-        ensures whole { IsOk result → (bytes : List ℕ) (lines : List Line) → StandsFor self.now bytes lines
-            → IsWhole bytes }
-        ensures syntax { (k : ℕ) → result ≡ Err (TextFault.Syntax k) → (bytes : List ℕ) (lines : List Line)
-            → StandsFor self.now bytes lines → IsSyntaxAt bytes k ⊎ IsUnfinishedAt bytes k }
+        ensures whole { IsOk result → (bytes : List ℕ) (lines : List Line)
+            → StandsFor self.now bytes lines → IsWhole bytes }
+        ensures syntax { (k : ℕ) → result ≡ Err (TextFault.Syntax k)
+            → (bytes : List ℕ) (lines : List Line) → StandsFor self.now bytes lines
+            → IsSyntaxAt bytes k ⊎ IsUnfinishedAt bytes k }
         ensures again { (k : ℕ) → self.now.wrong ≡ Some k → result ≡ Err (TextFault.Syntax k) }
     {
-        match self.wrong {
+        if let Some(line) = self.wrong {
+            return Err(TextFault::Syntax { line });
+        }
+        if !self.begun {
+            return Err(TextFault::Syntax { line: 1 });
+        }
+        if ends_whole(self.pending.as_slice()) {
+            return Ok(());
+        }
+        match line_after(self.given, self.pending.as_slice()) {
             Some(line) => Err(TextFault::Syntax { line }),
             None => Err(TextFault::NoMemory),
         }
     }
+}
+
+// The number of the line in which the bytes end, that follow the header and so many lines.
+fn line_after(given: u64, bytes: &[u8]) -> Option<u64>
+    ensures { IfSome result (λ line. line ≡ given + newlines bytes.now + 2) }
+{
+    given
+        .checked_add(count_line_feeds(bytes) as u64)?
+        .checked_add(2)
 }

@@ -1,18 +1,24 @@
 -- What a command's answer says after a warning, and of the words.
-use Rattle.std.proofs.Common.{◌≡◌, ◌≢◌, ℕ, zero, ◌↔◌, List, refl, sym, ◌∙◌, subst, inl, inr}
-use Rattle.std.specs.Prelude.{Option, Some, None}
+use Rattle.std.proofs.Common.{◌≡◌, ◌≢◌, ℕ, zero, ◌↔◌, List, [], refl, sym, ◌∙◌, subst, inl, inr}
+use Rattle.std.specs.Prelude.{Option, Some, None, Result, Ok, Err}
+use Rattle.std.proofs.lemmas.List.{append-nil}
+use Rattle.scut_base.specs.declared.shelf.ShelfFault.{ShelfFault}
 use Rattle.std.proofs.lemmas.Option.{none-some}
 use Rattle.scut_base.specs.Files.{IsTouched, IsPartlyFollowed}
 use Rattle.scut_base.specs.Faults.{NoneFell}
 use Rattle.instance.specs.declared.fault.InstanceLimit.TheVariants.{Bytes, Vars}
 use Rattle.scuttle_cli.specs.World.{World}
-use Rattle.scuttle_cli.specs.Command.{Request, FrontOf}
-use Rattle.scuttle_cli.specs.Messages.{complete_line}
-use Rattle.scuttle_cli.specs.Answers.{Answers, FrontAnswers, UsageAnswers, IsComplete, IsRefused, IsCutShort, IsUntouched, IsFrontWritten, IsPrefixOfFront}
+use Rattle.scuttle_cli.specs.Command.{Request, FrontOf, CheckOf}
+use Rattle.scuttle_cli.specs.Messages.{accepted_line, complete_line, IsWarned}
+use Rattle.scuttle_cli.specs.Answers.{Answers, UsageAnswers}
+use Rattle.scuttle_cli.specs.FrontAnswers.{FrontAnswers, IsComplete, IsCutShort, IsFrontWritten, IsPrefixOfFront}
+use Rattle.scuttle_cli.specs.Causes.{IsRefused, IsUntouched}
+use Rattle.log_checker.specs.declared.fault.CheckFault.TheVariants.{Refused as LineRefused, ListRefused, NoMemory as CheckNoMemory}
+use Rattle.scuttle_cli.specs.CheckAnswers.{CheckAnswers, IsAcceptedSaid, HasCauseIn, IsCutOff}
 use Rattle.scuttle_cli.specs.declared.instance_file.Format.{Format}
 use Rattle.scuttle_cli.specs.declared.status.Status.{Status}
-use Rattle.scuttle_cli.specs.declared.status.Status.TheVariants.{Complete, Usage, BadInput, TooLarge, NoMemory, ShelfFailed}
-use Rattle.scuttle_cli.proofs.OwnFaults.{own_rose_at_first}
+use Rattle.scuttle_cli.specs.declared.status.Status.TheVariants.{Complete, Accepted, Refused, Usage, BadInput, TooLarge, NoMemory, ShelfFailed}
+use Rattle.scuttle_cli.proofs.OwnFaults.{own_rose_at_first, check_rose_at_first}
 
 -- ---- what is warned changes nothing that an answer speaks of
 
@@ -44,6 +50,8 @@ module _ (before mid after : World) (files : after.files ≡ mid.files) (said : 
 
   front_kept : (format : Format) (input list : List ℕ) (status : Status) → NoneFell mid.faults after.faults → FrontAnswers format input list status before mid → FrontAnswers format input list status before after
   front_kept format input list (Complete size) later was = complete_kept format input list size was
+  front_kept format input list Accepted later was = was
+  front_kept format input list (Refused fault) later was = was
   front_kept format input list Usage later was = was
   front_kept format input list (BadInput line kind) later was = refused_kept input _ was
   front_kept format input list (TooLarge zero Bytes) later was = refused_kept input _ was
@@ -52,8 +60,38 @@ module _ (before mid after : World) (files : after.files ≡ mid.files) (said : 
   front_kept format input list NoMemory later was = cut_kept format input list was
   front_kept format input list ShelfFailed later was = (cut_kept format input list was.0, own_rose_at_first before.faults mid.faults after.faults input list was.1 later)
 
+  accepted_kept : (format : Format) (input list log : List ℕ) → IsAcceptedSaid before mid format input list log → IsAcceptedSaid before after format input list log
+  accepted_kept format input list log was = record { cause = was.cause; files = files ∙ was.files; said = said ∙ was.said }
+
+  cause_kept : (Cause : Type 0) → HasCauseIn before mid Cause → HasCauseIn before after Cause
+  cause_kept Cause was = record { cause = was.cause; files = files ∙ was.files; said = said ∙ was.said }
+
+  cut_off_kept : (format : Format) (input list log : List ℕ) → IsCutOff before mid format input list log → IsCutOff before after format input list log
+  cut_off_kept format input list log was = record {
+    files = files ∙ was.files;
+    said = elim was.said [
+      | inl same ↦ inl (said ∙ same)
+      | inr partly ↦ inr record { cause = partly.cause; said = subst (λ text. IsPartlyFollowed before.said text accepted_line) (sym said) partly.said }
+    ];
+  }
+
+  check_kept : (format : Format) (input list log : List ℕ) (status : Status) → NoneFell mid.faults after.faults → CheckAnswers format input list log status before mid → CheckAnswers format input list log status before after
+  check_kept format input list log (Complete size) later was = was
+  check_kept format input list log Accepted later was = accepted_kept format input list log was
+  check_kept format input list log (Refused (LineRefused k why)) later was = cause_kept _ was
+  check_kept format input list log (Refused (ListRefused k why)) later was = cause_kept _ was
+  check_kept format input list log (Refused CheckNoMemory) later was = was
+  check_kept format input list log Usage later was = was
+  check_kept format input list log (BadInput line kind) later was = refused_kept input _ was
+  check_kept format input list log (TooLarge zero Bytes) later was = cause_kept _ was
+  check_kept format input list log (TooLarge line which) later was = refused_kept input _ was
+  check_kept format input list log NoMemory later was = cut_off_kept format input list log was
+  check_kept format input list log ShelfFailed later was = (cut_off_kept format input list log was.0, check_rose_at_first before.faults mid.faults after.faults input list log was.1 later)
+
   usage_kept : (status : Status) → UsageAnswers status before mid → UsageAnswers status before after
   usage_kept (Complete size) was = was
+  usage_kept Accepted was = was
+  usage_kept (Refused fault) was = was
   usage_kept Usage was = untouched_kept was
   usage_kept (BadInput line kind) was = was
   usage_kept (TooLarge line which) was = was
@@ -63,12 +101,15 @@ module _ (before mid after : World) (files : after.files ≡ mid.files) (said : 
   pub answer_kept : (request : Option Request) (status : Status) → NoneFell mid.faults after.faults → Answers request status before mid → Answers request status before after
   answer_kept None status later was = usage_kept status was
   answer_kept (Some (FrontOf format input list)) status later was = front_kept format input list status later was
+  answer_kept (Some (CheckOf format input list log)) status later was = check_kept format input list log status later was
 
 -- ---- Usage
 
 -- words that ask for nothing have no other answer than Usage and want of memory
 only_usage : (status : Status) (before after : World) → UsageAnswers status before after → status ≢ NoMemory → status ≡ Usage
 only_usage (Complete size) before after was memory = absurd was
+only_usage Accepted before after was memory = absurd was
+only_usage (Refused fault) before after was memory = absurd was
 only_usage Usage before after was memory = refl
 only_usage (BadInput line kind) before after was memory = absurd was
 only_usage (TooLarge line which) before after was memory = absurd was
@@ -78,7 +119,19 @@ only_usage ShelfFailed before after was memory = absurd was
 no_usage : (format : Format) (input list : List ℕ) (status : Status) (before after : World) → FrontAnswers format input list status before after → status ≡ Usage → ⊥
 no_usage format input list status before after was is = subst (λ (s : Status). FrontAnswers format input list s before after) is was
 
+no_check_usage : (format : Format) (input list log : List ℕ) (status : Status) (before after : World) → CheckAnswers format input list log status before after → status ≡ Usage → ⊥
+no_check_usage format input list log status before after was is = subst (λ (s : Status). CheckAnswers format input list log s before after) is was
+
 pub usage_exactly : (request : Option Request) (status : Status) (before after : World) → Answers request status before after → status ≢ NoMemory → (status ≡ Usage) ↔ (request ≡ None)
 usage_exactly None status before after was memory = (λ is. refl, λ is. only_usage status before after was memory)
 usage_exactly (Some (FrontOf format input list)) status before after was memory =
     (λ is. absurd (no_usage format input list status before after was is), λ is. absurd (none-some (FrontOf format input list) (sym is)))
+usage_exactly (Some (CheckOf format input list log)) status before after was memory =
+    (λ is. absurd (no_check_usage format input list log status before after was is), λ is. absurd (none-some (CheckOf format input list log) (sym is)))
+
+-- ---- warnings
+
+-- a line that was put out whole is a prefix of itself
+pub warned_partly : (warning : Result (Unit {0}) ShelfFault) (line : List ℕ) (before after : World) → IsWarned line before after warning → IsPartlyFollowed before.warned after.warned line
+warned_partly (Ok done) line before after was = (line, ([], append-nil line), was.whole)
+warned_partly (Err fault) line before after was = was.cut

@@ -1,5 +1,5 @@
 -- Where the front is written.
-use Rattle.std.proofs.Common.{◌≡◌, ℕ, zero, List, sym, ◌∙◌, ap, subst, arith}
+use Rattle.std.proofs.Common.{◌≡◌, ℕ, zero, ◌<◌, ◌≤◌, ◌^◌, List, length, inl, inr, sym, ◌∙◌, ap, subst, arith}
 use Rattle.std.specs.Prelude.{Option, Some, None}
 use Rattle.std.proofs.lemmas.Option.{none-some}
 use Rattle.scut_base.specs.Files.{Files, content}
@@ -10,12 +10,15 @@ use Rattle.instance.specs.declared.fault.InstanceLimit.TheVariants.{Bytes, Vars}
 use Rattle.instance.specs.declared.fault.ReadFault.{ReadFault}
 use Rattle.instance.specs.declared.fault.ReadFault.TheVariants.{Bad, Limit}
 use Rattle.scuttle_cli.specs.World.{World}
-use Rattle.scuttle_cli.specs.Command.{Request, FrontOf}
-use Rattle.scuttle_cli.specs.InstanceFile.{HasFault, HasFewVariables, HasManyVariables}
-use Rattle.scuttle_cli.specs.Answers.{Answers, Completes, FrontAnswers, FrontCompletes, HasText}
+use Rattle.scuttle_cli.specs.Command.{Request, FrontOf, CheckOf}
+use Rattle.scuttle_cli.specs.InstanceFile.{IsTextOf, HasFault, HasFewVariables, HasManyVariables}
+use Rattle.scuttle_cli.specs.Answers.{Answers, Completes}
+use Rattle.scuttle_cli.specs.FrontAnswers.{FrontAnswers, FrontCompletes}
+use Rattle.scuttle_cli.specs.Causes.{HasText}
+use Rattle.scuttle_cli.specs.CheckAnswers.{CheckAnswers, CheckCompletes, AreCheckable, HasLargeFile}
 use Rattle.scuttle_cli.specs.declared.instance_file.Format.{Format}
 use Rattle.scuttle_cli.specs.declared.status.Status.{Status}
-use Rattle.scuttle_cli.specs.declared.status.Status.TheVariants.{Complete, Usage, BadInput, TooLarge, NoMemory, ShelfFailed}
+use Rattle.scuttle_cli.specs.declared.status.Status.TheVariants.{Complete, Accepted, Refused, Usage, BadInput, TooLarge, NoMemory, ShelfFailed}
 use Rattle.scuttle_cli.proofs.InstanceFiles.{no_fault_spelled, one_in}
 
 -- what is said of the file's text, where this is the text
@@ -35,6 +38,8 @@ few_not_many format text few many =
 
 front_completes : (format : Format) (input list : List ℕ) (status : Status) (before after : World) → FrontAnswers format input list status before after → FrontCompletes format input list status before after
 front_completes format input list (Complete size) before after was text there few quiet = tt
+front_completes format input list Accepted before after was text there few quiet = was
+front_completes format input list (Refused fault) before after was text there few quiet = was
 front_completes format input list Usage before after was text there few quiet = was
 front_completes format input list (BadInput line kind) before after was text there few quiet =
     faultless format text _ few (of_text before.files input text (HasFault format (Bad line kind)) there was.cause)
@@ -47,6 +52,41 @@ front_completes format input list (TooLarge line which) before after was text th
 front_completes format input list NoMemory before after was text there few quiet = tt
 front_completes format input list ShelfFailed before after was text there few quiet = quiet was.1
 
+-- ---- `check`
+
+-- a text that spells an instance has no fault
+no_check_fault : (format : Format) (text : List ℕ) (i : InstanceValue) (fault : ReadFault) → IsTextOf format i text → HasFault format fault text → ⊥
+no_check_fault format text i fault spelled has = none-some fault (sym (no_fault_spelled format text i spelled.spelled) ∙ has.first)
+
+-- a file that is there is no larger than it is
+not_larger : (files : Option Files) (name text : List ℕ) (n : ℕ) → content files name ≡ Some text → length text < n → HasText files name (λ bytes. n ≤ length bytes) → ⊥
+not_larger files name text n there small has = omega (arith, small, of_text files name text (λ bytes. n ≤ length bytes) there has)
+
+none_is_large : (files : Option Files) (format : Format) (input list log : List ℕ) → AreCheckable files format input list log → HasLargeFile files format input list log → ⊥
+none_is_large files format input list log are (inl large) = not_larger files input are.text (2 ^ 32) are.there are.spelled.taken large
+none_is_large files format input list log are (inr (inl of)) =
+    let found = of (told_by_content files input are.text are.there) in
+    not_larger files list are.listed (2 ^ 32) are.list_there are.list_taken found.2.2
+none_is_large files format input list log are (inr (inr of)) =
+    let told = told_by_content files input are.text are.there in
+    let found = of told in
+    let listed = found.2.2 told in
+    not_larger files log are.logged (2 ^ 62) are.log_there are.log_taken (λ told'. let g = listed.2.1 told' in (g.0, g.1, g.2.holds.0))
+
+check_completes : (format : Format) (input list log : List ℕ) (status : Status) (before after : World) → CheckAnswers format input list log status before after → CheckCompletes format input list log status before after
+check_completes format input list log (Complete size) before after was are quiet = was
+check_completes format input list log Accepted before after was are quiet = tt
+check_completes format input list log (Refused fault) before after was are quiet = tt
+check_completes format input list log Usage before after was are quiet = was
+check_completes format input list log (BadInput line kind) before after was are quiet =
+    no_check_fault format are.text are.instance _ are.spelled (of_text before.files input are.text (HasFault format (Bad line kind)) are.there was.cause)
+check_completes format input list log (TooLarge zero Bytes) before after was are quiet = none_is_large before.files format input list log are was.cause
+check_completes format input list log (TooLarge line which) before after was are quiet =
+    no_check_fault format are.text are.instance _ are.spelled (of_text before.files input are.text (HasFault format (Limit line which)) are.there was.cause)
+check_completes format input list log NoMemory before after was are quiet = tt
+check_completes format input list log ShelfFailed before after was are quiet = quiet was.1
+
 pub completes : (request : Option Request) (status : Status) (before after : World) → Answers request status before after → Completes request status before after
 completes None status before after was = tt
 completes (Some (FrontOf format input list)) status before after was = front_completes format input list status before after was
+completes (Some (CheckOf format input list log)) status before after was = check_completes format input list log status before after was

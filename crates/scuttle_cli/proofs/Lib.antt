@@ -5,6 +5,10 @@ pub mod ReadSoFar
 pub mod Written
 pub mod InstanceFiles
 pub mod OwnFaults
-pub mod FrontAnswers
+pub mod FrontEnds
+pub mod Commands
+pub mod InputStops
+pub mod CheckEnds
+pub mod LogFed
 pub mod Answered
 pub mod Completing

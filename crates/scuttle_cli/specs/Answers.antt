@@ -1,166 +1,27 @@
--- What a run answers: for each command a table from its statuses to what they say of the world before and after.
-use Rattle.std.specs.Prelude.{◌≡◌, ℕ, zero, ◌≤◌, ◌^◌, ◌⊎◌, ◌↔◌, true, Bool, List, length, Option, Some, None, Result, Ok, Err}
-use Rattle.scut_base.specs.Files.{Files, content, with_file, IsTold, IsTouched, IsPrefixOf, followed, IsPartlyFollowed}
-use Rattle.scut_base.specs.Faults.{Faults, ReadingFailed, WritingFailed, SayingFailed}
-use Rattle.scut_base.specs.declared.shelf.ShelfFault.{ShelfFault}
-use Rattle.scut_base.specs.declared.shelf.ShelfFault.TheVariants.{Failed, NoMemory as ShelfNoMemory}
-use Rattle.front_set.specs.declared.entry.Entry.{Entry}
-use Rattle.front_set.specs.ListText.{list_text}
-use Rattle.instance.specs.declared.fault.InstanceLimit.TheVariants.{Bytes, Vars}
-use Rattle.instance.specs.declared.fault.ReadFault.{ReadFault}
-use Rattle.instance.specs.declared.fault.ReadFault.TheVariants.{Bad, Limit, NoMemory as ReadNoMemory}
-use Rattle.instance.specs.Shape.{InstanceValue}
-use Rattle.instance.specs.Meaning.{IsModel}
-use Rattle.instance.specs.ParetoFront.{IsFront}
+-- What a run answers, by what the words ask for: for each command a table from its statuses to what they say of the world before and after.
+use Rattle.std.specs.Prelude.{Option, Some, None}
 use Rattle.scuttle_cli.specs.World.{World}
-use Rattle.scuttle_cli.specs.Command.{Request, FrontOf}
-use Rattle.scuttle_cli.specs.InstanceFile.{IsTextOf, HasFault, HasFewVariables, HasManyVariables}
-use Rattle.scuttle_cli.specs.Messages.{complete_line}
-use Rattle.scuttle_cli.specs.declared.instance_file.Format.{Format}
+use Rattle.scuttle_cli.specs.Causes.{IsUntouched}
+use Rattle.scuttle_cli.specs.Command.{Request, FrontOf, CheckOf}
+use Rattle.scuttle_cli.specs.FrontAnswers.{FrontAnswers, FrontCompletes}
+use Rattle.scuttle_cli.specs.CheckAnswers.{CheckAnswers, CheckCompletes}
 use Rattle.scuttle_cli.specs.declared.status.Status.{Status}
-use Rattle.scuttle_cli.specs.declared.status.Status.TheVariants.{Complete, Usage, BadInput, TooLarge, NoMemory, ShelfFailed}
+use Rattle.scuttle_cli.specs.declared.status.Status.TheVariants.{Usage, NoMemory}
 
--- ---- statuses
-
--- the number with which the program ends
-abbrev pub status_number : Status → ℕ
-status_number (Complete size) = 0
-status_number Usage = 64
-status_number (BadInput line kind) = 65
-status_number (TooLarge line which) = 66
-status_number NoMemory = 71
-status_number ShelfFailed = 74
-
--- the status of a fault of the shelf
-abbrev pub status_of_shelf : ShelfFault → Status
-status_of_shelf Failed = ShelfFailed
-status_of_shelf ShelfNoMemory = NoMemory
-
--- the status of a fault of a reader
-abbrev pub status_of_reading : ReadFault → Status
-status_of_reading (Bad line kind) = BadInput line kind
-status_of_reading (Limit line which) = TooLarge line which
-status_of_reading ReadNoMemory = NoMemory
-
--- the status of an answer that is the size of the front, or why there is none
-abbrev pub status_of : Result ℕ Status → Status
-status_of (Ok size) = Complete size
-status_of (Err status) = status
-
--- ---- files
-
--- where the files are told, this one is there, and its bytes have P
-abbrev pub HasText : Option Files → List ℕ → (List ℕ → Type 0) → Type 0
-HasText files name P = IsTold files → (text : List ℕ) × (content files name ≡ Some text) × P text
-
--- The file holds this instance; it has at most 20 variables.
-pub record IsInstanceOf (files : Option Files) (format : Format) (input : List ℕ) (i : InstanceValue) : Type 0 where
-  pub text : HasText files input (IsTextOf format i)
-  pub few : i.vars ≤ 20
-
--- The file holds an instance of at most 20 variables, and the entries are its front.
-pub record IsFrontOfFile (files : Option Files) (format : Format) (input : List ℕ) (entries : List Entry) : Type 0 where
-  pub text : List ℕ
-  pub instance : InstanceValue
-  pub there : content files input ≡ Some text
-  pub spelled : IsTextOf format instance text
-  pub few : instance.vars ≤ 20
-  pub front : IsFront instance entries
-
-abbrev pub HasNoModel : InstanceValue → Type 0
-HasNoModel i = (a : List Bool) → IsModel i a → ⊥
-
--- The list file holds the list of the front, and no other file has changed. Its size is 0 exactly where the
--- instance has no model.
-pub record IsFrontWritten (old new : Option Files) (format : Format) (input list : List ℕ) (size : ℕ) : Type 0 where
-  pub entries : List Entry
-  pub front : IsFrontOfFile old format input entries
-  pub counted : length entries ≡ size
-  pub empty : (size ≡ 0) ↔ HasNoModel front.instance
-  pub written : new ≡ with_file old list (list_text true entries)
-
--- a prefix of the list of the front
-abbrev pub IsPrefixOfFront : Option Files → Format → List ℕ → List ℕ → Type 0
-IsPrefixOfFront files format input bytes =
-    (entries : List Entry) × IsFrontOfFile files format input entries × IsPrefixOf bytes (list_text true entries)
-
--- ---- the answers of `front IN LIST`, a record for each
-
--- A count rose of the calls that read IN, begin or append to LIST, or say something.
-abbrev pub OwnCountRose : Faults → Faults → List ℕ → List ℕ → Type 0
-OwnCountRose before now input list =
-    ReadingFailed before now input ⊎ WritingFailed before now list ⊎ SayingFailed before now
-
--- Complete: IN's instance has at most 20 variables, and LIST holds the list text of its front.
-pub record IsComplete (before after : World) (format : Format) (input list : List ℕ) (size : ℕ) : Type 0 where
-  pub files : IsTold before.files → IsFrontWritten before.files after.files format input list size
-  pub said : after.said ≡ followed before.said (complete_line size)
-
--- BadInput and TooLarge: IN's text has this cause, and no file has changed.
-pub record IsRefused (before after : World) (input : List ℕ) (Cause : List ℕ → Type 0) : Type 0 where
-  pub cause : HasText before.files input Cause
-  pub files : after.files ≡ before.files
-  pub said : after.said ≡ before.said
-
--- Saying was cut off: LIST holds the whole list, and a prefix of its line was said.
-pub record IsPartlySaid (before after : World) (format : Format) (input list : List ℕ) : Type 0 where
-  pub size : ℕ
-  pub files : IsTold before.files → IsFrontWritten before.files after.files format input list size
-  pub said : IsPartlyFollowed before.said after.said (complete_line size)
-
--- NoMemory and ShelfFailed: LIST is as before, or a prefix of the list text of the front; something is said
--- only where LIST is whole.
-pub record IsCutShort (before after : World) (format : Format) (input list : List ℕ) : Type 0 where
-  pub files : IsTold before.files → IsTouched before.files after.files list (IsPrefixOfFront before.files format input)
-  pub said : (after.said ≡ before.said) ⊎ IsPartlySaid before after format input list
-
--- The table. No two causes of a refusal hold of one text. Line 0 stands for the whole file, and only for what
--- is counted over all of it. `front` never answers Usage.
-abbrev pub FrontAnswers : Format → List ℕ → List ℕ → Status → World → World → Type 0
-FrontAnswers format input list (Complete size) before after = IsComplete before after format input list size
-FrontAnswers format input list Usage before after = ⊥
-FrontAnswers format input list (BadInput line kind) before after =
-    IsRefused before after input (HasFault format (Bad line kind))
-FrontAnswers format input list (TooLarge zero Bytes) before after =
-    IsRefused before after input (λ text. 2 ^ 32 ≤ length text)
-FrontAnswers format input list (TooLarge zero Vars) before after =
-    IsRefused before after input (HasManyVariables format)
-FrontAnswers format input list (TooLarge line which) before after =
-    IsRefused before after input (HasFault format (Limit line which))
-FrontAnswers format input list NoMemory before after = IsCutShort before after format input list
-FrontAnswers format input list ShelfFailed before after =
-    IsCutShort before after format input list × OwnCountRose before.faults after.faults input list
-
--- the front was written, or memory was wanted
-abbrev pub IsCompleteUnlessNoMemory : Status → Type 0
-IsCompleteUnlessNoMemory (Complete size) = Unit {0}
-IsCompleteUnlessNoMemory NoMemory = Unit {0}
-IsCompleteUnlessNoMemory status = ⊥
-
--- Where IN spells an instance of at most 20 variables and no own count rose, the front is written, unless memory is wanted.
-abbrev pub FrontCompletes : Format → List ℕ → List ℕ → Status → World → World → Type 0
-FrontCompletes format input list status before after =
-    (text : List ℕ) → content before.files input ≡ Some text → HasFewVariables format text
-    → ¬ (OwnCountRose before.faults after.faults input list) → IsCompleteUnlessNoMemory status
-
--- ---- the answers to words that are none of a command
-
--- Usage: no file has changed, and nothing was said.
-pub record IsUntouched (before after : World) : Type 0 where
-  pub files : after.files ≡ before.files
-  pub said : after.said ≡ before.said
-
+-- the answers to words that are none of a command
 abbrev pub UsageAnswers : Status → World → World → Type 0
 UsageAnswers Usage before after = IsUntouched before after
 UsageAnswers NoMemory before after = IsUntouched before after
 UsageAnswers status before after = ⊥
 
--- ---- by what the words ask for: an equation for each command
+-- an equation for each command
 
 abbrev pub Answers : Option Request → Status → World → World → Type 0
 Answers None status before after = UsageAnswers status before after
 Answers (Some (FrontOf format input list)) status before after = FrontAnswers format input list status before after
+Answers (Some (CheckOf format input list log)) status before after = CheckAnswers format input list log status before after
 
 abbrev pub Completes : Option Request → Status → World → World → Type 0
 Completes None status before after = Unit {0}
 Completes (Some (FrontOf format input list)) status before after = FrontCompletes format input list status before after
+Completes (Some (CheckOf format input list log)) status before after = CheckCompletes format input list log status before after

@@ -3,20 +3,27 @@ use Rattle.std.specs.Prelude.{◌≡◌, ℕ, List, [], ◌∷◌, ◌++◌, cod
 use Rattle.std.specs.Fmt.{decimal}
 use Rattle.scut_base.specs.Files.{followed, IsPartlyFollowed}
 use Rattle.scut_base.specs.Faults.{WarningFailed}
-use Rattle.scut_base.specs.Bytes.{newline}
+use Rattle.scut_base.specs.Bytes.{newline, space}
 use Rattle.scut_base.specs.declared.shelf.ShelfFault.{ShelfFault}
 use Rattle.scut_base.specs.declared.shelf.ShelfFault.TheVariants.{Failed}
 use Rattle.instance.specs.declared.fault.BadKind.{BadKind}
 use Rattle.instance.specs.declared.fault.BadKind.TheVariants.{UnknownLine, ObjectiveIndex, WeightExpected, LiteralExpected, ZeroMissing, TextAfterZero, NumberTooWide, TermExpected, RelationExpected, BoundExpected, SemicolonMissing, Product, ObjectiveAfterConstraint}
 use Rattle.instance.specs.declared.fault.InstanceLimit.{InstanceLimit}
 use Rattle.instance.specs.declared.fault.InstanceLimit.TheVariants.{Bytes, Vars, Weights, Row, Objectives}
+use Rattle.log_checker.specs.declared.fault.CheckFault.{CheckFault}
+use Rattle.log_checker.specs.declared.fault.CheckFault.TheVariants.{Refused as LineRefused, ListRefused, NoMemory as CheckNoMemory}
+use Rattle.scuttle_cli.specs.Refusals.{list_why_name, why_text}
 use Rattle.scuttle_cli.specs.World.{World}
 use Rattle.scuttle_cli.specs.declared.status.Status.{Status}
-use Rattle.scuttle_cli.specs.declared.status.Status.TheVariants.{Complete, Usage, BadInput, TooLarge, NoMemory, ShelfFailed}
+use Rattle.scuttle_cli.specs.declared.status.Status.TheVariants.{Complete, Accepted, Refused, Usage, BadInput, TooLarge, NoMemory, ShelfFailed}
 
 -- `complete n`
 abbrev pub complete_line : ℕ → List ℕ
 complete_line size = codes "complete " ++ decimal size ++ newline ∷ []
+
+-- `accepted`
+abbrev pub accepted_line : List ℕ
+accepted_line = codes "accepted" ++ newline ∷ []
 
 -- the name of a kind of bad place, as it is warned
 abbrev pub kind_name : BadKind → List ℕ
@@ -42,16 +49,24 @@ limit_name Weights = codes "Weights"
 limit_name Row = codes "Row"
 limit_name Objectives = codes "Objectives"
 
--- `scuttle: line n: what`
-abbrev pub line_warning : ℕ → List ℕ → List ℕ
-line_warning line what = codes "scuttle: line " ++ decimal line ++ codes ": " ++ what ++ newline ∷ []
+-- `scuttle: place n: what`
+abbrev pub place_warning : List ℕ → ℕ → List ℕ → List ℕ
+place_warning place n what = codes "scuttle: " ++ place ++ space ∷ decimal n ++ codes ": " ++ what ++ newline ∷ []
 
--- the line that is warned of each status; nothing is warned of Complete
+-- the line that is warned of a fault of list or log
+abbrev pub check_warning : CheckFault → List ℕ
+check_warning (LineRefused line why) = place_warning (codes "log line") line (why_text why)
+check_warning (ListRefused entry why) = place_warning (codes "list entry") entry (list_why_name why)
+check_warning CheckNoMemory = codes "scuttle: no memory" ++ newline ∷ []
+
+-- the line that is warned of each status; nothing is warned of Complete and Accepted
 abbrev pub warning_text : Status → List ℕ
 warning_text (Complete size) = []
+warning_text Accepted = []
+warning_text (Refused fault) = check_warning fault
 warning_text Usage = codes "scuttle: usage" ++ newline ∷ []
-warning_text (BadInput line kind) = line_warning line (kind_name kind)
-warning_text (TooLarge line which) = line_warning line (codes "too large: " ++ limit_name which)
+warning_text (BadInput line kind) = place_warning (codes "line") line (kind_name kind)
+warning_text (TooLarge line which) = place_warning (codes "line") line (codes "too large: " ++ limit_name which)
 warning_text NoMemory = codes "scuttle: no memory" ++ newline ∷ []
 warning_text ShelfFailed = codes "scuttle: file fault" ++ newline ∷ []
 

@@ -2,13 +2,15 @@
 ghost use Rattle.std.specs.Prelude.{◌≡◌, ℕ, List, IfOk, IfErr};
 ghost use Rattle.scut_base.specs.Faults.{NoneFell};
 ghost use Rattle.scuttle_cli.specs.World.{world};
-ghost use Rattle.scuttle_cli.specs.Answers.{FrontAnswers, IsInstanceOf, status_of};
+ghost use Rattle.scuttle_cli.specs.FrontAnswers.{FrontAnswers, IsInstanceOf};
+ghost use Rattle.scuttle_cli.specs.Statuses.{status_of};
 
 use crate::Status;
 use crate::enumeration::front_of;
-use crate::instance_file::{Format, read_text};
+use crate::input::read_instance;
+use crate::instance_file::Format;
 use crate::messages::say_complete;
-use crate::whole_file::{read_whole, write_lines};
+use crate::whole_file::write_lines;
 use front_text::list_lines;
 use instance::{Instance, InstanceLimit};
 use scut_base::Shelf;
@@ -33,7 +35,7 @@ pub fn front<H: Shelf>(
     ensures warned { H.warned shelf.new ≡ H.warned shelf.old }
     ensures later { NoneFell (H.faults shelf.old) (H.faults shelf.new) }
 {
-    let inst = read_instance(alloc, format, input, shelf)?;
+    let inst = read_small(alloc, format, input, shelf)?;
     let entries = front_of(alloc, &inst)?;
     let size = entries.len();
     let lines = list_lines(alloc, true, &entries)?;
@@ -44,7 +46,7 @@ pub fn front<H: Shelf>(
 
 // The instance of a file, where it has few enough variables; else the command's answer, however the
 // list is called.
-fn read_instance<H: Shelf>(
+fn read_small<H: Shelf>(
     alloc: Global,
     format: Format,
     input: &str,
@@ -60,19 +62,7 @@ fn read_instance<H: Shelf>(
     ensures warned { H.warned shelf.new ≡ H.warned shelf.old }
     ensures later { NoneFell (H.faults shelf.old) (H.faults shelf.new) }
 {
-    let bytes = match read_whole(alloc, input, shelf)? {
-        Some(bytes) => bytes,
-        None => {
-            return Err(Status::TooLarge {
-                line: 0,
-                which: InstanceLimit::Bytes,
-            });
-        }
-    };
-    let inst = match read_text(alloc, format, &bytes) {
-        Ok(inst) => inst,
-        Err(fault) => return Err(Status::from(fault)),
-    };
+    let inst = read_instance(alloc, format, input, shelf)?;
     if inst.vars() > MOST_VARS {
         return Err(Status::TooLarge {
             line: 0,

@@ -1,14 +1,20 @@
-//! The program: every best compromise of an instance, written as a list.
+//! The program: every best compromise of an instance, written as a list; and a list and its log, checked.
 //!
 //! Its public contract is that of `run`: after Complete the list file holds exactly the front of the
-//! instance, and every other answer has its stated cause. `main` runs it over the real files.
+//! instance, after Accepted list and log are accepted for it, and every other answer has its stated
+//! cause. `main` runs it over the real files.
 #![tactic(auto)]
 
+mod check_command;
 mod command;
 mod enumeration;
 mod front_command;
+mod input;
 mod instance_file;
+mod list_file;
+mod log_file;
 mod messages;
+mod refusals;
 mod running;
 mod status;
 mod whole_file;

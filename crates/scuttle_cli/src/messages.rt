@@ -1,12 +1,14 @@
 // What a run says and warns.
-ghost use Rattle.std.specs.Prelude.{◌≡◌, ◌++◌, [], IfOk, OnOk, OnErr};
+ghost use Rattle.std.specs.Prelude.{◌≡◌, ◌++◌, [], codes, IfOk, OnOk, OnErr};
 ghost use Rattle.scut_base.specs.Faults.{HasCause};
 ghost use Rattle.scut_base.specs.Files.{followed, IsPartlyFollowed};
-ghost use Rattle.scuttle_cli.specs.Messages.{complete_line, warning_text, line_warning, kind_name, limit_name};
+ghost use Rattle.scuttle_cli.specs.Messages.{accepted_line, check_warning, complete_line, kind_name, limit_name, place_warning, warning_text};
 
 use crate::Status;
+use crate::refusals::{list_why_name, why_text};
 use instance::{BadKind, InstanceLimit};
 use itoa::Buffer;
+use log_checker::CheckFault;
 use scut_base::{Items, NoMemory, Shelf, ShelfCall, ShelfFault};
 use std::alloc::Global;
 
@@ -24,7 +26,20 @@ pub fn say_complete<H: Shelf>(alloc: Global, size: usize, shelf: &mut H) -> Resu
     shelf.say(line.as_slice())
 }
 
-/// Warns of a status by its line, and of Complete by nothing. The caller decides what a warning that
+/// Says that list and log are accepted.
+pub fn say_accepted<H: Shelf>(shelf: &mut H) -> Result<(), ShelfFault>
+    ensures said { OnOk result
+        (H.said shelf.new ≡ followed (H.said shelf.old) accepted_line) }
+    ensures cut { OnErr result
+        (IsPartlyFollowed (H.said shelf.old) (H.said shelf.new) accepted_line) }
+    ensures files { H.files shelf.new ≡ H.files shelf.old }
+    ensures warned { H.warned shelf.new ≡ H.warned shelf.old }
+    ensures cause { HasCause ShelfCall.Say [] (H.faults shelf.old) (H.faults shelf.new) result }
+{
+    shelf.say(b"accepted\n")
+}
+
+/// Warns of a status by its line, and of Complete and Accepted by nothing. The caller decides what a warning that
 /// fails means.
 pub fn warn_of<H: Shelf>(alloc: Global, status: Status, shelf: &mut H) -> Result<(), ShelfFault>
     ensures warned { OnOk result
@@ -52,17 +67,18 @@ fn complete_line(alloc: Global, size: usize) -> Result<Items<u8>, NoMemory>
     Ok(Items::from_vec(line))
 }
 
-// The line that is warned of a status; empty for Complete.
+// The line that is warned of a status; empty for Complete and Accepted.
 fn warning_text(alloc: Global, status: Status) -> Result<Items<u8>, NoMemory>
     ensures { IfOk result (λ line. line ≡ warning_text status) }
 {
     match status {
-        Status::Complete { .. } => Ok(Items::new(alloc)),
+        Status::Complete { .. } | Status::Accepted => Ok(Items::new(alloc)),
+        Status::Refused(fault) => check_warning(alloc, fault),
         Status::Usage => plain_warning(alloc, "scuttle: usage\n"),
-        Status::BadInput { line, kind } => line_warning(alloc, line, "", kind_name(kind)),
-        Status::TooLarge { line, which } => {
-            line_warning(alloc, line, "too large: ", limit_name(which))
+        Status::BadInput { line, kind } => {
+            place_warning(alloc, "line", line, kind_name(kind).as_bytes())
         }
+        Status::TooLarge { line, which } => limit_warning(alloc, line, limit_name(which)),
         Status::NoMemory => plain_warning(alloc, "scuttle: no memory\n"),
         Status::ShelfFailed => plain_warning(alloc, "scuttle: file fault\n"),
     }
@@ -74,15 +90,41 @@ fn plain_warning(alloc: Global, line: &str) -> Result<Items<u8>, NoMemory>
     Ok(Items::from_vec(Vec::from_slice(alloc, line.as_bytes())?))
 }
 
-// `scuttle: line n: what`
-fn line_warning(alloc: Global, line: u64, before: &str, what: &str) -> Result<Items<u8>, NoMemory>
-    ensures { IfOk result (λ bytes. bytes ≡ line_warning line (before.now ++ what.now)) }
+// The line of a fault of list or log.
+fn check_warning(alloc: Global, fault: CheckFault) -> Result<Items<u8>, NoMemory>
+    ensures { IfOk result (λ line. line ≡ check_warning fault) }
 {
-    let mut all = Vec::from_slice(alloc, b"scuttle: line ")?;
-    all.extend_from_slice(Buffer::new().format(line).as_bytes())?;
+    match fault {
+        CheckFault::Refused { line, why } => {
+            place_warning(alloc, "log line", line, &why_text(alloc, why)?)
+        }
+        CheckFault::ListRefused { entry, why } => {
+            place_warning(alloc, "list entry", entry, list_why_name(why).as_bytes())
+        }
+        CheckFault::NoMemory => plain_warning(alloc, "scuttle: no memory\n"),
+    }
+}
+
+// The line of a limit.
+fn limit_warning(alloc: Global, line: u64, limit: &str) -> Result<Items<u8>, NoMemory>
+    ensures { IfOk result (λ bytes.
+        bytes ≡ place_warning (codes "line") line (codes "too large: " ++ limit.now)) }
+{
+    let mut what = Vec::from_slice(alloc, b"too large: ")?;
+    what.extend_from_slice(limit.as_bytes())?;
+    place_warning(alloc, "line", line, &what)
+}
+
+// `scuttle: place n: what`
+fn place_warning(alloc: Global, place: &str, n: u64, what: &[u8]) -> Result<Items<u8>, NoMemory>
+    ensures { IfOk result (λ bytes. bytes ≡ place_warning place.now n what.now) }
+{
+    let mut all = Vec::from_slice(alloc, b"scuttle: ")?;
+    all.extend_from_slice(place.as_bytes())?;
+    all.push(b' ')?;
+    all.extend_from_slice(Buffer::new().format(n).as_bytes())?;
     all.extend_from_slice(b": ")?;
-    all.extend_from_slice(before.as_bytes())?;
-    all.extend_from_slice(what.as_bytes())?;
+    all.extend_from_slice(what)?;
     all.push(b'\n')?;
     Ok(Items::from_vec(all))
 }

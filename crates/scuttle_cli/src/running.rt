@@ -8,13 +8,14 @@ ghost use Rattle.scuttle_cli.specs.Messages.{warning_text, IsWarned};
 ghost use Rattle.scuttle_cli.specs.Answers.{Answers, Completes};
 
 use crate::Status;
+use crate::check_command::check;
 use crate::command::{Command, read_command};
 use crate::front_command::front;
 use crate::messages::warn_of;
 use scut_base::{Shelf, ShelfFault};
 use std::alloc::Global;
 
-/// Runs the command that the words ask for, and warns of a status that isn't Complete; the words are
+/// Runs the command that the words ask for, and warns of a status that is neither Complete nor Accepted; the words are
 /// those of the command line without the program's name. A warning that fails changes no status.
 pub fn run<H: Shelf>(alloc: Global, words: &[String], shelf: &mut H) -> Status
     ensures usage { result ≢ Status.NoMemory
@@ -68,5 +69,11 @@ fn answer<H: Shelf>(alloc: Global, words: &[String], shelf: &mut H) -> Status
             input,
             list,
         } => Status::of(front(alloc, format, input, list, shelf)),
+        Command::Check {
+            format,
+            input,
+            list,
+            log,
+        } => Status::of_check(check(alloc, format, input, list, log, shelf)),
     }
 }

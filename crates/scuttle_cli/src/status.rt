@@ -1,8 +1,9 @@
 // How a run ends.
 ghost use Rattle.std.specs.Prelude.{◌≡◌};
-ghost use Rattle.scuttle_cli.specs.Answers.{status_number, status_of};
+ghost use Rattle.scuttle_cli.specs.Statuses.{accepted_or, status_number, status_of};
 
 use instance::{BadKind, InstanceLimit, ReadFault};
+use log_checker::CheckFault;
 use scut_base::{NoMemory, ShelfFault};
 
 /// How a run ends.
@@ -10,6 +11,10 @@ use scut_base::{NoMemory, ShelfFault};
 pub enum Status {
     /// The whole front was written; it has `size` vectors.
     Complete { size: u64 },
+    /// List and log are accepted.
+    Accepted,
+    /// The list or the log isn't accepted.
+    Refused(CheckFault),
     /// The words are no command.
     Usage,
     /// The instance file isn't in its grammar.
@@ -33,12 +38,24 @@ impl Status {
         }
     }
 
+    /// The status of a check that accepts, or that ended so.
+    pub fn of_check(outcome: Result<(), Status>) -> Status
+        ensures { result ≡ accepted_or outcome }
+    {
+        match outcome {
+            Ok(()) => Status::Accepted,
+            Err(status) => status,
+        }
+    }
+
     /// The number with which the program ends.
     pub fn number(&self) -> u8
         ensures { result ≡ status_number self.now }
     {
         match self {
             Status::Complete { .. } => 0,
+            Status::Accepted => 0,
+            Status::Refused(_) => 11,
             Status::Usage => 64,
             Status::BadInput { .. } => 65,
             Status::TooLarge { .. } => 66,
@@ -60,7 +77,7 @@ impl From<NoMemory> for Status {
 }
 
 impl From<ShelfFault> for Status {
-    ghost use Rattle.scuttle_cli.specs.Answers.{status_of_shelf};
+    ghost use Rattle.scuttle_cli.specs.Statuses.{status_of_shelf};
     ghost use Rattle.std.specs.Prelude.{◌≡◌};
 
     ghost from_gives = { λ fault s. s ≡ status_of_shelf fault };
@@ -74,7 +91,7 @@ impl From<ShelfFault> for Status {
 }
 
 impl From<ReadFault> for Status {
-    ghost use Rattle.scuttle_cli.specs.Answers.{status_of_reading};
+    ghost use Rattle.scuttle_cli.specs.Statuses.{status_of_reading};
     ghost use Rattle.std.specs.Prelude.{◌≡◌};
 
     ghost from_gives = { λ fault s. s ≡ status_of_reading fault };
@@ -84,6 +101,23 @@ impl From<ReadFault> for Status {
             ReadFault::Bad { line, kind } => Status::BadInput { line, kind },
             ReadFault::Limit { line, which } => Status::TooLarge { line, which },
             ReadFault::NoMemory => Status::NoMemory,
+        }
+    }
+}
+
+impl From<CheckFault> for Status {
+    ghost use Rattle.scuttle_cli.specs.Statuses.{status_of_checking};
+    ghost use Rattle.std.specs.Prelude.{◌≡◌};
+
+    ghost from_gives = { λ fault s. s ≡ status_of_checking fault };
+
+    fn from(fault: CheckFault) -> Status {
+        match fault {
+            CheckFault::Refused { line, why } => Status::Refused(CheckFault::Refused { line, why }),
+            CheckFault::ListRefused { entry, why } => {
+                Status::Refused(CheckFault::ListRefused { entry, why })
+            }
+            CheckFault::NoMemory => Status::NoMemory,
         }
     }
 }

@@ -5,12 +5,12 @@ ghost use Rattle.scut_base.specs.Faults.{NoneFell, HasCause, WritingFailed};
 ghost use Rattle.scut_base.specs.Files.{with_file, IsTouched, IsPrefixOf};
 ghost use Rattle.scuttle_cli.specs.WholeFile.{IsWhole, IsLarge};
 
-use scut_base::{Items, Shelf, ShelfCall, ShelfFault};
-use std::alloc::{AllocError, Global};
+use scut_base::{Items, NoMemory, Shelf, ShelfCall, ShelfFault};
+use std::alloc::Global;
 
-// How many bytes one read asks for: so many that a file of megabytes takes few calls, and so few
-// that the buffer stays in the processor's cache.
-const PIECE: usize = 65_536;
+/// How many bytes one read asks for: so many that a file of megabytes takes few calls, and so few
+/// that the buffer stays in the processor's cache.
+pub const PIECE: usize = 65_536;
 
 // No instance file has as many bytes, so that lines and places are counted without a test.
 const LIMIT: usize = 1 << 32;
@@ -66,9 +66,9 @@ pub fn write_lines<H: Shelf>(
     Ok(())
 }
 
-// A buffer of this many bytes.
-fn zeros(alloc: Global, len: usize) -> Result<Vec<u8>, AllocError>
+/// A buffer of this many bytes.
+pub fn zeros(alloc: Global, len: usize) -> Result<Vec<u8>, NoMemory>
     ensures { IfOk result (λ v. vec_len v ≡ len) }
 {
-    vec![in alloc; 0u8; len]
+    Ok(vec![in alloc; 0u8; len]?)
 }

@@ -5,7 +5,7 @@ use Rattle.scut_base.specs.Files.{followed}
 use Rattle.scuttle_cli.specs.Messages.{complete_line}
 use Rattle.front_text.specs.Lines.{list_lines}
 use Rattle.scuttle_cli.proofs.OwnFaults.{own_rose_at_last}
-use Rattle.scuttle_cli.proofs.FrontAnswers.{front_written, front_partly_written, partly_said, shelf_fault}
+use Rattle.scuttle_cli.proofs.FrontEnds.{front_written, front_partly_written, partly_said, shelf_fault}
 use Rattle.scuttle_cli.proofs.front_command.front.Goals as goal
 
 pub returns-in_err-write_lines-clause-answer : goal.returns-in_err-write_lines-clause-answer

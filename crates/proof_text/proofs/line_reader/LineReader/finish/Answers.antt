@@ -1,0 +1,25 @@
+use Rattle.std.proofs.Common.{◌≡◌, ◌+◌, ℕ, List, None, true, inr, subst, sym, ap, ◌∙◌, rules}
+use Rattle.proof_text.specs.LogText.{IsWholeLines, IsUnfinishedAt, newlines}
+use Rattle.proof_text.specs.Reading.{ReaderValue}
+use Rattle.proof_text.proofs.Readings.{ends_well, ends_badly}
+use Rattle.proof_text.proofs.line_reader.LineReader.finish.Goals as goal
+
+pub returns-then-ends_whole-clause-whole : goal.returns-then-ends_whole-clause-whole
+returns-then-ends_whole-clause-whole c ok bytes lines stands =
+    let r = c.args.self.now in
+    let sound : r.wrong ≡ None = search rules in
+    let begun : r.begun ≡ true = search rules in
+    let whole : IsWholeLines r.rest = search rules in
+    ends_well r sound begun whole bytes lines stands
+
+pub returns-in-Some-line_after-clause-syntax : goal.returns-in-Some-line_after-clause-syntax
+returns-in-Some-line_after-clause-syntax c k e bytes lines stands =
+    let r = c.args.self.now in
+    let s = c.self.inside in
+    let sound : r.wrong ≡ None = search rules in
+    let begun : r.begun ≡ true = search rules in
+    let same : c.in-Some-line_after.line ≡ k = cc in
+    let number = ap (λ (v : ReaderValue). v.given + newlines v.rest + 2) (sym c.self.view_is) ∙ ap (λ (t : List ℕ). s.given + newlines t + 2) (sym c.as_slice-2.ensures) ∙ sym c.in-Some-line_after.ensures ∙ same in
+    let rest = c.as_slice.ensures ∙ ap (λ (v : ReaderValue). v.rest) c.self.view_is in
+    let ragged = λ (whole : IsWholeLines r.rest). c.if-ends_whole.ensures (subst (λ (t : List ℕ). IsWholeLines t) (sym rest) whole) in
+    inr (subst (λ (j : ℕ). IsUnfinishedAt bytes j) number (ends_badly r sound begun ragged bytes lines stands))

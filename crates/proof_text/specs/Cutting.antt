@@ -1,0 +1,21 @@
+-- Bytes that are taken off the front, line by line.
+use Rattle.std.specs.Prelude.{◌≡◌, ℕ, ◌+◌, ◌<◌, ◌≤◌, List, ◌++◌, length, take, drop}
+use Rattle.proof_text.specs.LogText.{header_line, IsOneLine, IsWholeLine, HasWrongHeader}
+use Rattle.proof_text.specs.declared.opening.Opening.{Opening}
+use Rattle.proof_text.specs.declared.opening.Opening.TheVariants.{Missing, There, Wrong}
+
+-- n bytes stand before the first line feed
+pub record IsLineOf (bytes : List ℕ) (n : ℕ) : Type 0 where
+  pub short : n < length bytes
+  pub line : IsWholeLine bytes (take n bytes) (drop (n + 1) bytes)
+
+-- Bytes from a place on, of which the first n were searched, and have no line feed.
+pub record IsSearched (bytes : List ℕ) (at n : ℕ) : Type 0 where
+  pub within : at + n ≤ length bytes
+  pub one : IsOneLine (take n (drop at bytes))
+
+-- what was found at the front, and what is left of the bytes
+abbrev pub IsOpening : Opening → List ℕ → List ℕ → Type 0
+IsOpening Missing old new = IsOneLine old × (new ≡ old)
+IsOpening There old new = old ≡ header_line ++ new
+IsOpening Wrong old new = HasWrongHeader old × (new ≡ old)

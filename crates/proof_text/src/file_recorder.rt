@@ -1,0 +1,298 @@
+// A proof in a file of a shelf that is lent for the recorder's life.
+ghost use Rattle.std.specs.Prelude.{◌≡◌, ◌≢◌, [], false, IfOk, IfErr, OnOk, OnErr, IsErrOf, IsSome};
+ghost use Rattle.scut_base.specs.Files.{content, with_file, with_appended, IsTold};
+ghost use Rattle.scut_base.specs.Faults.{NoneFell, WritingFailed};
+ghost use Rattle.proof_laws.specs.WellFormed.{IsWellFormed};
+ghost use Rattle.proof_laws.specs.State.{Fits};
+ghost use Rattle.proof_laws.specs.Legal.{IsLegal, IsNext};
+ghost use Rattle.proof_lines.specs.LineText.{printed};
+ghost use Rattle.proof_text.specs.LogText.{header_line};
+ghost use Rattle.proof_text.specs.LogFile.{IsLogFile, IsNotBegun};
+ghost use Rattle.proof_text.specs.Recorders.{fault_of, without_file, IsPutPartly, IsWrite};
+
+use crate::keeping::{advance, is_full, pop_last, push_copy, start};
+use pb_lin::PbProblem;
+use proof_laws::Line;
+use proof_lines::append_line;
+use proof_rules::{ProofState, RecordFault, Recorder};
+use scut_base::{Items, NoMemory, Shelf, ShelfFault};
+use std::alloc::Global;
+use std::marker::Model;
+
+/// Keeps a proof in a file, which holds the header and the text of its lines after each call. Where a
+/// call failed a part of the next line may follow them. Each line is one append.
+#[derive(Drop)]
+pub struct FileRecorder<'a, H: Shelf> {
+    alloc: Global,
+    shelf: &'a mut H,
+    name: &'a str,
+    problem: PbProblem,
+    lines: Items<Line>,
+    state: ProofState,
+    // The text of the line that was written last. Its room is kept.
+    text: Vec<u8>,
+    broken: bool,
+}
+
+impl<'a, H: Shelf> Model for FileRecorder<'a, H> {
+    ghost use Rattle.std.specs.Coded.{codes};
+    ghost use Rattle.pb_lin.specs.LineCodes.{line_code};
+    ghost use Rattle.proof_text.specs.LogFile.{Held};
+    ghost use Rattle.proof_text.specs.Recorders.{IsHeld};
+
+    ghost Value = { Held H };
+
+    ghost coded = { Prim.hlevel (codes, line_code) };
+
+    ghost view = { λ r. record {
+      shelf = r.shelf;
+      name = r.name.now;
+      problem = r.problem;
+      lines = r.lines;
+      state = r.state;
+      broken = r.broken;
+    } };
+
+    ghost invariant = { λ r. IsHeld (H.files r.shelf.now) r.name.now
+        r.problem r.lines r.state r.broken };
+}
+
+/// A log that was not begun.
+#[derive(Drop)]
+pub struct NotBegun<'a, H: Shelf> {
+    /// The shelf that was lent.
+    pub shelf: &'a mut H,
+    /// `Failed` or `NoMemory`.
+    pub fault: RecordFault,
+}
+
+impl<'a, H: Shelf> FileRecorder<'a, H> {
+    /// Begins the file anew with the header, and no lines. After a fault it is as before or holds a
+    /// part of the header: `Failed` where the shelf failed to begin or to append, `NoMemory` where
+    /// memory was refused. Copies the problem.
+    pub fn new(
+        alloc: Global,
+        shelf: &'a mut H,
+        name: &'a str,
+        problem: &PbProblem,
+    ) -> Result<FileRecorder<'a, H>, NotBegun<'a, H>>
+        ensures same_reference { IfOk result (λ r. r.shelf.ghost_name ≡ shelf.entry.ghost_name) }
+        ensures begun { IfOk result (λ r. H.files r.shelf.now
+            ≡ with_file (H.files shelf.old) name.entry.now header_line) }
+        ensures said { IfOk result (λ r. H.said r.shelf.now ≡ H.said shelf.old) }
+        ensures warned { IfOk result (λ r. H.warned r.shelf.now ≡ H.warned shelf.old) }
+        ensures later { IfOk result (λ r. NoneFell (H.faults shelf.old) (H.faults r.shelf.now)) }
+        ensures name { IfOk result (λ r. r.name ≡ name.entry.now) }
+        ensures problem { IfOk result (λ r. r.problem ≡ problem.now) }
+        ensures empty { IfOk result (λ r. r.lines ≡ []) }
+        ensures whole { IfOk result (λ r. r.broken ≡ false) }
+        ensures same_reference_after { IfErr result
+            (λ e. e.shelf.ghost_name ≡ shelf.entry.ghost_name) }
+        ensures refused { IfErr result
+            (λ e. IsNotBegun (H.files shelf.old) (H.files e.shelf.now) name.entry.now) }
+        ensures said_after { IfErr result (λ e. H.said e.shelf.now ≡ H.said shelf.old) }
+        ensures warned_after { IfErr result (λ e. H.warned e.shelf.now ≡ H.warned shelf.old) }
+        ensures later_after { IfErr result
+            (λ e. NoneFell (H.faults shelf.old) (H.faults e.shelf.now)) }
+        ensures cause { IfErr result (λ e. e.fault ≡ RecordFault.Failed
+            → WritingFailed (H.faults shelf.old) (H.faults e.shelf.now) name.entry.now) }
+        ensures never_full { IfErr result (λ e. e.fault ≢ RecordFault.Full) }
+    {
+        let started = start(alloc, problem);
+        match started {
+            Ok((problem, state)) => match begin_log(shelf, name) {
+                Ok(()) => Ok(FileRecorder {
+                    alloc,
+                    shelf,
+                    name,
+                    problem,
+                    lines: Items::new(alloc),
+                    state,
+                    text: Vec::new(alloc),
+                    broken: false,
+                }),
+                Err(fault) => Err(NotBegun { shelf, fault }),
+            },
+            Err(NoMemory) => Err(NotBegun {
+                shelf,
+                fault: RecordFault::NoMemory,
+            }),
+        }
+    }
+
+    /// The lines so far.
+    pub fn lines(&self) -> &[Line]
+        ensures { result.now ≡ self.now.lines }
+    {
+        self.lines.as_slice()
+    }
+
+    /// Ends the recorder, and hands the shelf back.
+    pub fn finish(self) -> &'a mut H
+        ensures same_reference { result.ghost_name ≡ self.entry.shelf.ghost_name }
+        ensures same { result.now ≡ self.entry.shelf.now }
+        ensures log { IsLogFile (H.files result.now) self.entry.name self.entry.problem
+            self.entry.lines self.entry.broken }
+    {
+        let FileRecorder {
+            alloc: _,
+            shelf,
+            name: _,
+            problem: _,
+            lines: _,
+            state: _,
+            text: _,
+            broken: _,
+        } = self;
+        shelf
+    }
+}
+
+impl<'a, H: Shelf> Recorder for FileRecorder<'a, H> {
+    ghost use Rattle.std.specs.Prelude.{None, Some};
+    ghost use Rattle.scut_base.specs.Faults.{count};
+    ghost use Rattle.scut_base.specs.declared.shelf.ShelfCall.TheVariants.{Append};
+    ghost use Rattle.proof_text.specs.Recorders.{without_file};
+
+    ghost problem = { λ r. r.problem };
+
+    ghost limit = { λ r. None };
+
+    ghost lines = { λ r. r.lines };
+
+    ghost faults = { λ r. count (H.faults r.shelf.now) Append r.name };
+
+    ghost broken = { λ r. r.broken };
+
+    ghost around = { λ r. record {
+      shelf = Some r.shelf.ghost_name;
+      name = r.name;
+      others = without_file (H.files r.shelf.now) r.name;
+      said = H.said r.shelf.now;
+      warned = H.warned r.shelf.now;
+      counts = Some (H.faults r.shelf.now);
+    } };
+
+    fn add_line(&mut self, line: &Line) -> Result<u64, RecordFault> {
+        if is_full(&self.lines, &self.state) {
+            return Err(RecordFault::Full);
+        }
+        if push_copy(self.alloc, &mut self.lines, line).is_err() {
+            self.broken = true;
+            return Err(RecordFault::NoMemory);
+        }
+        let written = commit(
+            self.shelf,
+            self.name,
+            &mut self.text,
+            &self.problem,
+            &mut self.state,
+            line,
+        );
+        match written {
+            Ok(id) => Ok(id),
+            Err(fault) => {
+                pop_last(&mut self.lines);
+                self.broken = true;
+                Err(fault)
+            }
+        }
+    }
+
+    fn state(&self) -> &ProofState {
+        &self.state
+    }
+}
+
+// Begins the file with the header.
+fn begin_log<H: Shelf>(shelf: &mut H, name: &str) -> Result<(), RecordFault>
+    ensures ok { OnOk result
+        (H.files shelf.new ≡ with_file (H.files shelf.old) name.now header_line) }
+    ensures err { OnErr result (IsNotBegun (H.files shelf.old) (H.files shelf.new) name.now) }
+    ensures said { H.said shelf.new ≡ H.said shelf.old }
+    ensures warned { H.warned shelf.new ≡ H.warned shelf.old }
+    ensures later { NoneFell (H.faults shelf.old) (H.faults shelf.new) }
+    ensures cause { IsErrOf result RecordFault.Failed
+        → WritingFailed (H.faults shelf.old) (H.faults shelf.new) name.now }
+    ensures never_full { IsErrOf result RecordFault.Full → ⊥ }
+{
+    if let Err(fault) = shelf.begin(name) {
+        return Err(fault_of(fault));
+    }
+    match shelf.append(name, b"scuttle proof version 1\n") {
+        Ok(()) => Ok(()),
+        Err(fault) => Err(fault_of(fault)),
+    }
+}
+
+// The same fault, of a recorder.
+fn fault_of(fault: ShelfFault) -> RecordFault
+    ensures { result ≡ fault_of fault }
+{
+    match fault {
+        ShelfFault::Failed => RecordFault::Failed,
+        ShelfFault::NoMemory => RecordFault::NoMemory,
+    }
+}
+
+// Writes a line that is legal, and takes it up.
+fn commit<H: Shelf>(
+    shelf: &mut H,
+    name: &str,
+    text: &mut Vec<u8>,
+    problem: &PbProblem,
+    state: &mut ProofState,
+    line: &Line,
+) -> Result<u64, RecordFault>
+    requires there { IsTold (H.files shelf.old) → IsSome (content (H.files shelf.old) name.now) }
+    requires fits { Fits problem.now state.old }
+    requires formed { IsWellFormed line.now }
+    requires legal { IsLegal problem.now state.old line.now }
+    ensures written { OnOk result
+        (H.files shelf.new ≡ with_appended (H.files shelf.old) name.now (printed line.now)) }
+    ensures partly { OnErr result
+        (IsPutPartly (H.files shelf.old) (H.files shelf.new) name.now (printed line.now)) }
+    ensures id { IfOk result (λ id. id ≡ state.old.next_id) }
+    ensures next { OnOk result (IsNext problem.now state.old line.now state.new) }
+    ensures fits { OnOk result (Fits problem.now state.new) }
+    ensures same { OnErr result (state.new ≡ state.old) }
+    ensures others { without_file (H.files shelf.new) name.now
+        ≡ without_file (H.files shelf.old) name.now }
+    ensures said { H.said shelf.new ≡ H.said shelf.old }
+    ensures warned { H.warned shelf.new ≡ H.warned shelf.old }
+    ensures cause { IsWrite name.now (H.faults shelf.old) (H.faults shelf.new) result }
+{
+    write_line(shelf, name, text, line)?;
+    match advance(problem, state, line) {
+        Ok(id) => Ok(id),
+        Err(NoMemory) => Err(RecordFault::NoMemory),
+    }
+}
+
+// Puts the text of a line after the bytes of the file.
+fn write_line<H: Shelf>(
+    shelf: &mut H,
+    name: &str,
+    text: &mut Vec<u8>,
+    line: &Line,
+) -> Result<(), RecordFault>
+    requires there { IsTold (H.files shelf.old) → IsSome (content (H.files shelf.old) name.now) }
+    ensures written { OnOk result
+        (H.files shelf.new ≡ with_appended (H.files shelf.old) name.now (printed line.now)) }
+    ensures partly { OnErr result
+        (IsPutPartly (H.files shelf.old) (H.files shelf.new) name.now (printed line.now)) }
+    ensures others { without_file (H.files shelf.new) name.now
+        ≡ without_file (H.files shelf.old) name.now }
+    ensures said { H.said shelf.new ≡ H.said shelf.old }
+    ensures warned { H.warned shelf.new ≡ H.warned shelf.old }
+    ensures cause { IsWrite name.now (H.faults shelf.old) (H.faults shelf.new) result }
+{
+    text.clear();
+    if append_line(text, line).is_err() {
+        return Err(RecordFault::NoMemory);
+    }
+    match shelf.append(name, text.as_slice()) {
+        Ok(()) => Ok(()),
+        Err(fault) => Err(fault_of(fault)),
+    }
+}
