@@ -16,6 +16,8 @@ mod instances_in_normal_form;
 #[cfg(test)]
 mod lines_by_ids;
 #[cfg(test)]
+mod logs_in_pieces;
+#[cfg(test)]
 mod maximised_objectives;
 #[cfg(test)]
 mod normal_forms;
