@@ -1,6 +1,6 @@
 -- The tables of a trail, as steps come and go.
-use Rattle.std.proofs.Common.{◌≡◌, ◌≢◌, ℕ, zero, ◌+◌, ◌-◌, ◌<◌, ◌≤◌, ◌++◌, Bool, not, List, [], ◌∷◌, length, take, get_or, set, replicate, Option, None, Some, All, AllPairs, cond, refl, arith, ap, sym, ◌∙◌, subst, ⊎_elim, count_by, length-set, length-take, get_or-set_other, get_or-set_same, get_or-take}
-use Rattle.std.specs.Prelude.{slice_get, slice_index, slice_index_or}
+use Rattle.std.proofs.Common.{◌≡◌, ◌≢◌, ℕ, zero, ◌+◌, ◌-◌, ◌<◌, ◌≤◌, ◌++◌, Bool, not, List, [], ◌∷◌, length, take, get_or, set, replicate, Option, None, Some, All, cond, refl, arith, ap, sym, ◌∙◌, subst, ⊎_elim, count_by, length-set, length-take, get_or-set_other, get_or-set_same, get_or-take}
+use Rattle.std.specs.Prelude.{slice_get}
 use Rattle.std.specs.Option.{is_some}
 use Rattle.std.proofs.lemmas.Option.{slice_get-get_or, none-some}
 use Rattle.std.proofs.lemmas.List.{get_or_default, set-set, set-get_or, set-append_left, take-set, take-take, replicate-append-replicate, length-replicate, length-append}
@@ -27,7 +27,7 @@ pub place_found : (values : Values) (places : List ℕ) (steps : List Step) (cou
     → get_or values (var - 1) o ≡ Some b → IsPlaceOf (take count steps) var (get_or places (var - 1) n)
 place_found values places steps count var b s o n are from_one within is =
     let told : get_or (assigned (length values) (take count steps)) (var - 1) None ≡ Some b
-      = ap (λ (v : Values). get_or v (var - 1) None) (sym are.told) ∙ get_or_default values (var - 1) None o (omega arith) ∙ is in
+    = ap (λ (v : Values). get_or v (var - 1) None) (sym are.told) ∙ get_or_default values (var - 1) None o (omega arith) ∙ is in
     let found = assigned-found (length values) (take count steps) (var - 1) b s told in
     let k = found.0 in
     let short : k < length (take count steps) = found.1 in
@@ -78,18 +78,24 @@ tables_pushed values places steps count s are from_one within none = record {
   where
     inside : index s < length values
     inside = omega (arith, from_one, within)
+
     long : length (set values (index s) (Some (not s.lit.neg))) ≡ length values
     long = length-set values (index s) (Some (not s.lit.neg))
+
     short : count < length steps
     short = omega (arith, are.counted, count_below values (index s) inside none, are.room)
+
     front : take (count + 1) (set steps count s) ≡ take count steps ++ s ∷ []
     front = take_set steps count s short
+
     open' : get_or (assigned (length values) (take count steps)) (index s) None ≡ None
     open' = ap (λ (v : Values). get_or v (index s) None) (sym are.told) ∙ none
+
     here : (k : ℕ) (d : Step) → k ≡ count → get_or (set places (index s) count) (index (get_or (set steps count s) k d)) 0 ≡ k
     here k d e =
         let own : get_or (set steps count s) k d ≡ s = ap (λ (j : ℕ). get_or (set steps count s) j d) e ∙ get_or-set_same steps count s d short in
         ap (λ (t : Step). get_or (set places (index s) count) (index t) 0) own ∙ get_or-set_same places (index s) count 0 (omega (arith, inside, are.placed)) ∙ sym e
+
     there : (k : ℕ) (d : Step) → k < count + 1 → k ≢ count → get_or (set places (index s) count) (index (get_or (set steps count s) k d)) 0 ≡ k
     there k d less ne =
         let before : k < count = omega (arith, less, ne) in
@@ -107,9 +113,12 @@ tables_pushed values places steps count s are from_one within none = record {
 last_step : (n : ℕ) (steps : List Step) (s : Step) → AreSteps n (steps ++ s ∷ []) → AreSteps n steps × (get_or (assigned n steps) (index s) None ≡ None) × (index s < n)
 last_step n steps s are =
     let before : AreSteps n steps = record { within = All-prefix (λ r. (0 < r.lit.var) × (r.lit.var ≤ n)) steps s are.within; apart = AllPairs-prefix (λ r t. r.lit.var ≢ t.lit.var) steps s are.apart } in
-    let own = All-last (λ r. (0 < r.lit.var) × (r.lit.var ≤ n)) steps s are.within in
-    (before, assigned-none n steps (index s) (λ k d short e. AllPairs-last (λ r t. r.lit.var ≢ t.lit.var) steps s are.apart k d short
-    (let one = before.within k d short in omega (arith, one.0, own.0, e))), omega (arith, own.0, own.1))
+    let own = All-last (λ r. (0 < r.lit.var) × (r.lit.var ≤ n)) steps s are.within in (
+      before,
+      assigned-none n steps (index s) (λ k d short e. AllPairs-last (λ r t. r.lit.var ≢ t.lit.var) steps s are.apart k d short
+          (let one = before.within k d short in omega (arith, one.0, own.0, e))),
+      omega (arith, own.0, own.1),
+    )
 
 pub tables_popped : (values : Values) (places : List ℕ) (steps : List Step) (count : ℕ) (d : Step) → AreTables values places steps (count + 1) → AreTables (set values (index (get_or steps count d)) None) places steps count
 tables_popped values places steps count d are = record {
@@ -123,20 +132,28 @@ tables_popped values places steps count d are = record {
   where
     s : Step
     s = get_or steps count d
+
     p : Values
     p = assigned (length values) (take count steps)
+
     wide : length p ≡ length values
     wide = length-assigned (length values) (take count steps)
+
     short : count < length steps
     short = omega (arith, are.counted, count_by-le-length is_some values, are.room)
+
     front : take (count + 1) steps ≡ take count steps ++ s ∷ []
     front = take_place steps count s (slice_get-get_or steps count d short)
+
     last : AreSteps (length values) (take count steps) × (get_or p (index s) None ≡ None) × (index s < length values)
     last = last_step (length values) (take count steps) s (subst (AreSteps (length values)) front are.are)
+
     was : values ≡ set p (index s) (Some (not s.lit.neg))
     was = are.told ∙ ap (assigned (length values)) front ∙ assigned-push (length values) (take count steps) s
+
     now : set values (index s) None ≡ p
     now = ap (λ (v : Values). set v (index s) None) was ∙ set-set p (index s) (Some (not s.lit.neg)) None ∙ ap (λ (o : Option Bool). set p (index s) o) (sym last.1) ∙ set-get_or p (index s) None
+
     long : length (set values (index s) None) ≡ length values
     long = length-set values (index s) None
 
@@ -190,6 +207,7 @@ tables_longer values places more_places steps more_steps count are same_places s
   where
     count_short : count ≤ length steps
     count_short = omega (arith, are.counted, count_by-le-length is_some values, are.room)
+
     front : take count more_steps ≡ take count steps
     front = sym (take-take count (length steps) more_steps count_short) ∙ ap (take count) same_steps
 

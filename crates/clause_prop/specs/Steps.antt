@@ -1,6 +1,5 @@
 -- Trails: steps, each of which makes a literal true.
-use Rattle.std.specs.Prelude.{◌≡◌, ◌≢◌, ℕ, ◌-◌, ◌<◌, ◌≤◌, Bool, not, List, [], ◌∷◌, ◌++◌, map, fold, length, replicate, slice_set, slice_get, take, All, AllPairs, Option, None, Some}
-use Rattle.scut_base.specs.Literal.{Literal}
+use Rattle.std.specs.Prelude.{◌≡◌, ◌≢◌, ℕ, ◌-◌, ◌<◌, ◌≤◌, Bool, not, List, [], ◌∷◌, ◌++◌, fold, replicate, slice_set, slice_get, take, All, AllPairs, Option, None, Some}
 use Rattle.clause_prop.specs.declared.step.Step.{Step}
 
 -- a trail: its steps over the variables 1 to vars

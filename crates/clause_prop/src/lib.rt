@@ -5,6 +5,7 @@
 //! is violated and none forces a literal. The crate decides nothing and learns nothing.
 #![tactic(auto)]
 
+mod line;
 mod plain;
 mod propagator;
 mod step;

@@ -18,11 +18,7 @@ pub trait Propagator {
     /// Extends the trail by literals that lines force under the steps before them, each at the level of the step before it and
     /// with the id of its line, until a line has a negative slack, whose id is answered, or the trail is closed.
     /// It may be called again after `NoMemory`.
-    fn propagate(
-        &mut self,
-        store: &ClauseStore,
-        trail: &mut Trail,
-    ) -> Result<Option<u64>, NoMemory>
+    fn propagate(&mut self, store: &ClauseStore, trail: &mut Trail) -> Result<Option<u64>, NoMemory>
         requires in_step { in_step self.old store.now trail.old }
         requires variables { LinesUpTo trail.old.vars store.now }
         ensures in_step { in_step self.new store.now trail.new }

@@ -1,4 +1,4 @@
-use Rattle.std.proofs.Common.{arith, ◌∙◌, ◌≡◌, ◌+◌, ◌-◌, ap, sym, subst, List, ℕ, length, length-take, get_or, set, None}
+use Rattle.std.proofs.Common.{arith, ◌≡◌, ◌+◌, ◌-◌, ap, subst, length, length-take}
 use Rattle.clause_prop.specs.Steps.{TrailValue}
 use Rattle.clause_prop.specs.Tables.{AreTables}
 use Rattle.clause_prop.proofs.Tables.{tables_popped}

@@ -1,8 +1,6 @@
-use Rattle.std.proofs.Common.{arith, ◌-◌, ◌∙◌, ◌≡◌, ap, sym, subst, List, ℕ, take, Option, None, Bool, get_or}
-use Rattle.scut_base.proofs.Tracking.{none_under, count_below}
-use Rattle.std.specs.Prelude.{if◌then◌else◌, not}
-use Rattle.clause_prop.specs.Steps.{TrailValue, partial, assigned}
-use Rattle.clause_prop.specs.declared.step.Step.{Step}
+use Rattle.std.proofs.Common.{arith, ◌-◌, ap}
+use Rattle.scut_base.proofs.Tracking.{count_below}
+use Rattle.clause_prop.specs.Steps.{TrailValue}
 use Rattle.clause_prop.proofs.Tables.{tables_pushed, value_open, pushed_view}
 use Rattle.clause_prop.proofs.trail.Trail.push.Goals as goal
 
