@@ -1,14 +1,15 @@
 -- One line's terms, visited one after another: each open literal that is forced gets a step.
-use Rattle.std.proofs.Common.{◌≡◌, ℕ, ◌+◌, ◌<◌, ◌≤◌, ◌&&◌, Bool, true, false, Some, None, length, get_or, refl, arith, ap, sym, ◌∙◌, subst}
+use Rattle.std.proofs.Common.{◌≡◌, ℕ, List, ◌+◌, ◌<◌, ◌≤◌, ◌&&◌, Bool, true, false, Some, None, length, get_or, refl, arith, ap, sym, ◌∙◌, subst}
 use Rattle.std.specs.Prelude.{pos, int_lt, ◌≤ℤ◌, slice_get, Contains}
 use Rattle.std.specs.Option.{is_none}
 use Rattle.std.specs.FinMap.{get}
 use Rattle.std.proofs.lemmas.Int.{ints}
 use Rattle.std.proofs.lemmas.List.Elements.{Contains-get_or}
-use Rattle.std.proofs.lemmas.Option.{get_or_from_slice_get, slice_get_within}
+use Rattle.std.proofs.lemmas.Option.{get_or_from_slice_get, slice_get_within, slice_get-get_or}
+use Rattle.std.proofs.lemmas.List.{get_or-map, length-map}
 use Rattle.scut_base.specs.Literal.{Literal}
 use Rattle.scut_base.specs.Assignment.{partial_truth}
-use Rattle.pb_lin.specs.Constraint.{ConstraintValue, IsMerged, slack}
+use Rattle.pb_lin.specs.Constraint.{ConstraintValue, IsMerged, AreOnes, literals, slack}
 use Rattle.pb_lin.specs.LineMap.{LineMap}
 use Rattle.pb_lin.specs.Propagation.{is_forced, IsClosedUnder}
 use Rattle.clause_prop.specs.Steps.{TrailValue, partial, with_step, with_true, last_level}
@@ -47,9 +48,9 @@ visited_same line id s old new at t visited found none = record {
 }
 
 -- a term that is forced gets a step
-pub visited_pushed : (line : ConstraintValue) (id s level : ℕ) (old new : TrailValue) (at : ℕ) (t : Literal × ℕ) → IsVisited line id s old new at → IsMerged line.terms → slice_get line.terms at ≡ Some t → t.0.var ≤ new.vars → level ≡ last_level new.steps
-    → partial_truth (partial new) t.0 ≡ None → is_forced (partial new) line t ≡ true → IsVisited line id s old (with_step new (record { lit = t.0; level = level; reason = id })) (at + 1)
-visited_pushed line id s level old new at t visited merged found within level_is none forced = record {
+pub visited_pushed : (line : ConstraintValue) (id s : ℕ) (old new : TrailValue) (at : ℕ) (t : Literal × ℕ) → IsVisited line id s old new at → IsMerged line.terms → slice_get line.terms at ≡ Some t → t.0.var ≤ new.vars
+    → partial_truth (partial new) t.0 ≡ None → is_forced (partial new) line t ≡ true → IsVisited line id s old (with_step new (record { lit = t.0; level = last_level new.steps; reason = id })) (at + 1)
+visited_pushed line id s old new at t visited merged found within none forced = record {
   vars = visited.vars;
   same = ap (λ (p : Values). slack p line) push ∙ slack_kept (partial new) line at t step merged here is refl inside none ∙ visited.same;
   unforced = subst (λ (p : Values). AreUnforced p line (at + 1)) (sym push) (unforced_pushed (partial new) line at t step merged here is refl inside none visited.unforced);
@@ -57,12 +58,12 @@ visited_pushed line id s level old new at t visited merged found within level_is
     line = line;
     there = there;
     forces = record { term = t; among = contains; literal = refl; forced = forced };
-    level = level_is;
+    level = refl;
   }));
 }
   where
     step : Step
-    step = record { lit = t.0; level = level; reason = id }
+    step = record { lit = t.0; level = last_level new.steps; reason = id }
 
     push : partial (with_step new step) ≡ with_true (partial new) step
     push = assigned-push new.vars new.steps step
@@ -88,3 +89,23 @@ visited_whole line id s old new at visited past = record {
   where
     above : (n : ℕ) → pos 0 ≤ℤ pos n
     above n = grind (arith, ints)
+
+-- ---- lines whose coefficients are all 1
+
+-- the term of a literal that is read from the literals
+pub term_at : (terms : List (Literal × ℕ)) (lits : List Literal) (i : ℕ) (l : Literal) → AreOnes terms → lits ≡ literals terms → i < length lits → l ≡ get_or lits i l → slice_get terms i ≡ Some (l, 1)
+term_at terms lits i l are_ones same short is =
+    let within : i < length terms = omega (arith, short, ap length same, length-map terms (λ t. t.0)) in
+    let own : l ≡ (get_or terms i (l, 1)).0 = is ∙ ap (λ (ls : List Literal). get_or ls i l) same ∙ get_or-map (λ t. t.0) terms i (l, 1) l within in
+    let one : (get_or terms i (l, 1)).1 ≡ 1 = are_ones i (l, 1) within in
+    slice_get-get_or terms i (l, 1) within
+    ∙ ap (λ (n : ℕ). Some ((get_or terms i (l, 1)).0, n)) one
+    ∙ ap (λ (m : Literal). Some (m, 1)) (sym own)
+
+-- at the slack 0 a literal is forced where it is open
+pub test_at_zero : (line : ConstraintValue) (id : ℕ) (old new : TrailValue) (at : ℕ) (l : Literal) (b : Bool) → IsVisited line id 0 old new at → b ≡ is_none (partial_truth (partial new) l) → b ≡ is_forced (partial new) line (l, 1)
+test_at_zero line id old new at l b visited test = test_of line id 0 old new at (l, 1) b visited (test ∙ sym (and_one (is_none (partial_truth (partial new) l))))
+  where
+    and_one : (x : Bool) → (x && int_lt (pos 0) (pos 1)) ≡ x
+    and_one true = refl
+    and_one false = refl

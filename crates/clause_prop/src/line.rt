@@ -1,12 +1,12 @@
 // What one line does to a trail.
-ghost use Rattle.std.specs.Prelude.{◌≡◌, ◌≤◌, ◌<ℤ◌, ◌&&◌, ◌^◌, ◌↔◌, IsTrue, Some, false, true, pos, int_lt, All, length, sum_by};
+ghost use Rattle.std.specs.Prelude.{◌≡◌, ◌≤◌, ◌<ℤ◌, ◌&&◌, ◌^◌, ◌↔◌, IsTrue, Some, None, false, true, pos, int_lt, All, length, sum_by};
 ghost use Rattle.std.specs.Option.{is_none};
 ghost use Rattle.std.specs.FinMap.{get};
 ghost use Rattle.scut_base.specs.Assignment.{partial_truth};
-ghost use Rattle.pb_lin.specs.Constraint.{UpTo, possible_value, slack, unless_false};
+ghost use Rattle.pb_lin.specs.Constraint.{AreOnes, UpTo, possible_value, slack, unless_false};
 ghost use Rattle.pb_lin.specs.LineMap.{LineMap};
 ghost use Rattle.pb_lin.specs.Propagation.{IsClosedUnder};
-ghost use Rattle.clause_prop.specs.Steps.{partial};
+ghost use Rattle.clause_prop.specs.Steps.{last_level, partial, with_step};
 ghost use Rattle.clause_prop.specs.Propagating.{Extends};
 
 use crate::{Step, Trail};
@@ -42,7 +42,8 @@ pub(crate) fn visit(line: &Constraint, id: u64, trail: &mut Trail) -> bool
     false
 }
 
-// Makes every open literal true whose coefficient exceeds the slack.
+// Makes every open literal true whose coefficient exceeds the slack. A literal that is made true was counted
+// in the slack as an open one, so the slack stays, and one serves for the whole line.
 fn force(line: &Constraint, line_slack: u128, id: u64, trail: &mut Trail)
     requires within { UpTo trail.old.vars line.now }
     requires slack { slack (partial trail.old) line.now ≡ pos line_slack }
@@ -50,15 +51,18 @@ fn force(line: &Constraint, line_slack: u128, id: u64, trail: &mut Trail)
     ensures extends { (store : LineMap) → get store id ≡ Some line.now
         → Extends store trail.old trail.new }
 {
-    // A coefficient of 1 exceeds only the slack 0.
-    if line_slack > 0 && line.is_cardinality() {
+    if !line.is_cardinality() {
+        force_terms(line, line_slack, id, trail);
         return;
     }
-    force_terms(line, line_slack, id, trail);
+    // A coefficient of 1 exceeds only the slack 0.
+    if line_slack > 0 {
+        return;
+    }
+    force_literals(line, id, trail);
 }
 
-// The same, by the coefficients. A literal that is made true was counted in the slack as an open one, so
-// the slack stays, and one serves for the whole line.
+// The same, by the coefficients.
 fn force_terms(line: &Constraint, line_slack: u128, id: u64, trail: &mut Trail)
     requires within { UpTo trail.old.vars line.now }
     requires slack { slack (partial trail.old) line.now ≡ pos line_slack }
@@ -69,14 +73,40 @@ fn force_terms(line: &Constraint, line_slack: u128, id: u64, trail: &mut Trail)
     for at in 0..line.len() {
         let term = line.term(at);
         if is_forced(&term, line_slack, trail) {
-            let level = trail.level();
-            trail.push(Step {
-                lit: term.0,
-                level,
-                reason: id,
-            });
+            push_forced(term.0, id, trail);
         }
     }
+}
+
+// The same where all coefficients are 1 and the slack is 0: every open literal is made true.
+fn force_literals(line: &Constraint, id: u64, trail: &mut Trail)
+    requires within { UpTo trail.old.vars line.now }
+    requires ones { AreOnes line.now.terms }
+    requires slack { slack (partial trail.old) line.now ≡ pos 0 }
+    ensures closed { IsClosedUnder (partial trail.new) line.now }
+    ensures extends { (store : LineMap) → get store id ≡ Some line.now
+        → Extends store trail.old trail.new }
+{
+    for lit in line.literals() {
+        if is_open(*lit, trail) {
+            push_forced(*lit, id, trail);
+        }
+    }
+}
+
+// Makes an open literal true, at the level of the step before it.
+pub(crate) fn push_forced(lit: Lit, id: u64, trail: &mut Trail)
+    requires within { lit.var ≤ trail.old.vars }
+    requires open { partial_truth (partial trail.old) lit ≡ None }
+    ensures { trail.new ≡ with_step trail.old
+        (record { lit = lit; level = last_level trail.old.steps; reason = id }) }
+{
+    let level = trail.level();
+    trail.push(Step {
+        lit,
+        level,
+        reason: id,
+    });
 }
 
 // Whether the literal is open, with a coefficient above the slack.
@@ -86,7 +116,15 @@ fn is_forced(term: &(Lit, u128), line_slack: u128, trail: &Trail) -> bool
         && int_lt (pos line_slack) (pos term.now.1)) }
     ensures open { IsTrue result → partial_truth (partial trail.now) term.now.0 ≡ None }
 {
-    line_slack < term.1 && trail.value(term.0).is_none()
+    line_slack < term.1 && is_open(term.0, trail)
+}
+
+fn is_open(lit: Lit, trail: &Trail) -> bool
+    requires { lit.var ≤ trail.now.vars }
+    ensures value { result ≡ is_none (partial_truth (partial trail.now) lit) }
+    ensures open { IsTrue result → partial_truth (partial trail.now) lit ≡ None }
+{
+    trail.value(lit).is_none()
 }
 
 // The sum of the coefficients of the literals that aren't false.

@@ -31,7 +31,10 @@ impl Propagator for PlainProp {
         Ok(close(store, trail))
     }
 
-    fn added(&mut self, _store: &ClauseStore, _trail: &Trail, _id: u64) -> Result<(), NoMemory> {
+    /// Does nothing, and it is never `NoMemory`.
+    fn added(&mut self, _store: &ClauseStore, _trail: &Trail, _id: u64) -> Result<(), NoMemory>
+        ensures { IsOk result }
+    {
         Ok(())
     }
 

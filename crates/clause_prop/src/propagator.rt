@@ -9,15 +9,15 @@ ghost use Rattle.clause_prop.specs.Propagating.{Extends, IsConflict, IsClosedFor
 use crate::{ClauseStore, Trail};
 use scut_base::NoMemory;
 
-/// Finds what stored lines force under a trail. A propagator is in step with a store and a trail; the calls `added`, `dropped` and
-/// `shrinking` keep it so where these change. A literal that is pushed needs no call, and neither does a trail
-/// that grows.
+/// Finds what stored lines force under a trail. A propagator is in step with a store and a trail; the calls
+/// `added`, `dropped` and `shrinking` keep it so where these change. A literal that is pushed needs no
+/// call, and neither does a trail that grows.
 pub trait Propagator {
     ghost in_step: { Self → LineMap → TrailValue → Type 0 };
 
-    /// Extends the trail by literals that lines force under the steps before them, each at the level of the step before it and
-    /// with the id of its line, until a line has a negative slack, whose id is answered, or the trail is closed.
-    /// It may be called again after `NoMemory`.
+    /// Extends the trail by literals that lines force under the steps before them, each at the level of the
+    /// step before it and with the id of its line, until a line has a negative slack, whose id is answered,
+    /// or the trail is closed. It may be called again after `NoMemory`.
     fn propagate(&mut self, store: &ClauseStore, trail: &mut Trail) -> Result<Option<u64>, NoMemory>
         requires in_step { in_step self.old store.now trail.old }
         requires variables { LinesUpTo trail.old.vars store.now }

@@ -12,8 +12,8 @@ loop-at-init c = visited_none _ _ _ _ c.requires.slack
 pub is_forced-requires : goal.is_forced-requires
 is_forced-requires c = subst (λ n. c.term-term.result.0.var ≤ n) (sym c.loop-at.invariant.vars) (All_place (λ t. t.0.var ≤ c.args.trail.now.vars) c.args.line.now.terms c.loop-at.at c.term-term.result c.requires.within c.term-term.ensures)
 
-pub push-requires-clause-within : goal.push-requires-clause-within
-push-requires-clause-within c = subst (λ n. c.term-term.result.0.var ≤ n) (sym c.loop-at.invariant.vars) (All_place (λ t. t.0.var ≤ c.args.trail.now.vars) c.args.line.now.terms c.loop-at.at c.term-term.result c.requires.within c.term-term.ensures)
+pub push_forced-requires-clause-within : goal.push_forced-requires-clause-within
+push_forced-requires-clause-within c = subst (λ n. c.term-term.result.0.var ≤ n) (sym c.loop-at.invariant.vars) (All_place (λ t. t.0.var ≤ c.args.trail.now.vars) c.args.line.now.terms c.loop-at.at c.term-term.result c.requires.within c.term-term.ensures)
 
 pub loop-at-preserved : goal.loop-at-preserved
 loop-at-preserved c =
@@ -27,8 +27,8 @@ loop-at-preserved c =
     let within = subst (λ n. t.0.var ≤ n) (sym visited.vars) (All_place (λ t. t.0.var ≤ old.vars) line.terms at t c.requires.within c.term-term.ensures) in
     let test : c.is_forced.result ≡ is_forced (partial new) line t = test_of line c.args.id s old new at t c.is_forced.result visited c.is_forced.ensures.value in
     elim c.if-is_forced.branch [
-      | then-is_forced w ↦ subst (λ (u : TrailValue). IsVisited line c.args.id s old u (at + 1)) (sym (w.trail-is ∙ w.push.ensures))
-          (visited_pushed line c.args.id s w.level-level.result old new at t visited c.len-at-end.ensures.normal.merged c.term-term.ensures within w.level-level.ensures (w.if-is_forced.ensures.open refl) (sym test ∙ w.if-is_forced.true))
+      | then-is_forced w ↦ subst (λ (u : TrailValue). IsVisited line c.args.id s old u (at + 1)) (sym (w.trail-is ∙ w.push_forced.ensures))
+          (visited_pushed line c.args.id s old new at t visited c.len-at-end.ensures.normal.merged c.term-term.ensures within (w.if-is_forced.ensures.open refl) (sym test ∙ w.if-is_forced.true))
       | else-is_forced w ↦ subst (λ (u : TrailValue). IsVisited line c.args.id s old u (at + 1)) (sym w.trail-is) (visited_same line c.args.id s old new at t visited c.term-term.ensures (sym test ∙ w.if-is_forced.false))
     ]
 
