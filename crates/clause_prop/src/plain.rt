@@ -65,8 +65,9 @@ fn close(store: &ClauseStore, trail: &mut Trail) -> Option<u64>
     }
 }
 
-// Goes through all lines once, or up to one that is violated, whose id it answers. A step more can make a line
-// force something that was visited before, so only a pass that adds none tells that all lines are closed.
+// Goes through all lines once, or up to one that is violated, whose id it answers. With a step more a line
+// that was visited before may force something again, so only a pass that adds none tells that all are
+// closed.
 fn pass(store: &ClauseStore, trail: &mut Trail) -> Option<u64>
     requires { LinesUpTo trail.old.vars store.now }
     ensures conflict { IfSome result (IsConflict store.now trail.new) }
@@ -74,6 +75,7 @@ fn pass(store: &ClauseStore, trail: &mut Trail) -> Option<u64>
         → IfNone result (IsClosedFor store.now trail.new) }
     ensures extends { Extends store.now trail.old trail.new }
 {
+    // The id 0 too may have a line; `next_above` gives the others.
     let mut id = 0;
     loop {
         if visit_id(store, id, trail) {

@@ -9,7 +9,8 @@ use scut_base::{Duplicate, Lit, NoMemory};
 use std::alloc::Global;
 use std::marker::Model;
 
-/// Lines, found by their ids. A clause takes 8 bytes a literal and a fixed part. Contracts see it as a finite map.
+/// Lines, found by their ids. A clause takes 8 bytes a literal and a fixed part. Contracts see it as a
+/// finite map.
 #[derive(Debug, Drop)]
 pub struct ClauseStore {
     alloc: Global,

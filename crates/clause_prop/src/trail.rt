@@ -10,8 +10,9 @@ use scut_base::{Lit, NoMemory};
 use std::alloc::Global;
 use std::marker::Model;
 
-/// The steps of a search, of distinct variables from 1 to `vars`. Contracts see it as the list of its steps. Each call
-/// takes constant time, but for those that make room, and `cut`, which costs the steps that go.
+/// The steps of a search, of distinct variables from 1 to `vars`. Contracts see it as the list of its steps.
+/// Each call takes constant time, but for those that make room, and `cut`, which costs the steps that go.
+/// The step of a variable, with its level and the line that forced it, is `step_at` of `place_of`.
 #[derive(Debug, Drop)]
 pub struct Trail {
     values: Vec<Option<bool>>,
