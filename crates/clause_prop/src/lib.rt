@@ -2,7 +2,8 @@
 //!
 //! Its public contract is that of the trait `Propagator`: `propagate` extends a trail by literals that
 //! stored lines force under the steps before them, and ends with a line that is violated, or where no line
-//! is violated and none forces a literal. The crate decides nothing and learns nothing.
+//! is violated and none forces a literal. `PlainProp` goes through all lines, takes no memory and so always
+//! answers. The crate decides nothing and learns nothing.
 #![tactic(auto)]
 
 mod line;
