@@ -41,6 +41,3 @@ loop-lit-preserved c =
 
 pub returns-clause-closed : goal.returns-clause-closed
 returns-clause-closed c = visited_whole _ _ _ _ _ c.loop-lit.lit-index c.loop-lit.invariant (omega (arith, ap length c.literals-lit-items.ensures.value, length-map c.args.line.now.terms (λ t. t.0)))
-
-pub returns-clause-extends : goal.returns-clause-extends
-returns-clause-extends c = c.loop-lit.invariant.extends

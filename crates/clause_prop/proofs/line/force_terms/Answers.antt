@@ -34,6 +34,3 @@ loop-at-preserved c =
 
 pub returns-clause-closed : goal.returns-clause-closed
 returns-clause-closed c = visited_whole _ _ _ _ _ c.loop-at.at c.loop-at.invariant (omega (arith, c.len-at-end.ensures.value))
-
-pub returns-clause-extends : goal.returns-clause-extends
-returns-clause-extends c = c.loop-at.invariant.extends
