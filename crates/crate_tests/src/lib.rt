@@ -32,4 +32,6 @@ mod statements;
 #[cfg(test)]
 mod sums;
 #[cfg(test)]
+mod texts_of_lines;
+#[cfg(test)]
 mod texts_of_lists;

@@ -1,0 +1,92 @@
+// Texts of lines of a log, which print as they were read, and texts that are those of no line.
+use proof_lines::{LineFault, append_line, one_line, read_line};
+use std::test::Fail;
+
+static LINES: [&str; 17] = [
+    "pol 1 x2 ~x3 + 7 * 2 d s x2 w ~ ! +",
+    "pol 0 170141183460469231731687303715884105727 *",
+    "rup 2 x1 1 ~x3 >= 2 : 3 ~ ! 4",
+    "rup >= 0 :",
+    "rup 1 x9223372036854775807 >= 1 : 0",
+    "rup 1267650600228229401496703205376 x1 >= 0 :",
+    "learn 1 ~x1 1 x3 >= 1 : 3 4",
+    "def x4 : 1 x1 1 x2 1 x3 >= 2",
+    "red 1 x1 >= 1 : x1 1 x2 0 x3 ~x4 : 2 rup ~ : 9 rup 1 : c pol 1 s",
+    "red >= 1 :",
+    "dom 1 ~x1 >= 1 : x1 0 : 1 pol 1 s : o1 rup : o4294967295 rup ! : s rup",
+    "sol ~x1 x2 : ~x2 : 0 0",
+    "sol : :",
+    "del 7",
+    "del 7 9 10",
+    "reduce 12 9223372036854775807",
+    "end 20",
+];
+
+static OTHERS: [&str; 42] = [
+    "",
+    "pol",
+    " pol 1",
+    "pol  1",
+    "pol 1 ",
+    "pol\t1",
+    "pol 1\r",
+    "pol 1\n",
+    "Pol 1",
+    "pols 1",
+    "pol 01",
+    "pol +1",
+    "pol -0",
+    "pol -1 *",
+    "pol 170141183460469231731687303715884105728 *",
+    "pol *",
+    "pol x1 d",
+    "pol ~x1 w",
+    "pol x0",
+    "pol x01",
+    "rup",
+    "rup 1 x1 >= 1",
+    "rup 1 x1 => 1 :",
+    "rup x1 >= 1 :",
+    "rup 0 x1 >= 1 :",
+    "rup 1 x1 >= -1 :",
+    "rup 1 x2 1 x1 >= 1 :",
+    "rup 1 x1 1 ~x1 >= 1 :",
+    "rup 1267650600228229401496703205376 x1 >= 1 :",
+    "rup 1 x9223372036854775808 >= 1 :",
+    "rup 1 x1 >= 1 : x1",
+    "def 4 : 1 x1 >= 1",
+    "red 1 x1 >= 1 : x2 0 x1 1",
+    "red 1 x1 >= 1 : x1 2",
+    "red 1 x1 >= 1 : x1 1 : c rup : 2 rup",
+    "dom 1 x1 >= 1 : x1 1 : o0 rup",
+    "dom 1 x1 >= 1 : x1 1 : s pol",
+    "sol x1 :",
+    "sol x1 : x2 x1 : 0",
+    "del 9 7",
+    "reduce",
+    "end 9223372036854775808",
+];
+
+#[test]
+fn a_line_prints_as_it_was_read(rt: HostRuntime) -> Result<(), Fail> {
+    let alloc = rt.alloc();
+    for text in &LINES {
+        let line = read_line(alloc, text.as_bytes())?;
+        let mut printed = Vec::new(alloc);
+        append_line(&mut printed, &line)?;
+        let expected = format!(in alloc; "{text}\n")?;
+        assert_eq!(rt; printed.as_slice(), expected.as_bytes(), "{text}");
+    }
+    Ok(())
+}
+
+#[test]
+fn other_texts_are_those_of_no_line(rt: HostRuntime) -> Result<(), Fail> {
+    let alloc = rt.alloc();
+    for text in &OTHERS {
+        let fault = read_line(alloc, text.as_bytes()).err();
+        assert_eq!(rt; fault, Some(LineFault::Syntax), "{text}");
+    }
+    one_line();
+    Ok(())
+}
