@@ -17,7 +17,7 @@ echo 's COMPLETE 0' >a.list
 make_log() { # lines live|deleted
     awk -v lines="$1" -v how="$2" 'BEGIN {
         print "scuttle proof version 1"
-        id = 3
+        id = 4
         for (n = 1; n <= lines; n++) {
             print "rup 1 x1 1 x2 1 x3 >= 1 : 1"
             id++
