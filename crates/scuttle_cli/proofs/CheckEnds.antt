@@ -1,7 +1,7 @@
 -- How each end of the command `check` is answered.
 use Rattle.std.proofs.Common.{◌≡◌, ℕ, zero, ◌<◌, ◌≤◌, ◌^◌, List, [], length, true, arith, refl, sym, ◌∙◌, ap, subst, inl, inr}
 use Rattle.std.specs.Prelude.{Option, ℤ}
-use Rattle.scut_base.specs.Files.{Files, followed, IsPartlyFollowed}
+use Rattle.scut_base.specs.Files.{Files, IsPartlyFollowed}
 use Rattle.scut_base.specs.Faults.{Faults, NoneFell, ReadingFailed, SayingFailed}
 use Rattle.scut_base.specs.declared.shelf.ShelfCall.TheVariants.{Read, Say}
 use Rattle.scut_base.specs.declared.shelf.ShelfFault.{ShelfFault}

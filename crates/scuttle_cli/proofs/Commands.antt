@@ -1,8 +1,8 @@
 -- The words of the command `check`.
-use Rattle.std.proofs.Common.{◌≡◌, ◌≢◌, ℕ, ◌∷◌, ◌∙◌, List, [], length, get_or, map, true, false, not, refl, sym, ap, arith}
-use Rattle.std.specs.Prelude.{codes, Option, None, Some}
+use Rattle.std.proofs.Common.{◌≡◌, ℕ, ◌∷◌, ◌∙◌, List, [], length, get_or, map, true, false, refl, ap, arith}
+use Rattle.std.specs.Prelude.{codes, Some}
 use Rattle.std.specs.Str.{bytes_eq}
-use Rattle.scuttle_cli.specs.Command.{Request, CheckOf, request_of}
+use Rattle.scuttle_cli.specs.Command.{CheckOf, request_of}
 use Rattle.scuttle_cli.specs.InstanceFile.{format_of}
 use Rattle.scuttle_cli.specs.declared.instance_file.Format.{Format}
 

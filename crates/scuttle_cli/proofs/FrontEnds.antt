@@ -1,5 +1,5 @@
 -- How each end of the command `front` is answered.
-use Rattle.std.proofs.Common.{◌≡◌, ℕ, zero, ◌<◌, ◌^◌, ◌∷◌, List, [], length, true, refl, ◌∙◌, ◌↔◌, ap, subst, inl, inr}
+use Rattle.std.proofs.Common.{◌≡◌, ℕ, ◌∷◌, List, [], length, true, refl, ◌∙◌, ◌↔◌, ap, subst, inl, inr}
 use Rattle.std.specs.Prelude.{Option}
 use Rattle.std.specs.List.{concat}
 use Rattle.std.proofs.lemmas.List.{append-nil}
@@ -9,22 +9,15 @@ use Rattle.scut_base.specs.declared.shelf.ShelfFault.TheVariants.{Failed, NoMemo
 use Rattle.front_set.specs.declared.entry.Entry.{Entry}
 use Rattle.front_set.specs.ListText.{list_text}
 use Rattle.instance.specs.Shape.{InstanceValue}
-use Rattle.instance.specs.Reading.{IsFaultOf}
-use Rattle.instance.specs.declared.fault.InstanceLimit.TheVariants.{Bytes, Vars}
-use Rattle.instance.specs.declared.fault.ReadFault.{ReadFault}
-use Rattle.instance.specs.declared.fault.ReadFault.TheVariants.{Bad, Limit, NoMemory as ReadNoMemory}
 use Rattle.instance.specs.ParetoFront.{IsFront}
 use Rattle.instance.proofs.EmptyFront.{empty_exactly}
 use Rattle.scuttle_cli.specs.World.{World}
-use Rattle.scuttle_cli.specs.InstanceFile.{fault_in}
 use Rattle.front_text.specs.Lines.{list_lines}
 use Rattle.front_text.proofs.Lines.{concat-list_lines}
-use Rattle.scuttle_cli.specs.WholeFile.{IsWhole}
 use Rattle.scuttle_cli.specs.Messages.{complete_line}
 use Rattle.scuttle_cli.specs.FrontAnswers.{IsFrontOfFile, IsFrontWritten, IsPrefixOfFront, IsInstanceOf, IsCutShort, OwnCountRose, HasNoModel, FrontAnswers}
-use Rattle.scuttle_cli.specs.Statuses.{status_of_shelf, status_of_reading}
+use Rattle.scuttle_cli.specs.Statuses.{status_of_shelf}
 use Rattle.scuttle_cli.specs.declared.instance_file.Format.{Format}
-use Rattle.scuttle_cli.proofs.InstanceFiles.{limit_has_line}
 
 -- ---- what stands in the list file
 

@@ -1,5 +1,5 @@
 -- Why an instance file isn't read, and what each command answers then.
-use Rattle.std.proofs.Common.{◌≡◌, ℕ, zero, ◌<◌, ◌^◌, List, length, refl, inl, inr}
+use Rattle.std.proofs.Common.{◌≡◌, ℕ, zero, ◌<◌, ◌^◌, List, length, refl, inl}
 use Rattle.std.specs.Prelude.{Option}
 use Rattle.scut_base.specs.Files.{Files}
 use Rattle.scut_base.specs.Faults.{Faults, ReadingFailed}

@@ -1,15 +1,14 @@
 -- A log file as it is fed to a checker.
-use Rattle.std.proofs.Common.{◌≡◌, ℕ, zero, ◌+◌, ◌-◌, ◌<◌, ◌≤◌, ◌^◌, ◌++◌, ◌∷◌, List, [], length, take, drop, refl, sym, ◌∙◌, ap, subst, inl, inr, arith, append_assoc, length-append, length-take, false}
+use Rattle.std.proofs.Common.{◌≡◌, ℕ, ◌+◌, ◌-◌, ◌<◌, ◌≤◌, ◌^◌, ◌++◌, ◌∷◌, List, [], length, take, drop, refl, sym, ◌∙◌, ap, subst, inl, inr, arith, append_assoc, length-append, length-take, false}
 use Rattle.std.specs.Prelude.{Option, Some, ℤ}
 use Rattle.std.proofs.lemmas.List.{take-append-drop, take-take, take_all, append-nil}
 use Rattle.scut_base.specs.Files.{Files, content, IsTold, IsReadAt}
 use Rattle.scut_base.specs.Bytes.{newline}
-use Rattle.scut_base.proofs.FileLaws.{told_by_content}
-use Rattle.scut_base.specs.Faults.{Faults, ReadingFailed}
+use Rattle.scut_base.specs.Faults.{Faults}
 use Rattle.pb_lin.specs.Problem.{ProblemValue}
 use Rattle.proof_laws.specs.declared.why.Why.{Why}
 use Rattle.proof_lines.specs.LineText.{printed}
-use Rattle.proof_text.specs.LogText.{header_line, header_text, log_text}
+use Rattle.proof_text.specs.LogText.{header_line, header_text}
 use Rattle.std.specs.List.{flat_map}
 use Rattle.log_checker.specs.declared.fault.CheckFault.{CheckFault}
 use Rattle.log_checker.specs.declared.fault.CheckFault.TheVariants.{Refused as LineRefused, ListRefused, NoMemory as CheckNoMemory}
@@ -19,7 +18,7 @@ use Rattle.log_checker.specs.Checking.{CheckerValue, StandsFor}
 use Rattle.log_checker.proofs.TextLaws.{line_texts}
 use Rattle.log_checker.proofs.Faults.{whole_fault_more}
 use Rattle.scuttle_cli.specs.Causes.{HasText}
-use Rattle.scuttle_cli.specs.CheckAnswers.{IsTakenFault, IsTooLarge}
+use Rattle.scuttle_cli.specs.CheckAnswers.{IsTooLarge}
 use Rattle.scuttle_cli.specs.Feeding.{IsFedSoFar, IsFedWhole}
 use Rattle.scuttle_cli.specs.Statuses.{status_of_checking}
 use Rattle.scuttle_cli.specs.Stops.{IsLogStop}

@@ -12,7 +12,6 @@ use Rattle.instance.specs.ParetoFront.{IsFront}
 use Rattle.instance_normal.specs.NormalForm.{IsNormalFormOf}
 use Rattle.pb_lin.specs.Problem.{ProblemValue}
 use Rattle.proof_laws.specs.declared.why.Why.{Why}
-use Rattle.log_checker.specs.declared.fault.CheckFault.{CheckFault}
 use Rattle.log_checker.specs.declared.fault.CheckFault.TheVariants.{Refused as LineRefused, ListRefused, NoMemory as CheckNoMemory}
 use Rattle.log_checker.specs.Accepted.{IsAccepted, IsRightList, problem_vectors}
 use Rattle.log_checker.specs.ListFaults.{IsListFault}

@@ -1,5 +1,5 @@
 -- A log file that is fed to a checker piece by piece.
-use Rattle.std.specs.Prelude.{◌≡◌, ℕ, ◌+◌, ◌<◌, false, List, [], length, take, Option, Some}
+use Rattle.std.specs.Prelude.{◌≡◌, ℕ, false, List, length, take, Option, Some}
 use Rattle.scut_base.specs.Files.{Files, content}
 use Rattle.log_checker.specs.LogFaults.{HasNoWholeFault}
 use Rattle.log_checker.specs.Checking.{CheckerValue, StandsFor}

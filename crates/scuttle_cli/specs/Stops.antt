@@ -1,5 +1,5 @@
 -- Why a command ends before its work is done: by the file that was read last.
-use Rattle.std.specs.Prelude.{◌≡◌, ℕ, zero, ◌<◌, ◌≤◌, ◌^◌, List, length, Option, ℤ}
+use Rattle.std.specs.Prelude.{ℕ, zero, ◌<◌, ◌≤◌, ◌^◌, List, length, Option, ℤ}
 use Rattle.scut_base.specs.Files.{Files}
 use Rattle.scut_base.specs.Faults.{Faults, ReadingFailed}
 use Rattle.instance.specs.declared.fault.InstanceLimit.TheVariants.{Bytes}

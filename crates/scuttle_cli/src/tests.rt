@@ -1,4 +1,4 @@
-// The command over files in memory of which a call fails: what no command line reaches.
+// The commands over files in memory of which a call fails: what no command line reaches.
 use crate::running::run;
 use scut_base::{MemShelf, ShelfCall};
 use std::alloc::{AllocError, Global};
@@ -13,11 +13,16 @@ const CUT: &str = "s COMPLETE 2\no 0 1\nv -1 2 0\no 1 0\n";
 
 const FRONT: &str = "front a.mcnf a.list";
 
+const CHECK: &str = "check a.mcnf a.list a.log";
+
+// A log that is accepted with the list.
+const LOG: &str = "scuttle proof version 1\nsol ~x1 x2 : ~x2 : 0 0\nsol x1 ~x2 : ~x1 : 0 0\nrup >= 1 : 2 3 1\nend 4\n";
+
 const FAULT: &str = "scuttle: file fault\n";
 
 // The words; the call that fails, and the how manyth of its kind; the number; the list, or that there
 // is none; what is warned.
-static FAULTS: [(&str, ShelfCall, u64, u8, &str, &str); 7] = [
+static FAULTS: [(&str, ShelfCall, u64, u8, &str, &str); 14] = [
     (FRONT, ShelfCall::Read, 1, 74, "none", FAULT),
     (FRONT, ShelfCall::Read, 2, 74, "none", FAULT),
     (FRONT, ShelfCall::Begin, 1, 74, "none", FAULT),
@@ -25,6 +30,13 @@ static FAULTS: [(&str, ShelfCall, u64, u8, &str, &str); 7] = [
     (FRONT, ShelfCall::Append, 5, 74, CUT, FAULT),
     (FRONT, ShelfCall::Say, 1, 74, LIST, FAULT),
     ("frobnicate", ShelfCall::Warn, 1, 64, "none", ""),
+    (CHECK, ShelfCall::Read, 1, 74, LIST, FAULT),
+    (CHECK, ShelfCall::Read, 2, 74, LIST, FAULT),
+    (CHECK, ShelfCall::Read, 3, 74, LIST, FAULT),
+    (CHECK, ShelfCall::Read, 4, 74, LIST, FAULT),
+    (CHECK, ShelfCall::Read, 5, 74, LIST, FAULT),
+    (CHECK, ShelfCall::Read, 6, 74, LIST, FAULT),
+    (CHECK, ShelfCall::Say, 1, 74, LIST, FAULT),
 ];
 
 // The words of a command line.
@@ -42,6 +54,10 @@ fn a_call_that_fails_is_answered(rt: HostRuntime) -> Result<(), Fail> {
     for (line, call, n, number, list, warned) in FAULTS.iter() {
         let mut shelf = MemShelf::new(alloc, &[(*call, *n)])?;
         shelf.put("a.mcnf", INPUT.as_bytes())?;
+        if *line == CHECK {
+            shelf.put("a.list", LIST.as_bytes())?;
+            shelf.put("a.log", LOG.as_bytes())?;
+        }
         let status = run(alloc, &words_of(alloc, *line)?, &mut shelf);
         assert_eq!(rt; status.number(), *number, "{call:?} {n}");
         assert_eq!(rt;

@@ -1,4 +1,4 @@
-use Rattle.std.proofs.Common.{◌∙◌, ◌≡◌, ℕ, List, arith, ap}
+use Rattle.std.proofs.Common.{◌∙◌, ℕ, List, arith, ap}
 use Rattle.std.specs.Prelude.{Err, Option}
 use Rattle.std.proofs.lemmas.Result.{err_from_is_err_and}
 use Rattle.scut_base.specs.Files.{followed}

@@ -1,4 +1,4 @@
-use Rattle.std.proofs.Common.{rules, ◌∙◌, ◌≡◌, ℕ, ◌+◌, ◌-◌, ◌<◌, ◌≤◌, ◌^◌, List, ◌++◌, arith, subst, sym, ap, length, take, length-append, length-take}
+use Rattle.std.proofs.Common.{rules, ℕ, ◌+◌, ◌-◌, ◌<◌, ◌≤◌, ◌^◌, ◌++◌, arith, subst, sym, ap, length, take, length-append, length-take}
 use Rattle.std.specs.Prelude.{Err}
 use Rattle.std.proofs.lemmas.Result.{err_from_is_err_and}
 use Rattle.scut_base.specs.Files.{IsReadAt}
@@ -26,10 +26,10 @@ pub returns-clause-more : goal.returns-clause-more
 returns-clause-more g c =
     let f = c.requires.fed in
     fed_more _ _ _ _ c.args.at c.in_ok-n.n _ f c.in_ok-n.ensures.bytes (omega (arith, c.in_ok-n.ensures.bound)) (c.in_ok-feed.ensures.fed (λ e. cc) f.fed f.stands)
-    (rw (c.in_ok-feed.ensures.problem, c.in_ok-feed.ensures.vectors) (c.in_ok-feed.ensures.passed f.fed f.stands)) c.in_ok-feed.ensures.open
+    (rw (c.in_ok-feed.ensures.problem, c.in_ok-feed.ensures.vectors) (c.in_ok-feed.ensures.passed f.fed f.stands)) c.in_ok-feed.ensures.unfinished
 
 pub returns-clause-whole : goal.returns-clause-whole
 returns-clause-whole g c = λ none.
     let f = c.requires.fed in
     fed_all _ _ _ _ c.args.at c.in_ok-n.n _ f c.in_ok-n.ensures.bytes (omega (arith, c.in_ok-n.ensures.bound)) (c.in_ok-feed.ensures.fed (λ e. cc) f.fed f.stands)
-    (rw (c.in_ok-feed.ensures.problem, c.in_ok-feed.ensures.vectors) (c.in_ok-feed.ensures.passed f.fed f.stands)) c.in_ok-feed.ensures.open none
+    (rw (c.in_ok-feed.ensures.problem, c.in_ok-feed.ensures.vectors) (c.in_ok-feed.ensures.passed f.fed f.stands)) c.in_ok-feed.ensures.unfinished none

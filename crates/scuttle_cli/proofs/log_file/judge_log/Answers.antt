@@ -1,9 +1,9 @@
-use Rattle.std.proofs.Common.{◌∙◌, ◌≡◌, ℕ, ◌-◌, ◌^◌, ◌<◌, ◌≤◌, List, length, refl, arith, ap, sym, subst}
+use Rattle.std.proofs.Common.{◌∙◌, ◌<◌, ◌≤◌, length, refl, arith, ap, subst}
 use Rattle.std.specs.Prelude.{Err, Option}
 use Rattle.std.proofs.lemmas.Result.{err_from_is_err_and}
 use Rattle.scut_base.specs.Files.{Files}
 use Rattle.scuttle_cli.specs.Causes.{HasText}
-use Rattle.scuttle_cli.specs.Feeding.{IsFedSoFar, IsFedWhole}
+use Rattle.scuttle_cli.specs.Feeding.{IsFedWhole}
 use Rattle.scuttle_cli.proofs.LogFed.{fed_nothing, fed_to_end, finished_stops, finished_ended, too_large}
 use Rattle.scuttle_cli.proofs.log_file.judge_log.Goals as goal
 
@@ -55,3 +55,10 @@ returns-clause-ended g c =
     finished_ended _ _ _ _ _ c.loop-at.at
     (fed_to_end _ _ _ _ i.fed (subst (λ (fs : Option Files). HasText fs c.args.log.now (λ bytes. length bytes ≤ c.loop-at.at)) i.files no_more))
     i.within i.problem i.vectors c.in_ok-finish-2.ensures.ended
+
+pub returns-then-n-eq0-clause-ended : goal.returns-then-n-eq0-clause-ended
+returns-then-n-eq0-clause-ended g c =
+    let i = c.loop-at.invariant in
+    finished_ended _ _ _ _ _ c.loop-at.at
+    (subst (λ (fs : Option Files). IsFedWhole fs c.args.log.now c.feed_piece.new.checker c.loop-at.at) i.files (c.in_ok-n.ensures.whole c.if-n-eq0.true))
+    i.within (c.in_ok-n.ensures.problem ∙ i.problem) (c.in_ok-n.ensures.vectors ∙ i.vectors) c.in_ok-finish.ensures.ended

@@ -1,0 +1,6 @@
+pub mod Assigned
+pub mod Tables
+pub mod Extensions
+pub mod Forcing
+pub mod Visits
+pub mod Passes
