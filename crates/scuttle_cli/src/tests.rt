@@ -16,7 +16,8 @@ const FRONT: &str = "front a.mcnf a.list";
 const CHECK: &str = "check a.mcnf a.list a.log";
 
 // A log that is accepted with the list.
-const LOG: &str = "scuttle proof version 1\nsol ~x1 x2 : ~x2 : 0 0\nsol x1 ~x2 : ~x1 : 0 0\nrup >= 1 : 2 3 1\nend 4\n";
+const LOG: &str =
+    "scuttle proof version 1\nsol ~x1 x2 : ~x2 : 0 0\nsol x1 ~x2 : ~x1 : 0 0\nrup >= 1 : 2 3 1\nend 4\n";
 
 const FAULT: &str = "scuttle: file fault\n";
 
