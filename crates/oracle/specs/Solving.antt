@@ -1,5 +1,5 @@
 -- What an oracle answers, and what it may add to a proof.
-use Rattle.std.specs.Prelude.{◌≡◌, ◌≢◌, ◌↔◌, ◌⊎◌, ℕ, ◌≤◌, ◌<◌, ◌^◌, Bool, true, false, List, [], ◌∷◌, ◌++◌, length, map, All, AllPairs, Contains, Option, None, Some, Result, Ok, Err}
+use Rattle.std.specs.Prelude.{◌≡◌, ◌≢◌, ◌↔◌, ℕ, ◌≤◌, ◌^◌, Bool, true, false, List, ◌∷◌, ◌++◌, length, All, AllPairs, Contains, Option, None, Some, Result, Ok, Err}
 use Rattle.std.specs.FinMap.{get}
 use Rattle.std.specs.List.{count_by}
 use Rattle.scut_base.specs.Literal.{Literal}
@@ -12,6 +12,8 @@ use Rattle.proof_laws.specs.Replay.{IsReplay}
 use Rattle.proof_laws.specs.Earned.{IsEarned, HasMore, IsLearnedId}
 use Rattle.proof_laws.specs.declared.line.Line.{Line}
 use Rattle.proof_laws.specs.declared.line.Line.TheVariants.{Rup, Learn, Reduce}
+use Rattle.proof_rules.specs.declared.recorder.RecordFault.{RecordFault}
+use Rattle.proof_rules.specs.declared.recorder.RecordFault.TheVariants.{Failed as RecordingFailed, Full as RecordFull, NoMemory as RecordNoMemory}
 use Rattle.oracle.specs.declared.answer.Answer.{Answer}
 use Rattle.oracle.specs.declared.answer.Answer.TheVariants.{Sat, Unsat}
 use Rattle.oracle.specs.declared.fault.OracleFault.{OracleFault}
@@ -84,6 +86,12 @@ pub record AddsSearchLines (p : ProblemValue) (old new : List Line) : Type 0 whe
   pub one_implied : count_by is_rup more ≤ 1
 
 -- ---- the faults
+
+-- the fault of what keeps the proof, as an oracle has it
+abbrev pub fault_of_recording : RecordFault → OracleFault
+fault_of_recording RecordingFailed = Failed
+fault_of_recording RecordFull = Full
+fault_of_recording RecordNoMemory = NoMemory
 
 -- the number of clauses that were learned is the limit, and one more could have followed
 pub record IsSpent (most : Option ℕ) (p : ProblemValue) (lines : List Line) (learned : ℕ) : Type 0 where

@@ -1,4 +1,5 @@
 // Why an oracle doesn't answer.
+use proof_rules::RecordFault;
 use thiserror::Error;
 
 /// Why there is no answer. After all but `Spent` the oracle is broken.
@@ -16,4 +17,30 @@ pub enum OracleFault {
     /// Memory was refused.
     #[error("memory was refused")]
     NoMemory,
+}
+
+impl From<RecordFault> for OracleFault {
+    ghost use Rattle.oracle.specs.Solving.{fault_of_recording};
+    ghost use Rattle.std.specs.Prelude.{◌≡◌};
+
+    ghost from_gives = { λ fault f. f ≡ fault_of_recording fault };
+
+    fn from(fault: RecordFault) -> OracleFault {
+        match fault {
+            RecordFault::Failed => OracleFault::Failed,
+            RecordFault::Full => OracleFault::Full,
+            RecordFault::NoMemory => OracleFault::NoMemory,
+        }
+    }
+}
+
+impl From<scut_base::NoMemory> for OracleFault {
+    ghost use Rattle.std.specs.Prelude.{◌≡◌};
+    ghost use Rattle.oracle.specs.declared.fault.OracleFault.TheVariants.{NoMemory};
+
+    ghost from_gives = { λ _ f. f ≡ NoMemory };
+
+    fn from(_: scut_base::NoMemory) -> OracleFault {
+        OracleFault::NoMemory
+    }
 }
