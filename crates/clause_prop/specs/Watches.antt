@@ -5,7 +5,7 @@ use Rattle.std.specs.Map.{lookup}
 use Rattle.scut_base.specs.Literal.{Literal}
 use Rattle.pb_lin.specs.Constraint.{ConstraintValue, IsMerged, literals}
 use Rattle.pb_lin.specs.LineMap.{LineMap}
-use Rattle.clause_prop.specs.Steps.{TrailValue}
+use Rattle.clause_prop.specs.Steps.{TrailValue, AreSteps}
 use Rattle.clause_prop.specs.Propagating.{Extends, IsConflict}
 use Rattle.clause_prop.specs.LineKinds.{is_watched}
 use Rattle.clause_prop.specs.Watching.{IsKept, IsLooking, clause_at, lits_of, list_of, no_slot}
@@ -55,6 +55,14 @@ pub record IsFollowed (before after : Watches) (old new : TrailValue) : Type 0 w
   pub hold : (lines : LineMap) → Hold before lines → Hold after lines
   pub extends : (lines : LineMap) → Hold before lines → Extends lines old new
 
+-- all steps were looked at
+abbrev pub IsAllLooked : Watches → TrailValue → Type 0
+IsAllLooked w t = (length w.ends.items ≡ length t.steps) × AreSteps t.vars t.steps
+
+-- the clause of this id is all false
+abbrev pub IsConflictOf : Watches → TrailValue → ℕ → Type 0
+IsConflictOf w t id = (lines : LineMap) → Hold w lines → IsConflict lines t id
+
 -- the place that is next after a visit
 abbrev pub place_after : Visit → ℕ → ℕ
 place_after Next at = at + 1
@@ -71,7 +79,7 @@ entries_before (Conflict id) n = n
 abbrev pub IsRightly : Visit → Watches → TrailValue → Type 0
 IsRightly Next w t = Unit {0}
 IsRightly Gone w t = Unit {0}
-IsRightly (Conflict id) w t = (lines : LineMap) → Hold w lines → IsConflict lines t id
+IsRightly (Conflict id) w t = IsConflictOf w t id
 
 -- what a visit does to the watches and to the trail
 pub record IsVisited (before after : Watches) (old new : TrailValue) (lit : Literal) (at : ℕ) (visit : Visit) : Type 0 where
@@ -79,7 +87,7 @@ pub record IsVisited (before after : Watches) (old new : TrailValue) (lit : Lite
   pub left : entries_of before lit ≡ entries_before visit (entries_of after lit)
   pub ends : after.ends.items ≡ before.ends.items
   pub followed : IsFollowed before after old new
-  pub rightly : IsRightly visit before new
+  pub rightly : IsRightly visit after new
 
 -- the watches are in step with these lines and this trail
 unfoldable pub AreWatches : Watches → LineMap → TrailValue → Type 0
