@@ -7,4 +7,6 @@ pub mod Passes
 pub mod WatchLists
 pub mod WatchedLines
 pub mod WatchKept
+pub mod WatchHold
 pub mod WatchSteps
+pub mod WatchVisits

@@ -1,10 +1,10 @@
 -- The slack of a clause, from its literals in another order.
-use Rattle.std.proofs.Common.{◌≡◌, ◌≢◌, ℕ, zero, suc, ◌+◌, ◌<◌, ◌≤◌, ◌&&◌, Bool, true, false, Option, Some, None, List, [], ◌∷◌, length, get_or, map, sum_by, refl, arith, ap, sym, subst, ◌∙◌, inl, inr, ⊎_elim}
+use Rattle.std.proofs.Common.{◌≡◌, ◌≢◌, ◌⊎◌, ℕ, zero, suc, ◌+◌, ◌<◌, ◌≤◌, ◌&&◌, Bool, true, false, Option, Some, None, List, [], ◌∷◌, length, get_or, map, sum_by, refl, arith, ap, sym, subst, ◌∙◌, inl, inr, ⊎_elim}
 use Rattle.std.specs.Prelude.{pos, int_lt, ◌-ℤ◌, ◌≤ℤ◌, ◌<ℤ◌, nat_eq, nat_le}
 use Rattle.std.specs.List.{All, Contains}
 use Rattle.std.specs.List.Sorted.{IsPermutation}
 use Rattle.std.specs.Option.{is_none}
-use Rattle.std.proofs.lemmas.Bool.{cases_eq, and_parts, eqb-true}
+use Rattle.std.proofs.lemmas.Bool.{cases_eq, and_parts, eqb-true, eq-eqb}
 use Rattle.std.proofs.lemmas.Int.{ints}
 use Rattle.std.proofs.lemmas.List.{get_or-map, length-map, get_or_default}
 use Rattle.std.proofs.lemmas.List.Elements.{All-nil, All-cons, All-head, All-tail, Contains-get_or}
@@ -20,6 +20,7 @@ use Rattle.clause_prop.specs.Watching.{no_literal}
 use Rattle.clause_prop.proofs.Assigned.{Values}
 
 pub ones_of : (terms : List (Literal × ℕ)) → are_ones terms ≡ true → AreOnes terms
+unfolding are_ones
 ones_of [] e = All-nil (λ t. t.1 ≡ 1)
 ones_of (t ∷ terms) e =
     let parts = and_parts (nat_eq t.1 1) (are_ones terms) e in
@@ -111,10 +112,10 @@ count_two_apart p lits i k apart first_in second_in first second = ⊎_elim
     sides : (a b : ℕ) → a ≢ b → (a < b) ⊎ (b < a)
     sides a b n = grind arith
 
-negative : (n : ℕ) → n ≡ 0 → pos n -ℤ pos 1 <ℤ pos 0
+negative : (n : ℕ) → n ≡ 0 → (pos n -ℤ pos 1) <ℤ pos 0
 negative n e = grind (arith, ints)
 
-at_least_zero : (n : ℕ) → 1 ≤ n → pos 0 ≤ℤ pos n -ℤ pos 1
+at_least_zero : (n : ℕ) → 1 ≤ n → pos 0 ≤ℤ (pos n -ℤ pos 1)
 at_least_zero n h = grind (arith, ints)
 
 none_above : (n : ℕ) → 2 ≤ n → int_lt (pos n -ℤ pos 1) (pos 1) ≡ false
@@ -163,3 +164,24 @@ closed_by p c lits kind same i within some other = record {
         let own : get_or (literals c.terms) k t.0 ≡ t.0 = get_or-map (λ s. s.0) c.terms k t t.0 below ∙ ap (λ (s : Literal × ℕ). s.0) at in
         let among : Contains lits t.0 = Contains-permutation _ _ t.0 same (subst (Contains (literals c.terms)) own (Contains-get_or (literals c.terms) k t.0 inside)) in
         by_truth (partial_truth p t.0) t.0 t.1 refl (ap (λ (s : Literal × ℕ). s.1) (sym at) ∙ (clause_of c kind).ones k t below) among
+
+-- ---- the test of a line
+
+all_ones : (terms : List (Literal × ℕ)) → AreOnes terms → are_ones terms ≡ true
+unfolding are_ones
+all_ones [] all = refl
+all_ones (t ∷ terms) all =
+    ap (λ b. b && are_ones terms) (eq-eqb t.1 1 (All-head (λ s. s.1 ≡ 1) t terms all)) ∙ all_ones terms (All-tail (λ s. s.1 ≡ 1) t terms all)
+
+-- a clause is watched where it is long
+pub kind_of_clause : (c : ConstraintValue) → AreOnes c.terms → c.degree ≡ 1 → nat_le 2 (length c.terms) ≡ is_watched c
+kind_of_clause c ones one =
+    sym (ap (λ b. b && (nat_eq c.degree 1 && nat_le 2 (length c.terms))) (all_ones c.terms ones) ∙ ap (λ b. b && nat_le 2 (length c.terms)) (eq-eqb c.degree 1 one))
+
+-- no other line is
+pub kind_of_other : (c : ConstraintValue) → (AreOnes c.terms × (c.degree ≡ 1) → ⊥) → is_watched c ≡ false
+kind_of_other c other = not_true (is_watched c) (λ e. let is = clause_of c e in other (is.ones, is.one))
+  where
+    not_true : (b : Bool) → (b ≡ true → ⊥) → b ≡ false
+    not_true true n = absurd (n refl)
+    not_true false n = refl

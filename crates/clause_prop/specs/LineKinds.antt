@@ -8,7 +8,7 @@ use Rattle.pb_lin.specs.Propagation.{IsClosedUnder}
 use Rattle.clause_prop.specs.Steps.{TrailValue, partial}
 
 -- whether all coefficients are 1
-pub are_ones : List (Literal × ℕ) → Bool
+unfoldable pub are_ones : List (Literal × ℕ) → Bool
 are_ones [] = true
 are_ones (t ∷ terms) = nat_eq t.1 1 && are_ones terms
 

@@ -1,26 +1,26 @@
 -- When the watched clauses are in step with a store and a trail, and what a visit of one entry does.
-use Rattle.std.specs.Prelude.{◌≡◌, ℕ, ◌+◌, ◌≤◌, true, nat_eq, List, get_or, length, Some, IsPermutation}
+use Rattle.std.specs.Prelude.{◌≡◌, ◌≢◌, ℕ, ◌+◌, ◌<◌, ◌≤◌, true, nat_eq, List, [], ◌∷◌, ◌++◌, get_or, length, slice_index_or, Contains, Some, IsPermutation}
 use Rattle.std.specs.FinMap.{get}
 use Rattle.std.specs.Map.{lookup}
 use Rattle.scut_base.specs.Literal.{Literal}
-use Rattle.pb_lin.specs.Constraint.{ConstraintValue, IsMerged, literals}
+use Rattle.pb_lin.specs.Constraint.{ConstraintValue, IsMerged, literals, opposite}
 use Rattle.pb_lin.specs.LineMap.{LineMap}
 use Rattle.clause_prop.specs.Steps.{TrailValue, AreSteps}
 use Rattle.clause_prop.specs.Propagating.{Extends, IsConflict}
 use Rattle.clause_prop.specs.LineKinds.{is_watched}
-use Rattle.clause_prop.specs.Watching.{IsKept, IsLooking, clause_at, lits_of, list_of, no_slot}
+use Rattle.clause_prop.specs.Watching.{IsKept, IsLooking, clause_at, lits_of, list_of, no_literal, no_slot}
 use Rattle.clause_prop.specs.declared.watch_lists.Slot.{Slot}
 use Rattle.clause_prop.specs.declared.watches.Watches.{Watches}
 use Rattle.clause_prop.specs.declared.watches.Visit.{Visit}
 use Rattle.clause_prop.specs.declared.watches.Visit.TheVariants.{Next, Gone, Conflict}
 
--- the slot's literals are those of the line of its id, in some order, and the id leads to the slot
-pub record IsStored (own : List Slot) (index : List (ℕ × ℕ)) (lines : LineMap) (j : ℕ) (id : ℕ) : Type 0 where
+-- the literals are those of the line of the id, in some order, and the id leads to slot j
+pub record IsStored (lits : List Literal) (index : List (ℕ × ℕ)) (lines : LineMap) (j : ℕ) (id : ℕ) : Type 0 where
   pub line : ConstraintValue
   pub there : get lines id ≡ Some line
   pub kind : is_watched line ≡ true
   pub merged : IsMerged line.terms
-  pub same : IsPermutation (literals line.terms) (clause_at own j)
+  pub same : IsPermutation (literals line.terms) lits
   pub found : lookup (nat_eq id) index ≡ Some j
 
 -- the slot that has a line
@@ -31,7 +31,7 @@ pub record IsHeld (own : List Slot) (id : ℕ) : Type 0 where
 
 -- the slots with two literals or more are the clauses that are watched
 pub record AreSlots (own : List Slot) (index : List (ℕ × ℕ)) (lines : LineMap) : Type 0 where
-  pub stored : (j : ℕ) → 2 ≤ length (clause_at own j) → IsStored own index lines j (get_or own j no_slot).id
+  pub stored : (j : ℕ) → 2 ≤ length (clause_at own j) → IsStored (clause_at own j) index lines j (get_or own j no_slot).id
   pub held : (id : ℕ) (c : ConstraintValue) → get lines id ≡ Some c → is_watched c ≡ true → IsHeld own id
 
 abbrev pub Hold : Watches → LineMap → Type 0
@@ -88,6 +88,29 @@ pub record IsVisited (before after : Watches) (old new : TrailValue) (lit : Lite
   pub ends : after.ends.items ≡ before.ends.items
   pub followed : IsFollowed before after old new
   pub rightly : IsRightly visit after new
+
+-- A clause may be watched: its first two literals aren't false by a looked-at step.
+pub record IsWatchable (w : Watches) (t : TrailValue) (lits : List Literal) : Type 0 where
+  pub upto : (l : Literal) → Contains lits l → l.var ≤ t.vars
+  pub clear : (k p : ℕ) → k < 2 → p < length w.ends.items → slice_index_or (lits_of t.steps) p no_literal ≢ opposite (slice_index_or lits k no_literal)
+
+-- the literals are those of a clause that is stored under this id
+pub record IsCopy (lines : LineMap) (id : ℕ) (line : ConstraintValue) (lits : List Literal) : Type 0 where
+  pub there : get lines id ≡ Some line
+  pub kind : is_watched line ≡ true
+  pub merged : IsMerged line.terms
+  pub same : IsPermutation (literals line.terms) lits
+
+-- a slot of this id without literals is put at the end
+pub record IsOpened (before after : Watches) (id slot : ℕ) : Type 0 where
+  pub is : slot ≡ length before.slots.items
+  pub slots : after.slots.items ≡ before.slots.items ++ record { id = id; lits = [] } ∷ []
+  pub found : lookup (nat_eq id) after.index.entries ≡ Some slot
+
+-- both have the same clauses that are watched
+pub record AreSameWatched (old new : LineMap) : Type 0 where
+  pub stays : (id : ℕ) (c : ConstraintValue) → is_watched c ≡ true → get old id ≡ Some c → get new id ≡ Some c
+  pub was : (id : ℕ) (c : ConstraintValue) → is_watched c ≡ true → get new id ≡ Some c → get old id ≡ Some c
 
 -- the watches are in step with these lines and this trail
 unfoldable pub AreWatches : Watches → LineMap → TrailValue → Type 0

@@ -3,7 +3,7 @@ ghost use Rattle.std.specs.Prelude.{◌≡◌, ◌≢◌, ℕ, ◌+◌, ◌-◌,
 ghost use Rattle.scut_base.specs.Assignment.{partial_truth};
 ghost use Rattle.scut_base.specs.Literal.{Literal};
 ghost use Rattle.pb_lin.specs.Constraint.{opposite};
-ghost use Rattle.clause_prop.specs.Steps.{partial};
+ghost use Rattle.clause_prop.specs.Steps.{AreSteps, partial};
 ghost use Rattle.clause_prop.specs.Watching.{AreFalse, IsDistinct, IsFree, IsRemoved, IsValue, IsWatch, clause_at, code_of, lits_of, no_literal, no_slot};
 
 use crate::row::Row;
@@ -32,7 +32,9 @@ pub(crate) fn truth(trail: &Trail, lit: Lit) -> Option<bool>
     requires { lit.var ≤ trail.now.vars }
     ensures told { IsValue (lits_of trail.now.steps) lit result }
     ensures value { result ≡ partial_truth (partial trail.now) lit }
+    ensures steps { AreSteps trail.now.vars trail.now.steps }
 {
+    let _from_one = lit.var();
     trail.value(lit)
 }
 

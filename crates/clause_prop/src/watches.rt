@@ -8,8 +8,8 @@ ghost use Rattle.pb_lin.specs.LineMap.{LineMap, LinesUpTo};
 ghost use Rattle.clause_prop.specs.Steps.{TrailValue, partial, with_step, cut};
 ghost use Rattle.clause_prop.specs.Propagating.{Extends, IsConflict};
 ghost use Rattle.clause_prop.specs.LineKinds.{is_watched, IsClosedForWatched};
-ghost use Rattle.clause_prop.specs.Watching.{AreFalse, IsFree, clause_at, code_of, list_of, lits_of, no_entry, no_literal};
-ghost use Rattle.clause_prop.specs.Watches.{AreWatches, Hold, IsAllLooked, IsAt, IsConflictOf, IsFollowed, IsReady, IsRightly, IsVisited, entries_of};
+ghost use Rattle.clause_prop.specs.Watching.{AreFalse, IsFree, clause_at, code_of, list_of, lits_of, no_entry, no_literal, IsDistinct};
+ghost use Rattle.clause_prop.specs.Watches.{AreWatches, Hold, IsAllLooked, IsAt, IsConflictOf, IsFollowed, IsReady, IsVisited, IsCopy, IsOpened, IsWatchable, AreSameWatched, entries_of};
 ghost use Rattle.clause_prop.specs.declared.step.Step.{Step};
 
 use crate::line::push_forced;
@@ -329,6 +329,22 @@ impl Watches {
         cover(self.alloc, &mut self.lists, &lits)?;
         let free = free_first(&mut lits, trail);
         latest_first(&mut lits, free, &mut self.ends, trail);
+        self.watch(lits, id)
+    }
+
+    // Watches the first two literals of a clause.
+    fn watch(&mut self, lits: Row<Lit>, id: u64) -> Result<(), NoMemory>
+        requires long { 2 ≤ length lits }
+        requires distinct { IsDistinct lits }
+        requires covered { (l : Literal) → Contains lits l
+            → code_of l < length self.old.lists.items }
+        ensures ready { (t : TrailValue) → IsReady self.old t → IsWatchable self.old t lits
+            → IsReady self.new t }
+        ensures ok { OnOk result ((lines : LineMap) (line : ConstraintValue)
+            → IsCopy lines id line lits → Hold self.old (remove lines id) → Hold self.new lines) }
+        ensures err { OnErr result ((lines : LineMap) → get lines id ≡ None
+            → Hold self.old lines → Hold self.new lines) }
+    {
         let slot = self.open_slot(id)?;
         let first = lits.at(0);
         let second = lits.at(1);
@@ -338,8 +354,14 @@ impl Watches {
         Ok(())
     }
 
-    // A slot of this id without literals, to which the id leads.
+    // A slot without literals, to which the id leads.
     fn open_slot(&mut self, id: u64) -> Result<usize, NoMemory>
+        ensures ready { (t : TrailValue) → IsReady self.old t → IsReady self.new t }
+        ensures hold { (lines : LineMap) → get lines id ≡ None
+            → Hold self.old lines → Hold self.new lines }
+        ensures lists { self.new.lists.items ≡ self.old.lists.items }
+        ensures ends { self.new.ends.items ≡ self.old.ends.items }
+        ensures opened { IfOk result (IsOpened self.old self.new id) }
     {
         let slot = self.slots.len();
         self.slots.push(Slot {
@@ -350,3 +372,24 @@ impl Watches {
         Ok(slot)
     }
 }
+
+/// Law: a step more on the trail leaves the watches in step.
+#[tactic(auto, unfolding(crate::specs::Watches::AreWatches))]
+pub(crate) fn longer_trail_keeps_watches()
+    ensures { (w : Watches) (lines : LineMap) (t : TrailValue) (s : Step)
+        → AreWatches w lines t → AreWatches w lines (with_step t s) }
+{}
+
+/// Law: more variables leave the watches in step.
+#[tactic(auto, unfolding(crate::specs::Watches::AreWatches))]
+pub(crate) fn more_variables_keep_watches()
+    ensures { (w : Watches) (lines : LineMap) (t : TrailValue) (n : ℕ) → t.vars ≤ n
+        → AreWatches w lines t → AreWatches w lines (record { vars = n; steps = t.steps }) }
+{}
+
+/// Law: lines that aren't watched may come and go.
+#[tactic(auto, unfolding(crate::specs::Watches::AreWatches))]
+pub(crate) fn other_lines_keep_watches()
+    ensures { (w : Watches) (old new : LineMap) (t : TrailValue) → AreSameWatched old new
+        → AreWatches w old t → AreWatches w new t }
+{}
