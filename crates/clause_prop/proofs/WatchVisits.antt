@@ -1,14 +1,21 @@
 -- The clauses that stay held, and the steps that they force, from one visit to the next.
-use Rattle.std.proofs.Common.{◌≡◌, ℕ, List, [], ◌∷◌, ◌++◌, length, map, drop, take, refl, arith, ap, sym, subst, ◌∙◌}
+use Rattle.std.proofs.Common.{◌≡◌, ◌⊎◌, ◌≤◌, ℕ, List, [], ◌∷◌, ◌++◌, length, get_or, set, inl, inr, refl, arith, ap, sym, subst, ◌∙◌, length-set}
+use Rattle.std.specs.List.{swap}
+use Rattle.std.proofs.lemmas.List.Sorted.{IsPermutation-swap}
 use Rattle.scut_base.specs.Literal.{Literal}
 use Rattle.pb_lin.specs.LineMap.{LineMap}
 use Rattle.clause_prop.specs.declared.step.Step.{Step}
+use Rattle.clause_prop.specs.declared.watch_lists.Entry.{Entry}
+use Rattle.clause_prop.specs.declared.watch_lists.Slot.{Slot}
 use Rattle.clause_prop.specs.declared.watches.Watches.{Watches}
+use Rattle.clause_prop.specs.declared.watches.Visit.{Visit}
 use Rattle.clause_prop.specs.Steps.{TrailValue, last_level, with_step}
 use Rattle.clause_prop.specs.Propagating.{Extends, IsForcedStep}
-use Rattle.clause_prop.specs.Watching.{lits_of}
-use Rattle.clause_prop.specs.Watches.{Hold, IsFollowed}
+use Rattle.clause_prop.specs.Watching.{IsLooking, clause_at, list_of, lits_of, no_slot}
+use Rattle.clause_prop.specs.Watches.{AreSlots, Hold, IsFollowed, IsVisited}
 use Rattle.clause_prop.proofs.Extensions.{extends_none, extends_step, extends_twice}
+use Rattle.clause_prop.proofs.WatchKept.{looking_swapped}
+use Rattle.clause_prop.proofs.WatchHold.{hold_reordered}
 
 pub lits_pushed : (steps : List Step) (s : Step) → lits_of (steps ++ s ∷ []) ≡ lits_of steps ++ s.lit ∷ []
 lits_pushed [] s = refl
@@ -39,4 +46,28 @@ followed_twice a b c s t u one two = record {
   vars = two.vars ∙ one.vars;
   hold = λ lines h. two.hold lines (one.hold lines h);
   extends = λ lines h. extends_twice lines s t u (one.extends lines h) (two.extends lines (one.hold lines h));
+}
+
+-- the two watches of a clause are exchanged, or not
+pub second_put : (own new : List Slot) (lists : List (List Entry)) (ends : List ℕ) (index : List (ℕ × ℕ)) (n : ℕ) (trail : List Literal) (lit : Literal) (at slot : ℕ) → IsLooking own lists ends n trail lit at
+    → (new ≡ own) ⊎ ((2 ≤ length (clause_at own slot)) × (new ≡ set own slot (record { id = (get_or own slot no_slot).id; lits = swap (clause_at own slot) 0 1 }))) → IsLooking new lists ends n trail lit at × ((length new ≡ length own) × ((lines : LineMap) → AreSlots own index lines → AreSlots new index lines))
+second_put own new lists ends index n trail lit at slot looking which =
+    let s : Slot = record { id = (get_or own slot no_slot).id; lits = swap (clause_at own slot) 0 1 } in
+    elim which [
+      | inl e ↦ (subst (λ o. IsLooking o lists ends n trail lit at) (sym e) looking, ap length e, λ lines h. subst (λ o. AreSlots o index lines) (sym e) h)
+      | inr (long, e) ↦ (
+        subst (λ o. IsLooking o lists ends n trail lit at) (sym e) (looking_swapped own lists ends n trail lit at slot s looking refl long),
+        ap length e ∙ length-set own slot s,
+        λ lines h. subst (λ o. AreSlots o index lines) (sym e) (hold_reordered own index lines slot s h refl (IsPermutation-swap (clause_at own slot) s.lits 0 1 (omega (arith, long)) (omega (arith, long)) refl)),
+      )
+    ]
+
+-- a visit after such an exchange
+pub visited_after : (before mid after : Watches) (old new : TrailValue) (lit : Literal) (at : ℕ) (visit : Visit) → mid.lists.items ≡ before.lists.items → mid.ends.items ≡ before.ends.items → ((lines : LineMap) → Hold before lines → Hold mid lines) → IsVisited mid after old new lit at visit → IsVisited before after old new lit at visit
+visited_after before mid after old new lit at visit lists ends hold visited = record {
+  looking = visited.looking;
+  left = ap (λ ls. length (list_of ls lit)) (sym lists) ∙ visited.left;
+  ends = visited.ends ∙ ends;
+  followed = followed_twice before mid after old old new (followed_same before mid old hold) visited.followed;
+  rightly = visited.rightly;
 }
