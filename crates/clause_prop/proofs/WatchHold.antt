@@ -47,12 +47,6 @@ finds_here old new id w updates = updates id ∙ cond-true (nat_eq id id) w (loo
 
 -- ---- slots
 
-pub hold_none : AreSlots [] [] empty
-hold_none = record {
-  stored = λ j long. absurd (omega (arith, long, ap (λ (s : Slot). length s.lits) (get_or_past [] j no_slot (omega arith))));
-  held = λ id c there kind. absurd (none_not_some (get empty id) c (get-empty id) there);
-}
-
 -- a clause in another order
 pub hold_reordered : (own : List Slot) (index : List (ℕ × ℕ)) (lines : LineMap) (slot : ℕ) (s : Slot) → AreSlots own index lines → s.id ≡ (get_or own slot no_slot).id → IsPermutation (clause_at own slot) s.lits → AreSlots (set own slot s) index lines
 hold_reordered own index lines slot s slots same_id same =
@@ -190,4 +184,10 @@ hold_same own index old new same slots = record {
       let s = slots.stored j long in
       record { line = s.line; there = same.stays _ s.line s.kind s.there; kind = s.kind; merged = s.merged; same = s.same; found = s.found };
   held = λ id c there kind. slots.held id c (same.was id c kind there) kind;
+}
+
+pub hold_none_of : (own : List Slot) (index : List (ℕ × ℕ)) → own ≡ [] → AreSlots own index empty
+hold_none_of own index none = record {
+  stored = λ j long. absurd (let past = ap (λ (o : List Slot). length (clause_at o j)) none in let zero_long = ap (λ (s : Slot). length s.lits) (get_or_past [] j no_slot (omega arith)) in omega (arith, long, past, zero_long));
+  held = λ id c there kind. absurd (none_not_some (get empty id) c (get-empty nat_cmp id) there);
 }

@@ -506,3 +506,20 @@ kept_filled own lists ends n trail slot s kept in_own blockers apart inside watc
       rising = kept.rising;
       settled = λ j l p watch h is. at_set no_slot (λ j x. IsWatch x.lits l → HasTrue (take (get_or ends p 0) trail) x.lits) own slot s (λ i w. kept.settled i l p w h is) (λ _ w. absurd ((watches l w).1 p h is)) j watch;
     }
+
+-- No slot.
+
+pub kept_none : (own : List Slot) (lists : List (List Entry)) (ends : List ℕ) (n : ℕ) → own ≡ [] → lists ≡ [] → ends ≡ [] → IsKept own lists ends n []
+kept_none own lists ends n no_own no_lists no_ends = record {
+  distinct = λ j. subst IsDistinct (sym (lits_none j)) distinct_none;
+  upto = λ j l h. absurd (none_among l (subst (λ c. Contains c l) (lits_none j) h));
+  covered = λ j l h. absurd (none_among l (subst (λ c. Contains c l) (lits_none j) h));
+  entries = λ c k h. absurd (let none = ap (λ ls. length (get_or ls c [])) no_lists in let past = ap (λ (es : List Entry). length es) (get_or_past [] c [] (omega arith)) in omega (arith, h, none, past));
+  watched = λ j l w. absurd (let long = w.0 in omega (arith, long, ap length (lits_none j)));
+  within = λ p h. absurd (omega (arith, h, ap length no_ends));
+  rising = λ p q up h. absurd (omega (arith, h, ap length no_ends));
+  settled = λ j l p w. absurd (let long = w.0 in omega (arith, long, ap length (lits_none j)));
+}
+  where
+    lits_none : (j : ℕ) → clause_at own j ≡ []
+    lits_none j = ap (λ o. clause_at o j) no_own ∙ ap (λ (s : Slot). s.lits) (get_or_past [] j no_slot (omega arith))

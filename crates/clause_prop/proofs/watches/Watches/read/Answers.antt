@@ -33,3 +33,6 @@ returns-in-Some-true-clause-ok c =
       followed = followed_same w _ t (λ lines h. h);
       rightly = tt;
     }
+
+pub free_place-requires-clause-vars : goal.free_place-requires-clause-vars
+free_place-requires-clause-vars c = λ l h. c.requires.looking.kept.upto c.args.slot l h

@@ -1,7 +1,6 @@
 use Rattle.std.proofs.Common.{◌≡◌, ◌++◌, ◌∷◌, ℕ, List, [], refl, get_or, length, set, ap, subst, sym, ◌∙◌, arith}
 use Rattle.std.specs.List.{swap}
 use Rattle.std.proofs.lemmas.List.Sorted.{IsPermutation-swap}
-use Rattle.std.proofs.lemmas.Result.{on_err_weaker}
 use Rattle.scut_base.specs.Literal.{Literal}
 use Rattle.clause_prop.specs.declared.watch_lists.Entry.{Entry}
 use Rattle.clause_prop.specs.declared.watch_lists.Slot.{Slot}
@@ -9,7 +8,7 @@ use Rattle.clause_prop.specs.Watching.{IsEntry, IsKept, IsRemoved, clause_at, co
 use Rattle.clause_prop.specs.Watches.{AreSlots}
 use Rattle.clause_prop.proofs.WatchKept.{replaced}
 use Rattle.clause_prop.proofs.WatchHold.{hold_reordered}
-use Rattle.clause_prop.proofs.WatchVisits.{followed_same}
+use Rattle.clause_prop.proofs.WatchVisits.{followed_same, on_err}
 use Rattle.clause_prop.proofs.watches.Watches.replace.Goals as goal
 
 pub add_entry-requires : goal.add_entry-requires
@@ -42,3 +41,10 @@ returns-clause-ok c =
       followed = followed_same w _ t (λ lines h. subst (λ o. AreSlots o w.index.entries lines) (sym c.put_at_second.ensures) (hold_reordered own w.index.entries lines slot s h refl (IsPermutation-swap clause s.lits 1 c.args.place (omega (arith, within.0, within.1)) within.1 refl)));
       rightly = tt;
     }
+
+pub returns-in_err-add_entry-clause-err : goal.returns-in_err-add_entry-clause-err
+returns-in_err-add_entry-clause-err c =
+    let w = c.args.self.now in
+    let t = c.args.trail.now in
+    let ready : IsKept w.slots.items c.add_entry.new.lists.items w.ends.items t.vars (lits_of t.steps) = subst (λ ls. IsKept w.slots.items ls w.ends.items t.vars (lits_of t.steps)) (sym c.in_err-add_entry.ensures.err) c.requires.looking.kept in
+    on_err (ready, followed_same w _ t (λ lines h. h)) c.from_residual.result
