@@ -145,7 +145,7 @@ absent_by own index lines id o slots is other j long same =
     let old = slots.stored j long in
     other j (sym is ∙ ap (λ (i : ℕ). lookup (nat_eq i) index) (sym same) ∙ old.found) long same
 
-same_some : (i j : ℕ) → Some i ≡ Some j → i ≡ j
+pub same_some : (i j : ℕ) → Some i ≡ Some j → i ≡ j
 same_some i j e = cc
 
 -- the slot of the id that is dropped loses its literals
@@ -191,3 +191,6 @@ hold_none_of own index none = record {
   stored = λ j long. absurd (let past = ap (λ (o : List Slot). length (clause_at o j)) none in let zero_long = ap (λ (s : Slot). length s.lits) (get_or_past [] j no_slot (omega arith)) in omega (arith, long, past, zero_long));
   held = λ id c there kind. absurd (none_not_some (get empty id) c (get-empty nat_cmp id) there);
 }
+
+pub not_equal : (a b : ℕ) → a ≢ b → a ≡ b → ⊥
+not_equal a b n e = n e

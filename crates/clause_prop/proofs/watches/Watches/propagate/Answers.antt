@@ -8,7 +8,7 @@ use Rattle.clause_prop.proofs.watches.Watches.propagate.Goals as goal
 
 pub look_at_all-requires : goal.look_at_all-requires
 unfolding AreWatches
-look_at_all-requires c = c.requires.in_step.0
+look_at_all-requires c = record { ready = c.requires.in_step.0 }
 
 pub returns-clause-in_step : goal.returns-clause-in_step
 unfolding AreWatches
