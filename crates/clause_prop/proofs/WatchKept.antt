@@ -523,3 +523,64 @@ kept_none own lists ends n no_own no_lists no_ends = record {
   where
     lits_none : (j : ℕ) → clause_at own j ≡ []
     lits_none j = ap (λ o. clause_at o j) no_own ∙ ap (λ (s : Slot). s.lits) (get_or_past [] j no_slot (omega arith))
+
+-- A clause is taken up.
+
+-- an entry of a slot without literals
+pub entry_fresh : (own : List Slot) (n : ℕ) (s : Slot) (e : Entry) → s.lits ≡ [] → e.slot ≡ length own → e.blocker.var ≤ n → IsEntry (own ++ s ∷ []) n e
+entry_fresh own n s e none is upto = record {
+  there = omega (arith, is, length_push own s);
+  upto = upto;
+  among = λ long. absurd (
+    let here : get_or (own ++ s ∷ []) e.slot no_slot ≡ s = ap (λ (i : ℕ). get_or (own ++ s ∷ []) i no_slot) is ∙ get_or_push own s no_slot (length own) refl in
+    omega (arith, long, ap (λ (x : Slot). length x.lits) here, ap length none)
+  );
+}
+
+-- the entries of a slot have blockers of its clause
+abbrev pub BlocksBy : List (List Entry) → ℕ → List Literal → Type 0
+BlocksBy lists slot lits = (c k : ℕ) → k < length (get_or lists c []) → (get_or (get_or lists c []) k no_entry).slot ≡ slot → Contains lits (get_or (get_or lists c []) k no_entry).blocker
+
+blocks_entry : (lists : List (List Entry)) (slot : ℕ) (lits : List Literal) (code : ℕ) (e : Entry) → BlocksBy lists slot lits → Contains lits e.blocker → BlocksBy (with_entry lists code e) slot lits
+blocks_entry lists slot lits code e blocks among =
+    let old = get_or lists code [] in
+    at_set [] (λ c es. (k : ℕ) → k < length es → (get_or es k no_entry).slot ≡ slot → Contains lits (get_or es k no_entry).blocker) lists code (old ++ e ∷ []) blocks (λ _ k h is. elim (cases_lt k (length old)) [
+      | inl b ↦
+          let same : get_or (old ++ e ∷ []) k no_entry ≡ get_or old k no_entry = get_or_append_left old (e ∷ []) no_entry k b in
+          subst (λ (x : Entry). Contains lits x.blocker) (sym same) (blocks code k b (ap (λ (x : Entry). x.slot) (sym same) ∙ is))
+      | inr b ↦
+          let k_is : length old ≡ k = omega (arith, h, b, length_push old e) in
+          subst (λ i. Contains lits (get_or (old ++ e ∷ []) i no_entry).blocker) k_is (subst (λ (x : Entry). Contains lits x.blocker) (sym (get_or_push old e no_entry (length old) refl)) among)
+    ])
+
+pub kept_watched : (own : List Slot) (none s : Slot) (lists : List (List Entry)) (ends : List ℕ) (n : ℕ) (trail : List Literal) (first second : Literal) (e f : Entry) → IsKept own lists ends n trail → none.lits ≡ [] → 2 ≤ length s.lits → IsDistinct s.lits → ((l : Literal) → Contains s.lits l → (l.var ≤ n) × (code_of l < length lists))
+    → get_or s.lits 0 no_literal ≡ first → get_or s.lits 1 no_literal ≡ second → e ≡ record { slot = length own; blocker = second } → f ≡ record { slot = length own; blocker = first } → ((k p : ℕ) → k < 2 → p < length ends → get_or trail p no_literal ≢ opposite (get_or s.lits k no_literal))
+    → IsKept (set (own ++ none ∷ []) (length own) s) (with_entry (with_entry lists (code_of first) e) (code_of second) f) ends n trail
+kept_watched own none s lists ends n trail first second e f kept empty long apart inside is_first is_second e_is f_is clear =
+    let slot = length own in
+    let two = with_entry lists (code_of first) e in
+    let three = with_entry two (code_of second) f in
+    let first_in : Contains s.lits first = subst (Contains s.lits) is_first (Contains-get_or s.lits 0 no_literal (omega (arith, long))) in
+    let second_in : Contains s.lits second = subst (Contains s.lits) is_second (Contains-get_or s.lits 1 no_literal (omega (arith, long))) in
+    let e_slot : e.slot ≡ slot = ap (λ (x : Entry). x.slot) e_is in
+    let f_slot : f.slot ≡ slot = ap (λ (x : Entry). x.slot) f_is in
+    let e_in : Contains s.lits e.blocker = subst (λ (x : Entry). Contains s.lits x.blocker) (sym e_is) second_in in
+    let f_in : Contains s.lits f.blocker = subst (λ (x : Entry). Contains s.lits x.blocker) (sym f_is) first_in in
+    let k1 = kept_slot own lists ends n trail none kept empty in
+    let k2 = kept_entry (own ++ none ∷ []) lists ends n trail (code_of first) e k1 (entry_fresh own n none e empty e_slot (inside e.blocker e_in).0) in
+    let k3 = kept_entry (own ++ none ∷ []) two ends n trail (code_of second) f k2 (entry_fresh own n none f empty f_slot (inside f.blocker f_in).0) in
+    let len_2 : length two ≡ length lists = length-set lists (code_of first) _ in
+    let len_3 : length three ≡ length two = length-set two (code_of second) _ in
+    let blocks_1 : BlocksBy lists slot s.lits = λ c k h is. absurd (let entry = kept.entries c k h in let there = entry.there in omega (arith, there, is)) in
+    let blocks_3 : BlocksBy three slot s.lits = blocks_entry two slot s.lits (code_of second) f (blocks_entry lists slot s.lits (code_of first) e blocks_1 e_in) f_in in
+    let named_first : Names (list_of three first) 0 slot = pushed_names two (code_of second) f first 0 slot (subst (Names (list_of two first) 0) e_slot (named_here lists first e (inside first first_in).1)) in
+    let reach : code_of second < length two = (let c = (inside second second_in).1 in omega (arith, c, len_2)) in
+    let named_second : Names (list_of three second) 0 slot = subst (Names (list_of three second) 0) f_slot (named_here two second f reach) in
+    kept_filled (own ++ none ∷ []) three ends n trail slot s k3 (omega (arith, length_push own none)) blocks_3 apart (λ l h. let i = inside l h in (i.0, (let c = i.1 in omega (arith, c, len_2, len_3)))) (λ l w. elim w.1 [
+      | inl g ↦ (subst (λ m. Names (list_of three m) 0 slot) (sym is_first ∙ g) named_first, λ p h is. clear 0 p (omega arith) h (is ∙ ap opposite (sym g)))
+      | inr g ↦ (subst (λ m. Names (list_of three m) 0 slot) (sym is_second ∙ g) named_second, λ p h is. clear 1 p (omega arith) h (is ∙ ap opposite (sym g)))
+    ])
+
+pub kept_as : (own own_2 : List Slot) (lists lists_2 : List (List Entry)) (ends ends_2 : List ℕ) (n : ℕ) (trail : List Literal) → own_2 ≡ own → lists_2 ≡ lists → ends_2 ≡ ends → IsKept own lists ends n trail → IsKept own_2 lists_2 ends_2 n trail
+kept_as own own_2 lists lists_2 ends ends_2 n trail same_own same_lists same_ends kept =
+    subst (λ o. IsKept o lists_2 ends_2 n trail) (sym same_own) (subst (λ ls. IsKept own ls ends_2 n trail) (sym same_lists) (subst (λ es. IsKept own lists es n trail) (sym same_ends) kept))

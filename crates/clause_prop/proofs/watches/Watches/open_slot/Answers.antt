@@ -16,7 +16,7 @@ returns-in_err-insert-clause-ready c = λ t ready.
 pub returns-in_err-insert-clause-hold : goal.returns-in_err-insert-clause-hold
 returns-in_err-insert-clause-hold c = λ lines fresh hold.
     let w = c.args.self.now in
-    subst (λ o. AreSlots o c.insert.new.self.entries lines) (sym c.in_ok-push.ensures.items) (hold_slot w.slots.items w.index.entries c.insert.new.self.entries lines _ hold fresh c.new.ensures (λ q other. ap (lookup (nat_eq q)) c.in_err-insert.ensures.err.0))
+    subst (λ o. AreSlots o c.insert.new.self.entries lines) (sym c.in_ok-push.ensures.items) (hold_slot w.slots.items w.index.entries c.insert.new.self.entries lines _ hold fresh c.new.ensures (λ q other. ap (lookup (nat_eq q)) c.in_err-insert.ensures.err))
 
 pub returns-clause-ready : goal.returns-clause-ready
 returns-clause-ready c = λ t ready.
