@@ -1,22 +1,19 @@
 -- What keeps the slots in step with the stored clauses.
-use Rattle.std.proofs.Common.{◌≡◌, ◌≢◌, ◌⊎◌, ℕ, ◌+◌, ◌<◌, ◌≤◌, Bool, true, false, cond, nat_eq, Option, Some, None, List, [], ◌∷◌, ◌++◌, length, get_or, set, refl, arith, ap, sym, subst, ◌∙◌, inl, inr, get_or-set_same, get_or-set_other}
-use Rattle.std.specs.Prelude.{Contains}
+use Rattle.std.proofs.Common.{◌≡◌, ◌≢◌, ℕ, ◌<◌, ◌≤◌, cond, nat_eq, Option, Some, None, List, [], ◌∷◌, ◌++◌, length, get_or, set, refl, arith, ap, sym, subst, ◌∙◌, inl, inr, get_or-set_same, get_or-set_other}
 use Rattle.std.specs.List.Sorted.{IsPermutation}
 use Rattle.std.specs.Map.{lookup}
 use Rattle.std.specs.FinMap.{get, remove, empty, get-remove, get-empty}
 use Rattle.std.specs.Ordering.{nat_cmp, eq_by_cmp}
-use Rattle.std.proofs.lemmas.Bool.{cases_eq, cases_lt, cond-true, cond-false, eq-eqb, ne_eqb}
-use Rattle.std.proofs.lemmas.Cmp.{eq_by_cmp_equiv, nat_cmp_total}
+use Rattle.std.proofs.lemmas.Bool.{cases_eq, cond-true, cond-false, eq-eqb, ne_eqb}
+use Rattle.std.proofs.lemmas.Cmp.{nat_cmp_total}
 use Rattle.std.specs.Cmp.{unsigned_tied}
-use Rattle.std.proofs.lemmas.List.{length_push, get_or_push, get_or_append_left, get_or_past}
-use Rattle.std.proofs.lemmas.List.Sorted.{IsPermutation-trans, IsPermutation-sym, length_permutation}
-use Rattle.scut_base.specs.Literal.{Literal}
-use Rattle.pb_lin.specs.Constraint.{ConstraintValue, literals}
+use Rattle.std.proofs.lemmas.List.{get_or_past}
+use Rattle.std.proofs.lemmas.List.Sorted.{IsPermutation-trans, length_permutation}
+use Rattle.pb_lin.specs.Constraint.{ConstraintValue}
 use Rattle.pb_lin.specs.LineMap.{LineMap}
 use Rattle.clause_prop.specs.declared.watch_lists.Slot.{Slot}
-use Rattle.clause_prop.specs.LineKinds.{is_watched}
 use Rattle.clause_prop.specs.Watching.{clause_at, no_slot}
-use Rattle.clause_prop.specs.Watches.{AreSameWatched, AreSlots, IsCopy, IsHeld, IsStored}
+use Rattle.clause_prop.specs.Watches.{AreSameWatched, AreSlots, IsCopy, IsStored}
 use Rattle.clause_prop.proofs.WatchLists.{at_set}
 use Rattle.clause_prop.proofs.WatchKept.{at_push}
 
@@ -65,9 +62,9 @@ hold_reordered own index lines slot s slots same_id same =
       held = λ id c there kind.
           let h = slots.held id c there kind in
           let at : ((get_or (set own slot s) h.slot no_slot).id ≡ id) × (2 ≤ length (clause_at (set own slot s) h.slot)) = at_set no_slot (λ j x. j ≡ h.slot → (x.id ≡ id) × (2 ≤ length x.lits)) own slot s
-              (λ j e. subst (λ i. ((get_or own i no_slot).id ≡ id) × (2 ≤ length (clause_at own i))) (sym e) (h.is, h.long))
-              (λ _ e. let long = h.long in (same_id ∙ ap (λ (i : ℕ). (get_or own i no_slot).id) e ∙ h.is, (let l = ap (λ (i : ℕ). length (clause_at own i)) e in omega (arith, l, long, len))))
-              h.slot refl in
+          (λ j e. subst (λ i. ((get_or own i no_slot).id ≡ id) × (2 ≤ length (clause_at own i))) (sym e) (h.is, h.long))
+          (λ _ e. let long = h.long in (same_id ∙ ap (λ (i : ℕ). (get_or own i no_slot).id) e ∙ h.is, (let l = ap (λ (i : ℕ). length (clause_at own i)) e in omega (arith, l, long, len))))
+          h.slot refl in
           record { slot = h.slot; is = at.0; long = at.1 };
     }
 
@@ -89,9 +86,9 @@ hold_slot own index new lines s slots fresh none others = record {
   held = λ id c there kind.
       let h = slots.held id c there kind in
       let at : ((get_or (own ++ s ∷ []) h.slot no_slot).id ≡ id) × (2 ≤ length (clause_at (own ++ s ∷ []) h.slot)) = at_push no_slot (λ j x. j ≡ h.slot → (x.id ≡ id) × (2 ≤ length x.lits)) own s
-          (λ j e. subst (λ i. ((get_or own i no_slot).id ≡ id) × (2 ≤ length (clause_at own i))) (sym e) (h.is, h.long))
-          (λ e. absurd (let long = h.long in let past = ap (λ (x : Slot). length x.lits) (get_or_past own h.slot no_slot (omega (arith, e))) in omega (arith, long, past)))
-          h.slot refl in
+      (λ j e. subst (λ i. ((get_or own i no_slot).id ≡ id) × (2 ≤ length (clause_at own i))) (sym e) (h.is, h.long))
+      (λ e. absurd (let long = h.long in let past = ap (λ (x : Slot). length x.lits) (get_or_past own h.slot no_slot (omega (arith, e))) in omega (arith, long, past)))
+      h.slot refl in
       record { slot = h.slot; is = at.0; long = at.1 };
 }
 
@@ -153,9 +150,9 @@ pub hold_emptied : (own : List Slot) (index new : List (ℕ × ℕ)) (lines : Li
 hold_emptied own index new lines id slot s slots others found own_id within none = record {
   stored = λ j long. elim (cases_eq j slot) [
     | inl e ↦ absurd (
-      let here : clause_at (set own slot s) j ≡ [] = ap (λ (i : ℕ). clause_at (set own slot s) i) e ∙ ap (λ (x : Slot). x.lits) (get_or-set_same own slot s no_slot within) ∙ none in
-      omega (arith, long, ap length here)
-    )
+        let here : clause_at (set own slot s) j ≡ [] = ap (λ (i : ℕ). clause_at (set own slot s) i) e ∙ ap (λ (x : Slot). x.lits) (get_or-set_same own slot s no_slot within) ∙ none in
+        omega (arith, long, ap length here)
+        )
     | inr n ↦
         let other : get_or (set own slot s) j no_slot ≡ get_or own j no_slot = get_or-set_other own slot j s no_slot n in
         let old = slots.stored j (subst (λ (x : Slot). 2 ≤ length x.lits) other long) in

@@ -1,9 +1,9 @@
 -- What keeps the watches right.
-use Rattle.std.proofs.Common.{◌≡◌, ◌≢◌, ℕ, zero, suc, ◌+◌, ◌-◌, ◌<◌, ◌≤◌, ◌⊎◌, inl, inr, List, [], ◌∷◌, ◌++◌, length, get_or, set, take, drop, refl, sym, ◌∙◌, ap, subst, arith, length-set, length-append, get_or-set_same, get_or-set_other}
+use Rattle.std.proofs.Common.{◌≡◌, ◌≢◌, ℕ, ◌+◌, ◌-◌, ◌<◌, ◌≤◌, ◌⊎◌, inl, inr, List, [], ◌∷◌, ◌++◌, length, get_or, set, take, refl, sym, ◌∙◌, ap, subst, arith, length-set, length-append, get_or-set_same, get_or-set_other}
 use Rattle.std.specs.List.{Contains, swap}
 use Rattle.std.specs.List.Sorted.{IsPermutation}
 use Rattle.std.proofs.lemmas.List.{take-append-le, take-take, get_or-take, get_or_append_left, get_or_push, length_push, length-take-le, length-take, take_all, get_or_past}
-use Rattle.std.proofs.lemmas.List.Sorted.{Contains-permutation, IsPermutation-sym, IsPermutation-trans, IsPermutation-swap, length_permutation}
+use Rattle.std.proofs.lemmas.List.Sorted.{Contains-permutation, IsPermutation-sym, IsPermutation-swap, length_permutation}
 use Rattle.std.proofs.lemmas.List.Elements.{Contains-get_or}
 use Rattle.std.proofs.lemmas.Bool.{cases_eq, cases_lt}
 use Rattle.scut_base.specs.Literal.{Literal}
@@ -11,7 +11,7 @@ use Rattle.pb_lin.specs.Constraint.{opposite}
 use Rattle.clause_prop.specs.declared.watch_lists.Entry.{Entry}
 use Rattle.clause_prop.specs.declared.watch_lists.Slot.{Slot}
 use Rattle.clause_prop.specs.Watching.{IsKept, IsLooking, IsRemoved, IsFree, IsWatch, IsEntry, IsDistinct, HasTrue, Names, clause_at, code_of, list_of, no_entry, no_literal, no_slot}
-use Rattle.clause_prop.proofs.WatchLists.{at_set, at_others, opposite_same, code_same, contains_at, place_in, true_push, watch_swapped, watch_moved, distinct_swapped}
+use Rattle.clause_prop.proofs.WatchLists.{at_set, at_others, opposite_same, code_same, contains_at, true_push, watch_swapped, watch_moved, distinct_swapped}
 
 -- More variables, and a longer trail.
 
@@ -532,9 +532,9 @@ entry_fresh own n s e none is upto = record {
   there = omega (arith, is, length_push own s);
   upto = upto;
   among = λ long. absurd (
-    let here : get_or (own ++ s ∷ []) e.slot no_slot ≡ s = ap (λ (i : ℕ). get_or (own ++ s ∷ []) i no_slot) is ∙ get_or_push own s no_slot (length own) refl in
-    omega (arith, long, ap (λ (x : Slot). length x.lits) here, ap length none)
-  );
+      let here : get_or (own ++ s ∷ []) e.slot no_slot ≡ s = ap (λ (i : ℕ). get_or (own ++ s ∷ []) i no_slot) is ∙ get_or_push own s no_slot (length own) refl in
+      omega (arith, long, ap (λ (x : Slot). length x.lits) here, ap length none)
+      );
 }
 
 -- the entries of a slot have blockers of its clause
@@ -584,3 +584,16 @@ kept_watched own none s lists ends n trail first second e f kept empty long apar
 pub kept_as : (own own_2 : List Slot) (lists lists_2 : List (List Entry)) (ends ends_2 : List ℕ) (n : ℕ) (trail : List Literal) → own_2 ≡ own → lists_2 ≡ lists → ends_2 ≡ ends → IsKept own lists ends n trail → IsKept own_2 lists_2 ends_2 n trail
 kept_as own own_2 lists lists_2 ends ends_2 n trail same_own same_lists same_ends kept =
     subst (λ o. IsKept o lists_2 ends_2 n trail) (sym same_own) (subst (λ ls. IsKept own ls ends_2 n trail) (sym same_lists) (subst (λ es. IsKept own lists es n trail) (sym same_ends) kept))
+
+-- more lists
+pub kept_covers : (own : List Slot) (lists new : List (List Entry)) (ends : List ℕ) (n : ℕ) (trail : List Literal) → ((c : ℕ) → get_or new c [] ≡ get_or lists c []) → length lists ≤ length new → IsKept own lists ends n trail → IsKept own new ends n trail
+kept_covers own lists new ends n trail same longer kept = record {
+  distinct = kept.distinct;
+  upto = kept.upto;
+  covered = λ j l h. (let c = kept.covered j l h in omega (arith, c, longer));
+  entries = λ c k h. subst (λ (es : List Entry). IsEntry own n (get_or es k no_entry)) (sym (same c)) (kept.entries c k (subst (λ (es : List Entry). k < length es) (same c) h));
+  watched = λ j l w. subst (λ (es : List Entry). Names es 0 j) (sym (same (code_of l))) (kept.watched j l w);
+  within = kept.within;
+  rising = kept.rising;
+  settled = kept.settled;
+}

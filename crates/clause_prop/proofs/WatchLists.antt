@@ -1,7 +1,7 @@
 -- Lists of literals and of lists, and what a trail keeps when it grows or is cut.
-use Rattle.std.proofs.Common.{◌≡◌, ◌≢◌, ℕ, ◌+◌, ◌<◌, ◌≤◌, ◌⊎◌, inl, inr, List, [], ◌∷◌, ◌++◌, length, get_or, set, take, drop, refl, sym, ◌∙◌, ap, subst, arith, Bool, true, false, cond, ◌*◌, get_or-set_same, get_or-set_other, take-append-drop}
+use Rattle.std.proofs.Common.{◌≡◌, ◌≢◌, ℕ, ◌+◌, ◌<◌, ◌≤◌, ◌⊎◌, inl, inr, List, ◌++◌, length, get_or, set, take, drop, refl, sym, ◌∙◌, ap, subst, arith, Bool, true, false, cond, ◌*◌, get_or-set_same, get_or-set_other, take-append-drop}
 use Rattle.std.specs.List.{Contains, swap}
-use Rattle.std.proofs.lemmas.List.{set_past, take-append-le, take-take, get_or-take, get_or_push, length_push, get_or_default, take_all}
+use Rattle.std.proofs.lemmas.List.{set_past, take-take, get_or_default}
 use Rattle.std.proofs.lemmas.List.Edits.{swapped_from_swap, length-swap}
 use Rattle.std.proofs.lemmas.List.Elements.{Contains-append_left, Contains-get_or}
 use Rattle.std.proofs.lemmas.Bool.{cases_eq, cases_lt}

@@ -1,11 +1,10 @@
 -- Watched clauses under a trail: what the trail says of their literals, and what follows.
-use Rattle.std.proofs.Common.{◌≡◌, ◌≢◌, ◌⊎◌, ℕ, zero, suc, ◌+◌, ◌-◌, ◌<◌, ◌≤◌, Bool, true, false, not, if◌then◌else◌, Option, Some, None, List, [], ◌∷◌, ◌++◌, length, get_or, take, map, refl, arith, ap, sym, subst, ◌∙◌, inl, inr, ⊎_elim}
+use Rattle.std.proofs.Common.{◌≡◌, ◌≢◌, ◌⊎◌, ℕ, zero, suc, ◌-◌, ◌<◌, ◌≤◌, Bool, true, false, not, if◌then◌else◌, Option, Some, None, List, length, get_or, refl, arith, ap, sym, subst, ◌∙◌, inl, inr, ⊎_elim}
 use Rattle.std.specs.List.{Contains}
 use Rattle.std.specs.List.Sorted.{IsPermutation}
 use Rattle.std.specs.Option.{option_map}
-use Rattle.std.specs.FinMap.{get}
-use Rattle.std.proofs.lemmas.Bool.{cases_eq, cases_lt}
-use Rattle.std.proofs.lemmas.List.{get_or-map, length-map, get_or_default, get_or_push}
+use Rattle.std.proofs.lemmas.Bool.{cases_eq}
+use Rattle.std.proofs.lemmas.List.{get_or-map, length-map}
 use Rattle.std.proofs.lemmas.List.Elements.{Contains-get_or}
 use Rattle.scut_base.specs.Literal.{Literal}
 use Rattle.scut_base.specs.Assignment.{partial_truth}
@@ -16,11 +15,11 @@ use Rattle.clause_prop.specs.declared.step.Step.{Step}
 use Rattle.clause_prop.specs.declared.watch_lists.Entry.{Entry}
 use Rattle.clause_prop.specs.declared.watch_lists.Slot.{Slot}
 use Rattle.clause_prop.specs.LineKinds.{is_watched}
-use Rattle.clause_prop.specs.Steps.{TrailValue, AreSteps, assigned, last_level}
+use Rattle.clause_prop.specs.Steps.{AreSteps, assigned, last_level}
 use Rattle.clause_prop.specs.Propagating.{IsConflict, IsForcedStep}
 use Rattle.clause_prop.specs.Watching.{AreFalse, HasTrue, IsDistinct, IsKept, IsValue, clause_at, lits_of, no_literal, no_slot}
-use Rattle.clause_prop.specs.Watches.{AreSlots, IsStored}
-use Rattle.clause_prop.proofs.Assigned.{Values, assigned-at, assigned-found, index}
+use Rattle.clause_prop.specs.Watches.{AreSlots}
+use Rattle.clause_prop.proofs.Assigned.{assigned-at, assigned-found, index}
 use Rattle.clause_prop.proofs.WatchLists.{place_in, contains_take}
 use Rattle.clause_prop.proofs.WatchedLines.{closed_by, first_forced, term_of, violated}
 

@@ -6,7 +6,7 @@ use Rattle.std.proofs.lemmas.List.Sorted.{IsPermutation-swap, IsPermutation-sym,
 use Rattle.std.proofs.lemmas.List.{get_or-map, length-map}
 use Rattle.std.specs.FinMap.{get}
 use Rattle.pb_lin.specs.Constraint.{ConstraintValue, IsMerged, literals}
-use Rattle.clause_prop.specs.LineKinds.{is_watched, IsClosedForWatched}
+use Rattle.clause_prop.specs.LineKinds.{IsClosedForWatched}
 use Rattle.scut_base.specs.Literal.{Literal}
 use Rattle.pb_lin.specs.LineMap.{LineMap}
 use Rattle.clause_prop.specs.declared.step.Step.{Step}
@@ -15,7 +15,7 @@ use Rattle.clause_prop.specs.declared.watch_lists.Slot.{Slot}
 use Rattle.clause_prop.specs.declared.watches.Watches.{Watches}
 use Rattle.clause_prop.specs.declared.watches.Visit.{Visit}
 use Rattle.clause_prop.specs.Steps.{TrailValue, last_level, with_step}
-use Rattle.clause_prop.specs.Propagating.{Extends, IsConflict, IsForcedStep}
+use Rattle.clause_prop.specs.Propagating.{IsConflict, IsForcedStep}
 use Rattle.clause_prop.specs.Watching.{IsLooking, clause_at, list_of, lits_of, no_slot}
 use Rattle.clause_prop.specs.Watches.{AreSlots, Hold, IsAllLooked, IsConflictOf, IsFollowed, IsReady, IsVisited}
 use Rattle.clause_prop.proofs.Extensions.{extends_none, extends_step, extends_twice}

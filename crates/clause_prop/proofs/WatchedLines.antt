@@ -1,22 +1,22 @@
 -- The slack of a clause, from its literals in another order.
-use Rattle.std.proofs.Common.{◌≡◌, ◌≢◌, ◌⊎◌, ℕ, zero, suc, ◌+◌, ◌<◌, ◌≤◌, ◌&&◌, Bool, true, false, Option, Some, None, List, [], ◌∷◌, length, get_or, map, sum_by, refl, arith, ap, sym, subst, ◌∙◌, inl, inr, ⊎_elim}
+use Rattle.std.proofs.Common.{◌≡◌, ◌≢◌, ◌⊎◌, ℕ, zero, suc, ◌<◌, ◌≤◌, ◌&&◌, Bool, true, false, Option, Some, None, List, [], ◌∷◌, length, get_or, sum_by, refl, arith, ap, sym, subst, ◌∙◌, ⊎_elim}
 use Rattle.std.specs.Prelude.{pos, int_lt, ◌-ℤ◌, ◌≤ℤ◌, ◌<ℤ◌, nat_eq, nat_le}
-use Rattle.std.specs.List.{All, Contains}
+use Rattle.std.specs.List.{Contains}
 use Rattle.std.specs.List.Sorted.{IsPermutation}
 use Rattle.std.specs.Option.{is_none}
-use Rattle.std.proofs.lemmas.Bool.{cases_eq, and_parts, eqb-true, eq-eqb}
+use Rattle.std.proofs.lemmas.Bool.{and_parts, eqb-true, eq-eqb}
 use Rattle.std.proofs.lemmas.Int.{ints}
 use Rattle.std.proofs.lemmas.List.{get_or-map, length-map, get_or_default}
 use Rattle.std.proofs.lemmas.List.Elements.{All-nil, All-cons, All-head, All-tail, Contains-get_or}
 use Rattle.std.proofs.lemmas.List.Sums.{sum_by-cons, get_or-le-sum_by}
-use Rattle.std.proofs.lemmas.List.Sorted.{Contains-permutation, IsPermutation-sym, length_permutation, sum_by-IsPermutation}
+use Rattle.std.proofs.lemmas.List.Sorted.{Contains-permutation, IsPermutation-sym, sum_by-IsPermutation}
 use Rattle.scut_base.specs.Literal.{Literal}
 use Rattle.scut_base.specs.Assignment.{partial_truth}
-use Rattle.pb_lin.specs.Constraint.{ConstraintValue, AreOnes, literals, slack, unless_false, possible_value}
+use Rattle.pb_lin.specs.Constraint.{ConstraintValue, AreOnes, IsMerged, UpTo, literals, slack, unless_false, possible_value}
 use Rattle.pb_lin.specs.Propagation.{is_forced, IsClosedUnder}
 use Rattle.pb_lin.proofs.Ones.{sum_ones}
 use Rattle.clause_prop.specs.LineKinds.{are_ones, is_watched}
-use Rattle.clause_prop.specs.Watching.{no_literal}
+use Rattle.clause_prop.specs.Watching.{IsDistinct, no_literal}
 use Rattle.clause_prop.proofs.Assigned.{Values}
 
 pub ones_of : (terms : List (Literal × ℕ)) → are_ones terms ≡ true → AreOnes terms
@@ -185,3 +185,27 @@ kind_of_other c other = not_true (is_watched c) (λ e. let is = clause_of c e in
     not_true : (b : Bool) → (b ≡ true → ⊥) → b ≡ false
     not_true true n = absurd (n refl)
     not_true false n = refl
+
+-- ---- the literals of a line
+
+-- the place of a literal of a line
+literal_at : (terms : List (Literal × ℕ)) (k : ℕ) (l : Literal) → k < length terms → get_or (literals terms) k l ≡ (get_or terms k (l, 0)).0
+literal_at terms k l within = get_or-map (λ t. t.0) terms k (l, 0) l within
+
+pub literal_upto : (n : ℕ) (c : ConstraintValue) (l : Literal) → UpTo n c → Contains (literals c.terms) l → l.var ≤ n
+literal_upto n c l upto (k, below, at) =
+    let within : k < length c.terms = omega (arith, below, length-map c.terms (λ t. t.0)) in
+    subst (λ (m : Literal). m.var ≤ n) (sym (literal_at c.terms k l within) ∙ at) (upto k (l, 0) within)
+
+pub literals_distinct : (terms : List (Literal × ℕ)) → IsMerged terms → IsDistinct (literals terms)
+literals_distinct terms merged i k i_in k_in other same =
+    let long = length-map terms (λ t. t.0) in
+    let at : (j : ℕ) → j < length (literals terms) → get_or (literals terms) j no_literal ≡ (get_or terms j (no_literal, 0)).0 = λ j h. literal_at terms j no_literal (omega (arith, h, long)) in
+    let e : (get_or terms i (no_literal, 0)).0.var ≡ (get_or terms k (no_literal, 0)).0.var = ap (λ (l : Literal). l.var) (sym (at i i_in) ∙ same ∙ at k k_in) in
+    ⊎_elim
+    (λ (up : i < k). absurd (let r = merged.rising i k (no_literal, 0) up (omega (arith, k_in, long)) in omega (arith, r, e)))
+    (λ (down : k < i). absurd (let r = merged.rising k i (no_literal, 0) down (omega (arith, i_in, long)) in omega (arith, r, e)))
+    (two_sides i k other)
+  where
+    two_sides : (a b : ℕ) → a ≢ b → (a < b) ⊎ (b < a)
+    two_sides a b n = grind arith

@@ -6,8 +6,8 @@ ghost use Rattle.pb_lin.specs.Constraint.{opposite};
 ghost use Rattle.clause_prop.specs.Steps.{AreSteps, partial};
 ghost use Rattle.clause_prop.specs.Watching.{AreFalse, IsDistinct, IsFree, IsRemoved, IsValue, IsWatch, clause_at, code_of, lits_of, no_literal, no_slot};
 
-use crate::row::Row;
 use crate::Trail;
+use crate::row::Row;
 use scut_base::{Lit, NoMemory};
 use std::alloc::Global;
 
@@ -87,11 +87,11 @@ pub(crate) fn put_second(slots: &mut Vec<Slot>, slot: usize, lit: Lit) -> bool
     requires { slot < length slots.old.items }
     ensures slots { (slots.new.items ≡ slots.old.items)
         ⊎ ((2 ≤ length (clause_at slots.old.items slot))
-            × (slots.new.items ≡ slice_set slots.old.items slot
-                (record {
-                    id = (slice_index_or slots.old.items slot no_slot).id;
-                    lits = swap (clause_at slots.old.items slot) 0 1
-                }))) }
+        × (slots.new.items ≡ slice_set slots.old.items slot
+        (record {
+          id = (slice_index_or slots.old.items slot no_slot).id;
+          lits = swap (clause_at slots.old.items slot) 0 1;
+        }))) }
     ensures long { IsTrue result → 2 ≤ length (clause_at slots.new.items slot) }
     ensures found { IsTrue result → slice_index_or (clause_at slots.new.items slot) 1 no_literal ≡ lit }
     ensures lost { result ≡ false
@@ -115,8 +115,8 @@ pub(crate) fn put_at_second(slots: &mut Vec<Slot>, slot: usize, place: usize)
     requires to { place < length (clause_at slots.old.items slot) }
     ensures { slots.new.items ≡ slice_set slots.old.items slot
         (record {
-            id = (slice_index_or slots.old.items slot no_slot).id;
-            lits = swap (clause_at slots.old.items slot) 1 place
+          id = (slice_index_or slots.old.items slot no_slot).id;
+          lits = swap (clause_at slots.old.items slot) 1 place;
         }) }
 {
     let clause = &mut slots[slot].lits;
@@ -147,16 +147,10 @@ pub(crate) fn set_blocker(
     requires within { at < length (slice_index_or lists.old.items code []) }
     ensures { lists.new.items ≡ slice_set lists.old.items code
         (slice_set (slice_index_or lists.old.items code []) at
-            (record { slot = slot; blocker = blocker })) }
+        (record { slot = slot; blocker = blocker })) }
 {
     let list = &mut lists[code];
-    list.set(
-        at,
-        Entry {
-            slot,
-            blocker,
-        },
-    );
+    list.set(at, Entry { slot, blocker });
 }
 
 /// Puts an entry at the end of a list.
@@ -172,10 +166,7 @@ pub(crate) fn add_entry(
     ensures err { OnErr result (lists.new.items ≡ lists.old.items) }
 {
     let list = &mut lists[code];
-    list.push(Entry {
-        slot,
-        blocker,
-    })
+    list.push(Entry { slot, blocker })
 }
 
 /// Makes the lists reach the literals of a clause.
@@ -242,7 +233,7 @@ pub(crate) fn latest_first(clause: &mut Row<Lit>, free: usize, ends: &mut Vec<us
     ensures len { length ends.new.items ≤ length ends.old.items }
     ensures clear { (k p : ℕ) → k < 2 → p < length ends.new.items
         → slice_index_or (lits_of trail.now.steps) p no_literal
-            ≢ opposite (slice_index_or clause.new k no_literal) }
+        ≢ opposite (slice_index_or clause.new k no_literal) }
 {
     let mut found = free;
     let mut left = ends.len();

@@ -1,4 +1,4 @@
-use Rattle.std.proofs.Common.{◌≡◌, ◌≢◌, ◌<◌, ◌≤◌, ℕ, List, [], Some, None, length, get_or, set, refl, arith, ap, sym, subst, ◌∙◌}
+use Rattle.std.proofs.Common.{◌≡◌, ◌≢◌, ◌<◌, ◌≤◌, ℕ, Some, None, length, get_or, arith, ap, sym, subst, ◌∙◌}
 use Rattle.std.proofs.lemmas.List.{get_or_read, get_or_past}
 use Rattle.clause_prop.specs.declared.watch_lists.Slot.{Slot}
 use Rattle.clause_prop.specs.Watching.{clause_at, no_slot}
@@ -26,20 +26,20 @@ returns-else-slot-len c = λ lines t watches.
     let w = c.args.self.now in
     let slot = c.in-Some.slot in
     let other : (j : ℕ) → Some slot ≡ Some j → 2 ≤ length (clause_at w.slots.items j) → (get_or w.slots.items j no_slot).id ≢ c.args.id = λ j is long.
-        let e : slot ≡ j = same_some slot j is in
-        let here : 2 ≤ length (clause_at w.slots.items slot) = subst (λ i. 2 ≤ length (clause_at w.slots.items i)) (sym e) long in
-        elim c.else-slot-len.branch [
-          | else-slot-len-via-then-slot-len+else-index-id v ↦
-              let within : slot < length w.slots.items = (let h = v.if-slot-len.true in let l = c.len.ensures in omega (arith, h, l, w.slots.ok.0)) in
-              λ same. not_equal _ _ v.if-index-id.false (ap (λ (x : Slot). x.id) (get_or_read w.slots.items slot v.index.result.now within v.index.ensures no_slot) ∙ ap (λ (i : ℕ). (get_or w.slots.items i no_slot).id) e ∙ same)
-          | else-slot-len-via-else-slot-len v ↦ absurd (
-            let past : length w.slots.items ≤ slot = (let h = v.if-slot-len.false in let l = c.len.ensures in omega (arith, h, l, w.slots.ok.0)) in
-            omega (arith, here, ap (λ (x : Slot). length x.lits) (get_or_past w.slots.items slot no_slot past))
+    let e : slot ≡ j = same_some slot j is in
+    let here : 2 ≤ length (clause_at w.slots.items slot) = subst (λ i. 2 ≤ length (clause_at w.slots.items i)) (sym e) long in
+    elim c.else-slot-len.branch [
+      | else-slot-len-via-then-slot-len+else-index-id v ↦
+          let within : slot < length w.slots.items = (let h = v.if-slot-len.true in let l = c.len.ensures in omega (arith, h, l, w.slots.ok.0)) in
+          λ same. not_equal _ _ v.if-index-id.false (ap (λ (x : Slot). x.id) (get_or_read w.slots.items slot v.index.result.now within v.index.ensures no_slot) ∙ ap (λ (i : ℕ). (get_or w.slots.items i no_slot).id) e ∙ same)
+      | else-slot-len-via-else-slot-len v ↦ absurd (
+          let past : length w.slots.items ≤ slot = (let h = v.if-slot-len.false in let l = c.len.ensures in omega (arith, h, l, w.slots.ok.0)) in
+          omega (arith, here, ap (λ (x : Slot). length x.lits) (get_or_past w.slots.items slot no_slot past))
           )
-        ] in (
+    ] in (
       watches.0,
       hold_absent w.slots.items w.index.entries c.remove.new.self.entries lines c.args.id watches.1 (finds_others w.index.entries c.remove.new.self.entries c.args.id None c.remove.ensures.updates.0)
-      (absent_by w.slots.items w.index.entries lines c.args.id (Some slot) watches.1 (sym c.remove.ensures.value ∙ c.in-Some.is) other),
+          (absent_by w.slots.items w.index.entries lines c.args.id (Some slot) watches.1 (sym c.remove.ensures.value ∙ c.in-Some.is) other),
     )
 
 pub returns-in_default : goal.returns-in_default
@@ -48,5 +48,5 @@ returns-in_default c = λ lines t watches.
     let w = c.args.self.now in (
       watches.0,
       hold_absent w.slots.items w.index.entries c.remove.new.self.entries lines c.args.id watches.1 (finds_others w.index.entries c.remove.new.self.entries c.args.id None c.remove.ensures.updates.0)
-      (absent_by w.slots.items w.index.entries lines c.args.id None watches.1 (sym c.remove.ensures.value ∙ c.in_default.is) (λ j is. absurd (cc is))),
+          (absent_by w.slots.items w.index.entries lines c.args.id None watches.1 (sym c.remove.ensures.value ∙ c.in_default.is) (λ j is. absurd (cc is))),
     )

@@ -1,15 +1,14 @@
-use Rattle.std.proofs.Common.{◌≡◌, ◌<◌, ◌+◌, ◌++◌, ◌∷◌, ℕ, List, [], None, Some, true, false, refl, get_or, length, ap, sym, subst, ◌∙◌, arith}
+use Rattle.std.proofs.Common.{◌≡◌, ◌+◌, ◌++◌, ◌∷◌, ℕ, [], None, Some, true, false, refl, get_or, length, ap, sym, subst, ◌∙◌}
 use Rattle.std.specs.List.{Contains}
 use Rattle.std.proofs.lemmas.List.{get_or_read}
 use Rattle.std.proofs.lemmas.List.Elements.{Contains-push}
 use Rattle.scut_base.specs.Literal.{Literal}
 use Rattle.scut_base.specs.Assignment.{partial_truth}
 use Rattle.pb_lin.specs.Constraint.{opposite}
-use Rattle.clause_prop.specs.declared.step.Step.{Step}
 use Rattle.clause_prop.specs.declared.watch_lists.Slot.{Slot}
-use Rattle.clause_prop.specs.Steps.{TrailValue, assigned, last_level}
+use Rattle.clause_prop.specs.Steps.{assigned, last_level}
 use Rattle.clause_prop.specs.Propagating.{IsConflict, IsForcedStep}
-use Rattle.clause_prop.specs.Watching.{AreFalse, HasTrue, IsLooking, IsValue, clause_at, lits_of, no_literal, no_slot}
+use Rattle.clause_prop.specs.Watching.{AreFalse, IsLooking, IsValue, clause_at, lits_of, no_literal, no_slot}
 use Rattle.clause_prop.specs.Watches.{IsVisited}
 use Rattle.clause_prop.specs.declared.watches.Visit.TheVariants.{Next}
 use Rattle.clause_prop.proofs.WatchLists.{contains_at}

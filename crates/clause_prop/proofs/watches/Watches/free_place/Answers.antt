@@ -2,9 +2,8 @@ use Rattle.std.proofs.Common.{◌≡◌, get_or, subst}
 use Rattle.std.specs.Prelude.{IfNone}
 use Rattle.std.specs.List.{Contains}
 use Rattle.std.proofs.lemmas.List.{get_or_read}
-use Rattle.scut_base.specs.Literal.{Literal}
 use Rattle.clause_prop.specs.declared.watch_lists.Slot.{Slot}
-use Rattle.clause_prop.specs.Watching.{AreFalse, clause_at, lits_of, no_slot}
+use Rattle.clause_prop.specs.Watching.{AreFalse, lits_of, no_slot}
 use Rattle.clause_prop.proofs.watches.Watches.free_place.Goals as goal
 
 pub free_place-requires : goal.free_place-requires

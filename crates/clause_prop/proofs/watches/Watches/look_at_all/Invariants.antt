@@ -1,4 +1,4 @@
-use Rattle.std.proofs.Common.{◌≡◌, ◌-◌, length}
+use Rattle.std.proofs.Common.{◌-◌, length}
 use Rattle.clause_prop.specs.Watches.{IsReady, IsFollowed}
 use Rattle.clause_prop.proofs.watches.Watches.look_at_all.Given as goal
 

@@ -1,6 +1,3 @@
-use Rattle.std.proofs.Common.{◌≡◌, ℕ, List, [], length, get_or, arith, ap, sym, subst, refl}
-use Rattle.std.specs.FinMap.{empty}
-use Rattle.clause_prop.specs.Watching.{IsKept}
 use Rattle.clause_prop.specs.Watches.{AreWatches}
 use Rattle.clause_prop.proofs.WatchKept.{kept_none}
 use Rattle.clause_prop.proofs.WatchHold.{hold_none_of}

@@ -1,7 +1,6 @@
-use Rattle.std.proofs.Common.{◌≡◌, ◌++◌, ◌∷◌, ℕ, List, [], Some, refl, ap, sym, subst, ◌∙◌}
+use Rattle.std.proofs.Common.{Some, ap, sym, subst}
 use Rattle.std.specs.Map.{lookup}
 use Rattle.std.specs.Prelude.{nat_eq}
-use Rattle.clause_prop.specs.declared.watch_lists.Slot.{Slot}
 use Rattle.clause_prop.specs.Watching.{IsKept, lits_of}
 use Rattle.clause_prop.specs.Watches.{AreSlots}
 use Rattle.clause_prop.proofs.WatchKept.{kept_slot}

@@ -1,8 +1,4 @@
-use Rattle.std.proofs.Common.{◌≡◌, ℕ, Option, Some, None, length, sym, subst}
-use Rattle.std.specs.Prelude.{Result, Ok, Err, IfOk, IfSome, IfNone}
-use Rattle.clause_prop.specs.LineKinds.{is_watched, IsClosedForWatched}
-use Rattle.clause_prop.specs.Propagating.{IsConflict}
-use Rattle.clause_prop.specs.Watches.{AreWatches, Hold, IsAllLooked, IsConflictOf}
+use Rattle.clause_prop.specs.Watches.{AreWatches}
 use Rattle.clause_prop.proofs.WatchVisits.{conflict_in, none_weaker, watched_closed}
 use Rattle.clause_prop.proofs.watches.Watches.propagate.Goals as goal
 

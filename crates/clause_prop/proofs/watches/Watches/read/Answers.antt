@@ -1,8 +1,8 @@
-use Rattle.std.proofs.Common.{◌≡◌, ◌+◌, ℕ, List, [], Some, true, refl, get_or, length, set, ap, sym, subst, ◌∙◌, arith}
+use Rattle.std.proofs.Common.{◌≡◌, ◌+◌, ℕ, List, [], Some, true, refl, get_or, length, set, ap, sym, subst, ◌∙◌}
 use Rattle.clause_prop.specs.declared.watch_lists.Entry.{Entry}
 use Rattle.clause_prop.specs.Watching.{IsEntry, IsLooking, IsValue, code_of, list_of, lits_of}
 use Rattle.clause_prop.proofs.WatchKept.{looking_next, looking_blocker, length_blocker}
-use Rattle.clause_prop.proofs.WatchVisits.{followed_none, followed_same}
+use Rattle.clause_prop.proofs.WatchVisits.{followed_same}
 use Rattle.clause_prop.proofs.watches.Watches.read.Goals as goal
 
 pub truth-requires : goal.truth-requires

@@ -1,7 +1,7 @@
-use Rattle.std.proofs.Common.{◌≡◌, ◌<◌, ◌≤◌, ℕ, [], Some, true, refl, get_or, length, ap, sym, subst, ◌∙◌, arith}
+use Rattle.std.proofs.Common.{ℕ, [], Some, true, refl, get_or, ap, sym, subst, ◌∙◌}
 use Rattle.std.proofs.lemmas.Result.{on_err_weaker}
 use Rattle.clause_prop.specs.declared.watch_lists.Entry.{Entry}
-use Rattle.clause_prop.specs.Watching.{HasTrue, IsEntry, IsRemoved, IsValue, clause_at, code_of, lits_of}
+use Rattle.clause_prop.specs.Watching.{IsEntry, IsRemoved, IsValue, code_of, lits_of}
 use Rattle.clause_prop.proofs.WatchKept.{looking_next, looking_removed}
 use Rattle.clause_prop.proofs.WatchVisits.{followed_none, followed_same, followed_twice, if_ok_weaker, second_put, visited_after}
 use Rattle.clause_prop.proofs.watches.Watches.visit.Goals as goal

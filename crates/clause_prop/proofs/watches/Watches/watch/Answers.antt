@@ -1,12 +1,11 @@
-use Rattle.std.proofs.Common.{◌≡◌, ◌<◌, ◌≤◌, ◌+◌, ◌++◌, ◌∷◌, ℕ, List, [], Some, length, get_or, set, refl, arith, ap, sym, subst, ◌∙◌}
+use Rattle.std.proofs.Common.{◌≡◌, ◌<◌, ◌++◌, ◌∷◌, ℕ, List, [], length, get_or, set, refl, arith, ap, sym, subst, ◌∙◌}
 use Rattle.std.specs.Map.{lookup}
 use Rattle.std.specs.Prelude.{nat_eq}
 use Rattle.std.specs.FinMap.{remove}
 use Rattle.std.proofs.lemmas.List.{get_or_read, get_or_push, length_push}
-use Rattle.scut_base.specs.Literal.{Literal}
 use Rattle.clause_prop.specs.declared.watch_lists.Entry.{Entry}
 use Rattle.clause_prop.specs.declared.watch_lists.Slot.{Slot}
-use Rattle.clause_prop.specs.Watching.{IsEntry, IsKept, code_of, lits_of, no_literal, no_slot}
+use Rattle.clause_prop.specs.Watching.{IsEntry, code_of, lits_of, no_literal, no_slot}
 use Rattle.clause_prop.specs.Watches.{AreSlots, IsCopy}
 use Rattle.clause_prop.proofs.WatchKept.{entry_fresh, kept_as, kept_entry, kept_watched, with_entry}
 use Rattle.clause_prop.proofs.WatchHold.{get_removed, hold_filled}
