@@ -191,3 +191,30 @@ hold_none_of own index none = record {
 
 pub not_equal : (a b : ℕ) → a ≢ b → a ≡ b → ⊥
 not_equal a b n e = n e
+
+-- ---- lines of the other kind
+
+both_kinds : (c d : ConstraintValue) → is_watched c ≡ true → is_watched d ≡ false → Some d ≡ Some c → ⊥
+both_kinds c d yes_c no_d e = cc
+
+-- a line that isn't watched is dropped
+pub same_watched_removed : (lines : LineMap) (id : ℕ) (c : ConstraintValue) → get lines id ≡ Some c → is_watched c ≡ false → AreSameWatched lines (remove lines id)
+same_watched_removed lines id c here kind = record {
+  stays = λ q d watched there. get_kept lines id q (λ e. both_kinds d c watched kind (sym here ∙ ap (get lines) (sym e) ∙ there)) ∙ there;
+  was = λ q d watched there. sym (get_kept lines id q (other_id lines id q d there)) ∙ there;
+}
+
+pub same_watched_back : (old new : LineMap) → AreSameWatched old new → AreSameWatched new old
+same_watched_back old new same = record { stays = same.was; was = same.stays }
+
+-- a line that isn't watched is stored
+pub same_watched_added : (lines : LineMap) (id : ℕ) (c : ConstraintValue) → get lines id ≡ Some c → is_watched c ≡ false → AreSameWatched (remove lines id) lines
+same_watched_added lines id c here kind = same_watched_back lines (remove lines id) (same_watched_removed lines id c here kind)
+
+-- lines closed by kinds are closed
+pub closed_by_kinds : (lines : LineMap) (t : TrailValue) → IsClosedForWatched lines t → IsClosedForCounted lines t → IsClosedFor lines t
+closed_by_kinds lines t watched counted id c there = by_kind (is_watched c) refl
+  where
+    by_kind : (b : Bool) → is_watched c ≡ b → IsClosedUnder (partial t) c
+    by_kind true e = watched id c there e
+    by_kind false e = counted id c there e

@@ -597,3 +597,23 @@ kept_covers own lists new ends n trail same longer kept = record {
   rising = kept.rising;
   settled = kept.settled;
 }
+
+-- entries whose blockers are true are passed over
+pub looking_skip : (own : List Slot) (lists : List (List Entry)) (ends : List ℕ) (n : ℕ) (trail : List Literal) (lit : Literal) (at to : ℕ) → IsLooking own lists ends n trail lit at → ((k : ℕ) → at ≤ k → k < to → (k < length (list_of lists lit)) × Contains trail (get_or (list_of lists lit) k no_entry).blocker) → IsLooking own lists ends n trail lit to
+looking_skip own lists ends n trail lit at to looking held =
+    record {
+      kept = looking.kept;
+      more = looking.more;
+      here = looking.here;
+      due = λ j watch. elim (looking.due j watch) [
+        | inl names ↦ elim (cases_lt names.0 to) [
+          | inl below ↦
+              let h = held names.0 names.1 below in
+              let e = looking.kept.entries (code_of lit) names.0 h.0 in
+              let among = subst (λ i. 2 ≤ length (clause_at own i) → Contains (clause_at own i) (get_or (list_of lists lit) names.0 no_entry).blocker) names.3 e.among in
+              inr ((get_or (list_of lists lit) names.0 no_entry).blocker, among watch.0, h.1)
+          | inr past ↦ inl (names.0, past, names.2, names.3)
+        ]
+        | inr t ↦ inr t
+      ];
+    }

@@ -4,7 +4,7 @@ ghost use Rattle.scut_base.specs.Assignment.{partial_truth};
 ghost use Rattle.scut_base.specs.Literal.{Literal};
 ghost use Rattle.pb_lin.specs.Constraint.{opposite};
 ghost use Rattle.clause_prop.specs.Steps.{AreSteps, partial};
-ghost use Rattle.clause_prop.specs.Watching.{AreFalse, IsDistinct, IsFree, IsRemoved, IsValue, IsWatch, clause_at, code_of, lits_of, no_literal, no_slot};
+ghost use Rattle.clause_prop.specs.Watching.{AreFalse, IsDistinct, IsFree, IsRemoved, IsValue, IsWatch, clause_at, code_of, lits_of, no_entry, no_literal, no_slot};
 
 use crate::Trail;
 use crate::row::Row;
@@ -55,6 +55,17 @@ pub(crate) fn falsified(trail: &Trail, place: usize) -> Lit
     trail.step_at(place as u64).lit.not()
 }
 
+/// Whether a literal is true.
+pub(crate) fn is_true(trail: &Trail, lit: Lit) -> bool
+    requires { lit.var ≤ trail.now.vars }
+    ensures { IsTrue result ↔ Contains (lits_of trail.now.steps) lit }
+{
+    match truth(trail, lit) {
+        Some(value) => value,
+        None => false,
+    }
+}
+
 /// Whether a literal of a clause is false.
 pub(crate) fn is_false(clause: &Row<Lit>, trail: &Trail, place: usize) -> bool
     requires within { place < length clause.now }
@@ -66,6 +77,24 @@ pub(crate) fn is_false(clause: &Row<Lit>, trail: &Trail, place: usize) -> bool
         Some(value) => !value,
         None => false,
     }
+}
+
+/// The first place from one on whose blocker isn't true, or the end.
+pub(crate) fn skip_true(list: &Row<Entry>, trail: &Trail, from: usize) -> usize
+    requires { (k : ℕ) → k < length list.now
+        → (slice_index_or list.now k no_entry).blocker.var ≤ trail.now.vars }
+    ensures after { from ≤ result }
+    ensures held { (k : ℕ) → from ≤ k → k < result → (k < length list.now)
+        × Contains (lits_of trail.now.steps) (slice_index_or list.now k no_entry).blocker }
+{
+    let mut at = from;
+    while at < list.len() {
+        if !is_true(trail, list.at(at).blocker) {
+            return at;
+        }
+        at += 1;
+    }
+    at
 }
 
 /// A place from 2 on whose literal isn't false.

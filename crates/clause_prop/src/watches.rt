@@ -16,7 +16,7 @@ use crate::line::push_forced;
 use crate::row::Row;
 use crate::watch_lists::{
     Entry, Slot, add_entry, code, cover, cut_ends, drop_entry, falsified, free_first, free_place,
-    latest_first, put_at_second, put_second, set_blocker, truth,
+    latest_first, put_at_second, put_second, set_blocker, skip_true, truth,
 };
 use crate::{ClauseStore, Trail};
 use pb_lin::Constraint;
@@ -162,7 +162,11 @@ impl Watches {
     {
         let lit = falsified(trail, self.ends.len());
         let mut at = 0;
-        while at < self.entries(lit) {
+        loop {
+            at = self.skip(trail, lit, at);
+            if at >= self.entries(lit) {
+                break;
+            }
             match self.visit(trail, lit, at)? {
                 Visit::Next => at += 1,
                 Visit::Gone => {}
@@ -216,18 +220,29 @@ impl Watches {
         free_place(&self.slots[slot].lits, trail)
     }
 
-    // Visits an entry in the list of a literal that is false.
+    // The first place from one on whose blocker isn't true, or the end of the list: most visits end here.
+    fn skip(&self, trail: &Trail, lit: Lit, at: usize) -> usize
+        requires looking { IsAt self.now trail.now lit at }
+        ensures looking { IsAt self.now trail.now lit result }
+        ensures after { at ≤ result }
+    {
+        let code = code(lit);
+        if code < self.lists.len() {
+            skip_true(&self.lists[code], trail, at)
+        } else {
+            at
+        }
+    }
+
+    // Visits an entry in the list of a literal that is false, whose blocker isn't true.
     fn visit(&mut self, trail: &mut Trail, lit: Lit, at: usize) -> Result<Visit, NoMemory>
         requires looking { IsAt self.old trail.old lit at }
         requires within { at < entries_of self.old lit }
         ensures ok { IfOk result (IsVisited self.old self.new trail.old trail.new lit at) }
-        ensures err { OnErr result (IsReady self.new trail.new
-            × IsFollowed self.old self.new trail.old trail.new) }
+        ensures err { OnErr result
+            (IsReady self.new trail.new × IsFollowed self.old self.new trail.old trail.new) }
     {
         let entry = self.entry(lit, at);
-        if let Some(true) = truth(trail, entry.blocker) {
-            return Ok(Visit::Next);
-        }
         if put_second(&mut self.slots, entry.slot, lit) {
             self.read(trail, lit, at, entry.slot)
         } else {

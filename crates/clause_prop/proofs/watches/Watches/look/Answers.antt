@@ -24,7 +24,7 @@ returns-in_err-visit-clause-followed c =
 
 pub loop-at-preserved-in-Next : goal.loop-at-preserved-in-Next
 loop-at-preserved-in-Next c =
-    let v = subst (IsVisited c.loop-at.self c.visit.new.self c.loop-at.trail c.visit.new.trail c.falsified-lit.result c.loop-at.at) c.in-Next.is c.in_ok-visit.ensures.ok in
+    let v = subst (IsVisited c.loop-at.self c.visit.new.self c.loop-at.trail c.visit.new.trail c.falsified-lit.result c.skip-at.result) c.in-Next.is c.in_ok-visit.ensures.ok in
     record {
       looking = v.looking;
       ends = v.ends ∙ c.loop-at.invariant.ends;
@@ -33,7 +33,7 @@ loop-at-preserved-in-Next c =
 
 pub loop-at-preserved : goal.loop-at-preserved
 loop-at-preserved c =
-    let v = subst (IsVisited c.loop-at.self c.visit.new.self c.loop-at.trail c.visit.new.trail c.falsified-lit.result c.loop-at.at) c.in-Gone.is c.in_ok-visit.ensures.ok in
+    let v = subst (IsVisited c.loop-at.self c.visit.new.self c.loop-at.trail c.visit.new.trail c.falsified-lit.result c.skip-at.result) c.in-Gone.is c.in_ok-visit.ensures.ok in
     record {
       looking = v.looking;
       ends = v.ends ∙ c.loop-at.invariant.ends;
@@ -48,7 +48,7 @@ pub returns-clause-ready : goal.returns-clause-ready
 returns-clause-ready c =
     let w = c.loop-at.self in
     let t = c.loop-at.trail in
-    let past = subst (λ (n : ℕ). n ≤ c.loop-at.at) c.entries.ensures c.loop-at-test.false in
-    let done = looking_end w.slots.items w.lists.items w.ends.items t.vars (lits_of t.steps) c.falsified-lit.result c.loop-at.at c.loop-at.invariant.looking past in
+    let past = subst (λ (n : ℕ). n ≤ c.skip-at.result) c.entries.ensures c.if-at-entries.true in
+    let done = looking_end w.slots.items w.lists.items w.ends.items t.vars (lits_of t.steps) c.falsified-lit.result c.skip-at.result c.skip-at.ensures.looking past in
     let is : c.push.new.self.items ≡ w.ends.items ++ length (lits_of t.steps) ∷ [] = c.in_ok-push.ensures.items ∙ ap (λ (n : ℕ). w.ends.items ++ n ∷ []) (c.len-2.ensures.value ∙ sym (length-map t.steps (λ s. s.lit))) in
     subst (λ (es : List ℕ). IsKept w.slots.items w.lists.items es t.vars (lits_of t.steps)) (sym is) done

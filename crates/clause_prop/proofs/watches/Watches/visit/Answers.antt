@@ -1,32 +1,10 @@
-use Rattle.std.proofs.Common.{ℕ, [], Some, true, refl, get_or, ap, sym, subst, ◌∙◌}
+use Rattle.std.proofs.Common.{ℕ, [], refl, get_or, ap, sym, subst, ◌∙◌}
 use Rattle.std.proofs.lemmas.Result.{on_err_weaker}
 use Rattle.clause_prop.specs.declared.watch_lists.Entry.{Entry}
-use Rattle.clause_prop.specs.Watching.{IsEntry, IsRemoved, IsValue, code_of, lits_of}
-use Rattle.clause_prop.proofs.WatchKept.{looking_next, looking_removed}
-use Rattle.clause_prop.proofs.WatchVisits.{followed_none, followed_same, followed_twice, if_ok_weaker, second_put, visited_after}
+use Rattle.clause_prop.specs.Watching.{IsEntry, IsRemoved, code_of, lits_of}
+use Rattle.clause_prop.proofs.WatchKept.{looking_removed}
+use Rattle.clause_prop.proofs.WatchVisits.{followed_same, followed_twice, if_ok_weaker, second_put, visited_after}
 use Rattle.clause_prop.proofs.watches.Watches.visit.Goals as goal
-
-pub truth-requires : goal.truth-requires
-truth-requires c =
-    let w = c.args.self.now in
-    let e : IsEntry w.slots.items c.args.trail.now.vars c.entry-entry.result = subst (IsEntry w.slots.items c.args.trail.now.vars) (sym c.entry-entry.ensures) (c.requires.looking.kept.entries (code_of c.args.lit) c.args.at c.requires.within) in
-    e.upto
-
-pub returns-in-Some-true-clause-ok : goal.returns-in-Some-true-clause-ok
-returns-in-Some-true-clause-ok c =
-    let w = c.args.self.now in
-    let t = c.args.trail.now in
-    let entry = c.entry-entry.result in
-    let looking = c.requires.looking in
-    let e : IsEntry w.slots.items t.vars entry = subst (IsEntry w.slots.items t.vars) (sym c.entry-entry.ensures) (looking.kept.entries (code_of c.args.lit) c.args.at c.requires.within) in
-    let value : IsValue (lits_of t.steps) entry.blocker (Some true) = subst (IsValue (lits_of t.steps) entry.blocker) (c.in-Some-true.is ∙ ap Some c.in-Some-true.field-0-test) c.truth.ensures.told in
-    record {
-      looking = looking_next w.slots.items w.lists.items w.ends.items t.vars (lits_of t.steps) c.args.lit c.args.at entry.slot looking (ap (λ (x : Entry). x.slot) (sym c.entry-entry.ensures)) (λ long. (entry.blocker, e.among long, value.0));
-      left = refl;
-      ends = refl;
-      followed = followed_none w t;
-      rightly = tt;
-    }
 
 pub put_second-requires : goal.put_second-requires
 put_second-requires c =
