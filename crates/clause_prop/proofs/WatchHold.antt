@@ -1,10 +1,10 @@
 -- What keeps the slots in step with the stored clauses.
-use Rattle.std.proofs.Common.{◌≡◌, ◌≢◌, ℕ, ◌<◌, ◌≤◌, cond, nat_eq, Option, Some, None, List, [], ◌∷◌, ◌++◌, length, get_or, set, refl, arith, ap, sym, subst, ◌∙◌, inl, inr, get_or-set_same, get_or-set_other}
+use Rattle.std.proofs.Common.{◌≡◌, ◌≢◌, ℕ, Bool, true, false, ◌<◌, ◌≤◌, cond, nat_eq, Option, Some, None, List, [], ◌∷◌, ◌++◌, length, get_or, set, refl, arith, ap, sym, subst, ◌∙◌, inl, inr, get_or-set_same, get_or-set_other}
 use Rattle.std.specs.List.Sorted.{IsPermutation}
 use Rattle.std.specs.Map.{lookup}
 use Rattle.std.specs.FinMap.{get, remove, empty, get-remove, get-empty}
 use Rattle.std.specs.Ordering.{nat_cmp, eq_by_cmp}
-use Rattle.std.proofs.lemmas.Bool.{cases_eq, cond-true, cond-false, eq-eqb, ne_eqb}
+use Rattle.std.proofs.lemmas.Bool.{cases_eq, false≢true, cond-true, cond-false, eq-eqb, ne_eqb}
 use Rattle.std.proofs.lemmas.Cmp.{nat_cmp_total}
 use Rattle.std.specs.Cmp.{unsigned_tied}
 use Rattle.std.proofs.lemmas.List.{get_or_past}
@@ -12,6 +12,10 @@ use Rattle.std.proofs.lemmas.List.Sorted.{IsPermutation-trans, length_permutatio
 use Rattle.pb_lin.specs.Constraint.{ConstraintValue}
 use Rattle.pb_lin.specs.LineMap.{LineMap}
 use Rattle.clause_prop.specs.declared.watch_lists.Slot.{Slot}
+use Rattle.clause_prop.specs.LineKinds.{is_watched, IsClosedForWatched, IsClosedForCounted}
+use Rattle.pb_lin.specs.Propagation.{IsClosedUnder}
+use Rattle.clause_prop.specs.Steps.{TrailValue, partial}
+use Rattle.clause_prop.specs.Propagating.{IsClosedFor}
 use Rattle.clause_prop.specs.Watching.{clause_at, no_slot}
 use Rattle.clause_prop.specs.Watches.{AreSameWatched, AreSlots, IsCopy, IsStored}
 use Rattle.clause_prop.proofs.WatchLists.{at_set}
@@ -195,7 +199,10 @@ not_equal a b n e = n e
 -- ---- lines of the other kind
 
 both_kinds : (c d : ConstraintValue) → is_watched c ≡ true → is_watched d ≡ false → Some d ≡ Some c → ⊥
-both_kinds c d yes_c no_d e = cc
+both_kinds c d yes_c no_d e = false≢true (sym no_d ∙ ap is_watched (some_same d c e) ∙ yes_c)
+  where
+    some_same : (x y : ConstraintValue) → Some x ≡ Some y → x ≡ y
+    some_same x y f = cc
 
 -- a line that isn't watched is dropped
 pub same_watched_removed : (lines : LineMap) (id : ℕ) (c : ConstraintValue) → get lines id ≡ Some c → is_watched c ≡ false → AreSameWatched lines (remove lines id)
