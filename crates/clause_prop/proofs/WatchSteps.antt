@@ -6,6 +6,7 @@ use Rattle.std.specs.Option.{option_map}
 use Rattle.std.proofs.lemmas.Bool.{cases_eq}
 use Rattle.std.proofs.lemmas.List.{get_or-map, length-map}
 use Rattle.std.proofs.lemmas.List.Elements.{Contains-get_or}
+use Rattle.std.proofs.lemmas.Option.{get_or_from_slice_get, slice_get_within}
 use Rattle.scut_base.specs.Literal.{Literal}
 use Rattle.scut_base.specs.Assignment.{partial_truth}
 use Rattle.pb_lin.specs.Constraint.{ConstraintValue, opposite, literals}
@@ -15,12 +16,12 @@ use Rattle.clause_prop.specs.declared.step.Step.{Step}
 use Rattle.clause_prop.specs.declared.watch_lists.Entry.{Entry}
 use Rattle.clause_prop.specs.declared.watch_lists.Slot.{Slot}
 use Rattle.clause_prop.specs.LineKinds.{is_watched}
-use Rattle.clause_prop.specs.Steps.{AreSteps, assigned, last_level}
+use Rattle.clause_prop.specs.Steps.{AreSteps, IsPlaceOf, assigned, last_level}
 use Rattle.clause_prop.specs.Propagating.{IsConflict, IsForcedStep}
 use Rattle.clause_prop.specs.Watching.{AreFalse, HasTrue, IsDistinct, IsKept, IsValue, clause_at, lits_of, no_literal, no_slot}
 use Rattle.clause_prop.specs.Watches.{AreSlots}
 use Rattle.clause_prop.proofs.Assigned.{assigned-at, assigned-found, index}
-use Rattle.clause_prop.proofs.WatchLists.{place_in, contains_take}
+use Rattle.clause_prop.proofs.WatchLists.{contains_at, place_in, contains_take}
 use Rattle.clause_prop.proofs.WatchedLines.{closed_by, first_forced, term_of, violated}
 
 no_step : Step
@@ -110,6 +111,18 @@ steps_distinct n steps are i k i_in k_in other same =
   where
     sides : (a b : ℕ) → a ≢ b → (a < b) ⊎ (b < a)
     sides a b n = grind arith
+
+-- no step makes a literal false that isn't false
+pub never_false : (n : ℕ) (steps : List Step) (l : Literal) → AreSteps n steps → (Contains (lits_of steps) (opposite l) → ⊥) → (p : ℕ) → p < length steps → get_or (lits_of steps) p no_literal ≢ opposite l
+never_false n steps l are other p below e = other (contains_at (lits_of steps) p (opposite l) (omega (arith, below, length-map steps (λ s. s.lit))) e)
+
+-- nor one before the step of its variable
+pub before_place : (n : ℕ) (steps : List Step) (l : Literal) (k : ℕ) → AreSteps n steps → IsPlaceOf steps l.var k → (p : ℕ) → p < k → get_or (lits_of steps) p no_literal ≢ opposite l
+before_place n steps l k are place p below e =
+    let within : k < length steps = slice_get_within steps k place.step place.there in
+    let at_p : (get_or steps p no_step).lit.var ≡ l.var = ap (λ (m : Literal). m.var) (sym (get_or-map (λ s. s.lit) steps p no_step no_literal (omega (arith, below, within))) ∙ e) in
+    let at_k : (get_or steps k no_step).lit.var ≡ l.var = ap (λ (s : Step). s.lit.var) (get_or_from_slice_get steps k place.step no_step place.there) ∙ place.is in
+    are.apart p k no_step below within (at_p ∙ sym at_k)
 
 -- ---- clauses
 

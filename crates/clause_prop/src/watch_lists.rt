@@ -58,7 +58,8 @@ pub(crate) fn falsified(trail: &Trail, place: usize) -> Lit
 /// Whether a literal is true.
 pub(crate) fn is_true(trail: &Trail, lit: Lit) -> bool
     requires { lit.var ≤ trail.now.vars }
-    ensures { IsTrue result ↔ Contains (lits_of trail.now.steps) lit }
+    ensures value { IsTrue result ↔ Contains (lits_of trail.now.steps) lit }
+    ensures steps { AreSteps trail.now.vars trail.now.steps }
 {
     match truth(trail, lit) {
         Some(value) => value,
@@ -228,34 +229,12 @@ fn reach(alloc: Global, lists: &mut Vec<Row<Entry>>, code: usize) -> Result<(), 
     Ok(())
 }
 
-/// Puts up to two literals that aren't false in front; how many.
-pub(crate) fn free_first(clause: &mut Row<Lit>, trail: &Trail) -> usize
-    requires { (l : Literal) → Contains clause.old l → l.var ≤ trail.now.vars }
-    ensures found { result ≤ length clause.new }
-    ensures same { IsPermutation clause.old clause.new }
-    ensures distinct { IsDistinct clause.old → IsDistinct clause.new }
-    ensures free { (k : ℕ) → k < result
-        → Contains (lits_of trail.now.steps) (opposite (slice_index_or clause.new k no_literal)) → ⊥ }
-{
-    let mut found = 0;
-    let mut at = 0;
-    while found < 2 && at < clause.len() {
-        if !is_false(clause, trail, at) {
-            clause.swap(found, at);
-            found += 1;
-        }
-        at += 1;
-    }
-    found
-}
-
-/// Where fewer than two are found, takes back steps that were looked at until two are: those that they
-/// made false last.
-pub(crate) fn latest_first(clause: &mut Row<Lit>, free: usize, ends: &mut Vec<usize>, trail: &Trail)
-    requires found { free ≤ length clause.old }
-    requires free { (k : ℕ) → k < free
-        → Contains (lits_of trail.now.steps) (opposite (slice_index_or clause.old k no_literal)) → ⊥ }
-    requires ends { length ends.old.items ≤ length trail.now.steps }
+/// Puts two literals in front that aren't false by a step that was looked at. Where there are fewer, takes
+/// the literals that became false last, and takes steps back that were looked at, so that these are in no
+/// looked-at step. Costs two passes over the clause.
+pub(crate) fn latest_first(clause: &mut Row<Lit>, ends: &mut Vec<usize>, trail: &Trail)
+    requires long { 2 ≤ length clause.old }
+    requires vars { (l : Literal) → Contains clause.old l → l.var ≤ trail.now.vars }
     ensures same { IsPermutation clause.old clause.new }
     ensures distinct { IsDistinct clause.old → IsDistinct clause.new }
     ensures front { ends.new.items ≡ take (length ends.new.items) ends.old.items }
@@ -264,31 +243,58 @@ pub(crate) fn latest_first(clause: &mut Row<Lit>, free: usize, ends: &mut Vec<us
         → slice_index_or (lits_of trail.now.steps) p no_literal
         ≢ opposite (slice_index_or clause.new k no_literal) }
 {
-    let mut found = free;
-    let mut left = ends.len();
-    let _steps = trail.len();
-    while found < 2 && left > 0 {
-        left -= 1;
-        let lit = falsified(trail, left);
-        if let Some(place) = place_of(clause, lit, found) {
-            clause.swap(found, place);
-            found += 1;
-        }
+    put_latest(clause, trail, 0);
+    put_latest(clause, trail, 1);
+    let left = looked_at(trail, clause.at(0)).min(looked_at(trail, clause.at(1)));
+    if left < ends.len() {
+        ends.truncate(left);
     }
-    ends.truncate(left);
 }
 
-// The first place of a literal in a clause, from one on.
-fn place_of(clause: &Row<Lit>, lit: Lit, from: usize) -> Option<usize>
-    ensures { IfSome result (λ k. (from ≤ k) × (k < length clause.now)
-        × (slice_index_or clause.now k no_literal ≡ lit)) }
+// Puts the literal that became false last, or one that isn't false, at this place; those before it stay.
+fn put_latest(clause: &mut Row<Lit>, trail: &Trail, front: usize)
+    requires within { front < length clause.old }
+    requires vars { (l : Literal) → Contains clause.old l → l.var ≤ trail.now.vars }
+    ensures same { IsPermutation clause.old clause.new }
+    ensures distinct { IsDistinct clause.old → IsDistinct clause.new }
 {
-    for place in from..clause.len() {
-        if clause.at(place) == lit {
-            return Some(place);
+    let best = latest(clause, trail, front);
+    clause.swap(front, best);
+}
+
+// The place, from one on, of the literal that became false last, or of one that isn't false.
+fn latest(clause: &Row<Lit>, trail: &Trail, front: usize) -> usize
+    requires within { front < length clause.now }
+    requires vars { (l : Literal) → Contains clause.now l → l.var ≤ trail.now.vars }
+    ensures from { front ≤ result }
+    ensures within { result < length clause.now }
+{
+    let mut best = front;
+    let mut most = looked_at(trail, clause.at(front));
+    for place in front..clause.len() {
+        let steps = looked_at(trail, clause.at(place));
+        if most < steps {
+            best = place;
+            most = steps;
         }
     }
-    None
+    best
+}
+
+// The number of steps that may be looked at while the literal is watched: those before it became false,
+// or all where it isn't false.
+fn looked_at(trail: &Trail, lit: Lit) -> usize
+    requires { lit.var ≤ trail.now.vars }
+    ensures { (p : ℕ) → p < result
+        → slice_index_or (lits_of trail.now.steps) p no_literal ≢ opposite lit }
+{
+    if is_true(trail, lit) {
+        return trail.len() as usize;
+    }
+    match trail.place_of(lit) {
+        Some(place) => place as usize,
+        None => trail.len() as usize,
+    }
 }
 
 /// Takes the last ends off, up to one that isn't above the length to keep.

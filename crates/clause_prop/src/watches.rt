@@ -15,8 +15,8 @@ ghost use Rattle.clause_prop.specs.declared.step.Step.{Step};
 use crate::line::push_forced;
 use crate::row::Row;
 use crate::watch_lists::{
-    Entry, Slot, add_entry, code, cover, cut_ends, drop_entry, falsified, free_first, free_place,
-    latest_first, put_at_second, put_second, set_blocker, skip_true, truth,
+    Entry, Slot, add_entry, code, cover, cut_ends, drop_entry, falsified, free_place, latest_first,
+    put_at_second, put_second, set_blocker, skip_true, truth,
 };
 use crate::{ClauseStore, Trail};
 use pb_lin::Constraint;
@@ -342,8 +342,7 @@ impl Watches {
     {
         let mut lits = Row::from_slice(self.alloc, line.literals())?;
         cover(self.alloc, &mut self.lists, &lits)?;
-        let free = free_first(&mut lits, trail);
-        latest_first(&mut lits, free, &mut self.ends, trail);
+        latest_first(&mut lits, &mut self.ends, trail);
         self.watch(lits, id)
     }
 

@@ -10,7 +10,7 @@ loop-at-preserved c =
     let inv = c.loop-at.invariant in
     let after = inv.after in
     let within : c.loop-at.at < length c.args.list.now = (let h = c.loop-at-test.true in let e = c.len.ensures in omega (arith, h, e)) in
-    let here : Contains (lits_of c.args.trail.now.steps) (get_or c.args.list.now c.loop-at.at no_entry).blocker = subst (λ (x : Entry). Contains (lits_of c.args.trail.now.steps) x.blocker) (sym (c.at.ensures.value no_entry)) (c.is_true.ensures.0 c.if-not-is_true.false) in
+    let here : Contains (lits_of c.args.trail.now.steps) (get_or c.args.list.now c.loop-at.at no_entry).blocker = subst (λ (x : Entry). Contains (lits_of c.args.trail.now.steps) x.blocker) (sym (c.at.ensures.value no_entry)) (c.is_true.ensures.value.0 c.if-not-is_true.false) in
     record {
       after = omega (arith, after);
       held = λ k from below. elim (cases_eq k c.loop-at.at) [
