@@ -11,16 +11,16 @@ use crate::row::Row;
 use scut_base::{Lit, NoMemory};
 use std::alloc::Global;
 
-/// A clause in the list of a literal that it watches, and some literal of it: where that one is true,
-/// the clause isn't read.
+/// A clause in the list of a literal that it watches, and some literal of it: where that one is
+/// true, the clause isn't read.
 #[derive(Clone, Copy, Debug)]
 pub(crate) struct Entry {
     pub(crate) slot: usize,
     pub(crate) blocker: Lit,
 }
 
-/// A clause's literals in an order of their own, with the two that are watched in front; none after its
-/// line was dropped.
+/// A clause's literals in an order of their own, with the two that are watched in front; none after
+/// its line was dropped.
 #[derive(Debug, Drop)]
 pub(crate) struct Slot {
     pub(crate) id: u64,
@@ -71,8 +71,8 @@ pub(crate) fn is_true(trail: &Trail, lit: Lit) -> bool
 pub(crate) fn is_false(clause: &Row<Lit>, trail: &Trail, place: usize) -> bool
     requires within { place < length clause.now }
     requires vars { (l : Literal) → Contains clause.now l → l.var ≤ trail.now.vars }
-    ensures { IsTrue result
-        ↔ Contains (lits_of trail.now.steps) (opposite (slice_index_or clause.now place no_literal)) }
+    ensures { IsTrue result ↔ Contains (lits_of trail.now.steps)
+        (opposite (slice_index_or clause.now place no_literal)) }
 {
     match truth(trail, clause.at(place)) {
         Some(value) => !value,
@@ -123,7 +123,8 @@ pub(crate) fn put_second(slots: &mut Vec<Slot>, slot: usize, lit: Lit) -> bool
           lits = swap (clause_at slots.old.items slot) 0 1;
         }))) }
     ensures long { IsTrue result → 2 ≤ length (clause_at slots.new.items slot) }
-    ensures found { IsTrue result → slice_index_or (clause_at slots.new.items slot) 1 no_literal ≡ lit }
+    ensures found { IsTrue result
+        → slice_index_or (clause_at slots.new.items slot) 1 no_literal ≡ lit }
     ensures lost { result ≡ false
         → (l : Literal) → IsWatch (clause_at slots.new.items slot) l → l ≢ lit }
 {
@@ -192,7 +193,8 @@ pub(crate) fn add_entry(
 ) -> Result<(), NoMemory>
     requires { code < length lists.old.items }
     ensures ok { OnOk result (lists.new.items ≡ slice_set lists.old.items code
-        (slice_index_or lists.old.items code [] ++ record { slot = slot; blocker = blocker } ∷ [])) }
+        (slice_index_or lists.old.items code []
+        ++ record { slot = slot; blocker = blocker } ∷ [])) }
     ensures err { OnErr result (lists.new.items ≡ lists.old.items) }
 {
     let list = &mut lists[code];
@@ -205,7 +207,8 @@ pub(crate) fn cover(
     lists: &mut Vec<Row<Entry>>,
     clause: &Row<Lit>,
 ) -> Result<(), NoMemory>
-    ensures same { (c : ℕ) → slice_index_or lists.new.items c [] ≡ slice_index_or lists.old.items c [] }
+    ensures same { (c : ℕ)
+        → slice_index_or lists.new.items c [] ≡ slice_index_or lists.old.items c [] }
     ensures longer { length lists.old.items ≤ length lists.new.items }
     ensures covered { OnOk result ((k : ℕ) → k < length clause.now
         → code_of (slice_index_or clause.now k no_literal) < length lists.new.items) }
@@ -219,7 +222,8 @@ pub(crate) fn cover(
 
 // Makes the lists reach a code.
 fn reach(alloc: Global, lists: &mut Vec<Row<Entry>>, code: usize) -> Result<(), NoMemory>
-    ensures same { (c : ℕ) → slice_index_or lists.new.items c [] ≡ slice_index_or lists.old.items c [] }
+    ensures same { (c : ℕ)
+        → slice_index_or lists.new.items c [] ≡ slice_index_or lists.old.items c [] }
     ensures longer { length lists.old.items ≤ length lists.new.items }
     ensures reached { OnOk result (code < length lists.new.items) }
 {
@@ -229,9 +233,9 @@ fn reach(alloc: Global, lists: &mut Vec<Row<Entry>>, code: usize) -> Result<(), 
     Ok(())
 }
 
-/// Puts two literals in front that aren't false by a step that was looked at. Where there are fewer, takes
-/// the literals that became false last, and takes steps back that were looked at, so that these are in no
-/// looked-at step. Costs two passes over the clause.
+/// Puts two literals in front that no looked-at step makes false: those that aren't false, or else
+/// those that became false last, and then takes looked-at steps back. Costs two passes over the
+/// clause, and the steps that are taken back.
 pub(crate) fn latest_first(clause: &mut Row<Lit>, ends: &mut Vec<usize>, trail: &Trail)
     requires long { 2 ≤ length clause.old }
     requires vars { (l : Literal) → Contains clause.old l → l.var ≤ trail.now.vars }
@@ -251,7 +255,8 @@ pub(crate) fn latest_first(clause: &mut Row<Lit>, ends: &mut Vec<usize>, trail: 
     }
 }
 
-// Puts the literal that became false last, or one that isn't false, at this place; those before it stay.
+// Puts the literal that became false last, or one that isn't false, at this place; those before it
+// stay.
 fn put_latest(clause: &mut Row<Lit>, trail: &Trail, front: usize)
     requires within { front < length clause.old }
     requires vars { (l : Literal) → Contains clause.old l → l.var ≤ trail.now.vars }
@@ -281,8 +286,8 @@ fn latest(clause: &Row<Lit>, trail: &Trail, front: usize) -> usize
     best
 }
 
-// The number of steps that may be looked at while the literal is watched: those before it became false,
-// or all where it isn't false.
+// The number of steps that may be looked at while the literal is watched: those before it became
+// false, or all where it isn't false.
 fn looked_at(trail: &Trail, lit: Lit) -> usize
     requires { lit.var ≤ trail.now.vars }
     ensures { (p : ℕ) → p < result

@@ -42,9 +42,9 @@ pub(crate) fn is_watched(line: &Constraint) -> bool
     line.is_clause() && line.len() >= 2
 }
 
-/// The clauses of two literals or more, each in an order of its own with two watched literals in front;
-/// for each literal the clauses that watch it; and for each step that was looked at the trail's length
-/// when that was done.
+/// The clauses of two literals or more, each in an order of its own with two watched literals in
+/// front; for each literal the clauses that watch it; and for each step that was looked at the trail's
+/// length when that was done.
 #[derive(Debug, Drop)]
 pub(crate) struct Watches {
     alloc: Global,
@@ -70,9 +70,9 @@ impl Watches {
         }
     }
 
-    /// Extends the trail by literals that clauses force under the steps before them, until a clause is
-    /// all false, whose id is answered, or no clause forces a literal. It may be called again after
-    /// `NoMemory`. Most visits of a clause read its entry alone.
+    /// Extends the trail by literals that clauses force under the steps before them, until a clause
+    /// is all false, whose id is answered, or no clause forces a literal. It may be called again
+    /// after `NoMemory`. Most visits of a clause read its entry alone.
     #[tactic(auto, unfolding(crate::specs::Watches::AreWatches))]
     pub(crate) fn propagate(
         &mut self,
@@ -83,7 +83,8 @@ impl Watches {
         requires variables { LinesUpTo trail.old.vars _store.now }
         ensures in_step { AreWatches self.new _store.now trail.new }
         ensures conflict { IfOk result (λ found. IfSome found (IsConflict _store.now trail.new)) }
-        ensures closed { IfOk result (λ found. IfNone found (IsClosedForWatched _store.now trail.new)) }
+        ensures closed { IfOk result
+            (λ found. IfNone found (IsClosedForWatched _store.now trail.new)) }
         ensures extends { Extends _store.now trail.old trail.new }
     {
         self.look_at_all(trail)
@@ -98,7 +99,8 @@ impl Watches {
         id: u64,
     ) -> Result<(), NoMemory>
         requires in_step { AreWatches self.old (remove store.now id) trail.now }
-        requires there { (c : ConstraintValue) × (get store.now id ≡ Some c) × (is_watched c ≡ true) }
+        requires there { (c : ConstraintValue)
+            × (get store.now id ≡ Some c) × (is_watched c ≡ true) }
         requires variables { LinesUpTo trail.now.vars store.now }
         ensures ok { OnOk result (AreWatches self.new store.now trail.now) }
         ensures err { OnErr result (AreWatches self.new (remove store.now id) trail.now) }
@@ -109,8 +111,8 @@ impl Watches {
         }
     }
 
-    /// Lets go of a clause that was dropped; where the id has none, nothing changes. Takes no memory and
-    /// constant time on average: entries of the clause stay until they are met.
+    /// Lets go of a clause that was dropped; where the id has none, nothing changes. Takes no memory,
+    /// and constant time on average: entries of the clause stay until they are met.
     #[tactic(auto, unfolding(crate::specs::Watches::AreWatches))]
     pub(crate) fn dropped(&mut self, id: u64)
         ensures { (lines : LineMap) (t : TrailValue) → AreWatches self.old lines t
@@ -123,8 +125,8 @@ impl Watches {
         }
     }
 
-    /// Makes ready for a cut of the trail to its first steps. Takes no memory; costs the looked-at steps
-    /// that go.
+    /// Makes ready for a cut of the trail to its first steps. Takes no memory, and costs the
+    /// looked-at steps that go.
     #[tactic(auto, unfolding(crate::specs::Watches::AreWatches))]
     pub(crate) fn shrinking(&mut self, _trail: &Trail, keep: u64)
         requires keep { keep ≤ length _trail.now.steps }
@@ -201,7 +203,8 @@ impl Watches {
     fn literal(&self, slot: usize, place: usize) -> Lit
         requires slot { slot < length self.now.slots.items }
         requires place { place < length (clause_at self.now.slots.items slot) }
-        ensures value { result ≡ slice_index_or (clause_at self.now.slots.items slot) place no_literal }
+        ensures value { result
+            ≡ slice_index_or (clause_at self.now.slots.items slot) place no_literal }
         ensures among { Contains (clause_at self.now.slots.items slot) result }
     {
         self.slots[slot].lits.at(place)
@@ -220,7 +223,8 @@ impl Watches {
         free_place(&self.slots[slot].lits, trail)
     }
 
-    // The first place from one on whose blocker isn't true, or the end of the list: most visits end here.
+    // The first place from one on whose blocker isn't true, or the end of the list. Most visits end
+    // here.
     fn skip(&self, trail: &Trail, lit: Lit, at: usize) -> usize
         requires looking { IsAt self.now trail.now lit at }
         ensures looking { IsAt self.now trail.now lit result }
