@@ -15,11 +15,11 @@ use Rattle.clause_prop.specs.declared.watch_lists.Slot.{Slot}
 use Rattle.clause_prop.specs.declared.watches.Watches.{Watches}
 use Rattle.clause_prop.specs.declared.watches.Visit.{Visit}
 use Rattle.clause_prop.specs.Steps.{TrailValue, last_level, with_step}
-use Rattle.clause_prop.specs.Propagating.{IsConflict, IsForcedStep}
-use Rattle.clause_prop.specs.Watching.{IsLooking, clause_at, list_of, lits_of, no_slot}
-use Rattle.clause_prop.specs.Watches.{AreSlots, Hold, IsAllLooked, IsConflictOf, IsFollowed, IsReady, IsVisited}
+use Rattle.clause_prop.specs.Propagating.{Extends, IsConflict, IsForcedStep}
+use Rattle.clause_prop.specs.Watching.{IsKept, IsLooking, clause_at, list_of, lits_of, no_slot}
+use Rattle.clause_prop.specs.Watches.{AreSlots, AreWatches, Hold, IsAllLooked, IsConflictOf, IsFollowed, IsReady, IsVisited}
 use Rattle.clause_prop.proofs.Extensions.{extends_none, extends_step, extends_twice}
-use Rattle.clause_prop.proofs.WatchKept.{looking_swapped}
+use Rattle.clause_prop.proofs.WatchKept.{kept_push, looking_swapped}
 use Rattle.clause_prop.proofs.WatchHold.{hold_reordered}
 use Rattle.clause_prop.proofs.WatchSteps.{closed_slot}
 
@@ -122,3 +122,14 @@ watched_closed w lines t ready hold all id c there kind =
     positive_literal terms l merged (k, below, at) =
         let within : k < length terms = omega (arith, below, length-map terms (λ s. s.0)) in
         subst (λ (m : Literal). 0 < m.var) (sym (get_or-map (λ s. s.0) terms k (l, 1) l within) ∙ at) (merged.from_one k (l, 1) within)
+
+-- steps that any lines force leave the watches in step
+pub watches_extended : (w : Watches) (lines store : LineMap) (t u : TrailValue) → Extends store t u → AreWatches w lines t → AreWatches w lines u
+unfolding AreWatches
+watches_extended w lines store t u ext watches = (
+  subst (λ (n : ℕ). IsKept w.slots.items w.lists.items w.ends.items n (lits_of u.steps)) (sym ext.vars)
+      (subst (λ (ss : List Step). IsKept w.slots.items w.lists.items w.ends.items t.vars (lits_of ss)) (sym ext.is)
+      (subst (λ (ls : List Literal). IsKept w.slots.items w.lists.items w.ends.items t.vars ls) (sym (lits_appended t.steps ext.more))
+      (kept_push w.slots.items w.lists.items w.ends.items t.vars (lits_of t.steps) (lits_of ext.more) watches.0))),
+  watches.1,
+)
