@@ -7,6 +7,7 @@ pub mod Passes
 pub mod WatchLists
 pub mod WatchedLines
 pub mod WatchKept
+pub mod WatchSlots
 pub mod WatchHold
 pub mod WatchSteps
 pub mod WatchVisits

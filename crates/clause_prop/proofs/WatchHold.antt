@@ -19,7 +19,7 @@ use Rattle.clause_prop.specs.Propagating.{IsClosedFor}
 use Rattle.clause_prop.specs.Watching.{clause_at, no_slot}
 use Rattle.clause_prop.specs.Watches.{AreSameWatched, AreSlots, IsCopy, IsStored}
 use Rattle.clause_prop.proofs.WatchLists.{at_set}
-use Rattle.clause_prop.proofs.WatchKept.{at_push}
+use Rattle.clause_prop.proofs.WatchSlots.{at_push}
 
 -- ---- a line less
 

@@ -3,7 +3,7 @@ use Rattle.std.proofs.lemmas.List.{get_or_read, get_or_past}
 use Rattle.clause_prop.specs.declared.watch_lists.Slot.{Slot}
 use Rattle.clause_prop.specs.Watching.{clause_at, no_slot}
 use Rattle.clause_prop.specs.Watches.{AreWatches}
-use Rattle.clause_prop.proofs.WatchKept.{kept_emptied}
+use Rattle.clause_prop.proofs.WatchSlots.{kept_emptied}
 use Rattle.clause_prop.proofs.WatchHold.{absent_by, finds_others, hold_absent, hold_emptied, not_equal, same_some}
 use Rattle.clause_prop.proofs.watches.Watches.dropped.Goals as goal
 use Rattle.clause_prop.proofs.watches.Watches.dropped.Goals.{else-slot-len-via-then-slot-len+else-index-id, else-slot-len-via-else-slot-len}

@@ -1,5 +1,5 @@
 use Rattle.clause_prop.specs.Watches.{AreWatches}
-use Rattle.clause_prop.proofs.WatchKept.{kept_none}
+use Rattle.clause_prop.proofs.WatchSlots.{kept_none}
 use Rattle.clause_prop.proofs.WatchHold.{hold_none_of}
 use Rattle.clause_prop.proofs.watches.Watches.new.Goals as goal
 

@@ -3,7 +3,7 @@ use Rattle.std.specs.Map.{lookup}
 use Rattle.std.specs.Prelude.{nat_eq}
 use Rattle.clause_prop.specs.Watching.{IsKept, lits_of}
 use Rattle.clause_prop.specs.Watches.{AreSlots}
-use Rattle.clause_prop.proofs.WatchKept.{kept_slot}
+use Rattle.clause_prop.proofs.WatchSlots.{kept_slot}
 use Rattle.clause_prop.proofs.WatchHold.{finds_others, hold_slot}
 use Rattle.clause_prop.proofs.watches.Watches.open_slot.Goals as goal
 

@@ -10,7 +10,8 @@ use Rattle.pb_lin.specs.Constraint.{literals}
 use Rattle.clause_prop.specs.Watching.{IsDistinct, IsKept, code_of, lits_of}
 use Rattle.clause_prop.proofs.WatchLists.{place_in}
 use Rattle.clause_prop.proofs.WatchedLines.{clause_of, literal_upto, literals_distinct}
-use Rattle.clause_prop.proofs.WatchKept.{kept_back, kept_covers}
+use Rattle.clause_prop.proofs.WatchKept.{kept_back}
+use Rattle.clause_prop.proofs.WatchSlots.{kept_covers}
 use Rattle.clause_prop.proofs.WatchHold.{get_removed}
 use Rattle.clause_prop.proofs.watches.Watches.take_up.Goals as goal
 

@@ -7,7 +7,8 @@ use Rattle.clause_prop.specs.declared.watch_lists.Entry.{Entry}
 use Rattle.clause_prop.specs.declared.watch_lists.Slot.{Slot}
 use Rattle.clause_prop.specs.Watching.{IsEntry, code_of, lits_of, no_literal, no_slot}
 use Rattle.clause_prop.specs.Watches.{AreSlots, IsCopy}
-use Rattle.clause_prop.proofs.WatchKept.{entry_fresh, kept_as, kept_entry, kept_watched, with_entry}
+use Rattle.clause_prop.proofs.WatchKept.{kept_entry, with_entry}
+use Rattle.clause_prop.proofs.WatchSlots.{entry_fresh, kept_as, kept_watched}
 use Rattle.clause_prop.proofs.WatchHold.{get_removed, hold_filled}
 use Rattle.clause_prop.proofs.watches.Watches.watch.Goals as goal
 
