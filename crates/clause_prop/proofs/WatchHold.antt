@@ -43,9 +43,6 @@ FindsOthers old new id = (q : ℕ) → q ≢ id → lookup (nat_eq q) new ≡ lo
 pub finds_others : (old new : List (ℕ × ℕ)) (id : ℕ) (w : Option ℕ) → ((q : ℕ) → lookup (nat_eq q) new ≡ cond (nat_eq id q) w (lookup (nat_eq q) old)) → FindsOthers old new id
 finds_others old new id w updates q other = updates q ∙ cond-false (nat_eq id q) w (lookup (nat_eq q) old) (ne_eqb id q (λ e. other (sym e)))
 
-pub finds_here : (old new : List (ℕ × ℕ)) (id : ℕ) (w : Option ℕ) → ((q : ℕ) → lookup (nat_eq q) new ≡ cond (nat_eq id q) w (lookup (nat_eq q) old)) → lookup (nat_eq id) new ≡ w
-finds_here old new id w updates = updates id ∙ cond-true (nat_eq id id) w (lookup (nat_eq id) old) (eq-eqb id id refl)
-
 -- ---- slots
 
 -- a clause in another order

@@ -1,5 +1,5 @@
 -- What keeps the watches right.
-use Rattle.std.proofs.Common.{◌≡◌, ◌≢◌, ℕ, ◌+◌, ◌-◌, ◌<◌, ◌≤◌, ◌⊎◌, inl, inr, List, [], ◌∷◌, ◌++◌, length, get_or, set, take, refl, sym, ◌∙◌, ap, subst, arith, length-set, length-append, get_or-set_same, get_or-set_other}
+use Rattle.std.proofs.Common.{◌≡◌, ◌≢◌, ℕ, ◌+◌, ◌<◌, ◌≤◌, ◌⊎◌, inl, inr, List, [], ◌∷◌, ◌++◌, length, get_or, set, take, refl, sym, ◌∙◌, ap, subst, arith, length-set, length-append, get_or-set_same, get_or-set_other}
 use Rattle.std.specs.List.{Contains, swap}
 use Rattle.std.specs.List.Sorted.{IsPermutation}
 use Rattle.std.proofs.lemmas.List.{take-append-le, take-take, get_or-take, get_or_append_left, get_or_push, length_push, length-take-le, length-take, take_all}
@@ -372,13 +372,6 @@ kept_cut own lists ends n trail m keep kept some small =
 pub kept_back : (own : List Slot) (lists : List (List Entry)) (ends : List ℕ) (n : ℕ) (trail : List Literal) (m : ℕ) → IsKept own lists ends n trail → m ≤ length ends → IsKept own lists (take m ends) n trail
 kept_back own lists ends n trail m kept some =
     subst (IsKept own lists (take m ends) n) (take_all (length trail) trail (omega arith)) (kept_cut own lists ends n trail m (length trail) kept some (λ p h. (kept.within p (omega arith)).1))
-
-pub ends_within_trail : (own : List Slot) (lists : List (List Entry)) (ends : List ℕ) (n : ℕ) (trail : List Literal) → IsKept own lists ends n trail → length ends ≤ length trail
-ends_within_trail own lists ends n trail kept =
-    elim (cases_lt 0 (length ends)) [
-      | inl h ↦ (let w = kept.within (length ends - 1) (omega arith) in omega (arith, w.0, w.1))
-      | inr h ↦ omega arith
-    ]
 
 -- The steps of a visit.
 

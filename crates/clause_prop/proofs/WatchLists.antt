@@ -1,7 +1,7 @@
 -- Lists of literals and of lists, and what a trail keeps when it grows or is cut.
 use Rattle.std.proofs.Common.{◌≡◌, ◌≢◌, ℕ, ◌+◌, ◌<◌, ◌≤◌, ◌⊎◌, inl, inr, List, ◌++◌, length, get_or, set, take, drop, refl, sym, ◌∙◌, ap, subst, arith, Bool, true, false, cond, ◌*◌, get_or-set_same, get_or-set_other, take-append-drop}
 use Rattle.std.specs.List.{Contains, swap}
-use Rattle.std.proofs.lemmas.List.{set_past, take-take, get_or_default}
+use Rattle.std.proofs.lemmas.List.{set_past, get_or_default}
 use Rattle.std.proofs.lemmas.List.Edits.{swapped_from_swap, length-swap}
 use Rattle.std.proofs.lemmas.List.Elements.{Contains-append_left, Contains-get_or}
 use Rattle.std.proofs.lemmas.Bool.{cases_eq, cases_lt}
@@ -40,23 +40,6 @@ opposite_twice l = twice l.var l.neg
 pub opposite_same : (l m : Literal) → opposite l ≡ opposite m → l ≡ m
 opposite_same l m e = sym (opposite_twice l) ∙ ap opposite e ∙ opposite_twice m
 
-pub literal_cases : (l m : Literal) → (l ≡ m) ⊎ (l ≢ m)
-literal_cases l m = cases l.var m.var l.neg m.neg
-  where
-    signs : (b c : Bool) → (b ≡ c) ⊎ (b ≢ c)
-    signs true true = inl refl
-    signs true false = inr (λ e. cc)
-    signs false true = inr (λ e. cc)
-    signs false false = inl refl
-
-    both : (v w : ℕ) (b c : Bool) → (v ≡ w) ⊎ (v ≡ w → ⊥) → (b ≡ c) ⊎ (b ≢ c) → ◌⊎◌ (◌≡◌ {A = Literal} (record { var = v; neg = b }) (record { var = w; neg = c })) (◌≢◌ {A = Literal} (record { var = v; neg = b }) (record { var = w; neg = c }))
-    both v w b c (inl e) (inl f) = inl (let one : ◌≡◌ {A = Literal} (record { var = v; neg = b }) (record { var = w; neg = b }) = ap (λ (x : ℕ). record { var = x; neg = b }) e in one ∙ ap (λ (x : Bool). record { var = w; neg = x }) f)
-    both v w b c (inr n) s = inr (λ e. n (ap (λ (l : Literal). l.var) e))
-    both v w b c (inl e) (inr n) = inr (λ f. n (ap (λ (l : Literal). l.neg) f))
-
-    cases : (v w : ℕ) (b c : Bool) → ◌⊎◌ (◌≡◌ {A = Literal} (record { var = v; neg = b }) (record { var = w; neg = c })) (◌≢◌ {A = Literal} (record { var = v; neg = b }) (record { var = w; neg = c }))
-    cases v w b c = both v w b c (cases_eq v w) (signs b c)
-
 -- literals with one code are the same
 pub code_same : (l m : Literal) → code_of l ≡ code_of m → l ≡ m
 unfolding code_of
@@ -77,15 +60,6 @@ place_in xs l (k, below, is) = (k, below, get_or_default xs k no_literal l below
 
 pub contains_take : (n : ℕ) (xs : List Literal) (l : Literal) → Contains (take n xs) l → Contains xs l
 contains_take n xs l h = subst (λ ys. Contains ys l) (take-append-drop n xs) (Contains-append_left (take n xs) (drop n xs) l h)
-
-pub contains_later : (n m : ℕ) (xs : List Literal) (l : Literal) → n ≤ m → Contains (take n xs) l → Contains (take m xs) l
-contains_later n m xs l up h = contains_take n (take m xs) l (subst (λ ys. Contains ys l) (sym (take-take n m xs up)) h)
-
-pub true_take : (n : ℕ) (trail clause : List Literal) → HasTrue (take n trail) clause → HasTrue trail clause
-true_take n trail clause (l, in_clause, in_trail) = (l, in_clause, contains_take n trail l in_trail)
-
-pub true_later : (n m : ℕ) (trail clause : List Literal) → n ≤ m → HasTrue (take n trail) clause → HasTrue (take m trail) clause
-true_later n m trail clause up (l, in_clause, in_trail) = (l, in_clause, contains_later n m trail l up in_trail)
 
 pub true_push : (trail clause more : List Literal) → HasTrue trail clause → HasTrue (trail ++ more) clause
 true_push trail clause more (l, in_clause, in_trail) = (l, in_clause, Contains-append_left trail more l in_trail)
@@ -121,13 +95,3 @@ distinct_swapped c a b at_a at_b apart i k below_i below_k ne =
   where
     same_from : (a b i k f g : ℕ) → ((i ≡ a) × (f ≡ b)) ⊎ (((i ≡ b) × (f ≡ a)) ⊎ ((i ≢ a) × (i ≢ b) × (f ≡ i))) → ((k ≡ a) × (g ≡ b)) ⊎ (((k ≡ b) × (g ≡ a)) ⊎ ((k ≢ a) × (k ≢ b) × (g ≡ k))) → f ≡ g → i ≡ k
     same_from a b i k f g x y e = grind arith
-
--- Literals that are put in front.
-
-pub front_swapped : (c : List Literal) (a b k : ℕ) → a ≤ b → b < length c → k < a → get_or (swap c a b) k no_literal ≡ get_or c k no_literal
-front_swapped c a b k up below h =
-    let s = swapped_from_swap c (swap c a b) a b no_literal (omega arith) below refl in
-    s.2 k (λ e. absurd (omega arith)) (λ e. absurd (omega arith))
-
-pub here_swapped : (c : List Literal) (a b : ℕ) → a ≤ b → b < length c → get_or (swap c a b) a no_literal ≡ get_or c b no_literal
-here_swapped c a b up below = (swapped_from_swap c (swap c a b) a b no_literal (omega arith) below refl).0

@@ -1,5 +1,5 @@
 -- Watched clauses under a trail: what the trail says of their literals, and what follows.
-use Rattle.std.proofs.Common.{◌≡◌, ◌≢◌, ◌⊎◌, ℕ, zero, suc, ◌-◌, ◌<◌, ◌≤◌, Bool, true, false, not, if◌then◌else◌, Option, Some, None, List, length, get_or, refl, arith, ap, sym, subst, ◌∙◌, inl, inr, ⊎_elim}
+use Rattle.std.proofs.Common.{◌≡◌, ◌≢◌, ◌⊎◌, ℕ, zero, suc, ◌-◌, ◌<◌, ◌≤◌, Bool, true, false, not, if◌then◌else◌, Option, Some, None, List, length, get_or, refl, arith, ap, sym, subst, ◌∙◌, inl, inr}
 use Rattle.std.specs.List.{Contains}
 use Rattle.std.specs.List.Sorted.{IsPermutation}
 use Rattle.std.specs.Option.{option_map}
@@ -18,7 +18,7 @@ use Rattle.clause_prop.specs.declared.watch_lists.Slot.{Slot}
 use Rattle.clause_prop.specs.LineKinds.{is_watched}
 use Rattle.clause_prop.specs.Steps.{AreSteps, IsPlaceOf, assigned, last_level}
 use Rattle.clause_prop.specs.Propagating.{IsConflict, IsForcedStep}
-use Rattle.clause_prop.specs.Watching.{AreFalse, HasTrue, IsDistinct, IsKept, IsValue, clause_at, lits_of, no_literal, no_slot}
+use Rattle.clause_prop.specs.Watching.{AreFalse, HasTrue, IsKept, IsValue, clause_at, lits_of, no_literal, no_slot}
 use Rattle.clause_prop.specs.Watches.{AreSlots}
 use Rattle.clause_prop.proofs.Assigned.{assigned-at, assigned-found, index}
 use Rattle.clause_prop.proofs.WatchLists.{contains_at, place_in, contains_take}
@@ -97,20 +97,6 @@ value_of n steps l are positive = by_value (get_or (assigned n steps) (l.var - 1
     by_value : (o : Option Bool) → get_or (assigned n steps) (l.var - 1) None ≡ o → IsValue (lits_of steps) l (option_map (λ b. if l.neg then not b else b) (get_or (assigned n steps) (l.var - 1) None))
     by_value None e = subst (λ o. IsValue (lits_of steps) l (option_map (λ b. if l.neg then not b else b) o)) (sym e) (none_of l refl e, none_of (opposite l) refl e)
     by_value (Some b) e = subst (λ o. IsValue (lits_of steps) l (option_map (λ b. if l.neg then not b else b) o)) (sym e) (value_some n steps l.var l.neg b are (found_literal n steps l.var b are positive e))
-
--- the steps' literals are distinct
-pub steps_distinct : (n : ℕ) (steps : List Step) → AreSteps n steps → IsDistinct (lits_of steps)
-steps_distinct n steps are i k i_in k_in other same =
-    let long = length-map steps (λ s. s.lit) in
-    let at : (j : ℕ) → j < length (lits_of steps) → get_or (lits_of steps) j no_literal ≡ (get_or steps j no_step).lit = λ j h. get_or-map (λ s. s.lit) steps j no_step no_literal (omega (arith, h, long)) in
-    let e : (get_or steps i no_step).lit.var ≡ (get_or steps k no_step).lit.var = ap (λ (l : Literal). l.var) (sym (at i i_in) ∙ same ∙ at k k_in) in
-    ⊎_elim
-    (λ (up : i < k). are.apart i k no_step up (omega (arith, k_in, long)) e)
-    (λ (down : k < i). are.apart k i no_step down (omega (arith, i_in, long)) (sym e))
-    (sides i k other)
-  where
-    sides : (a b : ℕ) → a ≢ b → (a < b) ⊎ (b < a)
-    sides a b n = grind arith
 
 -- no step makes a literal false that isn't false
 pub never_false : (n : ℕ) (steps : List Step) (l : Literal) → AreSteps n steps → (Contains (lits_of steps) (opposite l) → ⊥) → (p : ℕ) → p < length steps → get_or (lits_of steps) p no_literal ≢ opposite l
