@@ -6,3 +6,6 @@ pub use Rattle.pb_lin.specs.LineMap
 pub mod Steps
 pub mod Tables
 pub mod Propagating
+pub mod LineKinds
+pub mod Watching
+pub mod Watches

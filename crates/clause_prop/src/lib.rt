@@ -9,9 +9,12 @@
 mod line;
 mod plain;
 mod propagator;
+mod row;
 mod step;
 mod store;
 mod trail;
+mod watch_lists;
+mod watches;
 
 pub use plain::PlainProp;
 pub use propagator::Propagator;
