@@ -4,10 +4,3 @@ pub mod Extensions
 pub mod Forcing
 pub mod Visits
 pub mod Passes
-pub mod WatchLists
-pub mod WatchedLines
-pub mod WatchKept
-pub mod WatchSlots
-pub mod WatchHold
-pub mod WatchSteps
-pub mod WatchVisits

@@ -7,5 +7,3 @@ pub mod Steps
 pub mod Tables
 pub mod Propagating
 pub mod LineKinds
-pub mod Watching
-pub mod Watches

@@ -9,13 +9,11 @@
 mod line;
 mod plain;
 mod propagator;
-mod row;
 mod step;
 mod store;
 mod trail;
-mod watch_lists;
-mod watches;
 
+pub use line::push_forced;
 pub use plain::PlainProp;
 pub use propagator::Propagator;
 pub use step::Step;

@@ -94,8 +94,9 @@ fn force_literals(line: &Constraint, id: u64, trail: &mut Trail)
     }
 }
 
-// Makes an open literal true, at the level of the step before it.
-pub(crate) fn push_forced(lit: Lit, id: u64, trail: &mut Trail)
+/// Makes an open literal true that the line of this id forces, at the level of the step before it. Takes no
+/// memory, and constant time.
+pub fn push_forced(lit: Lit, id: u64, trail: &mut Trail)
     requires within { lit.var ≤ trail.old.vars }
     requires open { partial_truth (partial trail.old) lit ≡ None }
     ensures { trail.new ≡ with_step trail.old

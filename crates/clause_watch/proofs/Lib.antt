@@ -1,0 +1,7 @@
+pub mod WatchedLines
+pub mod WatchLists
+pub mod WatchSteps
+pub mod WatchKept
+pub mod WatchSlots
+pub mod WatchHold
+pub mod WatchVisits

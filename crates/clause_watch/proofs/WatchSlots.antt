@@ -1,0 +1,203 @@
+-- What keeps the watches right where slots come and go.
+use Rattle.std.proofs.Common.{◌≡◌, ◌≢◌, ℕ, ◌+◌, ◌<◌, ◌≤◌, inl, inr, List, [], ◌∷◌, ◌++◌, length, get_or, set, take, refl, sym, ◌∙◌, ap, subst, arith, length-set}
+use Rattle.std.specs.List.{Contains}
+use Rattle.std.proofs.lemmas.List.{get_or_append_left, get_or_push, length_push, get_or_past}
+use Rattle.std.proofs.lemmas.List.Elements.{Contains-get_or}
+use Rattle.std.proofs.lemmas.Bool.{cases_eq, cases_lt}
+use Rattle.scut_base.specs.Literal.{Literal}
+use Rattle.pb_lin.specs.Constraint.{opposite}
+use Rattle.clause_watch.specs.declared.watch_lists.Entry.{Entry}
+use Rattle.clause_watch.specs.declared.watch_lists.Slot.{Slot}
+use Rattle.clause_watch.specs.Watching.{IsKept, IsWatch, IsEntry, IsDistinct, HasTrue, Names, clause_at, code_of, list_of, no_entry, no_literal, no_slot}
+use Rattle.clause_watch.proofs.WatchLists.{at_set}
+use Rattle.clause_watch.proofs.WatchKept.{kept_entry, named_here, pushed_names, with_entry}
+
+-- A slot without literals.
+
+-- no literal is among none
+none_among : (l : Literal) → Contains [] l → ⊥
+none_among l (k, below, is) = absurd (omega (arith, below))
+
+distinct_none : IsDistinct []
+distinct_none i k below = absurd (omega (arith, below))
+
+entry_emptied : (own : List Slot) (n slot : ℕ) (s : Slot) (e : Entry) → s.lits ≡ [] → IsEntry own n e → IsEntry (set own slot s) n e
+entry_emptied own n slot s e none entry = record {
+  there = (let t = entry.there in omega (arith, t, length-set own slot s));
+  upto = entry.upto;
+  among = at_set no_slot (λ j x. j ≡ e.slot → 2 ≤ length x.lits → Contains x.lits e.blocker) own slot s
+      (λ j is. subst (λ i. 2 ≤ length (clause_at own i) → Contains (clause_at own i) e.blocker) (sym is) entry.among)
+      (λ _ is long. absurd (omega (arith, long, ap length none)))
+      e.slot refl;
+}
+
+-- a slot loses its literals
+pub kept_emptied : (own : List Slot) (lists : List (List Entry)) (ends : List ℕ) (n : ℕ) (trail : List Literal) (slot : ℕ) (s : Slot) → IsKept own lists ends n trail → s.lits ≡ [] → IsKept (set own slot s) lists ends n trail
+kept_emptied own lists ends n trail slot s kept none =
+    let short : (l : Literal) → IsWatch s.lits l → ⊥ = λ l w. absurd (let long = w.0 in omega (arith, long, ap length none)) in
+    let lacks : (l : Literal) → Contains s.lits l → ⊥ = λ l h. none_among l (subst (λ c. Contains c l) none h) in
+    record {
+      distinct = at_set no_slot (λ j x. IsDistinct x.lits) own slot s kept.distinct (λ _. subst IsDistinct (sym none) distinct_none);
+      upto = λ j l. at_set no_slot (λ j x. Contains x.lits l → l.var ≤ n) own slot s (λ i h. kept.upto i l h) (λ _ h. absurd (lacks l h)) j;
+      covered = λ j l. at_set no_slot (λ j x. Contains x.lits l → code_of l < length lists) own slot s (λ i h. kept.covered i l h) (λ _ h. absurd (lacks l h)) j;
+      entries = λ c k h. entry_emptied own n slot s _ none (kept.entries c k h);
+      watched = λ j l watch. at_set no_slot (λ j x. IsWatch x.lits l → Names (list_of lists l) 0 j) own slot s (λ i w. kept.watched i l w) (λ _ w. absurd (short l w)) j watch;
+      within = kept.within;
+      rising = kept.rising;
+      settled = λ j l p watch h is. at_set no_slot (λ j x. IsWatch x.lits l → HasTrue (take (get_or ends p 0) trail) x.lits) own slot s (λ i w. kept.settled i l p w h is) (λ _ w. absurd (short l w)) j watch;
+    }
+
+-- what holds of each slot and of a new one
+pub at_push : {X : Type 0} (d : X) (P : ℕ → X → Type 0) (xs : List X) (x : X) → ((k : ℕ) → P k (get_or xs k d)) → P (length xs) x → (k : ℕ) → P k (get_or (xs ++ x ∷ []) k d)
+at_push d P xs x each last k =
+    elim (cases_lt k (length xs)) [
+      | inl h ↦ subst (P k) (sym (get_or_append_left xs (x ∷ []) d k h)) (each k)
+      | inr h ↦ elim (cases_eq k (length xs)) [
+        | inl e ↦ subst (λ i. P i (get_or (xs ++ x ∷ []) i d)) (sym e) (subst (P (length xs)) (sym (get_or_push xs x d (length xs) refl)) last)
+        | inr n ↦
+            let past : length xs + 1 ≤ k = omega arith in
+            let long = length_push xs x in
+            subst (P k) (get_or_past xs k d (omega arith) ∙ sym (get_or_past (xs ++ x ∷ []) k d (omega arith))) (each k)
+      ]
+    ]
+
+-- a slot more, without literals
+pub kept_slot : (own : List Slot) (lists : List (List Entry)) (ends : List ℕ) (n : ℕ) (trail : List Literal) (s : Slot) → IsKept own lists ends n trail → s.lits ≡ [] → IsKept (own ++ s ∷ []) lists ends n trail
+kept_slot own lists ends n trail s kept none =
+    let short : (l : Literal) → IsWatch s.lits l → ⊥ = λ l w. absurd (let long = w.0 in omega (arith, long, ap length none)) in
+    let lacks : (l : Literal) → Contains s.lits l → ⊥ = λ l h. none_among l (subst (λ c. Contains c l) none h) in
+    record {
+      distinct = at_push no_slot (λ j x. IsDistinct x.lits) own s kept.distinct (subst IsDistinct (sym none) distinct_none);
+      upto = λ j l. at_push no_slot (λ j x. Contains x.lits l → l.var ≤ n) own s (λ i h. kept.upto i l h) (λ h. absurd (lacks l h)) j;
+      covered = λ j l. at_push no_slot (λ j x. Contains x.lits l → code_of l < length lists) own s (λ i h. kept.covered i l h) (λ h. absurd (lacks l h)) j;
+      entries = λ c k h.
+          let e = kept.entries c k h in
+          let t = e.there in
+          record {
+            there = omega (arith, t, length_push own s);
+            upto = e.upto;
+            among = subst (λ (x : Slot). 2 ≤ length x.lits → Contains x.lits (get_or (get_or lists c []) k no_entry).blocker) (sym (get_or_append_left own (s ∷ []) no_slot _ t)) e.among;
+          };
+      watched = λ j l watch. at_push no_slot (λ j x. IsWatch x.lits l → Names (list_of lists l) 0 j) own s (λ i w. kept.watched i l w) (λ w. absurd (short l w)) j watch;
+      within = kept.within;
+      rising = kept.rising;
+      settled = λ j l p watch h is. at_push no_slot (λ j x. IsWatch x.lits l → HasTrue (take (get_or ends p 0) trail) x.lits) own s (λ i w. kept.settled i l p w h is) (λ w. absurd (short l w)) j watch;
+    }
+
+-- a slot without literals gets a clause, which stands in the lists of its watches
+pub kept_filled : (own : List Slot) (lists : List (List Entry)) (ends : List ℕ) (n : ℕ) (trail : List Literal) (slot : ℕ) (s : Slot) → IsKept own lists ends n trail → slot < length own
+    → ((c k : ℕ) → k < length (get_or lists c []) → (get_or (get_or lists c []) k no_entry).slot ≡ slot → Contains s.lits (get_or (get_or lists c []) k no_entry).blocker)
+    → IsDistinct s.lits → ((l : Literal) → Contains s.lits l → (l.var ≤ n) × (code_of l < length lists)) → ((l : Literal) → IsWatch s.lits l → Names (list_of lists l) 0 slot × ((p : ℕ) → p < length ends → get_or trail p no_literal ≢ opposite l)) → IsKept (set own slot s) lists ends n trail
+kept_filled own lists ends n trail slot s kept in_own blockers apart inside watches =
+    record {
+      distinct = at_set no_slot (λ j x. IsDistinct x.lits) own slot s kept.distinct (λ _. apart);
+      upto = λ j l. at_set no_slot (λ j x. Contains x.lits l → l.var ≤ n) own slot s (λ i h. kept.upto i l h) (λ _ h. (inside l h).0) j;
+      covered = λ j l. at_set no_slot (λ j x. Contains x.lits l → code_of l < length lists) own slot s (λ i h. kept.covered i l h) (λ _ h. (inside l h).1) j;
+      entries = λ c k h.
+          let e = kept.entries c k h in
+          let t = e.there in
+          let x : Entry = get_or (get_or lists c []) k no_entry in
+          record {
+            there = omega (arith, t, length-set own slot s);
+            upto = e.upto;
+            among = at_set no_slot (λ j y. j ≡ x.slot → 2 ≤ length y.lits → Contains y.lits x.blocker) own slot s
+                (λ j is. subst (λ i. 2 ≤ length (clause_at own i) → Contains (clause_at own i) x.blocker) (sym is) e.among)
+                (λ _ is _. blockers c k h (sym is))
+                x.slot refl;
+          };
+      watched = λ j l watch. at_set no_slot (λ j x. IsWatch x.lits l → Names (list_of lists l) 0 j) own slot s (λ i w. kept.watched i l w) (λ _ w. (watches l w).0) j watch;
+      within = kept.within;
+      rising = kept.rising;
+      settled = λ j l p watch h is. at_set no_slot (λ j x. IsWatch x.lits l → HasTrue (take (get_or ends p 0) trail) x.lits) own slot s (λ i w. kept.settled i l p w h is) (λ _ w. absurd ((watches l w).1 p h is)) j watch;
+    }
+
+-- No slot.
+
+pub kept_none : (own : List Slot) (lists : List (List Entry)) (ends : List ℕ) (n : ℕ) → own ≡ [] → lists ≡ [] → ends ≡ [] → IsKept own lists ends n []
+kept_none own lists ends n no_own no_lists no_ends = record {
+  distinct = λ j. subst IsDistinct (sym (lits_none j)) distinct_none;
+  upto = λ j l h. absurd (none_among l (subst (λ c. Contains c l) (lits_none j) h));
+  covered = λ j l h. absurd (none_among l (subst (λ c. Contains c l) (lits_none j) h));
+  entries = λ c k h. absurd (let none = ap (λ ls. length (get_or ls c [])) no_lists in let past = ap (λ (es : List Entry). length es) (get_or_past [] c [] (omega arith)) in omega (arith, h, none, past));
+  watched = λ j l w. absurd (let long = w.0 in omega (arith, long, ap length (lits_none j)));
+  within = λ p h. absurd (omega (arith, h, ap length no_ends));
+  rising = λ p q up h. absurd (omega (arith, h, ap length no_ends));
+  settled = λ j l p w. absurd (let long = w.0 in omega (arith, long, ap length (lits_none j)));
+}
+  where
+    lits_none : (j : ℕ) → clause_at own j ≡ []
+    lits_none j = ap (λ o. clause_at o j) no_own ∙ ap (λ (s : Slot). s.lits) (get_or_past [] j no_slot (omega arith))
+
+-- A clause is taken up.
+
+-- an entry of a slot without literals
+pub entry_fresh : (own : List Slot) (n : ℕ) (s : Slot) (e : Entry) → s.lits ≡ [] → e.slot ≡ length own → e.blocker.var ≤ n → IsEntry (own ++ s ∷ []) n e
+entry_fresh own n s e none is upto = record {
+  there = omega (arith, is, length_push own s);
+  upto = upto;
+  among = λ long. absurd (
+      let here : get_or (own ++ s ∷ []) e.slot no_slot ≡ s = ap (λ (i : ℕ). get_or (own ++ s ∷ []) i no_slot) is ∙ get_or_push own s no_slot (length own) refl in
+      omega (arith, long, ap (λ (x : Slot). length x.lits) here, ap length none)
+      );
+}
+
+-- the entries of a slot have blockers of its clause
+abbrev pub BlocksBy : List (List Entry) → ℕ → List Literal → Type 0
+BlocksBy lists slot lits = (c k : ℕ) → k < length (get_or lists c []) → (get_or (get_or lists c []) k no_entry).slot ≡ slot → Contains lits (get_or (get_or lists c []) k no_entry).blocker
+
+blocks_entry : (lists : List (List Entry)) (slot : ℕ) (lits : List Literal) (code : ℕ) (e : Entry) → BlocksBy lists slot lits → Contains lits e.blocker → BlocksBy (with_entry lists code e) slot lits
+blocks_entry lists slot lits code e blocks among =
+    let old = get_or lists code [] in
+    at_set [] (λ c es. (k : ℕ) → k < length es → (get_or es k no_entry).slot ≡ slot → Contains lits (get_or es k no_entry).blocker) lists code (old ++ e ∷ []) blocks (λ _ k h is. elim (cases_lt k (length old)) [
+      | inl b ↦
+          let same : get_or (old ++ e ∷ []) k no_entry ≡ get_or old k no_entry = get_or_append_left old (e ∷ []) no_entry k b in
+          subst (λ (x : Entry). Contains lits x.blocker) (sym same) (blocks code k b (ap (λ (x : Entry). x.slot) (sym same) ∙ is))
+      | inr b ↦
+          let k_is : length old ≡ k = omega (arith, h, b, length_push old e) in
+          subst (λ i. Contains lits (get_or (old ++ e ∷ []) i no_entry).blocker) k_is (subst (λ (x : Entry). Contains lits x.blocker) (sym (get_or_push old e no_entry (length old) refl)) among)
+    ])
+
+pub kept_watched : (own : List Slot) (none s : Slot) (lists : List (List Entry)) (ends : List ℕ) (n : ℕ) (trail : List Literal) (first second : Literal) (e f : Entry) → IsKept own lists ends n trail → none.lits ≡ [] → 2 ≤ length s.lits → IsDistinct s.lits → ((l : Literal) → Contains s.lits l → (l.var ≤ n) × (code_of l < length lists))
+    → get_or s.lits 0 no_literal ≡ first → get_or s.lits 1 no_literal ≡ second → e ≡ record { slot = length own; blocker = second } → f ≡ record { slot = length own; blocker = first } → ((k p : ℕ) → k < 2 → p < length ends → get_or trail p no_literal ≢ opposite (get_or s.lits k no_literal))
+    → IsKept (set (own ++ none ∷ []) (length own) s) (with_entry (with_entry lists (code_of first) e) (code_of second) f) ends n trail
+kept_watched own none s lists ends n trail first second e f kept empty long apart inside is_first is_second e_is f_is clear =
+    let slot = length own in
+    let two = with_entry lists (code_of first) e in
+    let three = with_entry two (code_of second) f in
+    let first_in : Contains s.lits first = subst (Contains s.lits) is_first (Contains-get_or s.lits 0 no_literal (omega (arith, long))) in
+    let second_in : Contains s.lits second = subst (Contains s.lits) is_second (Contains-get_or s.lits 1 no_literal (omega (arith, long))) in
+    let e_slot : e.slot ≡ slot = ap (λ (x : Entry). x.slot) e_is in
+    let f_slot : f.slot ≡ slot = ap (λ (x : Entry). x.slot) f_is in
+    let e_in : Contains s.lits e.blocker = subst (λ (x : Entry). Contains s.lits x.blocker) (sym e_is) second_in in
+    let f_in : Contains s.lits f.blocker = subst (λ (x : Entry). Contains s.lits x.blocker) (sym f_is) first_in in
+    let k1 = kept_slot own lists ends n trail none kept empty in
+    let k2 = kept_entry (own ++ none ∷ []) lists ends n trail (code_of first) e k1 (entry_fresh own n none e empty e_slot (inside e.blocker e_in).0) in
+    let k3 = kept_entry (own ++ none ∷ []) two ends n trail (code_of second) f k2 (entry_fresh own n none f empty f_slot (inside f.blocker f_in).0) in
+    let len_2 : length two ≡ length lists = length-set lists (code_of first) _ in
+    let len_3 : length three ≡ length two = length-set two (code_of second) _ in
+    let blocks_1 : BlocksBy lists slot s.lits = λ c k h is. absurd (let entry = kept.entries c k h in let there = entry.there in omega (arith, there, is)) in
+    let blocks_3 : BlocksBy three slot s.lits = blocks_entry two slot s.lits (code_of second) f (blocks_entry lists slot s.lits (code_of first) e blocks_1 e_in) f_in in
+    let named_first : Names (list_of three first) 0 slot = pushed_names two (code_of second) f first 0 slot (subst (Names (list_of two first) 0) e_slot (named_here lists first e (inside first first_in).1)) in
+    let reach : code_of second < length two = (let c = (inside second second_in).1 in omega (arith, c, len_2)) in
+    let named_second : Names (list_of three second) 0 slot = subst (Names (list_of three second) 0) f_slot (named_here two second f reach) in
+    kept_filled (own ++ none ∷ []) three ends n trail slot s k3 (omega (arith, length_push own none)) blocks_3 apart (λ l h. let i = inside l h in (i.0, (let c = i.1 in omega (arith, c, len_2, len_3)))) (λ l w. elim w.1 [
+      | inl g ↦ (subst (λ m. Names (list_of three m) 0 slot) (sym is_first ∙ g) named_first, λ p h is. clear 0 p (omega arith) h (is ∙ ap opposite (sym g)))
+      | inr g ↦ (subst (λ m. Names (list_of three m) 0 slot) (sym is_second ∙ g) named_second, λ p h is. clear 1 p (omega arith) h (is ∙ ap opposite (sym g)))
+    ])
+
+pub kept_as : (own own_2 : List Slot) (lists lists_2 : List (List Entry)) (ends ends_2 : List ℕ) (n : ℕ) (trail : List Literal) → own_2 ≡ own → lists_2 ≡ lists → ends_2 ≡ ends → IsKept own lists ends n trail → IsKept own_2 lists_2 ends_2 n trail
+kept_as own own_2 lists lists_2 ends ends_2 n trail same_own same_lists same_ends kept =
+    subst (λ o. IsKept o lists_2 ends_2 n trail) (sym same_own) (subst (λ ls. IsKept own ls ends_2 n trail) (sym same_lists) (subst (λ es. IsKept own lists es n trail) (sym same_ends) kept))
+
+-- more lists
+pub kept_covers : (own : List Slot) (lists new : List (List Entry)) (ends : List ℕ) (n : ℕ) (trail : List Literal) → ((c : ℕ) → get_or new c [] ≡ get_or lists c []) → length lists ≤ length new → IsKept own lists ends n trail → IsKept own new ends n trail
+kept_covers own lists new ends n trail same longer kept = record {
+  distinct = kept.distinct;
+  upto = kept.upto;
+  covered = λ j l h. (let c = kept.covered j l h in omega (arith, c, longer));
+  entries = λ c k h. subst (λ (es : List Entry). IsEntry own n (get_or es k no_entry)) (sym (same c)) (kept.entries c k (subst (λ (es : List Entry). k < length es) (same c) h));
+  watched = λ j l w. subst (λ (es : List Entry). Names es 0 j) (sym (same (code_of l))) (kept.watched j l w);
+  within = kept.within;
+  rising = kept.rising;
+  settled = kept.settled;
+}

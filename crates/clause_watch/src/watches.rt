@@ -1,0 +1,407 @@
+// Clauses of two literals or more, each with two of them in watch.
+ghost use Rattle.std.specs.Prelude.{◌≡◌, ◌≢◌, ℕ, ◌+◌, ◌<◌, ◌≤◌, ◌↔◌, [], true, false, None, Some, length, IfOk, OnOk, OnErr, IfSome, IfNone, IsTrue, Contains, slice_index_or};
+ghost use Rattle.std.specs.FinMap.{empty, get, remove};
+ghost use Rattle.scut_base.specs.Assignment.{partial_truth};
+ghost use Rattle.scut_base.specs.Literal.{Literal};
+ghost use Rattle.pb_lin.specs.Constraint.{ConstraintValue, UpTo, opposite};
+ghost use Rattle.pb_lin.specs.LineMap.{LineMap, LinesUpTo};
+ghost use Rattle.clause_prop.specs.Steps.{TrailValue, partial, with_step, cut};
+ghost use Rattle.clause_prop.specs.Propagating.{Extends, IsConflict};
+ghost use Rattle.clause_prop.specs.LineKinds.{is_watched, IsClosedForWatched};
+ghost use Rattle.clause_watch.specs.Watching.{AreFalse, IsFree, clause_at, code_of, list_of, lits_of, no_entry, no_literal, IsDistinct};
+ghost use Rattle.clause_watch.specs.Watches.{AreWatches, Hold, IsAllLooked, IsAt, IsConflictOf, IsFollowed, IsReady, IsVisited, IsCopy, IsOpened, IsWatchable, AreSameWatched, entries_of};
+ghost use Rattle.clause_prop.specs.declared.step.Step.{Step};
+
+use crate::row::Row;
+use crate::watch_lists::{
+    Entry, Slot, add_entry, code, cover, cut_ends, drop_entry, falsified, free_place, latest_first,
+    put_at_second, put_second, set_blocker, skip_true, truth,
+};
+use clause_prop::{ClauseStore, Trail, push_forced};
+use pb_lin::Constraint;
+use scut_base::{Lit, NoMemory};
+use std::alloc::Global;
+use std::collections::HashMap;
+
+/// What became of an entry.
+#[derive(Clone, Copy, Debug)]
+pub enum Visit {
+    /// It stays, and the next one comes.
+    Next,
+    /// It is gone, and another may stand in its place.
+    Gone,
+    /// The clause of this id is all false.
+    Conflict(u64),
+}
+
+/// Whether a line is watched: a clause of two literals or more.
+pub fn is_watched(line: &Constraint) -> bool
+    ensures { result ≡ is_watched line.now }
+{
+    line.is_clause() && line.len() >= 2
+}
+
+/// The clauses of two literals or more, each in an order of its own with two watched literals in
+/// front; for each literal the clauses that watch it; and for each step that was looked at the trail's
+/// length when that was done.
+#[derive(Debug, Drop)]
+pub struct Watches {
+    alloc: Global,
+    slots: Vec<Slot>,
+    // By id the slot of its clause.
+    index: HashMap<u64, usize>,
+    lists: Vec<Row<Entry>>,
+    ends: Vec<usize>,
+}
+
+impl Watches {
+    /// No clause. Takes no memory.
+    #[tactic(auto, unfolding(crate::specs::Watches::AreWatches))]
+    pub fn new(alloc: Global) -> Watches
+        ensures { (n : ℕ) → AreWatches result empty (record { vars = n; steps = [] }) }
+    {
+        Watches {
+            alloc,
+            slots: Vec::new(alloc),
+            index: HashMap::new(alloc),
+            lists: Vec::new(alloc),
+            ends: Vec::new(alloc),
+        }
+    }
+
+    /// Extends the trail by literals that clauses force under the steps before them, until a clause
+    /// is all false, whose id is answered, or no clause forces a literal. It may be called again
+    /// after `NoMemory`. Most visits of a clause read its entry alone.
+    #[tactic(auto, unfolding(crate::specs::Watches::AreWatches))]
+    pub fn propagate(
+        &mut self,
+        _store: &ClauseStore,
+        trail: &mut Trail,
+    ) -> Result<Option<u64>, NoMemory>
+        requires in_step { AreWatches self.old _store.now trail.old }
+        requires variables { LinesUpTo trail.old.vars _store.now }
+        ensures in_step { AreWatches self.new _store.now trail.new }
+        ensures conflict { IfOk result (λ found. IfSome found (IsConflict _store.now trail.new)) }
+        ensures closed { IfOk result
+            (λ found. IfNone found (IsClosedForWatched _store.now trail.new)) }
+        ensures extends { Extends _store.now trail.old trail.new }
+    {
+        self.look_at_all(trail)
+    }
+
+    /// Takes up a clause that was stored. After `NoMemory` it is in step with the store without it.
+    #[tactic(auto, unfolding(crate::specs::Watches::AreWatches))]
+    pub fn added(&mut self, store: &ClauseStore, trail: &Trail, id: u64) -> Result<(), NoMemory>
+        requires in_step { AreWatches self.old (remove store.now id) trail.now }
+        requires there { (c : ConstraintValue)
+            × (get store.now id ≡ Some c) × (is_watched c ≡ true) }
+        requires variables { LinesUpTo trail.now.vars store.now }
+        ensures ok { OnOk result (AreWatches self.new store.now trail.now) }
+        ensures err { OnErr result (AreWatches self.new (remove store.now id) trail.now) }
+    {
+        match store.get(id) {
+            Some(line) => self.take_up(line, trail, id),
+            None => unreachable!(),
+        }
+    }
+
+    /// Lets go of a clause that was dropped; where the id has none, nothing changes. Takes no memory,
+    /// and constant time on average: entries of the clause stay until they are met.
+    #[tactic(auto, unfolding(crate::specs::Watches::AreWatches))]
+    pub fn dropped(&mut self, id: u64)
+        ensures { (lines : LineMap) (t : TrailValue) → AreWatches self.old lines t
+            → AreWatches self.new (remove lines id) t }
+    {
+        if let Some(slot) = self.index.remove(&id) {
+            if slot < self.slots.len() && self.slots[slot].id == id {
+                self.slots[slot].lits = Row::new(self.alloc);
+            }
+        }
+    }
+
+    /// Makes ready for a cut of the trail to its first steps. Takes no memory, and costs the
+    /// looked-at steps that go.
+    #[tactic(auto, unfolding(crate::specs::Watches::AreWatches))]
+    pub fn shrinking(&mut self, _trail: &Trail, keep: u64)
+        requires keep { keep ≤ length _trail.now.steps }
+        ensures { (store : LineMap) → AreWatches self.old store _trail.now
+            → AreWatches self.new store (cut _trail.now keep) }
+    {
+        cut_ends(&mut self.ends, keep as usize);
+    }
+
+    // Looks at the steps that weren't looked at, until none is left or a clause is all false.
+    fn look_at_all(&mut self, trail: &mut Trail) -> Result<Option<u64>, NoMemory>
+        requires ready { IsReady self.old trail.old }
+        ensures ready { IsReady self.new trail.new }
+        ensures followed { IsFollowed self.old self.new trail.old trail.new }
+        ensures conflict { IfOk result (λ found. IfSome found (IsConflictOf self.new trail.new)) }
+        ensures all { IfOk result (λ found. IfNone found (IsAllLooked self.new trail.new)) }
+    {
+        while self.ends.len() < trail.len() as usize {
+            if let Some(id) = self.look(trail)? {
+                return Ok(Some(id));
+            }
+        }
+        Ok(None)
+    }
+
+    // Looks at the first step that wasn't looked at.
+    fn look(&mut self, trail: &mut Trail) -> Result<Option<u64>, NoMemory>
+        requires ready { IsReady self.old trail.old }
+        requires more { length self.old.ends.items < length trail.old.steps }
+        ensures ready { IsReady self.new trail.new }
+        ensures followed { IsFollowed self.old self.new trail.old trail.new }
+        ensures conflict { IfOk result (λ found. IfSome found (IsConflictOf self.new trail.new)) }
+        ensures one { IfOk result (λ found. IfNone found
+            (length self.new.ends.items ≡ length self.old.ends.items + 1)) }
+    {
+        let lit = falsified(trail, self.ends.len());
+        let mut at = 0;
+        loop {
+            at = self.skip(trail, lit, at);
+            if at >= self.entries(lit) {
+                break;
+            }
+            match self.visit(trail, lit, at)? {
+                Visit::Next => at += 1,
+                Visit::Gone => {}
+                Visit::Conflict(id) => return Ok(Some(id)),
+            }
+        }
+        self.ends.push(trail.len() as usize)?;
+        Ok(None)
+    }
+
+    // The number of entries in the list of a literal.
+    fn entries(&self, lit: Lit) -> usize
+        ensures { result ≡ entries_of self.now lit }
+    {
+        let code = code(lit);
+        if code < self.lists.len() {
+            self.lists[code].len()
+        } else {
+            0
+        }
+    }
+
+    // An entry of the list of a literal.
+    fn entry(&self, lit: Lit, at: usize) -> Entry
+        requires { at < entries_of self.now lit }
+        ensures { result ≡ slice_index_or (list_of self.now.lists.items lit) at no_entry }
+    {
+        self.lists[code(lit)].at(at)
+    }
+
+    // A literal of a slot.
+    fn literal(&self, slot: usize, place: usize) -> Lit
+        requires slot { slot < length self.now.slots.items }
+        requires place { place < length (clause_at self.now.slots.items slot) }
+        ensures value { result
+            ≡ slice_index_or (clause_at self.now.slots.items slot) place no_literal }
+        ensures among { Contains (clause_at self.now.slots.items slot) result }
+    {
+        self.slots[slot].lits.at(place)
+    }
+
+    // A place from 2 on whose literal isn't false.
+    fn free_place(&self, trail: &Trail, slot: usize) -> Option<usize>
+        requires slot { slot < length self.now.slots.items }
+        requires vars { (l : Literal) → Contains (clause_at self.now.slots.items slot) l
+            → l.var ≤ trail.now.vars }
+        ensures free { IfSome result
+            (λ k. IsFree (clause_at self.now.slots.items slot) (lits_of trail.now.steps) k) }
+        ensures none { IfNone result
+            (AreFalse (clause_at self.now.slots.items slot) (lits_of trail.now.steps) 2) }
+    {
+        free_place(&self.slots[slot].lits, trail)
+    }
+
+    // The first place from one on whose blocker isn't true, or the end of the list. Most visits end
+    // here.
+    fn skip(&self, trail: &Trail, lit: Lit, at: usize) -> usize
+        requires looking { IsAt self.now trail.now lit at }
+        ensures looking { IsAt self.now trail.now lit result }
+        ensures after { at ≤ result }
+    {
+        let code = code(lit);
+        if code < self.lists.len() {
+            skip_true(&self.lists[code], trail, at)
+        } else {
+            at
+        }
+    }
+
+    // Visits an entry in the list of a literal that is false, whose blocker isn't true.
+    fn visit(&mut self, trail: &mut Trail, lit: Lit, at: usize) -> Result<Visit, NoMemory>
+        requires looking { IsAt self.old trail.old lit at }
+        requires within { at < entries_of self.old lit }
+        ensures ok { IfOk result (IsVisited self.old self.new trail.old trail.new lit at) }
+        ensures err { OnErr result
+            (IsReady self.new trail.new × IsFollowed self.old self.new trail.old trail.new) }
+    {
+        let entry = self.entry(lit, at);
+        if put_second(&mut self.slots, entry.slot, lit) {
+            self.read(trail, lit, at, entry.slot)
+        } else {
+            drop_entry(&mut self.lists, code(lit), at);
+            Ok(Visit::Gone)
+        }
+    }
+
+    // Visits an entry whose clause has the false literal second.
+    fn read(
+        &mut self,
+        trail: &mut Trail,
+        lit: Lit,
+        at: usize,
+        slot: usize,
+    ) -> Result<Visit, NoMemory>
+        requires looking { IsAt self.old trail.old lit at }
+        requires within { at < entries_of self.old lit }
+        requires entry { (slice_index_or (list_of self.old.lists.items lit) at no_entry).slot ≡ slot }
+        requires slot { slot < length self.old.slots.items }
+        requires long { 2 ≤ length (clause_at self.old.slots.items slot) }
+        requires second { slice_index_or (clause_at self.old.slots.items slot) 1 no_literal ≡ lit }
+        ensures ok { IfOk result (IsVisited self.old self.new trail.old trail.new lit at) }
+        ensures err { OnErr result (IsReady self.new trail.new
+            × IsFollowed self.old self.new trail.old trail.new) }
+    {
+        let first = self.literal(slot, 0);
+        if let Some(true) = truth(trail, first) {
+            set_blocker(&mut self.lists, code(lit), at, slot, first);
+            return Ok(Visit::Next);
+        }
+        match self.free_place(trail, slot) {
+            Some(place) => self.replace(trail, lit, at, slot, place),
+            None => Ok(self.force(trail, lit, at, slot)),
+        }
+    }
+
+    // Watches a literal that isn't false in place of the second one.
+    fn replace(
+        &mut self,
+        trail: &Trail,
+        lit: Lit,
+        at: usize,
+        slot: usize,
+        place: usize,
+    ) -> Result<Visit, NoMemory>
+        requires looking { IsAt self.old trail.now lit at }
+        requires within { at < entries_of self.old lit }
+        requires entry { (slice_index_or (list_of self.old.lists.items lit) at no_entry).slot ≡ slot }
+        requires slot { slot < length self.old.slots.items }
+        requires second { slice_index_or (clause_at self.old.slots.items slot) 1 no_literal ≡ lit }
+        requires free { IsFree (clause_at self.old.slots.items slot) (lits_of trail.now.steps) place }
+        ensures ok { IfOk result (IsVisited self.old self.new trail.now trail.now lit at) }
+        ensures err { OnErr result (IsReady self.new trail.now
+            × IsFollowed self.old self.new trail.now trail.now) }
+    {
+        let free = self.literal(slot, place);
+        let first = self.literal(slot, 0);
+        add_entry(&mut self.lists, code(free), slot, first)?;
+        put_at_second(&mut self.slots, slot, place);
+        drop_entry(&mut self.lists, code(lit), at);
+        Ok(Visit::Gone)
+    }
+
+    // Makes the first literal true, where it isn't false; all others are.
+    fn force(&self, trail: &mut Trail, lit: Lit, at: usize, slot: usize) -> Visit
+        requires looking { IsAt self.now trail.old lit at }
+        requires entry { (slice_index_or (list_of self.now.lists.items lit) at no_entry).slot ≡ slot }
+        requires slot { slot < length self.now.slots.items }
+        requires long { 2 ≤ length (clause_at self.now.slots.items slot) }
+        requires second { slice_index_or (clause_at self.now.slots.items slot) 1 no_literal ≡ lit }
+        requires others { AreFalse (clause_at self.now.slots.items slot) (lits_of trail.old.steps) 2 }
+        ensures { IsVisited self.now self.now trail.old trail.new lit at result }
+    {
+        let first = self.literal(slot, 0);
+        let id = self.slots[slot].id;
+        match truth(trail, first) {
+            Some(true) => Visit::Next,
+            Some(false) => Visit::Conflict(id),
+            None => {
+                push_forced(first, id, trail);
+                Visit::Next
+            }
+        }
+    }
+
+    // Takes up the clause of a line.
+    fn take_up(&mut self, line: &Constraint, trail: &Trail, id: u64) -> Result<(), NoMemory>
+        requires ready { IsReady self.old trail.now }
+        requires kind { is_watched line.now ≡ true }
+        requires vars { UpTo trail.now.vars line.now }
+        ensures ready { IsReady self.new trail.now }
+        ensures ok { OnOk result ((lines : LineMap) → get lines id ≡ Some line.now
+            → Hold self.old (remove lines id) → Hold self.new lines) }
+        ensures err { OnErr result ((lines : LineMap)
+            → Hold self.old (remove lines id) → Hold self.new (remove lines id)) }
+    {
+        let mut lits = Row::from_slice(self.alloc, line.literals())?;
+        cover(self.alloc, &mut self.lists, &lits)?;
+        latest_first(&mut lits, &mut self.ends, trail);
+        self.watch(lits, id)
+    }
+
+    // Watches the first two literals of a clause.
+    fn watch(&mut self, lits: Row<Lit>, id: u64) -> Result<(), NoMemory>
+        requires long { 2 ≤ length lits }
+        requires distinct { IsDistinct lits }
+        requires covered { (l : Literal) → Contains lits l
+            → code_of l < length self.old.lists.items }
+        ensures ready { (t : TrailValue) → IsReady self.old t → IsWatchable self.old t lits
+            → IsReady self.new t }
+        ensures ok { OnOk result ((lines : LineMap) (line : ConstraintValue)
+            → IsCopy lines id line lits → Hold self.old (remove lines id) → Hold self.new lines) }
+        ensures err { OnErr result ((lines : LineMap) → get lines id ≡ None
+            → Hold self.old lines → Hold self.new lines) }
+    {
+        let slot = self.open_slot(id)?;
+        let first = lits.at(0);
+        let second = lits.at(1);
+        add_entry(&mut self.lists, code(first), slot, second)?;
+        add_entry(&mut self.lists, code(second), slot, first)?;
+        self.slots[slot].lits = lits;
+        Ok(())
+    }
+
+    // A slot without literals, to which the id leads.
+    fn open_slot(&mut self, id: u64) -> Result<usize, NoMemory>
+        ensures ready { (t : TrailValue) → IsReady self.old t → IsReady self.new t }
+        ensures hold { (lines : LineMap) → get lines id ≡ None
+            → Hold self.old lines → Hold self.new lines }
+        ensures lists { self.new.lists.items ≡ self.old.lists.items }
+        ensures ends { self.new.ends.items ≡ self.old.ends.items }
+        ensures opened { IfOk result (IsOpened self.old self.new id) }
+    {
+        let slot = self.slots.len();
+        self.slots.push(Slot {
+            id,
+            lits: Row::new(self.alloc),
+        })?;
+        self.index.insert(id, slot)?;
+        Ok(slot)
+    }
+}
+
+/// Law: a step more on the trail leaves the watches in step.
+#[tactic(auto, unfolding(crate::specs::Watches::AreWatches))]
+pub fn longer_trail_keeps_watches()
+    ensures { (w : Watches) (lines : LineMap) (t : TrailValue) (s : Step)
+        → AreWatches w lines t → AreWatches w lines (with_step t s) }
+{}
+
+/// Law: more variables leave the watches in step.
+#[tactic(auto, unfolding(crate::specs::Watches::AreWatches))]
+pub fn more_variables_keep_watches()
+    ensures { (w : Watches) (lines : LineMap) (t : TrailValue) (n : ℕ) → t.vars ≤ n
+        → AreWatches w lines t → AreWatches w lines (record { vars = n; steps = t.steps }) }
+{}
+
+/// Law: lines that aren't watched may come and go.
+#[tactic(auto, unfolding(crate::specs::Watches::AreWatches))]
+pub fn other_lines_keep_watches()
+    ensures { (w : Watches) (old new : LineMap) (t : TrailValue) → AreSameWatched old new
+        → AreWatches w old t → AreWatches w new t }
+{}
