@@ -13,7 +13,7 @@ mod step;
 mod store;
 mod trail;
 
-pub use line::push_forced;
+pub use line::{is_forced, possible, push_forced};
 pub use plain::PlainProp;
 pub use propagator::Propagator;
 pub use step::Step;

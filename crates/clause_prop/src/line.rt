@@ -110,8 +110,8 @@ pub fn push_forced(lit: Lit, id: u64, trail: &mut Trail)
     });
 }
 
-// Whether the literal is open, with a coefficient above the slack.
-fn is_forced(term: &(Lit, u128), line_slack: u128, trail: &Trail) -> bool
+/// Whether the literal is open, with a coefficient above the slack. Takes no memory, and constant time.
+pub fn is_forced(term: &(Lit, u128), line_slack: u128, trail: &Trail) -> bool
     requires { term.now.0.var ≤ trail.now.vars }
     ensures value { result ≡ (is_none (partial_truth (partial trail.now) term.now.0)
         && int_lt (pos line_slack) (pos term.now.1)) }
@@ -128,8 +128,8 @@ fn is_open(lit: Lit, trail: &Trail) -> bool
     trail.value(lit).is_none()
 }
 
-// The sum of the coefficients of the literals that aren't false.
-fn possible(line: &Constraint, trail: &Trail) -> u128
+/// The sum of the coefficients of the literals that aren't false. Takes no memory, and constant time a literal.
+pub fn possible(line: &Constraint, trail: &Trail) -> u128
     requires { UpTo trail.now.vars line.now }
     ensures value { result ≡ sum_by (possible_value (partial trail.now)) line.now.terms }
     ensures small { result ≤ 2 ^ 100 }
