@@ -8,7 +8,6 @@ ghost use Rattle.clause_prop.specs.Steps.{partial};
 ghost use Rattle.clause_prop.specs.Propagating.{Extends, IsConflict};
 ghost use Rattle.slack_counter.specs.Counting.{AreOfSlots, AreQuiet, AreTold, IsGone, IsOver, IsQuiet, code_of, coefficient_at, line_at, list_at, listed, lowered, no_occurrence, possible, raised};
 
-
 use clause_prop::{ClauseStore, Step, Trail, is_forced, push_forced};
 use pb_lin::Constraint;
 use scut_base::{Items, Lit, NoMemory};

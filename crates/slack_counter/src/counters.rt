@@ -15,7 +15,6 @@ use crate::counter_lines::{
     CounterLine, Fresh, Occurrence, add, falsified, greatest, list_terms, subtract, sweep,
     visit_line, visit_list,
 };
-
 use clause_prop::{ClauseStore, Trail, possible};
 use pb_lin::Constraint;
 use scut_base::{Items, NoMemory};
@@ -245,12 +244,7 @@ impl Counters {
 
     /// Takes up a line that was stored, which waits to be gone through. Costs its literals, and the steps that
     /// weren't counted. After `NoMemory` the counters are in step with the store without the line.
-    pub fn added(
-        &mut self,
-        store: &ClauseStore,
-        trail: &Trail,
-        id: u64,
-    ) -> Result<(), NoMemory>
+    pub fn added(&mut self, store: &ClauseStore, trail: &Trail, id: u64) -> Result<(), NoMemory>
         requires in_step { AreCounters self.old (remove store.now id) trail.now }
         requires there { (c : ConstraintValue)
             × (get store.now id ≡ Some c) × (is_watched c ≡ false) }
