@@ -1,0 +1,3 @@
+pub use Rattle.clause_prop.specs.Steps
+pub use Rattle.clause_prop.specs.Propagating
+pub mod Joined
