@@ -1,8 +1,13 @@
 -- Trails that steps were added to.
 use Rattle.std.proofs.Common.{◌≡◌, ◌⊎◌, ℕ, ◌≤◌, List, [], ◌∷◌, ◌++◌, length, refl, arith, ap, sym, ◌∙◌, subst, inl, inr, ⊎_elim, append_assoc, length-append}
+use Rattle.std.specs.Prelude.{true, Some, Contains}
+use Rattle.std.specs.FinMap.{get}
+use Rattle.scut_base.specs.Literal.{Literal}
 use Rattle.scut_base.proofs.Lists.{head_same, tail_same}
+use Rattle.pb_lin.specs.Constraint.{ConstraintValue}
+use Rattle.pb_lin.specs.Propagation.{is_forced}
 use Rattle.pb_lin.specs.LineMap.{LineMap}
-use Rattle.clause_prop.specs.Steps.{TrailValue, with_step}
+use Rattle.clause_prop.specs.Steps.{TrailValue, partial, with_step, last_level}
 use Rattle.clause_prop.specs.Propagating.{IsForcedStep, Extends}
 use Rattle.clause_prop.specs.declared.step.Step.{Step}
 
@@ -66,6 +71,15 @@ extends_twice store a b c one two = record {
       (subst (λ (n : ℕ). IsForcedStep store n (b.steps ++ r.0) s) one.vars (two.forced r.0 s after r.2)))
       (in_either one.more two.more first after s e);
 }
+
+-- steps, and then one that a line forces
+pub extends_forced : (store : LineMap) (old new : TrailValue) (line : ConstraintValue) (id : ℕ) (t : Literal × ℕ) → Extends store old new → get store id ≡ Some line → Contains line.terms t → is_forced (partial new) line t ≡ true → Extends store old (with_step new (record { lit = t.0; level = last_level new.steps; reason = id }))
+extends_forced store old new line id t more there among forced = extends_twice store old new _ more (extends_step store new _ (record {
+  line = line;
+  there = there;
+  forces = record { term = t; among = among; literal = refl; forced = forced };
+  level = refl;
+}))
 
 -- a trail that has as many steps is the same
 pub extends_same : (store : LineMap) (a b : TrailValue) → Extends store a b → length b.steps ≡ length a.steps → b ≡ a

@@ -16,7 +16,7 @@ use Rattle.clause_prop.specs.Steps.{TrailValue, partial, with_step, with_true, l
 use Rattle.clause_prop.specs.Propagating.{Extends}
 use Rattle.clause_prop.specs.declared.step.Step.{Step}
 use Rattle.clause_prop.proofs.Assigned.{Values, length-assigned, assigned-push}
-use Rattle.clause_prop.proofs.Extensions.{extends_none, extends_step, extends_twice}
+use Rattle.clause_prop.proofs.Extensions.{extends_none, extends_forced}
 use Rattle.clause_prop.proofs.Forcing.{AreUnforced, slack_kept, unforced_pushed, unforced_more}
 
 -- The first terms were visited: the line forced the steps that the trail got, its slack is still that of the first trail, and it forces none of these terms.
@@ -54,12 +54,7 @@ visited_pushed line id s old new at t visited merged found within none forced = 
   vars = visited.vars;
   same = ap (λ (p : Values). slack p line) push ∙ slack_kept (partial new) line at t step merged here is refl inside none ∙ visited.same;
   unforced = subst (λ (p : Values). AreUnforced p line (at + 1)) (sym push) (unforced_pushed (partial new) line at t step merged here is refl inside none visited.unforced);
-  extends = λ store there. extends_twice store old new (with_step new step) (visited.extends store there) (extends_step store new step (record {
-    line = line;
-    there = there;
-    forces = record { term = t; among = contains; literal = refl; forced = forced };
-    level = refl;
-  }));
+  extends = λ store there. extends_forced store old new line id t (visited.extends store there) there contains forced;
 }
   where
     step : Step

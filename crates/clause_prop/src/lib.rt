@@ -6,6 +6,7 @@
 //! answers. The crate decides nothing and learns nothing.
 #![tactic(auto)]
 
+mod code;
 mod line;
 mod plain;
 mod propagator;
@@ -13,6 +14,7 @@ mod step;
 mod store;
 mod trail;
 
+pub use code::literal_code;
 pub use line::{is_forced, possible, push_forced};
 pub use plain::PlainProp;
 pub use propagator::Propagator;

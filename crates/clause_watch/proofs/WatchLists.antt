@@ -6,8 +6,9 @@ use Rattle.std.proofs.lemmas.List.Edits.{swapped_from_swap, length-swap}
 use Rattle.std.proofs.lemmas.List.Elements.{Contains-append_left, Contains-get_or}
 use Rattle.std.proofs.lemmas.Bool.{cases_eq, cases_lt}
 use Rattle.scut_base.specs.Literal.{Literal}
+use Rattle.scut_base.specs.LiteralCode.{code_of}
 use Rattle.pb_lin.specs.Constraint.{opposite}
-use Rattle.clause_watch.specs.Watching.{no_literal, code_of, HasTrue, IsDistinct, IsWatch}
+use Rattle.clause_watch.specs.Watching.{no_literal, HasTrue, IsDistinct, IsWatch}
 
 -- what holds of each element and of a new one holds after a write
 pub at_set : {X : Type 0} (d : X) (P : ℕ → X → Type 0) (xs : List X) (c : ℕ) (x : X) → ((k : ℕ) → P k (get_or xs k d)) → (c < length xs → P c x) → (k : ℕ) → P k (get_or (set xs c x) k d)
@@ -42,7 +43,6 @@ opposite_same l m e = sym (opposite_twice l) ∙ ap opposite e ∙ opposite_twic
 
 -- literals with one code are the same
 pub code_same : (l m : Literal) → code_of l ≡ code_of m → l ≡ m
-unfolding code_of
 code_same l m e = both l.var m.var l.neg m.neg e
   where
     both : (v w : ℕ) (b c : Bool) → 2 * v + cond b 1 0 ≡ 2 * w + cond c 1 0 → ◌≡◌ {A = Literal} (record { var = v; neg = b }) (record { var = w; neg = c })

@@ -1,14 +1,11 @@
 -- How watched clauses stand to a trail: plain lists.
-use Rattle.std.specs.Prelude.{◌≡◌, ◌≢◌, ℕ, ◌+◌, ◌*◌, ◌<◌, ◌≤◌, ◌⊎◌, Bool, true, false, if◌then◌else◌, List, [], length, map, take, slice_index, slice_index_or, Contains, Option, Some, None}
+use Rattle.std.specs.Prelude.{◌≡◌, ◌≢◌, ℕ, ◌+◌, ◌<◌, ◌≤◌, ◌⊎◌, Bool, true, false, List, [], length, map, take, slice_index, slice_index_or, Contains, Option, Some, None}
 use Rattle.scut_base.specs.Literal.{Literal}
+use Rattle.scut_base.specs.LiteralCode.{code_of}
 use Rattle.pb_lin.specs.Constraint.{opposite}
 use Rattle.clause_prop.specs.declared.step.Step.{Step}
 use Rattle.clause_watch.specs.declared.watch_lists.Entry.{Entry}
 use Rattle.clause_watch.specs.declared.watch_lists.Slot.{Slot}
-
--- the place of a literal in a table with two places a variable, those of variable 0 unused
-unfoldable pub code_of : Literal → ℕ
-code_of l = 2 * l.var + (if l.neg then 1 else 0)
 
 -- what stands past the end of a list of literals
 abbrev pub no_literal : Literal

@@ -2,12 +2,13 @@
 ghost use Rattle.std.specs.Prelude.{◌≡◌, ◌≢◌, ℕ, ◌+◌, ◌-◌, ◌<◌, ◌≤◌, ◌++◌, ◌⊎◌, ◌↔◌, [], ◌∷◌, true, false, None, length, take, OnOk, OnErr, IfSome, IfNone, IsTrue, Contains, IsPermutation, slice_index, slice_index_or, slice_set, swap};
 ghost use Rattle.scut_base.specs.Assignment.{partial_truth};
 ghost use Rattle.scut_base.specs.Literal.{Literal};
+ghost use Rattle.scut_base.specs.LiteralCode.{code_of};
 ghost use Rattle.pb_lin.specs.Constraint.{opposite};
 ghost use Rattle.clause_prop.specs.Steps.{AreSteps, partial};
-ghost use Rattle.clause_watch.specs.Watching.{AreFalse, IsDistinct, IsFree, IsRemoved, IsValue, IsWatch, clause_at, code_of, lits_of, no_entry, no_literal, no_slot};
+ghost use Rattle.clause_watch.specs.Watching.{AreFalse, IsDistinct, IsFree, IsRemoved, IsValue, IsWatch, clause_at, lits_of, no_entry, no_literal, no_slot};
 
 use crate::row::Row;
-use clause_prop::Trail;
+use clause_prop::{Trail, literal_code};
 use scut_base::{Lit, NoMemory};
 use std::alloc::Global;
 
@@ -36,15 +37,6 @@ pub fn truth(trail: &Trail, lit: Lit) -> Option<bool>
 {
     let _from_one = lit.var();
     trail.value(lit)
-}
-
-/// The literal's place in a table with two places for each variable.
-#[tactic(auto, unfolding(crate::specs::Watching::code_of))]
-pub fn code(lit: Lit) -> usize
-    ensures { result ≡ code_of lit }
-{
-    let first = 2 * lit.var() as usize;
-    if lit.is_neg() { first + 1 } else { first }
 }
 
 /// The negation of the literal of a step.
@@ -205,7 +197,7 @@ pub fn cover(alloc: Global, lists: &mut Vec<Row<Entry>>, clause: &Row<Lit>) -> R
 {
     for place in 0..clause.len() {
         let lit = clause.at(place);
-        reach(alloc, lists, code(lit))?;
+        reach(alloc, lists, literal_code(lit))?;
     }
     Ok(())
 }

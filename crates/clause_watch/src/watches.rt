@@ -3,21 +3,22 @@ ghost use Rattle.std.specs.Prelude.{◌≡◌, ◌≢◌, ℕ, ◌+◌, ◌<◌,
 ghost use Rattle.std.specs.FinMap.{empty, get, remove};
 ghost use Rattle.scut_base.specs.Assignment.{partial_truth};
 ghost use Rattle.scut_base.specs.Literal.{Literal};
+ghost use Rattle.scut_base.specs.LiteralCode.{code_of};
 ghost use Rattle.pb_lin.specs.Constraint.{ConstraintValue, UpTo, opposite};
 ghost use Rattle.pb_lin.specs.LineMap.{LineMap, LinesUpTo};
 ghost use Rattle.clause_prop.specs.Steps.{TrailValue, partial, with_step, cut};
 ghost use Rattle.clause_prop.specs.Propagating.{Extends, IsConflict};
 ghost use Rattle.clause_prop.specs.LineKinds.{is_watched, IsClosedForWatched};
-ghost use Rattle.clause_watch.specs.Watching.{AreFalse, IsFree, clause_at, code_of, list_of, lits_of, no_entry, no_literal, IsDistinct};
+ghost use Rattle.clause_watch.specs.Watching.{AreFalse, IsFree, clause_at, list_of, lits_of, no_entry, no_literal, IsDistinct};
 ghost use Rattle.clause_watch.specs.Watches.{AreWatches, Hold, IsAllLooked, IsAt, IsConflictOf, IsFollowed, IsReady, IsVisited, IsCopy, IsOpened, IsWatchable, AreSameWatched, entries_of};
 ghost use Rattle.clause_prop.specs.declared.step.Step.{Step};
 
 use crate::row::Row;
 use crate::watch_lists::{
-    Entry, Slot, add_entry, code, cover, cut_ends, drop_entry, falsified, free_place, latest_first,
+    Entry, Slot, add_entry, cover, cut_ends, drop_entry, falsified, free_place, latest_first,
     put_at_second, put_second, set_blocker, skip_true, truth,
 };
-use clause_prop::{ClauseStore, Trail, push_forced};
+use clause_prop::{ClauseStore, Trail, literal_code, push_forced};
 use pb_lin::Constraint;
 use scut_base::{Lit, NoMemory};
 use std::alloc::Global;
@@ -177,7 +178,7 @@ impl Watches {
     fn entries(&self, lit: Lit) -> usize
         ensures { result ≡ entries_of self.now lit }
     {
-        let code = code(lit);
+        let code = literal_code(lit);
         if code < self.lists.len() {
             self.lists[code].len()
         } else {
@@ -190,7 +191,7 @@ impl Watches {
         requires { at < entries_of self.now lit }
         ensures { result ≡ slice_index_or (list_of self.now.lists.items lit) at no_entry }
     {
-        self.lists[code(lit)].at(at)
+        self.lists[literal_code(lit)].at(at)
     }
 
     // A literal of a slot.
@@ -224,7 +225,7 @@ impl Watches {
         ensures looking { IsAt self.now trail.now lit result }
         ensures after { at ≤ result }
     {
-        let code = code(lit);
+        let code = literal_code(lit);
         if code < self.lists.len() {
             skip_true(&self.lists[code], trail, at)
         } else {
@@ -244,7 +245,7 @@ impl Watches {
         if put_second(&mut self.slots, entry.slot, lit) {
             self.read(trail, lit, at, entry.slot)
         } else {
-            drop_entry(&mut self.lists, code(lit), at);
+            drop_entry(&mut self.lists, literal_code(lit), at);
             Ok(Visit::Gone)
         }
     }
@@ -269,7 +270,7 @@ impl Watches {
     {
         let first = self.literal(slot, 0);
         if let Some(true) = truth(trail, first) {
-            set_blocker(&mut self.lists, code(lit), at, slot, first);
+            set_blocker(&mut self.lists, literal_code(lit), at, slot, first);
             return Ok(Visit::Next);
         }
         match self.free_place(trail, slot) {
@@ -299,9 +300,9 @@ impl Watches {
     {
         let free = self.literal(slot, place);
         let first = self.literal(slot, 0);
-        add_entry(&mut self.lists, code(free), slot, first)?;
+        add_entry(&mut self.lists, literal_code(free), slot, first)?;
         put_at_second(&mut self.slots, slot, place);
-        drop_entry(&mut self.lists, code(lit), at);
+        drop_entry(&mut self.lists, literal_code(lit), at);
         Ok(Visit::Gone)
     }
 
@@ -360,8 +361,8 @@ impl Watches {
         let slot = self.open_slot(id)?;
         let first = lits.at(0);
         let second = lits.at(1);
-        add_entry(&mut self.lists, code(first), slot, second)?;
-        add_entry(&mut self.lists, code(second), slot, first)?;
+        add_entry(&mut self.lists, literal_code(first), slot, second)?;
+        add_entry(&mut self.lists, literal_code(second), slot, first)?;
         self.slots[slot].lits = lits;
         Ok(())
     }

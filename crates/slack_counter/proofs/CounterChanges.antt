@@ -8,12 +8,13 @@ use Rattle.std.proofs.lemmas.Bool.{cases_eq, cond-true}
 use Rattle.std.proofs.lemmas.List.{get_or-replicate, length-replicate, take_all}
 use Rattle.std.proofs.lemmas.List.Sums.{sum_by-le-sum_by}
 use Rattle.scut_base.specs.Literal.{Literal}
+use Rattle.scut_base.specs.LiteralCode.{code_of}
 use Rattle.scut_base.specs.Assignment.{partial_truth}
 use Rattle.scut_base.proofs.Lists.{sum_by_same_in}
 use Rattle.pb_lin.specs.Constraint.{ConstraintValue, UpTo, opposite, possible_value, total, unless_false}
 use Rattle.pb_lin.specs.LineMap.{LineMap}
 use Rattle.clause_prop.specs.Steps.{AreSteps, TrailValue, assigned, with_true}
-use Rattle.slack_counter.specs.Counting.{AreKept, IsCounter, IsDone, IsGone, IsHeld, IsOver, IsSettled, IsWaiting, code_of, line_at, list_at, listed, lowered, possible, raised}
+use Rattle.slack_counter.specs.Counting.{AreKept, IsCounter, IsDone, IsGone, IsHeld, IsOver, IsSettled, IsWaiting, line_at, list_at, listed, lowered, possible, raised}
 use Rattle.clause_prop.specs.declared.step.Step.{Step}
 use Rattle.slack_counter.specs.declared.counter_lines.CounterLine.{CounterLine}
 use Rattle.slack_counter.specs.declared.counter_lines.Occurrence.{Occurrence}

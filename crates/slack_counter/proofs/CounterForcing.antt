@@ -19,7 +19,7 @@ use Rattle.clause_prop.specs.Propagating.{Extends}
 use Rattle.slack_counter.specs.Counting.{AreTold, possible}
 use Rattle.clause_prop.specs.declared.step.Step.{Step}
 use Rattle.clause_prop.proofs.Assigned.{Values, length-assigned, assigned-push}
-use Rattle.clause_prop.proofs.Extensions.{extends_none, extends_step, extends_twice}
+use Rattle.clause_prop.proofs.Extensions.{extends_none, extends_forced}
 use Rattle.clause_prop.proofs.Forcing.{truth_here, truth_other}
 
 -- what isn't false of the terms
@@ -142,12 +142,7 @@ above_pushed line id s old new at t above found from_one within none test = reco
       (ap is_none (truth_here (partial new) step from_one (omega (arith, within, length-assigned new.vars new.steps)))))
       (λ (other : k ≢ at). told_with (partial new) step (get_or line.terms k d).0 (above.told k d (omega (arith, less, other)) there exceeds))
       (cases_eq k at));
-  extends = λ store there. extends_twice store old new (with_step new step) (above.extends store there) (extends_step store new step (record {
-    line = line;
-    there = there;
-    forces = record { term = t; among = contains; literal = refl; forced = forced };
-    level = refl;
-  }));
+  extends = λ store there. extends_forced store old new line id t (above.extends store there) there contains forced;
 }
   where
     step : Step

@@ -7,9 +7,10 @@ use Rattle.std.proofs.lemmas.List.{get_or_default}
 use Rattle.std.proofs.lemmas.List.Sums.{sum_by_more, sum_by_more_le, sum_by_push}
 use Rattle.std.proofs.lemmas.List.Elements.{All-push}
 use Rattle.scut_base.specs.Literal.{Literal}
+use Rattle.scut_base.specs.LiteralCode.{code_of}
 use Rattle.scut_base.proofs.Lists.{sum_by_zero}
 use Rattle.pb_lin.proofs.AtPlace.{take_place, sum_place}
-use Rattle.slack_counter.specs.Counting.{AreOfSlots, AreQuiet, IsQuiet, code_of, coefficient_at, line_at, list_at, listed, lowered, raised, no_line, no_occurrence, share, weight}
+use Rattle.slack_counter.specs.Counting.{AreOfSlots, AreQuiet, IsQuiet, coefficient_at, line_at, list_at, listed, lowered, raised, no_line, no_occurrence, share, weight}
 use Rattle.pb_lin.specs.Constraint.{opposite}
 use Rattle.clause_prop.specs.declared.step.Step.{Step}
 use Rattle.slack_counter.specs.declared.counter_lines.CounterLine.{CounterLine}

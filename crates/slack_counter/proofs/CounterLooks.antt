@@ -1,5 +1,6 @@
 -- Steps that were looked at, and new lines that were gone through.
 use Rattle.std.proofs.Common.{◌≡◌, ◌≢◌, ◌⊎◌, ℕ, zero, suc, ◌+◌, ◌<◌, ◌≤◌, true, Option, Some, List, [], ◌∷◌, ◌++◌, length, get_or, set, All, refl, arith, ap, sym, ◌∙◌, subst, ⊎_elim, inl, inr, length-set, get_or-set_same, get_or-set_other}
+use Rattle.scut_base.specs.LiteralCode.{code_of}
 use Rattle.std.specs.FinMap.{get}
 use Rattle.std.proofs.lemmas.Bool.{cases_eq, cases_lt}
 use Rattle.std.proofs.lemmas.List.{get_or_append_left, get_or_push, length_push}
@@ -9,7 +10,7 @@ use Rattle.pb_lin.specs.LineMap.{LineMap}
 use Rattle.pb_lin.specs.Propagation.{IsClosedUnder}
 use Rattle.clause_prop.specs.Steps.{AreSteps, TrailValue, partial}
 use Rattle.clause_prop.specs.LineKinds.{IsClosedForCounted}
-use Rattle.slack_counter.specs.Counting.{AreKept, IsDone, IsGone, IsHeld, IsSettled, IsWaiting, code_of, end_of, fresh_at, line_at, list_at, listed, no_fresh, share}
+use Rattle.slack_counter.specs.Counting.{AreKept, IsDone, IsGone, IsHeld, IsSettled, IsWaiting, end_of, fresh_at, line_at, list_at, listed, no_fresh, share}
 use Rattle.clause_prop.specs.declared.step.Step.{Step}
 use Rattle.slack_counter.specs.declared.counter_lines.CounterLine.{CounterLine}
 use Rattle.slack_counter.specs.declared.counter_lines.Occurrence.{Occurrence}

@@ -6,12 +6,13 @@ use Rattle.std.proofs.lemmas.Bool.{cases_eq, cases_lt, ne_eqb, cond-true, cond-f
 use Rattle.std.proofs.lemmas.Int.{ints}
 use Rattle.std.proofs.lemmas.List.{take_more, get_or-take, length-take-le, take_all, get_or_default}
 use Rattle.scut_base.specs.Literal.{Literal}
+use Rattle.scut_base.specs.LiteralCode.{code_of}
 use Rattle.scut_base.specs.Assignment.{partial_truth}
 use Rattle.scut_base.proofs.Lists.{sum_by-add, sum_by_same_in}
 use Rattle.pb_lin.specs.Constraint.{ConstraintValue, opposite, possible_value, slack, unless_false}
 use Rattle.pb_lin.specs.Propagation.{IsClosedUnder}
 use Rattle.clause_prop.specs.Steps.{AreSteps, TrailValue, assigned, partial, with_true}
-use Rattle.slack_counter.specs.Counting.{AreTold, IsSettled, code_of, coefficient_at, possible, weight}
+use Rattle.slack_counter.specs.Counting.{AreTold, IsSettled, coefficient_at, possible, weight}
 use Rattle.clause_prop.specs.declared.step.Step.{Step}
 use Rattle.clause_prop.proofs.Assigned.{Values, assigned-none, assigned-push, index, length-assigned}
 use Rattle.slack_counter.proofs.CounterForcing.{sum_under, sum_falls, told_with, value_none}

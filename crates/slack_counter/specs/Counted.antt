@@ -1,10 +1,11 @@
 -- When the counters are in step with a store and a trail.
 use Rattle.std.specs.Prelude.{◌≡◌, ℕ, Some, List, All, slice_get, ◌<◌, length, nat_eq}
+use Rattle.scut_base.specs.LiteralCode.{code_of}
 use Rattle.std.specs.Map.{lookup}
 use Rattle.pb_lin.specs.Constraint.{ConstraintValue, opposite}
 use Rattle.pb_lin.specs.LineMap.{LineMap}
 use Rattle.clause_prop.specs.Steps.{TrailValue}
-use Rattle.slack_counter.specs.Counting.{AreKept, AreQuiet, IsGone, code_of, IsWaiting, coefficient_at, line_at, list_at, listed, no_line}
+use Rattle.slack_counter.specs.Counting.{AreKept, AreQuiet, IsGone, IsWaiting, coefficient_at, line_at, list_at, listed, no_line}
 use Rattle.clause_prop.specs.declared.step.Step.{Step}
 use Rattle.slack_counter.specs.declared.counters.Counters.{Counters}
 

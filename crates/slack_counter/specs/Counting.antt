@@ -1,8 +1,9 @@
 -- How what is kept of the counted lines agrees with a store and a trail.
-use Rattle.std.specs.Prelude.{◌≡◌, ℕ, ◌+◌, ◌-◌, ◌*◌, ◌<◌, ◌≤◌, ◌⊎◌, Bool, true, false, if◌then◌else◌, nat_eq, Option, Some, List, [], ◌∷◌, length, take, sum_by, slice_index_or, All}
+use Rattle.std.specs.Prelude.{◌≡◌, ℕ, ◌+◌, ◌-◌, ◌<◌, ◌≤◌, ◌⊎◌, Bool, true, false, if◌then◌else◌, nat_eq, Option, Some, List, [], ◌∷◌, length, take, sum_by, slice_index_or, All}
 use Rattle.std.specs.Option.{is_none}
 use Rattle.std.specs.FinMap.{get}
 use Rattle.scut_base.specs.Literal.{Literal}
+use Rattle.scut_base.specs.LiteralCode.{code_of}
 use Rattle.scut_base.specs.Assignment.{partial_truth}
 use Rattle.pb_lin.specs.Constraint.{ConstraintValue, IsNormal, UpTo, possible_value}
 use Rattle.pb_lin.specs.LineMap.{LineMap}
@@ -31,10 +32,6 @@ fresh_at fresh k = slice_index_or fresh k no_fresh
 
 abbrev pub list_at : List (List Occurrence) → ℕ → List Occurrence
 list_at lists code = slice_index_or lists code []
-
--- the place of a literal's list
-abbrev pub code_of : Literal → ℕ
-code_of l = 2 * l.var + (if l.neg then 1 else 0)
 
 -- the coefficient where the occurrence is of this slot, and else 0
 abbrev pub share : ℕ → Occurrence → ℕ

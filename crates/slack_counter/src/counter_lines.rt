@@ -1,16 +1,17 @@
 // What is kept of the lines that are counted, and their occurrences.
 ghost use Rattle.std.specs.Prelude.{◌≡◌, ℕ, ◌+◌, ◌<◌, ◌≤◌, ◌^◌, [], true, false, Some, None, length, All, OnOk, IfSome, IfNone, slice_index_or, sum_by};
+ghost use Rattle.scut_base.specs.LiteralCode.{code_of};
 ghost use Rattle.std.specs.FinMap.{get};
 ghost use Rattle.pb_lin.specs.Constraint.{UpTo, opposite};
 ghost use Rattle.pb_lin.specs.LineMap.{LineMap, LinesUpTo};
 ghost use Rattle.slack_counter.specs.declared.counter_lines.Occurrence.{Occurrence};
 ghost use Rattle.clause_prop.specs.Steps.{partial};
 ghost use Rattle.clause_prop.specs.Propagating.{Extends, IsConflict};
-ghost use Rattle.slack_counter.specs.Counting.{AreOfSlots, AreQuiet, AreTold, IsGone, IsOver, IsQuiet, code_of, coefficient_at, line_at, list_at, listed, lowered, no_occurrence, possible, raised};
+ghost use Rattle.slack_counter.specs.Counting.{AreOfSlots, AreQuiet, AreTold, IsGone, IsOver, IsQuiet, coefficient_at, line_at, list_at, listed, lowered, no_occurrence, possible, raised};
 
-use clause_prop::{ClauseStore, Step, Trail, is_forced, push_forced};
+use clause_prop::{ClauseStore, Step, Trail, is_forced, literal_code, push_forced};
 use pb_lin::Constraint;
-use scut_base::{Items, Lit, NoMemory};
+use scut_base::{Items, NoMemory};
 use std::alloc::Global;
 
 /// What is kept of a line.
@@ -39,19 +40,11 @@ pub struct Fresh {
     pub end: u64,
 }
 
-// The place of a literal's list. Those of different literals differ.
-fn list_place(lit: Lit) -> usize
-    ensures { result ≡ code_of lit }
-{
-    let var = lit.var();
-    (2 * var + u64::from(lit.is_neg())) as usize
-}
-
 // The occurrences of the literal that a step makes false.
 pub fn falsified(lists: &[Items<Occurrence>], step: Step) -> &[Occurrence]
     ensures { result.now ≡ list_at lists.now (code_of (opposite step.lit)) }
 {
-    let code = list_place(step.lit.not());
+    let code = literal_code(step.lit.not());
     if code < lists.len() {
         lists[code].as_slice()
     } else {
@@ -204,7 +197,7 @@ pub fn list_terms(
 {
     for at in 0..line.len() {
         let term = line.term(at);
-        let code = list_place(term.0);
+        let code = literal_code(term.0);
         cover(alloc, lists, code)?;
         lists[code].push(Occurrence {
             slot,

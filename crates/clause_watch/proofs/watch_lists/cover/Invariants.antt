@@ -1,5 +1,6 @@
 use Rattle.std.proofs.Common.{◌≡◌, ◌<◌, ◌≤◌, ℕ, [], get_or, length}
-use Rattle.clause_watch.specs.Watching.{code_of, no_literal}
+use Rattle.scut_base.specs.LiteralCode.{code_of}
+use Rattle.clause_watch.specs.Watching.{no_literal}
 use Rattle.clause_watch.proofs.watch_lists.cover.Given as goal
 
 abbrev pub invariant-loop-place : goal.invariant-loop-place

@@ -16,6 +16,6 @@ loop-at-preserved c =
     let lists = c.cover.new.lists.items in
     let at = c.loop-at.at in
     let before : AreListed old mid terms c.args.slot at = record { slots = c.loop-at.invariant.slots; others = c.loop-at.invariant.others; listed = c.loop-at.invariant.listed } in
-    let more = listed_more old mid lists terms c.args.slot at c.list_place-code.result c.term-term.result c.index_mut.result.now before c.in_ok-cover.ensures.same c.in_ok-cover.ensures.room c.term-term.ensures c.list_place-code.ensures c.index_mut.ensures.value in
-    let all = subst (λ (l : List Occurrence). AreListed old (set lists c.list_place-code.result l) terms c.args.slot (at + 1)) (sym c.in_ok-push.ensures.ok) more in
+    let more = listed_more old mid lists terms c.args.slot at c.literal_code-code.result c.term-term.result c.index_mut.result.now before c.in_ok-cover.ensures.same c.in_ok-cover.ensures.room c.term-term.ensures c.literal_code-code.ensures c.index_mut.ensures.value in
+    let all = subst (λ (l : List Occurrence). AreListed old (set lists c.literal_code-code.result l) terms c.args.slot (at + 1)) (sym c.in_ok-push.ensures.ok) more in
     record { slots = all.slots; others = all.others; listed = all.listed }

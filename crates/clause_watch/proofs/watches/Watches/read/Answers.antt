@@ -1,6 +1,7 @@
 use Rattle.std.proofs.Common.{◌≡◌, ◌+◌, ℕ, List, [], Some, true, refl, get_or, length, set, ap, sym, subst, ◌∙◌}
+use Rattle.scut_base.specs.LiteralCode.{code_of}
 use Rattle.clause_watch.specs.declared.watch_lists.Entry.{Entry}
-use Rattle.clause_watch.specs.Watching.{IsEntry, IsLooking, IsValue, code_of, list_of, lits_of}
+use Rattle.clause_watch.specs.Watching.{IsEntry, IsLooking, IsValue, list_of, lits_of}
 use Rattle.clause_watch.proofs.WatchKept.{looking_next, looking_blocker, length_blocker}
 use Rattle.clause_watch.proofs.WatchVisits.{followed_same}
 use Rattle.clause_watch.proofs.watches.Watches.read.Goals as goal
@@ -25,7 +26,7 @@ returns-in-Some-true-clause-ok c =
     let valid : IsEntry own t.vars e = record { there = c.requires.slot; upto = looking.kept.upto slot first c.literal-first.ensures.among; among = λ _. c.literal-first.ensures.among } in
     let next = looking_next own lists ends t.vars trail lit c.args.at slot looking c.requires.entry (λ _. (first, c.literal-first.ensures.among, value.0)) in
     let done = looking_blocker own lists ends t.vars trail lit c.args.at (c.args.at + 1) e next c.requires.within (sym c.requires.entry) valid in
-    let is : c.set_blocker.new.lists.items ≡ set lists (code_of lit) (set (list_of lists lit) c.args.at e) = c.set_blocker.ensures ∙ ap (λ (i : ℕ). set lists i (set (get_or lists i []) c.args.at e)) c.code.ensures in
+    let is : c.set_blocker.new.lists.items ≡ set lists (code_of lit) (set (list_of lists lit) c.args.at e) = c.set_blocker.ensures ∙ ap (λ (i : ℕ). set lists i (set (get_or lists i []) c.args.at e)) c.literal_code.ensures in
     record {
       looking = subst (λ (ls : List (List Entry)). IsLooking own ls ends t.vars trail lit (c.args.at + 1)) (sym is) done;
       left = sym (ap (λ (ls : List (List Entry)). length (list_of ls lit)) is ∙ length_blocker lists (code_of lit) c.args.at e);

@@ -6,8 +6,9 @@ use Rattle.std.proofs.lemmas.List.{length-map}
 use Rattle.std.proofs.lemmas.List.Sorted.{IsPermutation-sym, Contains-permutation, length_permutation}
 use Rattle.std.proofs.lemmas.Result.{on_ok_weaker, on_err_weaker}
 use Rattle.scut_base.specs.Literal.{Literal}
+use Rattle.scut_base.specs.LiteralCode.{code_of}
 use Rattle.pb_lin.specs.Constraint.{literals}
-use Rattle.clause_watch.specs.Watching.{IsDistinct, IsKept, code_of, lits_of}
+use Rattle.clause_watch.specs.Watching.{IsDistinct, IsKept, lits_of}
 use Rattle.clause_watch.proofs.WatchLists.{place_in}
 use Rattle.clause_watch.proofs.WatchedLines.{clause_of, literal_upto, literals_distinct}
 use Rattle.clause_watch.proofs.WatchKept.{kept_back}

@@ -1,7 +1,8 @@
 use Rattle.std.proofs.Common.{ℕ, [], refl, get_or, ap, sym, subst, ◌∙◌}
+use Rattle.scut_base.specs.LiteralCode.{code_of}
 use Rattle.std.proofs.lemmas.Result.{on_err_weaker}
 use Rattle.clause_watch.specs.declared.watch_lists.Entry.{Entry}
-use Rattle.clause_watch.specs.Watching.{IsEntry, IsRemoved, code_of, lits_of}
+use Rattle.clause_watch.specs.Watching.{IsEntry, IsRemoved, lits_of}
 use Rattle.clause_watch.proofs.WatchKept.{looking_removed}
 use Rattle.clause_watch.proofs.WatchVisits.{followed_same, followed_twice, if_ok_weaker, second_put, visited_after}
 use Rattle.clause_watch.proofs.watches.Watches.visit.Goals as goal
@@ -39,9 +40,9 @@ returns-else-put_second-clause-ok c =
     let lit = c.args.lit in
     let entry = c.entry-entry.result in
     let put = second_put w.slots.items c.put_second.new.slots.items w.lists.items w.ends.items w.index.entries t.vars (lits_of t.steps) lit c.args.at entry.slot c.requires.looking c.put_second.ensures.slots in
-    let removed : IsRemoved (get_or w.lists.items (code_of lit) []) (get_or c.drop_entry.new.lists.items (code_of lit) []) c.args.at = subst (λ (i : ℕ). IsRemoved (get_or w.lists.items i []) (get_or c.drop_entry.new.lists.items i []) c.args.at) c.code.ensures c.drop_entry.ensures.removed in
+    let removed : IsRemoved (get_or w.lists.items (code_of lit) []) (get_or c.drop_entry.new.lists.items (code_of lit) []) c.args.at = subst (λ (i : ℕ). IsRemoved (get_or w.lists.items i []) (get_or c.drop_entry.new.lists.items i []) c.args.at) c.literal_code.ensures c.drop_entry.ensures.removed in
     record {
-      looking = looking_removed c.put_second.new.slots.items w.lists.items c.drop_entry.new.lists.items w.ends.items t.vars (lits_of t.steps) lit c.args.at entry.slot put.0 c.requires.within (ap (λ (x : Entry). x.slot) (sym c.entry-entry.ensures)) (c.put_second.ensures.lost c.if-put_second.false) (λ k n. c.drop_entry.ensures.others k (λ f. n (f ∙ c.code.ensures))) removed c.drop_entry.ensures.len;
+      looking = looking_removed c.put_second.new.slots.items w.lists.items c.drop_entry.new.lists.items w.ends.items t.vars (lits_of t.steps) lit c.args.at entry.slot put.0 c.requires.within (ap (λ (x : Entry). x.slot) (sym c.entry-entry.ensures)) (c.put_second.ensures.lost c.if-put_second.false) (λ k n. c.drop_entry.ensures.others k (λ f. n (f ∙ c.literal_code.ensures))) removed c.drop_entry.ensures.len;
       left = sym removed.len;
       ends = refl;
       followed = followed_same w _ t put.2;

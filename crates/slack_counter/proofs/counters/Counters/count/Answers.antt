@@ -1,9 +1,10 @@
 use Rattle.std.proofs.Common.{◌≤◌, List, ap, sym, ◌∙◌, subst}
+use Rattle.scut_base.specs.LiteralCode.{code_of}
 use Rattle.pb_lin.specs.Constraint.{opposite}
 use Rattle.clause_prop.specs.declared.step.Step.{Step}
 use Rattle.slack_counter.proofs.CounterLaws.{some_same}
 use Rattle.slack_counter.specs.Counted.{AreCounters}
-use Rattle.slack_counter.specs.Counting.{AreQuiet, code_of, list_at, line_at, listed, lowered}
+use Rattle.slack_counter.specs.Counting.{AreQuiet, list_at, line_at, listed, lowered}
 use Rattle.slack_counter.specs.declared.counter_lines.Occurrence.{Occurrence}
 use Rattle.slack_counter.proofs.CounterLists.{step_list}
 use Rattle.slack_counter.proofs.CounterChanges.{count_fits, kept_counted}

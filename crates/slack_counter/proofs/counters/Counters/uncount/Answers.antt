@@ -1,7 +1,8 @@
 use Rattle.std.proofs.Common.{◌≤◌, ◌+◌, ◌-◌, ◌^◌, List, length, get_or, arith, ap, sym, ◌∙◌, subst}
+use Rattle.scut_base.specs.LiteralCode.{code_of}
 use Rattle.pb_lin.specs.Constraint.{opposite}
 use Rattle.slack_counter.specs.Counted.{AreCounters}
-use Rattle.slack_counter.specs.Counting.{AreOfSlots, code_of, line_at, listed, raised}
+use Rattle.slack_counter.specs.Counting.{AreOfSlots, line_at, listed, raised}
 use Rattle.slack_counter.specs.declared.counter_lines.Occurrence.{Occurrence}
 use Rattle.slack_counter.proofs.CounterLists.{step_list}
 use Rattle.slack_counter.proofs.CounterChanges.{uncount_fits, kept_uncounted}

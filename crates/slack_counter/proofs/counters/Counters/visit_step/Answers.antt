@@ -1,11 +1,12 @@
 use Rattle.std.proofs.Common.{◌≡◌, ◌∙◌, ℕ, List, length, get_or, inl, ap, sym, subst}
+use Rattle.scut_base.specs.LiteralCode.{code_of}
 use Rattle.std.specs.Prelude.{All}
 use Rattle.std.specs.Option.{IfNone}
 use Rattle.pb_lin.specs.Constraint.{opposite}
 use Rattle.clause_prop.specs.declared.step.Step.{Step}
 use Rattle.slack_counter.specs.declared.counter_lines.CounterLine.{CounterLine}
 use Rattle.slack_counter.specs.declared.counter_lines.Occurrence.{Occurrence}
-use Rattle.slack_counter.specs.Counting.{AreOfSlots, IsGone, IsOver, code_of, line_at, list_at}
+use Rattle.slack_counter.specs.Counting.{AreOfSlots, IsGone, IsOver, line_at, list_at}
 use Rattle.slack_counter.specs.Counted.{AreCounters}
 use Rattle.clause_prop.proofs.Extensions.{extends_none}
 use Rattle.slack_counter.proofs.CounterLists.{step_list}
