@@ -1,0 +1,3 @@
+pub use Rattle.search_trail.specs.SearchTrail
+pub use Rattle.search_trail.specs.Learning
+pub mod Analysis

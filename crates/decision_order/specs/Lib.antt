@@ -1,0 +1,2 @@
+pub use Rattle.clause_prop.specs.Steps
+pub mod Order
