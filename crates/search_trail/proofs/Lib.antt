@@ -5,3 +5,6 @@ pub mod Stores
 pub mod Truths
 pub mod Pushes
 pub mod Propagated
+pub mod Clauses
+pub mod Jumps
+pub mod Learned
