@@ -8,3 +8,7 @@ pub mod Propagated
 pub mod Clauses
 pub mod Jumps
 pub mod Learned
+pub mod Counts
+pub mod Ranks
+pub mod Wider
+pub mod Models
