@@ -12,7 +12,7 @@ use Rattle.std.proofs.lemmas.Option.{same_Some, slice_get-get_or}
 use Rattle.scut_base.specs.Literal.{Literal}
 use Rattle.scut_base.specs.Assignment.{partial_truth}
 use Rattle.scut_base.proofs.Lists.{Contains-map, sum_by_single}
-use Rattle.pb_lin.specs.Constraint.{ConstraintValue, possible_value, slack, unless_false}
+use Rattle.pb_lin.specs.Constraint.{possible_value, slack, unless_false}
 use Rattle.pb_lin.specs.Propagation.{is_forced, IsClosedUnder}
 use Rattle.pb_lin.proofs.AtPlace.{sum_place-le}
 use Rattle.proof_laws.specs.Steps.{clause}

@@ -1,14 +1,11 @@
 -- Jumps back: where they end, and the clause that asks for one.
-use Rattle.std.proofs.Common.{◌≡◌, ◌≢◌, ◌⊎◌, ℕ, ◌<◌, ◌≤◌, Bool, true, false, Option, Some, None, List, length, take, get_or, All, refl, arith, ap, sym, ◌∙◌, subst, inl, inr, ⊎_elim}
-use Rattle.std.specs.Prelude.{slice_get}
-use Rattle.std.specs.List.{Contains}
+use Rattle.std.proofs.Common.{◌≡◌, ◌≢◌, ◌⊎◌, ℕ, ◌<◌, ◌≤◌, false, Some, None, List, length, get_or, arith, ap, sym, inl, inr, ⊎_elim}
 use Rattle.std.proofs.lemmas.Bool.{cases_eq, cases_lt}
 use Rattle.std.proofs.lemmas.List.Elements.{All-map}
 use Rattle.std.proofs.lemmas.Option.{slice_get_within, slice_get_cases}
 use Rattle.scut_base.specs.Literal.{Literal}
 use Rattle.scut_base.specs.Assignment.{partial_truth}
 use Rattle.scut_base.proofs.Lists.{Contains-map}
-use Rattle.pb_lin.specs.Constraint.{opposite}
 use Rattle.pb_lin.specs.LineMap.{LineMap}
 use Rattle.proof_laws.specs.Steps.{clause}
 use Rattle.proof_laws.specs.Earned.{IsUnitUnder}
@@ -16,7 +13,7 @@ use Rattle.clause_prop.specs.Steps.{TrailValue, AreSteps, partial, cut}
 use Rattle.clause_prop.specs.Propagating.{IsClosedFor}
 use Rattle.clause_prop.specs.declared.step.Step.{Step}
 use Rattle.search_trail.specs.SearchTrail.{IsStepAt, IsSearchTrail, IsUpTo}
-use Rattle.search_trail.specs.Learning.{IsFalseBy, IsFalseAt, IsAsserting}
+use Rattle.search_trail.specs.Learning.{IsFalseBy, IsAsserting}
 use Rattle.search_trail.proofs.Truths.{false_before, open_before}
 use Rattle.search_trail.proofs.Clauses.{IsLeft}
 

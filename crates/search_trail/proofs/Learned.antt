@@ -1,12 +1,10 @@
 -- A learned clause is stored, and forces its literal where the jump ends.
-use Rattle.std.proofs.Common.{◌≡◌, ◌≢◌, ◌⊎◌, ℕ, ◌+◌, ◌<◌, ◌≤◌, Bool, Option, Some, None, List, length, take, refl, arith, ap, sym, ◌∙◌, subst, inl, inr, ⊎_elim}
-use Rattle.std.specs.Prelude.{slice_get}
+use Rattle.std.proofs.Common.{◌≡◌, ◌≢◌, ℕ, ◌+◌, ◌<◌, ◌≤◌, None, List, length, take, arith, ap, sym, ◌∙◌, subst, inl, inr, ⊎_elim}
 use Rattle.std.specs.List.{Contains}
 use Rattle.std.specs.FinMap.{get, insert}
 use Rattle.std.proofs.lemmas.Bool.{cases_lt}
 use Rattle.std.proofs.lemmas.List.{length-take}
 use Rattle.scut_base.specs.Literal.{Literal}
-use Rattle.pb_lin.specs.Constraint.{opposite}
 use Rattle.pb_lin.specs.LineMap.{LineMap}
 use Rattle.pb_lin.specs.Propagation.{IsClosedUnder}
 use Rattle.proof_laws.specs.Steps.{clause}
@@ -17,7 +15,7 @@ use Rattle.search_trail.specs.SearchTrail.{AreLines, IsStepAt, IsSearchTrail, Is
 use Rattle.search_trail.specs.Learning.{IsFalseAt, IsAsserting, asserted}
 use Rattle.search_trail.proofs.Places.{slice_get-take, at_front, pair_places}
 use Rattle.search_trail.proofs.Moves.{cut_of_cut}
-use Rattle.search_trail.proofs.Truths.{var_within, open_before}
+use Rattle.search_trail.proofs.Truths.{var_within}
 use Rattle.search_trail.proofs.Stores.{get_new, cut_law, added_line}
 use Rattle.search_trail.proofs.Pushes.{pushed, cut_whole}
 use Rattle.search_trail.proofs.Clauses.{two_left, left_forced}

@@ -1,5 +1,5 @@
 -- Full trails that leave no line violated.
-use Rattle.std.proofs.Common.{◌≡◌, ◌≢◌, ℕ, ◌+◌, ◌<◌, ◌≤◌, Bool, true, false, if◌then◌else◌, Option, Some, None, List, [], ◌∷◌, length, get_or, sum_by, All, refl, arith, ap, sym, ◌∙◌, subst}
+use Rattle.std.proofs.Common.{◌≡◌, ◌≢◌, ℕ, ◌≤◌, Bool, true, false, if◌then◌else◌, Option, Some, None, List, [], ◌∷◌, get_or, sum_by, All, refl, arith, sym, subst}
 use Rattle.std.specs.Prelude.{pos, ◌-ℤ◌, ◌≤ℤ◌}
 use Rattle.std.specs.FinMap.{get}
 use Rattle.std.proofs.lemmas.Int.{ints}
@@ -7,7 +7,7 @@ use Rattle.std.proofs.lemmas.List.Elements.{All-head, All-tail}
 use Rattle.std.proofs.lemmas.List.Sums.{sum_by-cons}
 use Rattle.scut_base.specs.Literal.{Literal}
 use Rattle.scut_base.specs.Assignment.{lit_true, partial_truth}
-use Rattle.pb_lin.specs.Constraint.{ConstraintValue, Holds, possible_value, slack, term_value, unless_false}
+use Rattle.pb_lin.specs.Constraint.{ConstraintValue, Holds, possible_value, term_value, unless_false}
 use Rattle.pb_lin.specs.LineMap.{LineMap}
 use Rattle.clause_prop.specs.Steps.{TrailValue, partial}
 use Rattle.clause_prop.specs.Propagating.{IsClosedFor}

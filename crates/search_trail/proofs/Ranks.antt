@@ -1,6 +1,5 @@
 -- What raises the rank of a trail, and what bounds it.
-use Rattle.std.proofs.Common.{◌≡◌, ℕ, suc, ◌+◌, ◌*◌, ◌-◌, ◌^◌, ◌<◌, ◌≤◌, List, [], ◌∷◌, ◌++◌, Some, length, take, drop, get_or, All, sum_by, refl, arith, ap, sym, ◌∙◌, subst}
-use Rattle.std.specs.Prelude.{slice_get}
+use Rattle.std.proofs.Common.{◌≡◌, ℕ, suc, ◌+◌, ◌*◌, ◌-◌, ◌^◌, ◌<◌, ◌≤◌, List, ◌++◌, length, take, drop, get_or, All, sum_by, refl, arith, ap, sym, ◌∙◌, subst}
 use Rattle.std.proofs.Math.Nat.{pow-suc, one-le-pow, pow-le-pow_right, mul-le-mul_right}
 use Rattle.std.proofs.lemmas.List.{length-drop, get_or-drop}
 use Rattle.std.proofs.lemmas.List.Sums.{sum_by_push, sum_by-append, sum_by-take-drop, sum_by-le}
@@ -10,11 +9,10 @@ use Rattle.pb_lin.specs.LineMap.{LineMap}
 use Rattle.clause_prop.specs.Steps.{TrailValue, with_step, cut}
 use Rattle.clause_prop.specs.Propagating.{Extends}
 use Rattle.clause_prop.specs.declared.step.Step.{Step}
-use Rattle.search_trail.specs.SearchTrail.{IsStepAt, IsSearchTrail, IsUpTo}
+use Rattle.search_trail.specs.SearchTrail.{IsSearchTrail, IsUpTo}
 use Rattle.search_trail.specs.Learning.{IsAsserting, asserted}
 use Rattle.search_trail.specs.Rank.{weight, rank, rank_limit, rest}
 use Rattle.search_trail.proofs.Counts.{length_within}
-use Rattle.search_trail.proofs.Jumps.{shorter_law}
 
 weight_positive : (n : ℕ) (s : Step) → 0 < weight n s
 weight_positive n s = let some : 0 < n + 1 = omega arith in let h = one-le-pow (n - s.level) (n + 1) some in omega (arith, h)

@@ -1,6 +1,5 @@
 -- Trails of a search that are cut, and whose lines are added and dropped.
-use Rattle.std.proofs.Common.{◌≡◌, ◌≢◌, ℕ, Bool, true, false, ◌<◌, ◌≤◌, cond, Option, Some, None, List, [], take, length, All, AllPairs, refl, arith, ap, sym, ◌∙◌, subst}
-use Rattle.std.specs.Prelude.{slice_get}
+use Rattle.std.proofs.Common.{◌≡◌, ◌≢◌, ℕ, ◌<◌, ◌≤◌, Some, None, [], All, refl, arith, ap, sym, ◌∙◌}
 use Rattle.std.specs.FinMap.{get, insert, remove, get-insert, get-remove}
 use Rattle.std.specs.Ordering.{nat_cmp, eq_by_cmp}
 use Rattle.std.specs.Cmp.{nat_cmp_total, unsigned_tied}
@@ -11,8 +10,7 @@ use Rattle.pb_lin.specs.LineMap.{LineMap}
 use Rattle.pb_lin.specs.Propagation.{IsClosedUnder}
 use Rattle.pb_lin.proofs.AtPlace.{All_place}
 use Rattle.proof_laws.proofs.Live.{live_insert, live_remove}
-use Rattle.clause_prop.specs.Steps.{TrailValue, AreSteps, partial, cut}
-use Rattle.clause_prop.specs.Propagating.{IsClosedFor}
+use Rattle.clause_prop.specs.Steps.{TrailValue, partial, cut}
 use Rattle.clause_prop.specs.declared.step.Step.{Step}
 use Rattle.search_trail.specs.SearchTrail.{IsStepAt, IsSearchTrail, IsUndecided}
 use Rattle.search_trail.proofs.Places.{at_front, pairs_front, all_front}

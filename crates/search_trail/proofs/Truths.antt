@@ -1,8 +1,7 @@
 -- The truth of literals under the steps before a place.
-use Rattle.std.proofs.Common.{◌≡◌, ◌≢◌, ℕ, ◌-◌, ◌<◌, ◌≤◌, Bool, true, false, not, if◌then◌else◌, Option, Some, None, List, take, length, get_or, All, AllPairs, refl, arith, ap, sym, ◌∙◌, subst}
+use Rattle.std.proofs.Common.{◌≡◌, ◌≢◌, ℕ, ◌-◌, ◌<◌, ◌≤◌, Bool, true, false, not, if◌then◌else◌, Option, Some, None, List, take, get_or, refl, arith, ap, sym, ◌∙◌, subst}
 use Rattle.std.specs.Option.{option_map}
 use Rattle.std.specs.Prelude.{slice_get}
-use Rattle.std.proofs.lemmas.List.{length-take}
 use Rattle.std.proofs.lemmas.Option.{none-some, slice_get_within, get_or_from_slice_get}
 use Rattle.scut_base.specs.Literal.{Literal}
 use Rattle.scut_base.specs.Assignment.{partial_truth}
@@ -10,7 +9,7 @@ use Rattle.pb_lin.specs.Constraint.{opposite}
 use Rattle.pb_lin.proofs.AtPlace.{All_place}
 use Rattle.clause_prop.specs.Steps.{TrailValue, AreSteps, assigned, partial, cut}
 use Rattle.clause_prop.specs.declared.step.Step.{Step}
-use Rattle.clause_prop.proofs.Assigned.{Values, index, assigned-at, assigned-none}
+use Rattle.clause_prop.proofs.Assigned.{index, assigned-at, assigned-none}
 use Rattle.search_trail.specs.SearchTrail.{IsStepAt}
 use Rattle.search_trail.proofs.Places.{slice_get-take, at_front, all_front, all_places, pair_places, pairs_front}
 

@@ -1,6 +1,6 @@
 -- Trails of a search that get variables.
-use Rattle.std.proofs.Common.{◌≡◌, ◌≢◌, ◌⊎◌, ℕ, ◌+◌, ◌-◌, ◌<◌, ◌≤◌, ◌++◌, Bool, true, false, not, Option, Some, None, List, [], ◌∷◌, length, take, get_or, replicate, sum_by, All, refl, arith, ap, sym, ◌∙◌, subst, ⊎_elim, length-set}
-use Rattle.std.specs.Prelude.{slice_get, pos, ◌-ℤ◌, int_lt, ◌&&◌}
+use Rattle.std.proofs.Common.{◌≡◌, ℕ, ◌+◌, ◌-◌, ◌<◌, ◌≤◌, ◌++◌, Bool, not, Option, Some, None, List, [], ◌∷◌, length, take, get_or, replicate, All, refl, arith, ap, sym, ◌∙◌, subst, ⊎_elim, length-set}
+use Rattle.std.specs.Prelude.{pos, ◌-ℤ◌, int_lt, ◌&&◌}
 use Rattle.std.specs.Option.{is_none}
 use Rattle.std.specs.List.{fold}
 use Rattle.std.proofs.lemmas.Bool.{cases_lt}
@@ -11,12 +11,11 @@ use Rattle.scut_base.specs.Assignment.{partial_truth}
 use Rattle.scut_base.proofs.Lists.{sum_by_same}
 use Rattle.pb_lin.specs.Constraint.{ConstraintValue, possible_value, slack, unless_false}
 use Rattle.pb_lin.specs.LineMap.{LineMap}
-use Rattle.pb_lin.specs.Propagation.{is_forced}
 use Rattle.clause_prop.specs.Steps.{TrailValue, AreSteps, assigned, partial, cut, with_true}
 use Rattle.clause_prop.specs.Propagating.{Forces}
 use Rattle.clause_prop.specs.declared.step.Step.{Step}
 use Rattle.clause_prop.proofs.Assigned.{Values, index}
-use Rattle.search_trail.specs.SearchTrail.{AreLines, IsStepAt, IsSearchTrail, IsForcedAt, IsUndecided}
+use Rattle.search_trail.specs.SearchTrail.{AreLines, IsSearchTrail, IsForcedAt, IsUndecided}
 use Rattle.search_trail.proofs.Stores.{never_decided}
 use Rattle.search_trail.proofs.Truths.{truth_by, steps_front}
 

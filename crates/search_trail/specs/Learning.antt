@@ -1,5 +1,5 @@
 -- What is learned from a conflict: clauses that force a literal at a lower level, and the hints that prove a clause.
-use Rattle.std.specs.Prelude.{◌≡◌, ℕ, ◌<◌, ◌≤◌, ◌⊎◌, Option, None, Some, List, ◌∷◌, map, replicate, All, AllPairs, Contains, IsSome}
+use Rattle.std.specs.Prelude.{◌≡◌, ℕ, ◌<◌, ◌≤◌, ◌⊎◌, None, List, ◌∷◌, replicate, All, AllPairs, Contains, IsSome}
 use Rattle.std.specs.FinMap.{get}
 use Rattle.scut_base.specs.Literal.{Literal}
 use Rattle.pb_lin.specs.Constraint.{negation, opposite}

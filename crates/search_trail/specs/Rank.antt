@@ -1,5 +1,5 @@
 -- The steps of a trail, level by level, as one number: why a search returns.
-use Rattle.std.specs.Prelude.{ℕ, ◌+◌, ◌*◌, ◌-◌, ◌^◌, List, sum_by}
+use Rattle.std.specs.Prelude.{ℕ, ◌+◌, ◌*◌, ◌-◌, ◌^◌, sum_by}
 use Rattle.clause_prop.specs.Steps.{TrailValue}
 use Rattle.clause_prop.specs.declared.step.Step.{Step}
 

@@ -54,7 +54,7 @@ pub fn learning_keeps_search()
         (l : Literal) → AreLines t.vars store → IsSearchTrail store t
         → IsAsserting t top level lits l → IsUpTo t level keep → get store id ≡ None → id ≢ 0
         → IsSearchTrail (insert store id (clause lits))
-            (with_step (cut t keep) (asserted l level id)) }
+        (with_step (cut t keep) (asserted l level id)) }
 {}
 
 /// Law: where nothing is decided, any line may be stored.

@@ -2,7 +2,8 @@
 //!
 //! Its public contract is its laws: decisions, propagation, jumps back, learned clauses and cuts leave a trail one of a
 //! search, in which lines force all steps but decisions, and nothing was left to propagate before a decision; and
-//! each of these but a cut raises a trail's rank, which has a limit. The crate chooses nothing and learns nothing.
+//! each step raises a trail's rank, as does a jump back with a learned clause, and ranks have a limit. The crate
+//! chooses nothing and learns nothing.
 #![tactic(auto)]
 
 mod jump;

@@ -1,6 +1,4 @@
-use Rattle.search_trail.proofs.Jumps.{unit_law}
-use Rattle.search_trail.proofs.Jumps.{closed_law}
-use Rattle.search_trail.proofs.Jumps.{shorter_law}
+use Rattle.search_trail.proofs.Jumps.{shorter_law, closed_law, unit_law}
 use Rattle.search_trail.proofs.laws.jump_closes.Goals as goal
 
 pub returns-clause-shorter : goal.returns-clause-shorter

@@ -1,5 +1,4 @@
-use Rattle.search_trail.proofs.Ranks.{restarted_law}
-use Rattle.search_trail.proofs.Ranks.{higher_law}
+use Rattle.search_trail.proofs.Ranks.{higher_law, restarted_law}
 use Rattle.search_trail.proofs.rank.rest_falls.Goals as goal
 
 pub returns-clause-higher : goal.returns-clause-higher

@@ -1,5 +1,4 @@
-use Rattle.search_trail.proofs.Ranks.{propagation_raises}
-use Rattle.search_trail.proofs.Ranks.{push_raises}
+use Rattle.search_trail.proofs.Ranks.{push_raises, propagation_raises}
 use Rattle.search_trail.proofs.rank.steps_raise_rank.Goals as goal
 
 pub returns-clause-one : goal.returns-clause-one
