@@ -33,7 +33,7 @@ value_wider p m i = ⊎_elim
     (λ (past : length p ≤ i). get_or-append_right p (replicate m None) (length p) i None refl past ∙ open_place m (i - length p) ∙ sym (get_or_past p i None past))
     (cases_lt i (length p))
 
-truth_wider : (p : Values) (m : ℕ) (l : Literal) → partial_truth (p ++ replicate m None) l ≡ partial_truth p l
+pub truth_wider : (p : Values) (m : ℕ) (l : Literal) → partial_truth (p ++ replicate m None) l ≡ partial_truth p l
 truth_wider p m l = ap (truth_by l) (value_wider p m (l.var - 1))
 
 slack_wider : (p : Values) (m : ℕ) (c : ConstraintValue) → slack (p ++ replicate m None) c ≡ slack p c
@@ -59,7 +59,7 @@ from_wider p q (s ∷ steps) within =
     ap (λ (v : Values). fold with_true v steps) (set-append_left p q (index s) (Some (not s.lit.neg)) own)
     ∙ from_wider (with_true p s) q steps (λ k d short. let one = All-tail (λ (r : Step). index r < length p) s steps within k d short in omega (arith, one, length-set p (index s) (Some (not s.lit.neg))))
 
-assigned-wider : (n m : ℕ) (steps : List Step) → AreSteps n steps → assigned (n + m) steps ≡ assigned n steps ++ replicate m None
+pub assigned-wider : (n m : ℕ) (steps : List Step) → AreSteps n steps → assigned (n + m) steps ≡ assigned n steps ++ replicate m None
 assigned-wider n m steps are =
     ap (λ (v : Values). fold with_true v steps) (sym (replicate-append-replicate {A = Option Bool} n m None))
     ∙ from_wider (replicate n None) (replicate m None) steps (λ k d short. let one = are.within k d short in omega (arith, one.0, one.1, length-replicate {A = Option Bool} n None))
