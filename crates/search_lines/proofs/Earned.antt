@@ -1,5 +1,5 @@
 -- Lines that earn, and clauses that are new.
-use Rattle.std.proofs.Common.{◌≡◌, ◌⊎◌, inl, inr, ⊎_elim, ℕ, ◌+◌, ◌<◌, ◌≤◌, Bool, true, cond, Option, Some, None, List, [], ◌∷◌, ◌++◌, All, get_or, refl, arith, add-zero, ap, sym, subst, ◌∙◌}
+use Rattle.std.proofs.Common.{◌≡◌, ◌⊎◌, inl, inr, ⊎_elim, ℕ, ◌+◌, Bool, true, Option, Some, None, List, [], ◌∷◌, ◌++◌, All, get_or, refl, arith, add-zero, ap, sym, subst, ◌∙◌}
 use Rattle.std.specs.Prelude.{IsSome}
 use Rattle.std.specs.FinMap.{get}
 use Rattle.std.proofs.lemmas.List.Elements.{All-weaker}
@@ -16,19 +16,16 @@ use Rattle.proof_laws.specs.Steps.{clause}
 use Rattle.proof_laws.specs.Refusal.{is_clause}
 use Rattle.proof_laws.specs.Legal.{IsNext}
 use Rattle.proof_laws.specs.Replay.{IsReplay}
-use Rattle.proof_laws.specs.Earned.{IsEarned, IsNewClause, IsReduction, IsRowOrClause, IsUnitUnder, IsLearnedId, Splits, is_learn}
+use Rattle.proof_laws.specs.Earned.{IsEarned, IsNewClause, IsReduction, IsRowOrClause, IsUnitUnder, IsLearnedId, Splits}
 use Rattle.proof_laws.specs.declared.line.Line.{Line}
-use Rattle.proof_laws.specs.declared.line.Line.TheVariants.{Pol, Rup, Learn, Def, Red, Dom, Sol, Del, Reduce, End}
+use Rattle.proof_laws.specs.declared.line.Line.TheVariants.{Learn, Del, Reduce}
 use Rattle.clause_prop.specs.Steps.{TrailValue, partial}
 use Rattle.clause_prop.specs.Propagating.{IsClosedFor}
 use Rattle.clause_prop.proofs.Assigned.{length-assigned}
 use Rattle.search_trail.specs.Learning.{AreHints}
 use Rattle.search_lines.specs.StoredLines.{IsStored}
 use Rattle.search_lines.proofs.Places.{at_end}
-use Rattle.search_lines.proofs.Replays.{one_law, next_law}
-
-abbrev learns : Line → ℕ
-learns line = cond (is_learn line) 1 0
+use Rattle.search_lines.proofs.Replays.{learns, one_law, next_law}
 
 -- what a learned line, a deletion and a reduction have to be, after these lines
 abbrev IsNewAt : ProblemValue → List Line → Line → Type 0
@@ -73,12 +70,12 @@ reduction_law p lines n s t ids earned replay new step =
 
 -- ---- clauses that are new
 
-value_of_some : (o : Option ConstraintValue) → IsSome o → (c : ConstraintValue) × (o ≡ Some c)
+pub value_of_some : (o : Option ConstraintValue) → IsSome o → (c : ConstraintValue) × (o ≡ Some c)
 value_of_some None some = cc
 value_of_some (Some c) some = (c, refl)
 
 module _ (p : ProblemValue) (s : StateValue) (store : LineMap) (held : IsStored p s s.next_id store) where
-  pub source_of : (h : Hint) → (id : ℕ) × (h ≡ IdHint id) × IsSome (get store id) → (id : ℕ) × (h ≡ IdHint id) × IsRowOrClause p s id
+  source_of : (h : Hint) → (id : ℕ) × (h ≡ IdHint id) × IsSome (get store id) → (id : ℕ) × (h ≡ IdHint id) × IsRowOrClause p s id
   source_of h source = let line = value_of_some (get store source.0) source.2 in (source.0, source.1, (held.live source.0 line.0 line.1).2)
 
   rows_closed : Fits p s → IsState s → (q : List (Option Bool)) → ((id : ℕ) (c : ConstraintValue) → get store id ≡ Some c → IsClosedUnder q c) → All (IsClosedUnder q) p.rows
@@ -94,9 +91,13 @@ module _ (p : ProblemValue) (s : StateValue) (store : LineMap) (held : IsStored 
 pub new_law : (p : ProblemValue) (s : StateValue) (store : LineMap) (t : TrailValue) (lits : List Literal) (hints : List Hint) → Fits p s → IsState s → IsStored p s s.next_id store → t.vars ≡ s.vars → IsClosedFor store t → IsUnitUnder (partial t) (clause lits) → AreHints store s.vars lits hints → IsNewClause p s (clause lits) hints
 new_law p s store t lits hints fits state held vars closed unit given = record {
   sources = All-weaker (λ (h : Hint). (id : ℕ) × (h ≡ IdHint id) × IsSome (get store id)) (λ (h : Hint). (id : ℕ) × (h ≡ IdHint id) × IsRowOrClause p s id) (source_of p s store held) hints given.ids;
-  unit = (partial t, record {
-    long = length-assigned t.vars t.steps ∙ vars;
-    rows = rows_closed p s store held fits state (partial t) closed;
-    clauses = clauses_closed p s store held state (partial t) closed;
-  }, unit);
+  unit = (
+    partial t,
+    record {
+      long = length-assigned t.vars t.steps ∙ vars;
+      rows = rows_closed p s store held fits state (partial t) closed;
+      clauses = clauses_closed p s store held state (partial t) closed;
+    },
+    unit,
+  );
 }

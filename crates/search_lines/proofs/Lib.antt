@@ -3,3 +3,5 @@ pub mod Replays
 pub mod Places
 pub mod SearchLines
 pub mod Earned
+pub mod NeverLong
+pub mod Hinted

@@ -1,5 +1,5 @@
 -- The one state that lines reach, and what it counts.
-use Rattle.std.proofs.Common.{◌≡◌, ℕ, ◌+◌, cond, List, [], ◌∷◌, ◌++◌, length, refl, arith, ap, sym, subst, ◌∙◌}
+use Rattle.std.proofs.Common.{◌≡◌, ℕ, ◌+◌, cond, List, [], ◌∷◌, ◌++◌, length, refl, arith, sym, subst, ◌∙◌}
 use Rattle.std.specs.List.{count_by}
 use Rattle.std.proofs.lemmas.List.Sums.{sum_by-cons}
 use Rattle.pb_lin.specs.Problem.{ProblemValue}
@@ -38,7 +38,8 @@ next_law p lines line s t replay step = leads_further p lines (start p) s t line
 
 -- ---- what states count
 
-abbrev learns : Line → ℕ
+-- 1 for a line that learns a clause, and else 0
+abbrev pub learns : Line → ℕ
 learns line = cond (is_learn line) 1 0
 
 -- a line adds one to the number of lines, and one to that of learned clauses where it learns
