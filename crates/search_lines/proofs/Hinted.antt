@@ -65,16 +65,13 @@ no_first o Rest f none rest = subst (λ (first : Option Why). FirstOf first Rest
 no_fault : (test : Bool) (why : Why) → test ≡ true → fault_unless test why ≡ None
 no_fault test why passes = ap (λ (b : Bool). fault_unless b why) passes
 
-not_above : (n m : ℕ) → m ≤ n → nat_lt n m ≡ false
-not_above n m le = le-ltb n m le
-
 no_size_fault : (n : ℕ) → n ≤ 2 ^ 100 → size_fault n ≡ None
-no_size_fault n small = no_fault (not (nat_lt (2 ^ 100) n)) Overflow (ap not (not_above (2 ^ 100) n small))
+no_size_fault n small = no_fault (not (nat_lt (2 ^ 100) n)) Overflow (ap not (le-ltb (2 ^ 100) n small))
 
 none_above : (n : ℕ) (vars : List ℕ) → All (λ v. v ≤ n) vars → find (λ v. nat_lt n v) vars ≡ None
 none_above n [] all = refl
 none_above n (v ∷ vars) all =
-    cond-false (nat_lt n v) (Some v) (find (λ u. nat_lt n u) vars) (not_above n v (All-head (λ u. u ≤ n) v vars all))
+    cond-false (nat_lt n v) (Some v) (find (λ u. nat_lt n u) vars) (le-ltb n v (All-head (λ u. u ≤ n) v vars all))
     ∙ none_above n vars (All-tail (λ u. u ≤ n) v vars all)
 
 no_range_fault : (n : ℕ) (vars : List ℕ) → All (λ v. v ≤ n) vars → range_fault n vars ≡ None
