@@ -1,0 +1,7 @@
+pub mod Stored
+pub mod Replays
+pub mod Places
+pub mod SearchLines
+pub mod Earned
+pub mod NeverLong
+pub mod Hinted

@@ -1,0 +1,5 @@
+use Rattle.search_lines.proofs.Replays.{counted_law}
+use Rattle.search_lines.proofs.earning.learned_is_counted.Goals as goal
+
+pub returns : goal.returns
+returns c = counted_law
