@@ -6,7 +6,10 @@
 #![tactic(auto)]
 
 mod lesson;
-mod walk;
+mod marks;
+
+mod reach;
+
 
 pub use lesson::{Blame, Lesson};
-pub use walk::Walk;
+

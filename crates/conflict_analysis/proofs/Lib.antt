@@ -1,0 +1,5 @@
+pub mod TrailSteps
+pub mod Rows
+pub mod Negations
+pub mod Marking
+pub mod Closing
