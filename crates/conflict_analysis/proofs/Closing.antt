@@ -1,11 +1,11 @@
 -- What the hints prove, step by step on the way back.
-use Rattle.std.specs.Prelude.{◌≡◌, ◌≢◌, ℕ, ◌+◌, ◌-◌, ◌<◌, ◌≤◌, ◌⊎◌, Bool, true, false, not, nat_eq, Option, Some, None, List, [], ◌∷◌, length, slice_get, All, IsSome, pos, ◌<ℤ◌, refl}
+use Rattle.std.specs.Prelude.{◌≡◌, ◌≢◌, ℕ, ◌+◌, ◌-◌, ◌<◌, ◌≤◌, ◌⊎◌, Bool, true, false, not, nat_eq, Option, Some, None, List, [], ◌∷◌, ◌++◌, length, reverse, slice_get, All, IsSome, pos, ◌<ℤ◌, refl}
 use Rattle.std.specs.FinMap.{get}
 use Rattle.std.proofs.Common.{sym, ◌∙◌, ap, subst, inl, inr, get_or, arith}
 use Rattle.std.proofs.lemmas.Bool.{cases_eq, eqb-true}
-use Rattle.std.proofs.lemmas.List.{get_or-map, length-map}
+use Rattle.std.proofs.lemmas.List.{get_or-map, length-map, reverse-append}
 use Rattle.std.proofs.lemmas.List.Elements.{All-nil, All-cons, All-weaker}
-use Rattle.std.proofs.lemmas.Option.{slice_get-get_or, slice_get_within}
+use Rattle.std.proofs.lemmas.Option.{same_Some, slice_get-get_or, slice_get_within}
 use Rattle.scut_base.specs.Literal.{Literal}
 use Rattle.scut_base.specs.Assignment.{partial_truth}
 use Rattle.pb_lin.specs.Constraint.{ConstraintValue, literals, opposite, slack}
@@ -16,7 +16,7 @@ use Rattle.hint_rup.specs.declared.hint.Hint.{Hint}
 use Rattle.hint_rup.specs.declared.hint.Hint.TheVariants.{Id as IdHint}
 use Rattle.clause_prop.specs.declared.step.Step.{Step}
 use Rattle.clause_prop.specs.Steps.{TrailValue, cut, partial}
-use Rattle.clause_prop.specs.Propagating.{Forces}
+use Rattle.clause_prop.specs.Propagating.{Forces, IsConflict}
 use Rattle.search_trail.specs.SearchTrail.{AreLines, IsSearchTrail, IsStepAt}
 use Rattle.search_trail.specs.Learning.{stored}
 use Rattle.conflict_analysis.specs.declared.reach.Reach.{Reach}
@@ -64,12 +64,12 @@ module _ (store : LineMap) (t : TrailValue) (reach : Reach) (lines : AreLines t.
       true_of_opposite p b.step.lit l b.is (meets.at b.place b.step b.there on (λ resolved. b.before))
 
   -- past a step that isn't marked, or isn't resolved
-  pub closing_skip : (marks : List Bool) (end next : ℕ) (given : List Literal) (hints : List Hint) (s : Step) → next ≡ end + 1 → IsStepAt t end s → (is_marked marks end ≡ true → is_resolved reach s ≡ true → ⊥) → IsClosing store t reach marks next given hints → IsClosing store t reach marks end given hints
-  closing_skip marks end next given hints s after at free rest = record {
+  pub closing_skip : (marks : List Bool) (end next : ℕ) (given : List Literal) (hints : List Hint) → next ≡ end + 1 → ((s : Step) → IsStepAt t end s → is_marked marks end ≡ true → is_resolved reach s ≡ true → ⊥) → IsClosing store t reach marks next given hints → IsClosing store t reach marks end given hints
+  closing_skip marks end next given hints after free rest = record {
     ids = rest.ids;
     closing = λ p long meets. rest.closing p long (record {
       at = λ k r there on low. meets.at k r there on (λ resolved. elim (cases_eq k end) [
-        | inl here ↦ absurd (free (ap (is_marked marks) (sym here) ∙ on) (ap (is_resolved reach) (step_same t end k s r at there (sym here)) ∙ resolved))
+        | inl here ↦ absurd (free r (ap (slice_get t.steps) (sym here) ∙ there) (ap (is_marked marks) (sym here) ∙ on) resolved)
         | inr apart ↦ (let below : k < next = low resolved in omega arith)
       ]);
       besides = meets.besides;
@@ -112,3 +112,25 @@ module _ (store : LineMap) (t : TrailValue) (reach : Reach) (lines : AreLines t.
         (row_last (partial (cut t end)) p line s.lit forces (kept_false marks end id (l ∷ []) p line there marked meets)
         (opposite_false p s.lit (subst (λ (m : Literal). partial_truth p m ≡ Some true) (sym (opposite_back s.lit l is)) (meets.besides 0 l (omega arith)))));
   }
+
+-- the line that is a step's reason
+pub reason_line : (store : LineMap) (t : TrailValue) (p : ℕ) (s : Step) → IsSearchTrail store t → IsStepAt t p s → s.reason ≢ 0 → get store s.reason ≡ None → ⊥
+reason_line store t p s search at reason none =
+    let forced = search.forced p s at reason in
+    some_none (get store s.reason) forced.line forced.there none
+  where
+    some_none : (o : Option ConstraintValue) (c : ConstraintValue) → o ≡ Some c → o ≡ None → ⊥
+    some_none o c some none = cc
+
+pub reason_forces : (store : LineMap) (t : TrailValue) (p : ℕ) (s : Step) (line : ConstraintValue) → IsSearchTrail store t → IsStepAt t p s → s.reason ≢ 0 → get store s.reason ≡ Some line → Forces (partial (cut t p)) line s.lit
+reason_forces store t p s line search at reason there =
+    let forced = search.forced p s at reason in
+    subst (λ (c : ConstraintValue). Forces (partial (cut t p)) c s.lit) (same_Some forced.line line (sym forced.there ∙ there)) forced.forces
+
+-- the hint that was pushed last is the first from behind
+pub pushed_first : (old new : List Hint) (id : ℕ) → new ≡ old ++ IdHint id ∷ [] → reverse new ≡ IdHint id ∷ reverse old
+pushed_first old new id is = ap (λ (hs : List Hint). reverse hs) is ∙ reverse-append old (IdHint id ∷ [])
+
+-- the line of a conflict is violated
+pub violated_line : (store : LineMap) (t : TrailValue) (id : ℕ) (line : ConstraintValue) → IsConflict store t id → get store id ≡ Some line → slack (partial t) line <ℤ pos 0
+violated_line store t id line conflict there = subst (λ (c : ConstraintValue). slack (partial t) c <ℤ pos 0) (same_Some conflict.line line (sym conflict.there ∙ there)) conflict.violated

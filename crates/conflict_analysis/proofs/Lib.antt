@@ -3,3 +3,4 @@ pub mod Rows
 pub mod Negations
 pub mod Marking
 pub mod Closing
+pub mod TopLevel

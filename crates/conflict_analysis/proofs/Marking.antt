@@ -4,7 +4,7 @@ use Rattle.std.proofs.Common.{zero, suc, sym, ◌∙◌, ap, subst, inl, inr, ge
 use Rattle.std.proofs.Math.Bool.{beq}
 use Rattle.std.proofs.lemmas.Bool.{cases_eq}
 use Rattle.std.proofs.lemmas.List.{get_or-set_same, get_or-set_other, length-set, get_or_default, take_all}
-use Rattle.std.proofs.lemmas.List.Elements.{All-push, All-more, All-weaker, Contains-push, Contains-append_left}
+use Rattle.std.proofs.lemmas.List.Elements.{All-nil, All-push, All-more, All-weaker, Contains-push, Contains-append_left}
 use Rattle.std.proofs.lemmas.List.Quantifiers.{all_pairs_push}
 use Rattle.std.proofs.lemmas.Option.{slice_get_within}
 use Rattle.scut_base.specs.Literal.{Literal}
@@ -121,3 +121,20 @@ beq_is false false e = refl
 pub read_one : (P : Literal → Type 0) (lits items : List Literal) (i : ℕ) (l : Literal) → All P lits → items ≡ lits → i < length items → l ≡ get_or items i l → P l
 read_one P lits items i l each same within is =
     subst P (sym (is ∙ ap (λ (ls : List Literal). get_or ls i l) same)) (each i l (subst (λ (ls : List Literal). i < length ls) same within))
+
+-- before the walk nothing is marked
+pub walk_start : (t : TrailValue) (reach : Reach) (marks : List Bool) (places : List ℕ) (least : ℕ) → IsClear marks → places ≡ [] → length t.steps ≤ length marks → ((s : Step) → IsStepAt t least s → is_resolved reach s ≡ true) → IsWalk t reach marks places least
+walk_start t reach marks places least clear none long resolved = subst (λ (ps : List ℕ). IsWalk t reach marks ps least) (sym none) (record {
+  are = record {
+    listed = λ p on. absurd (let both : true ≡ false = sym on ∙ clear p in cc);
+    on = All-nil (λ p. is_marked marks p ≡ true);
+    apart = λ i j d before inside. absurd (omega (arith, inside));
+    within = All-nil (λ p. p < length t.steps);
+  };
+  long = long;
+  above = λ p s at res on. absurd (let both : true ≡ false = sym on ∙ clear p in cc);
+  resolved = resolved;
+})
+
+pub past_end : (t : TrailValue) (reach : Reach) (least : ℕ) → length t.steps ≤ least → (s : Step) → IsStepAt t least s → is_resolved reach s ≡ true
+past_end t reach least past s at = absurd (let within : least < length t.steps = slice_get_within t.steps least s at in omega arith)

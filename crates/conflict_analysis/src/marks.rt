@@ -171,7 +171,7 @@ impl Marks {
         requires within { end ≤ length trail.now.steps }
         ensures walk { IsWalk trail.now reach self.new.on.items self.new.places self.new.least }
         ensures room { length self.new.on.items ≡ length self.old.on.items }
-        ensures falls { self.new.least ≤ self.old.least }
+        ensures after { self.new.least + spare reach ≤ end }
         ensures closing { OnOk result ((given : List Literal)
             → IsClosing store.now trail.now reach self.old.on.items end given (reverse hints.old.items)
             → IsClosing store.now trail.now reach self.new.on.items (self.new.least + spare reach) given
