@@ -4,3 +4,4 @@ pub mod Negations
 pub mod Marking
 pub mod Closing
 pub mod TopLevel
+pub mod Collecting

@@ -78,26 +78,32 @@ pub record IsClosing (store : LineMap) (t : TrailValue) (reach : Reach) (marks :
   pub ids : All (IsStoredHint store) hints
   pub closing : (p : List (Option Bool)) → length p ≡ t.vars → Meets t reach marks end given p → Conflicts p (named (stored store) hints)
 
--- the literal is what the outcome says of a marked step that the walk doesn't resolve
-pub record IsAside (t : TrailValue) (reach : Reach) (marks : List Bool) (l : Literal) : Type 0 where
+-- the literal is what the outcome says of the step at one of the places, which the walk doesn't resolve
+pub record IsAside (t : TrailValue) (reach : Reach) (places : List ℕ) (l : Literal) : Type 0 where
   pub place : ℕ
   pub step : Step
   pub there : IsStepAt t place step
-  pub marked : is_marked marks place ≡ true
+  pub among : Contains places place
   pub unresolved : is_resolved reach step ≡ false
   pub is : l ≡ said reach step.lit
 
--- the literals set aside, and one more, in rising order of variables
-pub record IsOutcome (t : TrailValue) (reach : Reach) (marks : List Bool) (more : Literal) (lits : List Literal) : Type 0 where
+-- what the outcome says of the steps at the places, which are of different variables
+pub record AreAside (t : TrailValue) (reach : Reach) (places : List ℕ) (lits : List Literal) : Type 0 where
+  pub each : All (IsAside t reach places) lits
+  pub covers : (p : ℕ) (s : Step) → IsStepAt t p s → Contains places p → is_resolved reach s ≡ false → Contains lits (said reach s.lit)
+  pub apart : AllPairs (λ l m. l.var ≢ m.var) lits
+
+-- the same with one literal more, in rising order of variables
+pub record IsOutcome (t : TrailValue) (reach : Reach) (places : List ℕ) (more : Literal) (lits : List Literal) : Type 0 where
   pub rising : AllPairs (λ l m. l.var < m.var) lits
   pub among : Contains lits more
-  pub others : All (λ l. (l ≡ more) ⊎ IsAside t reach marks l) lits
-  pub covers : (p : ℕ) (s : Step) → IsStepAt t p s → is_marked marks p ≡ true → is_resolved reach s ≡ false → Contains lits (said reach s.lit)
+  pub others : All (λ l. (l ≡ more) ⊎ IsAside t reach places l) lits
+  pub covers : (p : ℕ) (s : Step) → IsStepAt t p s → Contains places p → is_resolved reach s ≡ false → Contains lits (said reach s.lit)
 
--- the highest level of the marked steps that aren't of the level `top`, or 0
-pub record IsHighest (t : TrailValue) (marks : List Bool) (top level : ℕ) : Type 0 where
-  pub most : (p : ℕ) (s : Step) → IsStepAt t p s → is_marked marks p ≡ true → s.level ≢ top → s.level ≤ level
-  pub reached : (level ≡ 0) ⊎ ((p : ℕ) × (s : Step) × IsStepAt t p s × (is_marked marks p ≡ true) × (s.level ≢ top) × (s.level ≡ level))
+-- the highest level of the steps at the places that aren't of the level `top`, or 0
+pub record IsHighest (t : TrailValue) (places : List ℕ) (top level : ℕ) : Type 0 where
+  pub most : (p : ℕ) (s : Step) → IsStepAt t p s → Contains places p → s.level ≢ top → s.level ≤ level
+  pub reached : (level ≡ 0) ⊎ ((p : ℕ) × (s : Step) × IsStepAt t p s × Contains places p × (s.level ≢ top) × (s.level ≡ level))
 
 -- literals of the variables 1 to n
 abbrev pub AreVariables : ℕ → List Literal → Type 0

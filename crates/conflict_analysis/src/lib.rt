@@ -7,7 +7,7 @@
 
 mod lesson;
 mod marks;
-
+mod outcome;
 mod reach;
 
 

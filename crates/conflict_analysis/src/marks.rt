@@ -1,12 +1,12 @@
 // Marks on the steps of a trail, and the walk back that makes them.
-ghost use Rattle.std.specs.Prelude.{◌≡◌, ℕ, ◌+◌, ◌<◌, ◌≤◌, ◌⊎◌, true, [], max, List, All, Contains, OnOk, OnErr, IfOk, length, reverse};
+ghost use Rattle.std.specs.Prelude.{◌≡◌, ◌≢◌, ◌∷◌, ℕ, ◌+◌, ◌<◌, ◌≤◌, ◌⊎◌, true, [], max, List, All, Contains, OnOk, OnErr, IfOk, length, reverse};
 ghost use Rattle.std.specs.FinMap.{get};
 ghost use Rattle.scut_base.specs.Literal.{Literal};
-ghost use Rattle.pb_lin.specs.Constraint.{IsMerged, UpTo, literals};
-ghost use Rattle.clause_prop.specs.Steps.{AreSteps};
+ghost use Rattle.pb_lin.specs.Constraint.{UpTo, literals, opposite};
+ghost use Rattle.clause_prop.specs.declared.step.Step.{Step};
 ghost use Rattle.clause_prop.specs.Propagating.{IsConflict};
-ghost use Rattle.search_trail.specs.SearchTrail.{AreLines, IsSearchTrail};
-ghost use Rattle.conflict_analysis.specs.Walking.{AreMarks, IsAbove, IsClear, IsClosing, IsMarkedBefore, IsMore, IsWalk, is_marked, is_resolved, spare};
+ghost use Rattle.search_trail.specs.SearchTrail.{AreLines, IsSearchTrail, IsStepAt};
+ghost use Rattle.conflict_analysis.specs.Walking.{AreMarks, IsAbove, IsClear, IsClosing, IsMarkedBefore, IsMore, IsWalk, is_resolved, spare};
 
 use crate::reach::Reach;
 use clause_prop::{ClauseStore, Step, Trail};
@@ -216,6 +216,42 @@ impl Marks {
         let mut hints = Vec::new(alloc);
         hints.push(Hint::Id(conflict))?;
         self.walk_back(store, trail, reach, trail.len(), &mut hints)?;
+        hints.reverse();
+        Ok(Items::from_vec(hints))
+    }
+
+    // Walks back from a step that a line forces, to the decisions. The hints are in the order of the trail,
+    // and the step's line is the last.
+    pub(crate) fn explain(
+        &mut self,
+        alloc: Global,
+        store: &ClauseStore,
+        trail: &Trail,
+        place: u64,
+    ) -> Result<Items<Hint>, NoMemory>
+        requires clear { IsClear self.old.on.items }
+        requires places { self.old.places ≡ [] }
+        requires long { length trail.now.steps ≤ length self.old.on.items }
+        requires lines { AreLines trail.now.vars store.now }
+        requires search { IsSearchTrail store.now trail.now }
+        requires within { place < length trail.now.steps }
+        requires forced { (s : Step) → IsStepAt trail.now place s → s.reason ≢ 0 }
+        ensures walk { IsWalk trail.now Reach.Decisions self.new.on.items self.new.places self.new.least }
+        ensures room { length self.new.on.items ≡ length self.old.on.items }
+        ensures closing { IfOk result (λ hints. (l : Literal) (s : Step) → IsStepAt trail.now place s
+            → s.lit ≡ opposite l
+            → IsClosing store.now trail.now Reach.Decisions self.new.on.items self.new.least (l ∷ []) hints) }
+    {
+        let reach = Reach::Decisions;
+        let id = trail.step_at(place).reason;
+        let Some(line) = store.get(id) else {
+            unreachable!()
+        };
+        self.least = place;
+        let mut hints = Vec::new(alloc);
+        hints.push(Hint::Id(id))?;
+        self.mark_all(trail, reach, place, line)?;
+        self.walk_back(store, trail, reach, place, &mut hints)?;
         hints.reverse();
         Ok(Items::from_vec(hints))
     }
