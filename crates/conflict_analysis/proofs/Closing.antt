@@ -2,7 +2,7 @@
 use Rattle.std.specs.Prelude.{◌≡◌, ◌≢◌, ℕ, ◌+◌, ◌-◌, ◌<◌, ◌≤◌, ◌⊎◌, Bool, true, false, not, nat_eq, Option, Some, None, List, [], ◌∷◌, ◌++◌, length, reverse, slice_get, All, IsSome, pos, ◌<ℤ◌, refl}
 use Rattle.std.specs.FinMap.{get}
 use Rattle.std.proofs.Common.{sym, ◌∙◌, ap, subst, inl, inr, get_or, arith}
-use Rattle.std.proofs.lemmas.Bool.{cases_eq, eqb-true}
+use Rattle.std.proofs.lemmas.Bool.{cases_eq, eqb-true, false_from_ne_true}
 use Rattle.std.proofs.lemmas.List.{get_or-map, length-map, reverse-append}
 use Rattle.std.proofs.lemmas.List.Elements.{All-nil, All-cons, All-weaker}
 use Rattle.std.proofs.lemmas.Option.{same_Some, slice_get-get_or, slice_get_within}
@@ -134,3 +134,15 @@ pushed_first old new id is = ap (λ (hs : List Hint). reverse hs) is ∙ reverse
 -- the line of a conflict is violated
 pub violated_line : (store : LineMap) (t : TrailValue) (id : ℕ) (line : ConstraintValue) → IsConflict store t id → get store id ≡ Some line → slack (partial t) line <ℤ pos 0
 violated_line store t id line conflict there = subst (λ (c : ConstraintValue). slack (partial t) c <ℤ pos 0) (same_Some conflict.line line (sym conflict.there ∙ there)) conflict.violated
+
+pub with_reason : (s : Step) → s.reason ≢ 0 → is_resolved Decisions s ≡ true
+unfolding is_resolved
+with_reason s reason = ap (λ (b : Bool). not b) (false_from_ne_true (nat_eq s.reason 0) (λ is. reason (eqb-true s.reason 0 is)))
+
+pub spare_none : (n : ℕ) → n + spare Decisions ≡ n
+unfolding spare
+spare_none n = omega arith
+
+pub spare_one : (level n : ℕ) → n + spare (Level level) ≡ n + 1
+unfolding spare
+spare_one level n = refl

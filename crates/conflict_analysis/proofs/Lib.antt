@@ -5,3 +5,4 @@ pub mod Marking
 pub mod Closing
 pub mod TopLevel
 pub mod Collecting
+pub mod Outcomes

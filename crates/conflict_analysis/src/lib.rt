@@ -9,7 +9,8 @@ mod lesson;
 mod marks;
 mod outcome;
 mod reach;
-
+mod walk;
 
 pub use lesson::{Blame, Lesson};
+pub use walk::Walk;
 
