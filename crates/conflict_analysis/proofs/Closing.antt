@@ -1,5 +1,5 @@
 -- What the hints prove, step by step on the way back.
-use Rattle.std.specs.Prelude.{◌≡◌, ◌≢◌, ℕ, ◌+◌, ◌-◌, ◌<◌, ◌≤◌, ◌⊎◌, Bool, true, false, not, nat_eq, Option, Some, None, List, [], ◌∷◌, ◌++◌, length, reverse, slice_get, All, IsSome, pos, ◌<ℤ◌, refl}
+use Rattle.std.specs.Prelude.{◌≡◌, ◌≢◌, ℕ, ◌+◌, ◌<◌, ◌≤◌, Bool, true, false, not, nat_eq, Option, Some, None, List, [], ◌∷◌, ◌++◌, length, reverse, slice_get, All, IsSome, pos, ◌<ℤ◌, refl}
 use Rattle.std.specs.FinMap.{get}
 use Rattle.std.proofs.Common.{sym, ◌∙◌, ap, subst, inl, inr, get_or, arith}
 use Rattle.std.proofs.lemmas.Bool.{cases_eq, eqb-true, false_from_ne_true}
@@ -22,7 +22,7 @@ use Rattle.search_trail.specs.Learning.{stored}
 use Rattle.conflict_analysis.specs.declared.reach.Reach.{Reach}
 use Rattle.conflict_analysis.specs.declared.reach.Reach.TheVariants.{Level, Decisions}
 use Rattle.conflict_analysis.specs.Walking.{IsClosing, IsMarkedBefore, IsMore, IsStoredHint, IsWalk, Meets, is_marked, is_resolved, spare}
-use Rattle.conflict_analysis.proofs.Rows.{KeepsFalse, IsMoreThan, closes_last, row_last, row_more, truth_kept}
+use Rattle.conflict_analysis.proofs.Rows.{KeepsFalse, closes_last, row_last, row_more, truth_kept}
 use Rattle.conflict_analysis.proofs.TrailSteps.{false_before, opposite_back, opposite_false, step_same, step_variable, true_of_opposite, whole_cut}
 
 named_id : (store : LineMap) (id : ℕ) (line : ConstraintValue) (hints : List Hint) → get store id ≡ Some line → named (stored store) (IdHint id ∷ hints) ≡ line ∷ named (stored store) hints

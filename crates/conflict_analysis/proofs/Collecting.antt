@@ -1,13 +1,11 @@
 -- What is collected over the places that are marked, one after another.
-use Rattle.std.specs.Prelude.{◌≡◌, ◌≢◌, ℕ, ◌+◌, ◌<◌, ◌≤◌, ◌⊎◌, Bool, true, false, not, Some, List, [], ◌∷◌, ◌++◌, take, length, All, AllPairs, Contains, IsPermutation, refl}
+use Rattle.std.specs.Prelude.{◌≡◌, ◌≢◌, ℕ, ◌+◌, ◌<◌, ◌≤◌, ◌⊎◌, Bool, true, false, List, [], ◌∷◌, ◌++◌, take, length, All, AllPairs, Contains, IsPermutation, refl}
 use Rattle.std.proofs.Common.{zero, sym, ◌∙◌, ap, subst, inl, inr, get_or, arith}
-use Rattle.std.proofs.lemmas.Bool.{cases_eq}
-use Rattle.std.proofs.lemmas.List.{take_more, take_all, get_or_default, get_or-take, length-take}
-use Rattle.std.proofs.lemmas.List.Elements.{All-nil, All-push, All-weaker, Contains-push, Contains-append_left, Contains-append_cases}
+use Rattle.std.proofs.lemmas.List.{take_more, get_or_default, get_or-take, length-take}
+use Rattle.std.proofs.lemmas.List.Elements.{All-push, All-weaker, Contains-push, Contains-append_left, Contains-append_cases}
 use Rattle.std.proofs.lemmas.List.Quantifiers.{all_pairs_push}
 use Rattle.std.proofs.lemmas.List.Sorted.{All-permutation, Contains-permutation}
 use Rattle.scut_base.specs.Literal.{Literal}
-use Rattle.pb_lin.specs.Constraint.{opposite}
 use Rattle.clause_prop.specs.declared.step.Step.{Step}
 use Rattle.clause_prop.specs.Steps.{TrailValue, AreSteps}
 use Rattle.search_trail.specs.SearchTrail.{IsStepAt}
@@ -77,9 +75,6 @@ module _ (n : ℕ) (marks : List Bool) (places items : List ℕ) (i x : ℕ) (ar
   front : take (i + 1) places ≡ take i places ++ x ∷ []
   front = take_more places i x inside ∙ ap (λ (k : ℕ). take i places ++ k ∷ []) (sym place)
 
-  pub place_inside : x < n
-  place_inside = subst (λ (k : ℕ). k < n) (sym place) (are.within i x inside)
-
   pub aside_next : (t : TrailValue) (reach : Reach) (lits : List Literal) (s : Step) → AreSteps t.vars t.steps → AreAside t reach (take i places) lits → IsStepAt t x s → is_resolved reach s ≡ false → AreAside t reach (take (i + 1) places) (lits ++ said reach s.lit ∷ [])
   aside_next t reach lits s steps before at free =
       subst (λ (ps : List ℕ). AreAside t reach ps (lits ++ said reach s.lit ∷ [])) (sym front)
@@ -102,16 +97,6 @@ module _ (n : ℕ) (marks : List Bool) (places items : List ℕ) (i x : ℕ) (ar
       | inr new ↦ inr (x, s, at, Contains-push (take i places) x, new.1, sym new.0)
     ];
   })
-
-pub aside_all : (t : TrailValue) (reach : Reach) (places items : List ℕ) (lits : List Literal) (i : ℕ) → items ≡ places → length items ≤ i → AreAside t reach (take i places) lits → AreAside t reach places lits
-aside_all t reach places items lits i same past before =
-    let far : length places ≤ i = subst (λ (ps : List ℕ). length ps ≤ i) same past in
-    subst (λ (ps : List ℕ). AreAside t reach ps lits) (take_all i places far) before
-
-pub highest_all : (t : TrailValue) (places items : List ℕ) (top level i : ℕ) → items ≡ places → length items ≤ i → IsHighest t (take i places) top level → IsHighest t places top level
-highest_all t places items top level i same past before =
-    let far : length places ≤ i = subst (λ (ps : List ℕ). length ps ≤ i) same past in
-    subst (λ (ps : List ℕ). IsHighest t ps top level) (take_all i places far) before
 
 -- with one literal more the variables stay different
 pub apart_pushed : (t : TrailValue) (reach : Reach) (places : List ℕ) (lits : List Literal) (more : Literal) → AreAside t reach places lits → ((p : ℕ) (s : Step) → IsStepAt t p s → is_resolved reach s ≡ false → s.lit.var ≢ more.var) → AllPairs (λ l m. l.var ≢ m.var) (lits ++ more ∷ [])

@@ -1,5 +1,5 @@
 -- What marking a place keeps, and what it says of a literal.
-use Rattle.std.specs.Prelude.{◌≡◌, ◌≢◌, ℕ, ◌+◌, ◌<◌, ◌≤◌, ◌⊎◌, Bool, true, false, not, Some, None, List, [], ◌∷◌, ◌++◌, length, slice_get, All, Contains, refl}
+use Rattle.std.specs.Prelude.{◌≡◌, ◌≢◌, ℕ, ◌+◌, ◌<◌, ◌≤◌, ◌⊎◌, Bool, true, false, not, None, List, [], ◌∷◌, ◌++◌, length, slice_get, All, Contains, refl}
 use Rattle.std.proofs.Common.{zero, suc, sym, ◌∙◌, ap, subst, inl, inr, get_or, set, take, arith}
 use Rattle.std.proofs.Math.Bool.{beq}
 use Rattle.std.proofs.lemmas.Bool.{cases_eq}
@@ -135,6 +135,3 @@ walk_start t reach marks places least clear none long resolved = subst (λ (ps :
   above = λ p s at res on. absurd (let both : true ≡ false = sym on ∙ clear p in cc);
   resolved = resolved;
 })
-
-pub past_end : (t : TrailValue) (reach : Reach) (least : ℕ) → length t.steps ≤ least → (s : Step) → IsStepAt t least s → is_resolved reach s ≡ true
-past_end t reach least past s at = absurd (let within : least < length t.steps = slice_get_within t.steps least s at in omega arith)

@@ -1,6 +1,6 @@
 -- The negation of a clause in front of hints: it makes all of the clause's literals false.
-use Rattle.std.specs.Prelude.{◌≡◌, ℕ, ◌+◌, ◌-◌, ◌<◌, ◌≤◌, Bool, true, not, if◌then◌else◌, Option, Some, None, option_map, List, [], ◌∷◌, map, length, replicate, sum_by, All, AllPairs, Contains, pos, ◌<ℤ◌, int_lt, refl}
-use Rattle.std.proofs.Common.{sym, ◌∙◌, ap, subst, get_or, arith}
+use Rattle.std.specs.Prelude.{◌≡◌, ℕ, ◌-◌, ◌<◌, ◌≤◌, Bool, true, not, if◌then◌else◌, Option, Some, None, option_map, List, [], ◌∷◌, length, replicate, sum_by, AllPairs, Contains, pos, ◌<ℤ◌, int_lt, refl}
+use Rattle.std.proofs.Common.{sym, ◌∙◌, ap, arith}
 use Rattle.std.specs.Option.{is_none}
 use Rattle.std.proofs.lemmas.Bool.{and_from}
 use Rattle.std.proofs.lemmas.Int.{ints}

@@ -1,27 +1,25 @@
 -- What a walk's outcome is: a clause that forces a literal after a jump back, the blame for a literal, a refutation.
-use Rattle.std.specs.Prelude.{◌≡◌, ◌≢◌, ℕ, ◌+◌, ◌<◌, ◌≤◌, ◌⊎◌, Bool, true, false, not, nat_eq, Option, Some, List, [], ◌∷◌, map, length, replicate, slice_get, All, AllPairs, Contains, refl}
-use Rattle.std.proofs.Common.{sym, ◌∙◌, ap, subst, inl, inr, get_or, arith}
-use Rattle.std.proofs.lemmas.Bool.{cases_eq, cases_Bool, eqb-true, eq-eqb, false_from_ne_true, true_from_ne_false}
+use Rattle.std.specs.Prelude.{◌≡◌, ◌≢◌, ℕ, ◌+◌, ◌<◌, ◌≤◌, ◌⊎◌, Bool, true, false, not, nat_eq, Option, Some, List, [], ◌∷◌, map, slice_get, All, Contains, refl}
+use Rattle.std.proofs.Common.{sym, ◌∙◌, ap, subst, inl, inr, arith}
+use Rattle.std.proofs.lemmas.Bool.{cases_Bool, eqb-true, eq-eqb, false_from_ne_true, true_from_ne_false}
 use Rattle.std.proofs.lemmas.List.Elements.{All-nil, All-cons, All-map, All-weaker}
 use Rattle.std.proofs.lemmas.Option.{slice_get_within}
 use Rattle.scut_base.specs.Literal.{Literal}
 use Rattle.scut_base.specs.Assignment.{partial_truth}
-use Rattle.scut_base.proofs.Lists.{Contains-map, Contains-nil}
-use Rattle.pb_lin.specs.Constraint.{ConstraintValue, negation, opposite}
+use Rattle.scut_base.proofs.Lists.{Contains-map}
+use Rattle.pb_lin.specs.Constraint.{opposite}
 use Rattle.pb_lin.specs.LineMap.{LineMap}
 use Rattle.pb_lin.proofs.Ones.{AllPairs-map}
 use Rattle.hint_rup.specs.Hints.{named}
-use Rattle.hint_rup.specs.Propagation.{Conflicts}
 use Rattle.hint_rup.specs.declared.hint.Hint.{Hint}
-use Rattle.proof_laws.specs.Steps.{clause}
 use Rattle.clause_prop.specs.declared.step.Step.{Step}
 use Rattle.clause_prop.specs.Steps.{TrailValue, AreSteps, IsPlaceOf, last_level}
 use Rattle.search_trail.specs.SearchTrail.{IsSearchTrail, IsStepAt, IsUndecided}
-use Rattle.search_trail.specs.Learning.{AreHints, IsAsserting, IsFalseAt, IsFalseBy, stored}
+use Rattle.search_trail.specs.Learning.{AreHints, IsAsserting, IsFalseBy, stored}
 use Rattle.conflict_analysis.specs.Analysis.{IsDecided}
 use Rattle.conflict_analysis.specs.declared.reach.Reach.{Reach}
 use Rattle.conflict_analysis.specs.declared.reach.Reach.TheVariants.{Level, Decisions}
-use Rattle.conflict_analysis.specs.Walking.{AreVariables, IsAside, IsClosing, IsHighest, IsOutcome, IsWalk, Meets, is_marked, is_resolved, said, spare}
+use Rattle.conflict_analysis.specs.Walking.{AreVariables, IsAside, IsClosing, IsHighest, IsOutcome, IsWalk, is_resolved, said, spare}
 use Rattle.conflict_analysis.proofs.Collecting.{said_var}
 use Rattle.conflict_analysis.proofs.Negations.{negation_first}
 use Rattle.conflict_analysis.proofs.TrailSteps.{opposite_back, opposite_twice, place_same, read_at, step_same, step_variable, upto_last}
@@ -129,12 +127,12 @@ lesson_asserting store t marks places least top level u lits search last above w
   others = All-weaker (λ l. (l ≡ opposite u.lit) ⊎ IsAside t (Level top) places l) (λ l. (l ≡ opposite u.lit) ⊎ IsFalseBy t (λ s. s.level ≤ level) l) (λ l either. elim either [
     | inl same ↦ inl same
     | inr one ↦ inr (record {
-        place = one.place;
-        step = one.step;
-        there = one.there;
-        is = sym (opposite_back l one.step.lit (one.is ∙ said_opposite top one.step.lit));
-        has = highest.most one.place one.step one.there one.among (other_level top one.step one.unresolved);
-      })
+      place = one.place;
+      step = one.step;
+      there = one.there;
+      is = sym (opposite_back l one.step.lit (one.is ∙ said_opposite top one.step.lit));
+      has = highest.most one.place one.step one.there one.among (other_level top one.step one.unresolved);
+    })
   ]) lits outcome.others;
   below = elim highest.reached [
     | inl none ↦ omega arith
@@ -145,8 +143,11 @@ lesson_asserting store t marks places least top level u lits search last above w
   ];
   reached = elim highest.reached [
     | inl none ↦ inl none
-    | inr found ↦ inr (opposite found.1.lit, subst (Contains lits) (said_opposite top found.1.lit) (outcome.covers found.0 found.1 found.2 found.3 (unresolved_level top found.1 found.4)),
-        record { place = found.0; step = found.1; there = found.2; is = sym (opposite_twice found.1.lit); has = found.5 })
+    | inr found ↦ inr (
+      opposite found.1.lit,
+      subst (Contains lits) (said_opposite top found.1.lit) (outcome.covers found.0 found.1 found.2 found.3 (unresolved_level top found.1 found.4)),
+      record { place = found.0; step = found.1; there = found.2; is = sym (opposite_twice found.1.lit); has = found.5 },
+    )
   ];
 }
 

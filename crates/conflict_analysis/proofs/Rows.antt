@@ -2,7 +2,7 @@
 use Rattle.std.specs.Prelude.{◌≡◌, ◌≢◌, ℕ, ◌+◌, ◌-◌, ◌<◌, ◌≤◌, Bool, true, false, cond, not, if◌then◌else◌, Option, Some, None, option_map, List, [], ◌∷◌, length, fold, sum_by, All, ℤ, pos, ◌<ℤ◌, int_lt, refl}
 use Rattle.std.proofs.Common.{zero, suc, sym, ◌∙◌, ap, subst, inl, inr, get_or, arith}
 use Rattle.std.specs.Option.{is_none}
-use Rattle.std.specs.List.{filter, zip, Contains}
+use Rattle.std.specs.List.{filter, Contains}
 use Rattle.std.proofs.lemmas.Int.{ints}
 use Rattle.std.proofs.lemmas.Bool.{cases_eq, cases_lt, cases_order, cond-true, and_parts, and_from}
 use Rattle.std.proofs.lemmas.List.{get_or-set_same, get_or-set_other, length-set, get_or_default, get_or_past}
@@ -12,7 +12,7 @@ use Rattle.scut_base.specs.Literal.{Literal}
 use Rattle.scut_base.specs.Assignment.{partial_truth}
 use Rattle.pb_lin.specs.Constraint.{ConstraintValue, IsMerged, unless_false, possible_value, slack}
 use Rattle.pb_lin.specs.Propagation.{is_forced}
-use Rattle.hint_rup.specs.Propagation.{with_true, forced, partials, Conflicts}
+use Rattle.hint_rup.specs.Propagation.{with_true, forced, Conflicts}
 use Rattle.hint_rup.proofs.Conflict.{conflicts_here, conflicts_later}
 use Rattle.clause_prop.specs.Propagating.{Forces}
 

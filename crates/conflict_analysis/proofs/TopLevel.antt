@@ -1,5 +1,5 @@
 -- A conflict has a literal that a step of the highest level makes false, since the steps before that level's decision are closed.
-use Rattle.std.specs.Prelude.{min, ◌≡◌, ◌≢◌, ℕ, ◌+◌, ◌-◌, ◌<◌, ◌≤◌, ◌⊎◌, Bool, true, false, not, if◌then◌else◌, Option, Some, None, option_map, List, [], ◌∷◌, take, length, slice_get, sum_by, All, Contains, pos, ◌≤ℤ◌, ◌<ℤ◌, refl}
+use Rattle.std.specs.Prelude.{◌≡◌, ◌≢◌, ℕ, ◌+◌, ◌-◌, ◌<◌, ◌≤◌, ◌⊎◌, Bool, true, false, not, if◌then◌else◌, Option, Some, None, option_map, List, [], ◌∷◌, take, length, sum_by, All, Contains, pos, ◌≤ℤ◌, ◌<ℤ◌, refl}
 use Rattle.std.specs.FinMap.{get}
 use Rattle.std.proofs.Common.{zero, suc, sym, ◌∙◌, ap, subst, inl, inr, get_or, arith}
 use Rattle.std.proofs.lemmas.Int.{ints}
@@ -29,7 +29,7 @@ true_before t end p s are before at =
     let inside : p < length (take end t.steps) = omega (arith, length-take end t.steps) in
     let read : get_or (take end t.steps) p s ≡ s = get_or-take end t.steps p s before ∙ read_at t p s s at in
     let told : get_or (partial (cut t end)) (s.lit.var - 1) None ≡ Some (not s.lit.neg) =
-        subst (λ (r : Step). get_or (partial (cut t end)) (r.lit.var - 1) None ≡ Some (not r.lit.neg)) read (assigned-at t.vars (take end t.steps) p s (are_front t.vars end t.steps are) inside) in
+    subst (λ (r : Step). get_or (partial (cut t end)) (r.lit.var - 1) None ≡ Some (not r.lit.neg)) read (assigned-at t.vars (take end t.steps) p s (are_front t.vars end t.steps are) inside) in
     ap (λ (o : Option Bool). option_map (λ b. if s.lit.neg then not b else b) o) told ∙ ap Some (signed s.lit.neg)
   where
     signed : (b : Bool) → (if b then not (not b) else not b) ≡ true

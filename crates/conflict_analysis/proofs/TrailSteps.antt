@@ -1,15 +1,15 @@
 -- The steps of a trail by their places, and what makes a literal false.
-use Rattle.std.specs.Prelude.{min, ◌≡◌, ◌≢◌, ℕ, ◌-◌, ◌<◌, ◌≤◌, ◌⊎◌, Bool, true, false, not, if◌then◌else◌, Option, Some, None, option_map, List, [], ◌∷◌, take, length, slice_get, All, AllPairs, fold, refl}
+use Rattle.std.specs.Prelude.{min, ◌≡◌, ℕ, ◌-◌, ◌<◌, ◌≤◌, ◌⊎◌, Bool, true, false, not, if◌then◌else◌, Option, Some, None, option_map, List, [], ◌∷◌, take, length, slice_get, All, AllPairs, fold, refl}
 use Rattle.std.proofs.Common.{zero, suc, sym, ◌∙◌, ap, subst, inl, inr, get_or, arith}
-use Rattle.std.proofs.lemmas.Bool.{cases_eq, cases_lt, cases_order}
-use Rattle.std.proofs.lemmas.List.{get_or-take, length-take, take_all, get_or_default}
-use Rattle.std.proofs.lemmas.List.Elements.{All-nil, All-cons, All-head, All-tail}
+use Rattle.std.proofs.lemmas.Bool.{cases_order}
+use Rattle.std.proofs.lemmas.List.{get_or-take, length-take, take_all}
+use Rattle.std.proofs.lemmas.List.Elements.{All-nil, All-cons, All-head}
 use Rattle.std.proofs.lemmas.Option.{same_Some, slice_get_within, slice_get-get_or, get_or_from_slice_get}
 use Rattle.scut_base.specs.Literal.{Literal}
 use Rattle.scut_base.specs.Assignment.{partial_truth}
 use Rattle.pb_lin.specs.Constraint.{opposite}
 use Rattle.clause_prop.specs.declared.step.Step.{Step}
-use Rattle.clause_prop.specs.Steps.{TrailValue, AreSteps, assigned, cut, partial, last_level, IsPlaceOf}
+use Rattle.clause_prop.specs.Steps.{TrailValue, AreSteps, assigned, cut, partial, last_level}
 use Rattle.clause_prop.proofs.Assigned.{assigned-at, assigned-found, index}
 use Rattle.search_trail.specs.SearchTrail.{IsStepAt}
 

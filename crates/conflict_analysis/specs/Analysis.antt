@@ -1,9 +1,8 @@
 -- What is learned from a conflict, and who is to blame for a literal that is false.
-use Rattle.std.specs.Prelude.{◌≡◌, ◌≢◌, ℕ, ◌<◌, ◌≤◌, ◌⊎◌, [], List, map, All, AllPairs, Contains}
+use Rattle.std.specs.Prelude.{◌≡◌, ◌≢◌, ℕ, ◌<◌, ◌≤◌, ◌⊎◌, map, All, AllPairs, Contains}
 use Rattle.scut_base.specs.Literal.{Literal}
 use Rattle.pb_lin.specs.Constraint.{opposite}
 use Rattle.pb_lin.specs.LineMap.{LineMap}
-use Rattle.hint_rup.specs.declared.hint.Hint.{Hint}
 use Rattle.clause_prop.specs.Steps.{TrailValue, last_level}
 use Rattle.clause_prop.specs.declared.step.Step.{Step}
 use Rattle.search_trail.specs.SearchTrail.{IsStepAt}

@@ -6,7 +6,7 @@ ghost use Rattle.pb_lin.specs.Constraint.{UpTo, literals, opposite};
 ghost use Rattle.clause_prop.specs.declared.step.Step.{Step};
 ghost use Rattle.clause_prop.specs.Propagating.{IsConflict};
 ghost use Rattle.search_trail.specs.SearchTrail.{AreLines, IsSearchTrail, IsStepAt};
-ghost use Rattle.conflict_analysis.specs.Walking.{AreMarks, IsAbove, IsClear, IsClosing, IsMarkedBefore, IsMore, IsWalk, is_resolved, spare};
+ghost use Rattle.conflict_analysis.specs.Walking.{AreMarks, IsAbove, IsClear, IsClosing, IsMarkedBefore, IsMore, IsWalk, is_marked, is_resolved, spare};
 
 use crate::reach::Reach;
 use clause_prop::{ClauseStore, Step, Trail};
@@ -44,7 +44,8 @@ impl Marks {
         requires clear { IsClear self.old.on.items }
         ensures clear { IsClear self.new.on.items }
         ensures places { self.new.places ≡ self.old.places }
-        ensures ok { OnOk result (length self.new.on.items ≡ max places (length self.old.on.items)) }
+        ensures ok { OnOk result
+            (length self.new.on.items ≡ max places (length self.old.on.items)) }
         ensures err { OnErr result (length self.new.on.items ≡ length self.old.on.items) }
     {
         let places = places as usize;
@@ -55,9 +56,10 @@ impl Marks {
     }
 
     // Takes all marks away.
-    pub(crate) fn clear(&mut self, _trail: &Trail)
-        requires marks { AreMarks (length _trail.now.steps) self.old.on.items self.old.places }
-        requires long { length _trail.now.steps ≤ length self.old.on.items }
+    pub(crate) fn clear(&mut self)
+        requires listed { (p : ℕ) → is_marked self.old.on.items p ≡ true
+            → Contains self.old.places p }
+        requires within { All (λ p. p < length self.old.on.items) self.old.places }
         ensures clear { IsClear self.new.on.items }
         ensures places { self.new.places ≡ [] }
         ensures room { length self.new.on.items ≡ length self.old.on.items }
@@ -78,6 +80,7 @@ impl Marks {
         ensures falls { self.new.least ≤ self.old.least }
         ensures marked { OnOk result (IsMarkedBefore trail.now self.new.on.items end lit) }
     {
+        // Tells that no other step is of the literal's variable.
         let _steps = trail.len();
         let Some(place) = trail.place_of(lit) else {
             return Ok(());
@@ -118,8 +121,8 @@ impl Marks {
         Ok(())
     }
 
-    // Resolves the step at the place, where it is marked and the walk resolves such steps: marks what made
-    // its line force it, and puts the line to the hints.
+    // Resolves the step at the place, where it is marked and the walk resolves such steps: marks what
+    // made its line force it, and puts the line to the hints.
     fn step_back(
         &mut self,
         store: &ClauseStore,
@@ -137,8 +140,10 @@ impl Marks {
         ensures room { length self.new.on.items ≡ length self.old.on.items }
         ensures falls { self.new.least ≤ self.old.least }
         ensures closing { OnOk result ((given : List Literal)
-            → IsClosing store.now trail.now reach self.old.on.items (place + 1) given (reverse hints.old.items)
-            → IsClosing store.now trail.now reach self.new.on.items place given (reverse hints.new.items)) }
+            → IsClosing store.now trail.now reach self.old.on.items (place + 1) given
+            (reverse hints.old.items)
+            → IsClosing store.now trail.now reach self.new.on.items place given
+            (reverse hints.new.items)) }
     {
         if !self.on[place as usize] {
             return Ok(());
@@ -173,9 +178,10 @@ impl Marks {
         ensures room { length self.new.on.items ≡ length self.old.on.items }
         ensures after { self.new.least + spare reach ≤ end }
         ensures closing { OnOk result ((given : List Literal)
-            → IsClosing store.now trail.now reach self.old.on.items end given (reverse hints.old.items)
-            → IsClosing store.now trail.now reach self.new.on.items (self.new.least + spare reach) given
-                (reverse hints.new.items)) }
+            → IsClosing store.now trail.now reach self.old.on.items end given
+            (reverse hints.old.items)
+            → IsClosing store.now trail.now reach self.new.on.items (self.new.least + spare reach)
+            given (reverse hints.new.items)) }
     {
         let spare = reach.spare();
         let mut place = end;
@@ -186,7 +192,8 @@ impl Marks {
         Ok(())
     }
 
-    // Walks back from a conflict. The hints are in the order of the trail, and the conflict is the last.
+    // Walks back from a conflict. The hints are in the order of the trail, and the conflict is the
+    // last.
     pub(crate) fn trace(
         &mut self,
         alloc: Global,
@@ -204,9 +211,11 @@ impl Marks {
         requires above { IsAbove trail.now reach }
         ensures walk { IsWalk trail.now reach self.new.on.items self.new.places self.new.least }
         ensures room { length self.new.on.items ≡ length self.old.on.items }
-        ensures within { IfOk result (λ hints. self.new.least + spare reach ≤ length trail.now.steps) }
+        ensures within { IfOk result
+            (λ hints. self.new.least + spare reach ≤ length trail.now.steps) }
         ensures closing { IfOk result
-            (IsClosing store.now trail.now reach self.new.on.items (self.new.least + spare reach) []) }
+            (IsClosing store.now trail.now reach self.new.on.items (self.new.least + spare reach)
+            []) }
     {
         self.least = trail.len();
         let Some(line) = store.get(conflict) else {
@@ -220,8 +229,8 @@ impl Marks {
         Ok(Items::from_vec(hints))
     }
 
-    // Walks back from a step that a line forces, to the decisions. The hints are in the order of the trail,
-    // and the step's line is the last.
+    // Walks back from a step that a line forces, to the decisions. The hints are in the order of the
+    // trail, and the step's line is the last.
     pub(crate) fn explain(
         &mut self,
         alloc: Global,
@@ -236,11 +245,13 @@ impl Marks {
         requires search { IsSearchTrail store.now trail.now }
         requires within { place < length trail.now.steps }
         requires forced { (s : Step) → IsStepAt trail.now place s → s.reason ≢ 0 }
-        ensures walk { IsWalk trail.now Reach.Decisions self.new.on.items self.new.places self.new.least }
+        ensures walk { IsWalk trail.now Reach.Decisions self.new.on.items self.new.places
+            self.new.least }
         ensures room { length self.new.on.items ≡ length self.old.on.items }
-        ensures closing { IfOk result (λ hints. (l : Literal) (s : Step) → IsStepAt trail.now place s
-            → s.lit ≡ opposite l
-            → IsClosing store.now trail.now Reach.Decisions self.new.on.items self.new.least (l ∷ []) hints) }
+        ensures closing { IfOk result (λ hints. (l : Literal) (s : Step)
+            → IsStepAt trail.now place s → s.lit ≡ opposite l
+            → IsClosing store.now trail.now Reach.Decisions self.new.on.items self.new.least
+            (l ∷ []) hints) }
     {
         let reach = Reach::Decisions;
         let id = trail.step_at(place).reason;

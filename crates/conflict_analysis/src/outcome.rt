@@ -20,7 +20,6 @@ impl Marks {
         requires { AreMarks (length trail.now.steps) self.now.on.items self.now.places }
         ensures { IfOk result (λ lits. AreAside trail.now reach self.now.places lits.items) }
     {
-        let _steps = trail.len();
         let mut lits = Vec::new(alloc);
         for place in self.places.as_slice() {
             let step = trail.step_at(*place);
@@ -128,7 +127,6 @@ impl Marks {
         ensures room { length self.new.on.items ≡ length self.old.on.items }
         ensures blame { IfOk result (IsBlame store.now trail.now lit) }
     {
-        let _steps = trail.len();
         let Some(place) = trail.place_of(lit) else {
             unreachable!()
         };

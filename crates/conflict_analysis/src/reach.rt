@@ -37,7 +37,8 @@ impl Reach {
         }
     }
 
-    // What the outcome of the walk says of a step's literal: a clause that is learned has its opposite.
+    // What the outcome of the walk says of a step's literal: a clause that is learned has its
+    // opposite.
     #[tactic(auto, unfolding(crate::specs::Walking::said))]
     pub(crate) fn said(self, lit: Lit) -> Lit
         ensures { result ≡ said self lit }

@@ -15,7 +15,8 @@ use scut_base::{Items, Lit, NoMemory};
 use std::alloc::Global;
 use std::marker::Model;
 
-/// Room for walks over trails of so many variables. Contracts see that number. Between calls nothing is marked.
+/// Room for walks over trails of so many variables. Contracts see that number. Between calls nothing
+/// is marked.
 #[derive(Debug, Drop)]
 pub struct Walk {
     alloc: Global,
@@ -52,8 +53,9 @@ impl Walk {
         self.marks.grow(vars)
     }
 
-    /// The clause of the first unique implication point (Marques-Silva and Sakallah 1999; Moskewicz and others 2001) of a
-    /// conflict above level 0. Costs the lines of the steps that it resolves, and a sort of the clause.
+    /// The clause of the first unique implication point (Marques-Silva and Sakallah 1999; Moskewicz and
+    /// others 2001) of a conflict above level 0. Costs the lines of the steps that it resolves, the
+    /// steps of the highest level, and a sort of the clause. It may be called again after `NoMemory`.
     pub fn learn(
         &mut self,
         store: &ClauseStore,
@@ -68,13 +70,16 @@ impl Walk {
         ensures lesson { IfOk result (λ r. IsLesson store.now trail.now r) }
         ensures room { self.new ≡ self.old }
     {
+        // Tells that there are at most as many steps as variables.
         let _steps = trail.len();
         let lesson = self.marks.lesson(self.alloc, store, trail, conflict);
-        self.marks.clear(trail);
+        self.marks.clear();
         lesson
     }
 
-    /// Who is to blame for a literal that is false by a step that a line forces.
+    /// Who is to blame for a literal that is false by a step that a line forces. Costs the lines of the
+    /// steps that led to that, the steps between them, and a sort of the literals. It may be called
+    /// again after `NoMemory`.
     pub fn blame(&mut self, store: &ClauseStore, trail: &Trail, lit: Lit) -> Result<Blame, NoMemory>
         requires room { trail.now.vars ≤ self.old }
         requires lines { AreLines trail.now.vars store.now }
@@ -83,13 +88,16 @@ impl Walk {
         ensures blame { IfOk result (λ r. IsBlame store.now trail.now lit r) }
         ensures room { self.new ≡ self.old }
     {
+        // Tells that there are at most as many steps as variables.
         let _steps = trail.len();
         let blame = self.marks.blame(self.alloc, store, trail, lit);
-        self.marks.clear(trail);
+        self.marks.clear();
         blame
     }
 
-    /// What proves from a conflict, where nothing is decided, that nothing satisfies the lines.
+    /// What proves from a conflict, where nothing is decided, that nothing satisfies the lines. Costs
+    /// the lines of the steps that led to it, and the steps between them. It may be called again after
+    /// `NoMemory`.
     pub fn refute(
         &mut self,
         store: &ClauseStore,
@@ -104,11 +112,12 @@ impl Walk {
         ensures hints { IfOk result (λ hints. AreHints store.now trail.now.vars [] hints) }
         ensures room { self.new ≡ self.old }
     {
+        // Tells that there are at most as many steps as variables.
         let _steps = trail.len();
         let hints = self
             .marks
             .trace(self.alloc, store, trail, Reach::Decisions, conflict);
-        self.marks.clear(trail);
+        self.marks.clear();
         hints
     }
 }

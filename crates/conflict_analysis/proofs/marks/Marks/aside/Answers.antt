@@ -1,4 +1,4 @@
-use Rattle.std.specs.Prelude.{◌≡◌, ◌++◌, [], ◌∷◌, ◌+◌, ℕ, List, Vec, take}
+use Rattle.std.specs.Prelude.{◌++◌, [], ◌∷◌, ◌+◌, take}
 use Rattle.std.proofs.Common.{get_or, refl, sym, ◌∙◌, ap, subst}
 use Rattle.scut_base.specs.Literal.{Literal}
 use Rattle.conflict_analysis.specs.Walking.{AreAside}
@@ -17,7 +17,7 @@ loop-place-preserved c =
     elim c.if-not-resolves.branch [
       | then-not-resolves+in_ok-push w ↦
           subst (AreAside t c.args.reach (take (i + 1) c.args.self.now.places)) (sym (ap (λ v. v.items) w.lits-is ∙ (w.in_ok-push.ensures).items ∙ ap (λ (l : Literal). lits ++ l ∷ []) w.said.ensures))
-          (aside_next _ c.args.self.now.on.items c.args.self.now.places items i (get_or items i 0) c.requires c.as_slice-place-items.ensures c.loop-place-test.true refl t c.args.reach lits s c.len-steps.ensures.steps c.loop-place.invariant at (sym c.resolves.ensures ∙ w.if-not-resolves.true))
+          (aside_next _ c.args.self.now.on.items c.args.self.now.places items i (get_or items i 0) c.requires c.as_slice-place-items.ensures c.loop-place-test.true refl t c.args.reach lits s c.step_at-step.ensures.steps c.loop-place.invariant at (sym c.resolves.ensures ∙ w.if-not-resolves.true))
       | else-not-resolves w ↦
           subst (AreAside t c.args.reach (take (i + 1) c.args.self.now.places)) (sym (ap (λ v. v.items) w.lits-is))
           (aside_past _ c.args.self.now.on.items c.args.self.now.places items i (get_or items i 0) c.requires c.as_slice-place-items.ensures c.loop-place-test.true refl t c.args.reach lits s c.loop-place.invariant at (sym c.resolves.ensures ∙ w.if-not-resolves.false))

@@ -1,9 +1,8 @@
-use Rattle.std.specs.Prelude.{◌≡◌, ◌+◌, ◌++◌, ◌≤◌, [], ◌∷◌, ℕ, List, All, length, reverse}
+use Rattle.std.specs.Prelude.{◌≡◌, ◌+◌, ◌++◌, [], ◌∷◌, ℕ, List, reverse}
 use Rattle.std.proofs.Common.{◌∙◌, sym, ap, subst, arith}
 use Rattle.std.proofs.lemmas.Option.{same_Some}
 use Rattle.hint_rup.specs.declared.hint.Hint.{Hint}
 use Rattle.hint_rup.specs.declared.hint.Hint.TheVariants.{Id as IdHint}
-use Rattle.clause_prop.specs.Propagating.{Forces}
 use Rattle.clause_prop.specs.declared.step.Step.{Step}
 use Rattle.conflict_analysis.specs.declared.reach.Reach.TheVariants.{Decisions}
 use Rattle.conflict_analysis.specs.Walking.{IsClosing, spare}

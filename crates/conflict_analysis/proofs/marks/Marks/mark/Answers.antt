@@ -1,6 +1,6 @@
-use Rattle.std.specs.Prelude.{◌≡◌, ◌<◌, ℕ, Bool, List, true, false, not, length, slice_set, slice_index_or}
-use Rattle.std.proofs.Common.{sym, ◌∙◌, ap, subst, get_or-set_same, arith, rules}
-use Rattle.conflict_analysis.specs.Walking.{IsWalk, is_marked}
+use Rattle.std.specs.Prelude.{ℕ, List, true, false, slice_set}
+use Rattle.std.proofs.Common.{sym, ◌∙◌, subst, get_or-set_same, arith}
+use Rattle.conflict_analysis.specs.Walking.{IsWalk}
 use Rattle.conflict_analysis.proofs.Marking.{walk_marked, marked_open, marked_late, marked_at, marked_true, place_within, mark_read, beq_is}
 use Rattle.conflict_analysis.proofs.marks.Marks.mark.Goals as goal
 use Rattle.conflict_analysis.proofs.marks.Marks.mark.Goals.{then-place-end-via-then-place-end, then-place-end-via-else-place-end+then-index}

@@ -1,11 +1,8 @@
-use Rattle.std.specs.Prelude.{◌≡◌, ◌≢◌, ◌+◌, ◌++◌, [], ◌∷◌, true, false, ℕ, List, Option, Some, None, reverse, refl}
-use Rattle.std.specs.FinMap.{get}
+use Rattle.std.specs.Prelude.{◌≡◌, ◌+◌, true, false, List, reverse, refl}
 use Rattle.std.proofs.Common.{◌∙◌, sym, ap, subst, arith}
 use Rattle.std.proofs.lemmas.Option.{same_Some}
-use Rattle.pb_lin.specs.Constraint.{ConstraintValue}
 use Rattle.hint_rup.specs.declared.hint.Hint.{Hint}
-use Rattle.hint_rup.specs.declared.hint.Hint.TheVariants.{Id as IdHint}
-use Rattle.conflict_analysis.specs.Walking.{IsClosing, is_marked, is_resolved, spare}
+use Rattle.conflict_analysis.specs.Walking.{IsClosing, is_resolved}
 use Rattle.conflict_analysis.proofs.Closing.{closing_step, closing_skip, has_reason, pushed_first, reason_forces, reason_line}
 use Rattle.conflict_analysis.proofs.Marking.{mark_read}
 use Rattle.conflict_analysis.proofs.marks.Marks.step_back.Goals as goal
@@ -28,7 +25,7 @@ pub returns-then-not-resolves-clause-closing : goal.returns-then-not-resolves-cl
 returns-then-not-resolves-clause-closing c =
     λ given rest. closing_skip c.args.store.now c.args.trail.now c.args.reach c.requires.lines c.requires.search c.args.self.now.on.items c.args.place (c.args.place + 1) given (reverse c.args.hints.now.items) refl
     (λ s at on resolved. (let same : c.step_at-step.result ≡ s = same_Some c.step_at-step.result s (sym c.step_at-step.ensures.value ∙ at) in
-        let both : true ≡ false = sym resolved ∙ ap (is_resolved c.args.reach) (sym same) ∙ sym c.resolves.ensures ∙ c.if-not-resolves.true in cc)) rest
+    let both : true ≡ false = sym resolved ∙ ap (is_resolved c.args.reach) (sym same) ∙ sym c.resolves.ensures ∙ c.if-not-resolves.true in cc)) rest
 
 pub returns-clause-closing : goal.returns-clause-closing
 returns-clause-closing c =

@@ -1,6 +1,5 @@
-use Rattle.std.specs.Prelude.{◌≡◌, ◌+◌, ◌-◌, ◌<◌, ◌≤◌, ℕ, List, reverse}
+use Rattle.std.specs.Prelude.{◌≡◌, ◌+◌, ◌-◌, ◌<◌, ℕ, reverse}
 use Rattle.std.proofs.Common.{◌∙◌, sym, subst, arith}
-use Rattle.hint_rup.specs.declared.hint.Hint.{Hint}
 use Rattle.conflict_analysis.specs.Walking.{IsClosing, spare}
 use Rattle.conflict_analysis.proofs.marks.Marks.walk_back.Goals as goal
 
