@@ -1,9 +1,8 @@
 -- What is learned from a conflict, and who is to blame for a literal that is false.
-use Rattle.std.specs.Prelude.{◌≡◌, ◌≢◌, ℕ, ◌<◌, ◌⊎◌, [], List, map, All, AllPairs, Contains}
+use Rattle.std.specs.Prelude.{◌≡◌, ◌≢◌, ℕ, ◌<◌, ◌≤◌, ◌⊎◌, map, All, AllPairs, Contains}
 use Rattle.scut_base.specs.Literal.{Literal}
 use Rattle.pb_lin.specs.Constraint.{opposite}
 use Rattle.pb_lin.specs.LineMap.{LineMap}
-use Rattle.hint_rup.specs.declared.hint.Hint.{Hint}
 use Rattle.clause_prop.specs.Steps.{TrailValue, last_level}
 use Rattle.clause_prop.specs.declared.step.Step.{Step}
 use Rattle.search_trail.specs.SearchTrail.{IsStepAt}
@@ -15,6 +14,7 @@ use Rattle.conflict_analysis.specs.declared.lesson.Blame.{Blame}
 pub record IsLesson (store : LineMap) (t : TrailValue) (r : Lesson) : Type 0 where
   pub asserting : IsAsserting t (last_level t.steps) r.level r.lits r.lit
   pub hints : AreHints store t.vars r.lits r.hints
+  pub met : All (λ l. (0 < l.var) × (l.var ≤ t.vars)) r.met
 
 -- the literal was decided
 abbrev pub IsDecided : TrailValue → Literal → Type 0

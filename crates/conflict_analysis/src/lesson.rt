@@ -11,8 +11,11 @@ pub struct Lesson {
     pub lit: Lit,
     /// The level to jump back to: the second highest of the clause, or 0.
     pub level: u64,
-    /// The reasons on the conflict's side of the cut, in the order of the trail, and then the conflict.
+    /// The reasons on the conflict's side of the cut, in the order of the trail, and then the
+    /// conflict.
     pub hints: Items<Hint>,
+    /// The literals of the steps that the walk met, in no order that is told.
+    pub met: Items<Lit>,
 }
 
 /// Who is to blame for a literal that is false.
