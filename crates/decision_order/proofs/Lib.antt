@@ -1,0 +1,4 @@
+pub mod HeapPlaces
+pub mod HeapOrder
+pub mod HeapSteps
+pub mod HeapChanges
