@@ -2,3 +2,4 @@ pub mod HeapPlaces
 pub mod HeapOrder
 pub mod HeapSteps
 pub mod HeapChanges
+pub mod Waiting

@@ -100,6 +100,7 @@ pub record IsOrder (heap : HeapValue) (phases : List Bool) (step : ℕ) : Type 0
   pub below : All (λ a. a < limit) heap.activities
   pub positive : 0 < step
   pub small : step < limit
+  pub room : heap.count ≤ length heap.vars
   pub ordered : IsOrdered (key heap) heap.count
 
 -- the variable has this activity, and the same variables wait

@@ -90,3 +90,20 @@ pub record IsGrown (old new : OrderValue) (vars : ℕ) : Type 0 where
   pub kept : (var : ℕ) → Contains old.waiting var → Contains new.waiting var
   pub fresh : (var : ℕ) → length old.activities < var → var ≤ vars → Contains new.waiting var
   pub only : (var : ℕ) → Contains new.waiting var → Contains old.waiting var ⊎ ((length old.activities < var) × (var ≤ vars))
+
+-- no variable waits
+abbrev pub NoneWaits : OrderValue → Type 0
+NoneWaits o = (var : ℕ) → Contains o.waiting var → ⊥
+
+-- no variable is open on the trail
+abbrev pub NoneOpen : TrailValue → Type 0
+NoneOpen t = (var : ℕ) → 0 < var → var ≤ t.vars → IsOpenVar t var → ⊥
+
+-- the literal is in the last phase of a variable of greatest activity that waited and now doesn't
+pub record IsTakenChoice (old new : OrderValue) (l : Literal) : Type 0 where
+  pub positive : 0 < l.var
+  pub within : l.var ≤ length old.activities
+  pub last_phase : l.neg ≡ not (phase old l.var)
+  pub greatest : (var : ℕ) → Contains old.waiting var → activity old var ≤ activity old l.var
+  pub kept : (var : ℕ) → Contains old.waiting var → var ≢ l.var → Contains new.waiting var
+  pub fewer : length new.waiting < length old.waiting

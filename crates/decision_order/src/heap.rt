@@ -114,6 +114,7 @@ impl VariableHeap {
         requires within { place < self.old.count }
         requires room { self.old.count ≤ length self.old.vars }
         requires ordered { IsOrderedButAbove (key self.old) self.old.count place }
+        ensures room { self.new.count ≤ length self.new.vars }
         ensures ordered { IsOrdered (key self.new) self.new.count }
         ensures same { SameHeap self.old self.new }
     {
@@ -128,6 +129,7 @@ impl VariableHeap {
     fn sift_down(&mut self, place: usize)
         requires room { self.old.count ≤ length self.old.vars }
         requires ordered { IsOrderedButBelow (key self.old) self.old.count place }
+        ensures room { self.new.count ≤ length self.new.vars }
         ensures ordered { IsOrdered (key self.new) self.new.count }
         ensures same { SameHeap self.old self.new }
     {
@@ -143,6 +145,7 @@ impl VariableHeap {
         requires positive { 0 < var }
         requires within { var ≤ length self.old.activities }
         requires ordered { IsOrdered (key self.old) self.old.count }
+        ensures room { self.new.count ≤ length self.new.vars }
         ensures ordered { IsOrdered (key self.new) self.new.count }
         ensures added { IsAdded self.old self.new var }
     {
@@ -158,6 +161,7 @@ impl VariableHeap {
     /// Takes a most active variable away from those that wait.
     pub fn take_greatest(&mut self) -> Option<u64>
         requires ordered { IsOrdered (key self.old) self.old.count }
+        ensures room { self.new.count ≤ length self.new.vars }
         ensures ordered { IsOrdered (key self.new) self.new.count }
         ensures taken { MatchOption result ((self.old.count ≡ 0) × (self.new ≡ self.old))
             (λ var. IsTaken self.old self.new var) }
@@ -179,6 +183,7 @@ impl VariableHeap {
         requires within { var ≤ length self.old.activities }
         requires fits { slice_index_or self.old.activities (var - 1) 0 + by < 2 ^ 64 }
         requires ordered { IsOrdered (key self.old) self.old.count }
+        ensures room { self.new.count ≤ length self.new.vars }
         ensures ordered { IsOrdered (key self.new) self.new.count }
         ensures sum { result ≡ slice_index_or self.old.activities (var - 1) 0 + by }
         ensures raised { IsRaised self.old self.new var result }
@@ -196,6 +201,7 @@ impl VariableHeap {
     /// Halves all activities, rounded down. Costs their number.
     pub fn halve(&mut self)
         requires ordered { IsOrdered (key self.old) self.old.count }
+        ensures room { self.new.count ≤ length self.new.vars }
         ensures ordered { IsOrdered (key self.new) self.new.count }
         ensures halved { self.new ≡ record {
             activities = map (λ a. a / 2) self.old.activities;
@@ -211,6 +217,7 @@ impl VariableHeap {
     /// anything changes.
     pub fn grow(&mut self, vars: usize) -> Result<(), NoMemory>
         requires ordered { IsOrdered (key self.old) self.old.count }
+        ensures room { self.new.count ≤ length self.new.vars }
         ensures ordered { OnOk result (IsOrdered (key self.new) self.new.count) }
         ensures grown { OnOk result (IsGrownHeap self.old self.new vars) }
         ensures err { OnErr result (self.new ≡ self.old) }
@@ -241,6 +248,7 @@ impl VariableHeap {
     fn wait_from(&mut self, known: usize)
         requires known { known ≤ length self.old.activities }
         requires ordered { IsOrdered (key self.old) self.old.count }
+        ensures room { self.new.count ≤ length self.new.vars }
         ensures ordered { IsOrdered (key self.new) self.new.count }
         ensures waits { IsWaitingFrom self.old self.new known (length self.old.activities) }
     {

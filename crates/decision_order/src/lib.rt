@@ -6,6 +6,6 @@
 #![tactic(auto)]
 
 mod heap;
+mod order;
 
-
-
+pub use order::VariableOrder;

@@ -5,6 +5,7 @@ use Rattle.decision_order.proofs.heap.VariableHeap.wait_from.Goals as goal
 
 pub loop-at-preserved : goal.loop-at-preserved
 loop-at-preserved c = record {
+  room = c.wait.ensures.room;
   ordered = c.wait.ensures.ordered;
   waits = waiting_more c.args.self.now c.loop-at.self c.wait.new.self c.args.known c.loop-at.at c.loop-at.auto.at c.loop-at.invariant.waits c.wait.ensures.added;
 }
