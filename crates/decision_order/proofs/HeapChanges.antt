@@ -121,9 +121,6 @@ extended h new places more are activities v count = record {
         ∙ ap (λ (xs : List ℕ). get_or xs (get_or h.vars k 0 - 1) 0) activities
         ∙ get_or_append_left h.activities (replicate more 0) 0 (get_or h.vars k 0 - 1) (omega arith)
 
-pub waiting_none : (h : HeapValue) (known : ℕ) → IsWaitingFrom h h known known
-waiting_none h known = record { activities = refl; kept = λ var w. w; fresh = λ var above below. absurd (omega arith); only = λ var w. inl w }
-
 pub waiting_more : (old h new : HeapValue) (known at : ℕ) → known ≤ at → IsWaitingFrom old h known at → IsAdded h new (at + 1) → IsWaitingFrom old new known (at + 1)
 waiting_more old h new known at from w a = record {
   activities = a.activities ∙ w.activities;

@@ -35,15 +35,6 @@ risen f g count at above s inside o l = record {
       (cases_eq k at);
 }
 
--- a place that has no less than its parent is in order
-pub risen_whole : (f : ℕ → ℕ) (count at : ℕ) → IsOrderedButAbove f count at → (0 < at → f at ≤ f (parent at)) → IsOrdered f count
-risen_whole f count at o under = record {
-  below = λ k positive less. ⊎_elim
-      (λ (e : k ≡ at). let e1 = ap f e in let e2 = ap (λ (q : ℕ). f (parent q)) e in let step = under (omega arith) in omega arith)
-      (λ (ne : k ≢ at). o.others k positive less ne)
-      (cases_eq k at);
-}
-
 pub sunk : (f g : ℕ → ℕ) (count at child : ℕ) → Swapped f g at child → at < count → IsOrderedButBelow f count at → IsGreaterChild f count at child → IsOrderedButBelow g count child
 sunk f g count at child s inside o c = record {
   others = λ k positive less ne.
@@ -76,15 +67,6 @@ sunk f g count at child s inside o c = record {
       let same = s.2 k (λ (q : k ≡ at). let d = c.is in omega arith) (λ (q : k ≡ child). omega arith) in
       let e1 = ap f e in
       let e2 = ap g c.is in omega (arith, s.0);
-}
-
--- a place that has no less than its children is in order
-pub sunk_whole : (f : ℕ → ℕ) (count at : ℕ) → IsOrderedButBelow f count at → IsAboveChildren f count at → IsOrdered f count
-sunk_whole f count at o over = record {
-  below = λ k positive less. ⊎_elim
-      (λ (e : parent k ≡ at). let e1 = ap f e in let step = over k positive less e in omega arith)
-      (λ (ne : parent k ≢ at). o.others k positive less ne)
-      (cases_eq (parent k) at);
 }
 
 -- ---- a place more, a place less, and other activities

@@ -91,6 +91,16 @@ place_of n vars places count var place are positive within is =
       ap (λ (p : ℕ). get_or vars p 0) own ∙ are.there var positive within,
     )
 
+-- the variable of a place, read from the list
+pub var_of : (n : ℕ) (vars places : List ℕ) (count place var : ℕ) → ArePlaces n vars places count → place < n → var ≡ get_or vars place var
+    → (var ≡ get_or vars place 0) × (0 < var) × (var ≤ n)
+var_of n vars places count place var are inside is =
+    let own : var ≡ get_or vars place 0 = is ∙ get_or_default vars place var 0 (omega (arith, are.room)) in (
+      own,
+      subst (λ (v : ℕ). 0 < v) (sym own) (are.positive place inside),
+      subst (λ (v : ℕ). v ≤ n) (sym own) (are.within place inside),
+    )
+
 -- ---- more variables
 
 pub places_longer : (n : ℕ) (vars more_vars places more_places : List ℕ) (count more : ℕ) → ArePlaces n vars places count → CountsOn vars more_vars 1 more → CountsOn places more_places 0 more → ArePlaces (n + more) more_vars more_places count

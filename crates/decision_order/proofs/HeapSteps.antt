@@ -3,7 +3,7 @@ use Rattle.std.proofs.Common.{◌≡◌, ◌≢◌, ℕ, ◌-◌, ◌<◌, ◌�
 use Rattle.std.proofs.lemmas.Bool.{cases_eq}
 use Rattle.std.proofs.lemmas.List.Edits.{Swapped, swapped_from_swap, length-swap}
 use Rattle.decision_order.specs.Heap.{HeapValue, IsOrdered, IsOrderedButAbove, IsOrderedButBelow, IsLesserParent, IsGreaterChild, IsAboveChildren, SameHeap, Waits, key, parent, swapped}
-use Rattle.decision_order.proofs.HeapOrder.{risen, risen_whole, sunk, sunk_whole}
+use Rattle.decision_order.proofs.HeapOrder.{risen, sunk}
 
 pub vars_swapped : (h : HeapValue) (i j : ℕ) → i < length h.vars → j < length h.vars → Swapped (λ k. get_or h.vars k 0) (λ k. get_or (swapped h i j).vars k 0) i j
 vars_swapped h i j in_i in_j = swapped_from_swap h.vars (swapped h i j).vars i j 0 in_i in_j refl

@@ -3,3 +3,4 @@ pub mod HeapOrder
 pub mod HeapSteps
 pub mod HeapChanges
 pub mod Waiting
+pub mod Trails

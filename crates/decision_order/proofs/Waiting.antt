@@ -86,13 +86,6 @@ taken_choice h k o p l var of_h of_k same t is neg = record {
       let count = t.count in omega (arith, length-take h.count h.vars, length-take k.count k.vars);
 }
 
--- a literal is open where its variable is
-open_var : (t : TrailValue) (l : Literal) → partial_truth (partial t) l ≡ None → IsOpenVar t l.var
-open_var t l open' = ap (option_map (λ (b : Bool). b)) (none_under (λ b. if l.neg then not b else b) _ open')
-
-open_lit : (t : TrailValue) (l : Literal) → IsOpenVar t l.var → partial_truth (partial t) l ≡ None
-open_lit t l open' = ap (option_map (λ (b : Bool). if l.neg then not b else b)) (none_under (λ (b : Bool). b) _ open')
-
 -- what `next` has so far: who is open waits, and nothing else has changed
 pub record IsSeeking (old o : OrderValue) (t : TrailValue) : Type 0 where
   pub vars : t.vars ≡ length o.activities
@@ -100,25 +93,6 @@ pub record IsSeeking (old o : OrderValue) (t : TrailValue) : Type 0 where
   pub phases : o.phases ≡ old.phases
   pub step : o.step ≡ old.step
   pub waiting : AllOpenWait o t
-
-pub sought_other : (o p : OrderValue) (t : TrailValue) (l : Literal) → AllOpenWait o t → IsTakenChoice o p l → OtherOpenWait p t l.var
-sought_other o p t l waiting c var positive within is_open apart = c.kept var (waiting var positive within is_open) apart
-
-pub sought_further : (o p : OrderValue) (t : TrailValue) (l : Literal) (b : Bool) → AllOpenWait o t → IsTakenChoice o p l → partial_truth (partial t) l ≡ Some b → AllOpenWait p t
-sought_further o p t l b waiting c known var positive within is_open =
-    c.kept var (waiting var positive within is_open) (λ (e : var ≡ l.var). none-some b (sym (open_lit t l (subst (IsOpenVar t) e is_open)) ∙ known))
-
-pub sought : (old o p : OrderValue) (t : TrailValue) (l : Literal) → IsSeeking old o t → IsTakenChoice o p l → partial_truth (partial t) l ≡ None → IsNextChoice old t l
-sought old o p t l s c is_open = record {
-  positive = c.positive;
-  within = let w = c.within in let v = s.vars in omega arith;
-  open_lit = is_open;
-  last_phase = c.last_phase ∙ ap (λ (bs : List Bool). not (get_or bs (l.var - 1) false)) s.phases;
-  greatest = λ var positive within open'.
-      let most = c.greatest var (s.waiting var positive within open') in
-      let e1 = ap (λ (xs : List ℕ). get_or xs (var - 1) 0) s.activities in
-      let e2 = ap (λ (xs : List ℕ). get_or xs (l.var - 1) 0) s.activities in omega arith;
-}
 
 pub none_open : (o : OrderValue) (t : TrailValue) → AllOpenWait o t → NoneWaits o → NoneOpen t
 none_open o t waiting none var positive within is_open = none var (waiting var positive within is_open)

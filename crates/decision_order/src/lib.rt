@@ -6,6 +6,10 @@
 #![tactic(auto)]
 
 mod heap;
+mod laws;
 mod order;
 
+pub use laws::{
+    cut_keeps_waiting, decision_keeps_waiting, growth_keeps_waiting, longer_trail_keeps_waiting,
+};
 pub use order::VariableOrder;

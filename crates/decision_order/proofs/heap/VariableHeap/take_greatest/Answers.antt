@@ -1,7 +1,7 @@
 use Rattle.std.proofs.Common.{◌≡◌, ℕ, ◌-◌, ◌+◌, ◌≤◌, ◌<◌, length, get_or, arith, ap, sym, ◌∙◌, subst}
-use Rattle.std.proofs.lemmas.List.{get_or_default}
 use Rattle.decision_order.specs.Heap.{HeapValue, IsOrdered, IsTaken, key, swapped}
 use Rattle.decision_order.proofs.HeapChanges.{take_ordered, take_taken}
+use Rattle.decision_order.proofs.HeapPlaces.{var_of}
 use Rattle.decision_order.proofs.heap.VariableHeap.take_greatest.Goals as goal
 
 pub sift_down-requires-clause-ordered : goal.sift_down-requires-clause-ordered
@@ -23,8 +23,7 @@ returns-clause-taken c =
     let is : v ≡ swapped h 0 (i.count - 1) = c.self-2.view_is ∙ c.swap.ensures ∙ ap (λ (x : HeapValue). swapped x 0 (i.count - 1)) (sym c.self.view_is) in
     let some = c.if-self-eq0.false in
     let front : 0 < length i.activities.items = omega (arith, c.self.invariant.counted) in
-    let own : get_or i.vars.items 0 0 ≡ c.index-var.result.now = sym (c.index-var.ensures ∙ get_or_default i.vars.items 0 c.index-var.result.now 0 (omega (arith, front, c.self.invariant.room))) in
+    let own = var_of (length i.activities.items) i.vars.items i.places.items i.count 0 c.index-var.result.now c.self.invariant front c.index-var.ensures in
     subst (λ (x : HeapValue). IsTaken x c.sift_down.new.self c.index-var.result.now) c.self.view_is
-    (take_taken h v c.sift_down.new.self (i.count - 1) c.index-var.result.now is (omega arith) (omega (arith, c.self.invariant.counted, c.self.invariant.room)) own
-        (subst (λ (x : ℕ). 0 < x) own (c.self.invariant.positive 0 front)) (subst (λ (x : ℕ). x ≤ length i.activities.items) own (c.self.invariant.within 0 front))
+    (take_taken h v c.sift_down.new.self (i.count - 1) c.index-var.result.now is (omega arith) (omega (arith, c.self.invariant.counted, c.self.invariant.room)) (sym own.0) own.1 own.2
         (subst (λ (x : HeapValue). IsOrdered (key x) x.count) (sym c.self.view_is) c.requires.ordered) c.sift_down.ensures.same)

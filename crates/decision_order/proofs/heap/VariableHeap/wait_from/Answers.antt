@@ -1,6 +1,6 @@
 use Rattle.std.proofs.Common.{◌≡◌, ℕ, length, ap, arith, subst}
 use Rattle.decision_order.specs.Heap.{HeapValue, IsWaitingFrom}
-use Rattle.decision_order.proofs.HeapChanges.{waiting_none, waiting_more}
+use Rattle.decision_order.proofs.HeapChanges.{waiting_more}
 use Rattle.decision_order.proofs.heap.VariableHeap.wait_from.Goals as goal
 
 pub loop-at-preserved : goal.loop-at-preserved
