@@ -1,5 +1,5 @@
 -- Who waits in a heap, as variables come and go.
-use Rattle.std.proofs.Common.{◌≡◌, ◌≢◌, ◌⊎◌, ℕ, zero, suc, ◌+◌, ◌-◌, ◌/◌, ◌<◌, ◌≤◌, List, [], ◌∷◌, ◌++◌, length, get_or, set, map, replicate, get_or-set_other, get_or-set_same, refl, arith, ap, sym, ◌∙◌, subst, ⊎_elim, inl, inr}
+use Rattle.std.proofs.Common.{◌≡◌, ◌≢◌, ℕ, zero, suc, ◌+◌, ◌-◌, ◌/◌, ◌<◌, ◌≤◌, List, [], ◌∷◌, ◌++◌, length, get_or, set, map, replicate, get_or-set_other, get_or-set_same, refl, arith, ap, sym, ◌∙◌, subst, ⊎_elim, inl, inr}
 use Rattle.std.proofs.lemmas.Bool.{cases_eq}
 use Rattle.std.proofs.lemmas.List.{get_or_append_left, length-append, length-replicate}
 use Rattle.decision_order.specs.Heap.{HeapValue, ArePlaces, CountsOn, IsAdded, IsExtended, IsGrownHeap, IsOrdered, IsOrderedButAbove, IsOrderedButBelow, IsRaised, IsTaken, IsWaitingFrom, SameHeap, Waits, key, swapped, with_count}
@@ -131,9 +131,9 @@ waiting_more old h new known at from w a = record {
       (cases_eq var (at + 1));
   only = λ var x. ⊎_elim
       (λ (before : Waits h var). ⊎_elim
-          (λ (first : Waits old var). inl first)
-          (λ (later : (known < var) × (var ≤ at)). let l = later.1 in inr (later.0, omega arith))
-          (w.only var before))
+      (λ (first : Waits old var). inl first)
+      (λ (later : (known < var) × (var ≤ at)). let l = later.1 in inr (later.0, omega arith))
+      (w.only var before))
       (λ (e : var ≡ at + 1). inr (omega arith, omega arith))
       (a.only var x);
 }

@@ -1,8 +1,8 @@
 -- The order of a heap, as a place rises or sinks.
-use Rattle.std.proofs.Common.{◌≡◌, ◌≢◌, ℕ, zero, suc, ◌+◌, ◌-◌, ◌/◌, ◌<◌, ◌≤◌, refl, arith, ap, sym, ◌∙◌, subst, ⊎_elim}
+use Rattle.std.proofs.Common.{◌≡◌, ◌≢◌, ℕ, zero, suc, ◌+◌, ◌/◌, ◌<◌, ◌≤◌, arith, ap, ◌∙◌, ⊎_elim}
 use Rattle.std.proofs.lemmas.Bool.{cases_eq}
 use Rattle.std.proofs.lemmas.List.Edits.{Swapped}
-use Rattle.decision_order.specs.Heap.{IsOrdered, IsOrderedButAbove, IsOrderedButBelow, IsLesserParent, IsGreaterChild, IsAboveChildren, parent}
+use Rattle.decision_order.specs.Heap.{IsOrdered, IsOrderedButAbove, IsOrderedButBelow, IsLesserParent, IsGreaterChild, parent}
 
 parent-below : (k : ℕ) → 0 < k → parent k < k
 parent-below k positive = omega arith
@@ -12,14 +12,14 @@ risen f g count at above s inside o l = record {
   others = λ k positive less ne. ⊎_elim
       (λ (e : k ≡ at). let e1 = ap g e in let e2 = ap (λ (q : ℕ). g (parent q)) e in let e3 = ap g l.is in omega (arith, s.0, s.1, l.less))
       (λ (not_at : k ≢ at).
-          let same = s.2 k not_at ne in ⊎_elim
-          (λ (e : parent k ≡ at). let e1 = ap g e in let e2 = ap f l.is in omega (arith, s.0, o.across k positive less e l.positive))
-          (λ (apart : parent k ≢ at).
-              let old = o.others k positive less not_at in ⊎_elim
-              (λ (e : parent k ≡ above). let e1 = ap g e in let e2 = ap f e in omega (arith, s.1, l.less))
-              (λ (other : parent k ≢ above). let e1 = s.2 (parent k) apart other in omega arith)
-              (cases_eq (parent k) above))
-          (cases_eq (parent k) at))
+      let same = s.2 k not_at ne in ⊎_elim
+      (λ (e : parent k ≡ at). let e1 = ap g e in let e2 = ap f l.is in omega (arith, s.0, o.across k positive less e l.positive))
+      (λ (apart : parent k ≢ at).
+      let old = o.others k positive less not_at in ⊎_elim
+      (λ (e : parent k ≡ above). let e1 = ap g e in let e2 = ap f e in omega (arith, s.1, l.less))
+      (λ (other : parent k ≢ above). let e1 = s.2 (parent k) apart other in omega arith)
+      (cases_eq (parent k) above))
+      (cases_eq (parent k) at))
       (cases_eq k at);
   across = λ k positive less e up.
       let smaller : above < at = let p = parent-below at l.positive in omega (arith, l.is) in
@@ -28,10 +28,10 @@ risen f g count at above s inside o l = record {
       let step = o.others above up (omega arith) (λ (q : above ≡ at). omega arith) in ⊎_elim
       (λ (here : k ≡ at). let e1 = ap g here in omega (arith, s.0))
       (λ (not_at : k ≢ at).
-          let old = o.others k positive less not_at in
-          let e1 = ap f e in
-          let under = parent-below k positive in
-          let e2 = s.2 k not_at (λ (q : k ≡ above). omega arith) in omega arith)
+      let old = o.others k positive less not_at in
+      let e1 = ap f e in
+      let under = parent-below k positive in
+      let e2 = s.2 k not_at (λ (q : k ≡ above). omega arith) in omega arith)
       (cases_eq k at);
 }
 
@@ -41,23 +41,23 @@ sunk f g count at child s inside o c = record {
       let deeper = parent-below child c.positive in
       let up = parent-below k positive in ⊎_elim
       (λ (e : parent k ≡ at).
-          let e1 = ap g e in ⊎_elim
-          (λ (here : k ≡ child). let e2 = ap g here in omega (arith, s.0, s.1, c.more))
-          (λ (other : k ≢ child).
-              let same = s.2 k (λ (q : k ≡ at). omega arith) other in omega (arith, s.0, c.most k positive less e))
-          (cases_eq k child))
+      let e1 = ap g e in ⊎_elim
+      (λ (here : k ≡ child). let e2 = ap g here in omega (arith, s.0, s.1, c.more))
+      (λ (other : k ≢ child).
+      let same = s.2 k (λ (q : k ≡ at). omega arith) other in omega (arith, s.0, c.most k positive less e))
+      (cases_eq k child))
       (λ (apart : parent k ≢ at).
-          let old = o.others k positive less apart in
-          let upper = s.2 (parent k) apart ne in ⊎_elim
-          (λ (here : k ≡ at).
-              let e1 = ap g here in
-              let e2 = ap (λ (q : ℕ). f (parent q)) here in
-              let e3 = o.across child c.positive c.within c.is (omega arith) in omega (arith, s.0))
-          (λ (not_at : k ≢ at). ⊎_elim
-              (λ (there : k ≡ child). absurd (apart (ap parent there ∙ c.is)))
-              (λ (other : k ≢ child). let same = s.2 k not_at other in omega arith)
-              (cases_eq k child))
-          (cases_eq k at))
+      let old = o.others k positive less apart in
+      let upper = s.2 (parent k) apart ne in ⊎_elim
+      (λ (here : k ≡ at).
+      let e1 = ap g here in
+      let e2 = ap (λ (q : ℕ). f (parent q)) here in
+      let e3 = o.across child c.positive c.within c.is (omega arith) in omega (arith, s.0))
+      (λ (not_at : k ≢ at). ⊎_elim
+      (λ (there : k ≡ child). absurd (apart (ap parent there ∙ c.is)))
+      (λ (other : k ≢ child). let same = s.2 k not_at other in omega arith)
+      (cases_eq k child))
+      (cases_eq k at))
       (cases_eq (parent k) at);
   across = λ k positive less e up.
       let deeper = parent-below child c.positive in
@@ -99,10 +99,10 @@ front-most f count zero o k less inside = absurd (omega arith)
 front-most f count (suc bound) o k less inside = ⊎_elim
     (λ (e : k ≡ 0). let e1 = ap f e in omega arith)
     (λ (ne : k ≢ 0).
-        let positive : 0 < k = omega arith in
-        let under = parent-below k positive in
-        let step = o.below k positive inside in
-        let far = front-most f count bound o (parent k) (omega arith) (omega arith) in omega arith)
+    let positive : 0 < k = omega arith in
+    let under = parent-below k positive in
+    let step = o.below k positive inside in
+    let far = front-most f count bound o (parent k) (omega arith) (omega arith) in omega arith)
     (cases_eq k 0)
 
 pub front_most : (f : ℕ → ℕ) (count : ℕ) → IsOrdered f count → (k : ℕ) → k < count → f k ≤ f 0

@@ -1,5 +1,5 @@
 -- The table of places, as two variables of the heap change places.
-use Rattle.std.proofs.Common.{◌≡◌, ◌≢◌, ℕ, ◌+◌, ◌-◌, ◌<◌, ◌≤◌, List, length, get_or, set, refl, arith, ap, sym, ◌∙◌, subst, ⊎_elim, length-set, get_or-set_other, get_or-set_same}
+use Rattle.std.proofs.Common.{◌≡◌, ◌≢◌, ℕ, ◌+◌, ◌-◌, ◌<◌, ◌≤◌, List, length, get_or, set, arith, ap, sym, ◌∙◌, subst, ⊎_elim, length-set, get_or-set_other, get_or-set_same}
 use Rattle.std.specs.List.{swap}
 use Rattle.std.proofs.lemmas.Bool.{cases_eq, cases_lt}
 use Rattle.std.proofs.lemmas.List.{get_or_default}
@@ -15,33 +15,33 @@ places_swapped n vars places count i j more are in_i in_j is = record {
   below = λ var positive within. ⊎_elim
       (λ (e : var - 1 ≡ b). subst (λ (p : ℕ). p < n) (sym (ap place e ∙ at_b)) in_i)
       (λ (ne : var - 1 ≢ b). ⊎_elim
-          (λ (e : var - 1 ≡ a). subst (λ (p : ℕ). p < n) (sym (ap place e ∙ at_a (λ (same : a ≡ b). ne (e ∙ same)))) in_j)
-          (λ (other : var - 1 ≢ a). subst (λ (p : ℕ). p < n) (sym (at_other (var - 1) other ne)) (are.below var positive within))
-          (cases_eq (var - 1) a))
+      (λ (e : var - 1 ≡ a). subst (λ (p : ℕ). p < n) (sym (ap place e ∙ at_a (λ (same : a ≡ b). ne (e ∙ same)))) in_j)
+      (λ (other : var - 1 ≢ a). subst (λ (p : ℕ). p < n) (sym (at_other (var - 1) other ne)) (are.below var positive within))
+      (cases_eq (var - 1) a))
       (cases_eq (var - 1) b);
   there = λ var positive within. ⊎_elim
       (λ (e : var - 1 ≡ b). ap (λ (p : ℕ). get_or more p 0) (ap place e ∙ at_b) ∙ swapped.0 ∙ same_var j var in_j positive (sym e))
       (λ (ne : var - 1 ≢ b). ⊎_elim
-          (λ (e : var - 1 ≡ a). ap (λ (p : ℕ). get_or more p 0) (ap place e ∙ at_a (λ (same : a ≡ b). ne (e ∙ same))) ∙ swapped.1 ∙ same_var i var in_i positive (sym e))
-          (λ (other : var - 1 ≢ a).
-              let p = get_or places (var - 1) 0 in
-              let own : get_or vars p 0 ≡ var = are.there var positive within in
-              ap (λ (q : ℕ). get_or more q 0) (at_other (var - 1) other ne)
-              ∙ swapped.2 p (λ (e : p ≡ i). other (ap (λ (v : ℕ). v - 1) (sym own ∙ ap (λ (q : ℕ). get_or vars q 0) e))) (λ (e : p ≡ j). ne (ap (λ (v : ℕ). v - 1) (sym own ∙ ap (λ (q : ℕ). get_or vars q 0) e))) ∙ own)
-          (cases_eq (var - 1) a))
+      (λ (e : var - 1 ≡ a). ap (λ (p : ℕ). get_or more p 0) (ap place e ∙ at_a (λ (same : a ≡ b). ne (e ∙ same))) ∙ swapped.1 ∙ same_var i var in_i positive (sym e))
+      (λ (other : var - 1 ≢ a).
+      let p = get_or places (var - 1) 0 in
+      let own : get_or vars p 0 ≡ var = are.there var positive within in
+      ap (λ (q : ℕ). get_or more q 0) (at_other (var - 1) other ne)
+      ∙ swapped.2 p (λ (e : p ≡ i). other (ap (λ (v : ℕ). v - 1) (sym own ∙ ap (λ (q : ℕ). get_or vars q 0) e))) (λ (e : p ≡ j). ne (ap (λ (v : ℕ). v - 1) (sym own ∙ ap (λ (q : ℕ). get_or vars q 0) e))) ∙ own)
+      (cases_eq (var - 1) a))
       (cases_eq (var - 1) b);
   positive = λ k inside. let m = moved k inside in subst (λ (v : ℕ). 0 < v) (sym m.2) (are.positive m.0 m.1);
   within = λ k inside. let m = moved k inside in subst (λ (v : ℕ). v ≤ n) (sym m.2) (are.within m.0 m.1);
   found = λ k inside. ⊎_elim
       (λ (e : k ≡ j). ap (λ (q : ℕ). place (get_or more q 0 - 1)) e ∙ ap (λ (v : ℕ). place (v - 1)) swapped.1 ∙ ⊎_elim
-          (λ (same : a ≡ b). ap place same ∙ at_b ∙ injective i j in_i in_j same)
-          (λ (apart : a ≢ b). at_a apart)
-          (cases_eq a b) ∙ sym e)
+      (λ (same : a ≡ b). ap place same ∙ at_b ∙ injective i j in_i in_j same)
+      (λ (apart : a ≢ b). at_a apart)
+      (cases_eq a b) ∙ sym e)
       (λ (not_j : k ≢ j). ⊎_elim
-          (λ (e : k ≡ i). ap (λ (q : ℕ). place (get_or more q 0 - 1)) e ∙ ap (λ (v : ℕ). place (v - 1)) swapped.0 ∙ at_b ∙ sym e)
-          (λ (not_i : k ≢ i). ap (λ (v : ℕ). place (v - 1)) (swapped.2 k not_i not_j)
-              ∙ at_other (get_or vars k 0 - 1) (λ e. not_i (injective k i inside in_i e)) (λ e. not_j (injective k j inside in_j e)) ∙ are.found k inside)
-          (cases_eq k i))
+      (λ (e : k ≡ i). ap (λ (q : ℕ). place (get_or more q 0 - 1)) e ∙ ap (λ (v : ℕ). place (v - 1)) swapped.0 ∙ at_b ∙ sym e)
+      (λ (not_i : k ≢ i). ap (λ (v : ℕ). place (v - 1)) (swapped.2 k not_i not_j)
+      ∙ at_other (get_or vars k 0 - 1) (λ e. not_i (injective k i inside in_i e)) (λ e. not_j (injective k j inside in_j e)) ∙ are.found k inside)
+      (cases_eq k i))
       (cases_eq k j);
 }
   where
@@ -76,9 +76,9 @@ places_swapped n vars places count i j more are in_i in_j is = record {
     moved k inside = ⊎_elim
         (λ (e : k ≡ i). (j, in_j, ap (λ (q : ℕ). get_or more q 0) e ∙ swapped.0))
         (λ (not_i : k ≢ i). ⊎_elim
-            (λ (e : k ≡ j). (i, in_i, ap (λ (q : ℕ). get_or more q 0) e ∙ swapped.1))
-            (λ (not_j : k ≢ j). (k, inside, swapped.2 k not_i not_j))
-            (cases_eq k j))
+        (λ (e : k ≡ j). (i, in_i, ap (λ (q : ℕ). get_or more q 0) e ∙ swapped.1))
+        (λ (not_j : k ≢ j). (k, inside, swapped.2 k not_i not_j))
+        (cases_eq k j))
         (cases_eq k i)
 
 -- the place of a variable, read from the table
@@ -114,12 +114,12 @@ places_longer n vars more_vars places more_places count more are v p = record {
       (cases_lt (var - 1) n);
   there = λ var positive within. ⊎_elim
       (λ (old : var - 1 < n).
-          let b = are.below var positive (omega arith) in
-          ap (λ (q : ℕ). get_or more_vars q 0) (p.kept (var - 1) (omega (arith, are.placed)))
-          ∙ v.kept (get_or places (var - 1) 0) (omega (arith, are.room, b)) ∙ are.there var positive (omega arith))
+      let b = are.below var positive (omega arith) in
+      ap (λ (q : ℕ). get_or more_vars q 0) (p.kept (var - 1) (omega (arith, are.placed)))
+      ∙ v.kept (get_or places (var - 1) 0) (omega (arith, are.room, b)) ∙ are.there var positive (omega arith))
       (λ (new : n ≤ var - 1).
-          let e = own_var (var - 1) new (omega arith) in
-          ap (λ (q : ℕ). get_or more_vars q 0) (own_place (var - 1) new (omega arith)) ∙ (omega arith))
+      let e = own_var (var - 1) new (omega arith) in
+      ap (λ (q : ℕ). get_or more_vars q 0) (own_place (var - 1) new (omega arith)) ∙ (omega arith))
       (cases_lt (var - 1) n);
   positive = λ k inside. ⊎_elim
       (λ (old : k < n). let e = v.kept k (omega (arith, are.room)) in let one = are.positive k old in omega arith)
@@ -131,13 +131,13 @@ places_longer n vars more_vars places more_places count more are v p = record {
       (cases_lt k n);
   found = λ k inside. ⊎_elim
       (λ (old : k < n).
-          let one = are.positive k old in
-          let two = are.within k old in
-          ap (λ (w : ℕ). get_or more_places (w - 1) 0) (v.kept k (omega (arith, are.room)))
-          ∙ p.kept (get_or vars k 0 - 1) (omega (arith, are.placed, one, two)) ∙ are.found k old)
+      let one = are.positive k old in
+      let two = are.within k old in
+      ap (λ (w : ℕ). get_or more_places (w - 1) 0) (v.kept k (omega (arith, are.room)))
+      ∙ p.kept (get_or vars k 0 - 1) (omega (arith, are.placed, one, two)) ∙ are.found k old)
       (λ (new : n ≤ k).
-          let e : get_or more_vars k 0 - 1 ≡ k = omega (arith, own_var k new inside) in
-          ap (λ (w : ℕ). get_or more_places w 0) e ∙ own_place k new inside)
+      let e : get_or more_vars k 0 - 1 ≡ k = omega (arith, own_var k new inside) in
+      ap (λ (w : ℕ). get_or more_places w 0) e ∙ own_place k new inside)
       (cases_lt k n);
 }
   where

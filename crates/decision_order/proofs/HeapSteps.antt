@@ -2,7 +2,7 @@
 use Rattle.std.proofs.Common.{◌≡◌, ◌≢◌, ℕ, ◌-◌, ◌<◌, ◌≤◌, length, get_or, refl, arith, ap, sym, ◌∙◌, subst, ⊎_elim}
 use Rattle.std.proofs.lemmas.Bool.{cases_eq}
 use Rattle.std.proofs.lemmas.List.Edits.{Swapped, swapped_from_swap, length-swap}
-use Rattle.decision_order.specs.Heap.{HeapValue, IsOrdered, IsOrderedButAbove, IsOrderedButBelow, IsLesserParent, IsGreaterChild, IsAboveChildren, SameHeap, Waits, key, parent, swapped}
+use Rattle.decision_order.specs.Heap.{HeapValue, IsOrderedButAbove, IsOrderedButBelow, IsLesserParent, IsGreaterChild, SameHeap, key, swapped}
 use Rattle.decision_order.proofs.HeapOrder.{risen, sunk}
 
 pub vars_swapped : (h : HeapValue) (i j : ℕ) → i < length h.vars → j < length h.vars → Swapped (λ k. get_or h.vars k 0) (λ k. get_or (swapped h i j).vars k 0) i j
@@ -19,9 +19,9 @@ waits-swapped : (f g : ℕ → ℕ) (count i j : ℕ) → Swapped f g i j → i 
 waits-swapped f g count i j s in_i in_j var w = ⊎_elim
     (λ (e : w.0 ≡ i). (j, in_j, s.1 ∙ sym (ap f e) ∙ w.2))
     (λ (not_i : w.0 ≢ i). ⊎_elim
-        (λ (e : w.0 ≡ j). (i, in_i, s.0 ∙ sym (ap f e) ∙ w.2))
-        (λ (not_j : w.0 ≢ j). (w.0, w.1, s.2 w.0 not_i not_j ∙ w.2))
-        (cases_eq w.0 j))
+    (λ (e : w.0 ≡ j). (i, in_i, s.0 ∙ sym (ap f e) ∙ w.2))
+    (λ (not_j : w.0 ≢ j). (w.0, w.1, s.2 w.0 not_i not_j ∙ w.2))
+    (cases_eq w.0 j))
     (cases_eq w.0 i)
 
 swapped_back : (f g : ℕ → ℕ) (i j : ℕ) → Swapped f g i j → Swapped g f i j

@@ -1,12 +1,11 @@
 -- Who waits, as a trail grows and shrinks.
-use Rattle.std.proofs.Common.{◌≡◌, ◌≢◌, ◌⊎◌, ℕ, ◌+◌, ◌-◌, ◌<◌, ◌≤◌, max, Bool, not, List, [], ◌∷◌, ◌++◌, length, get_or, set, take, replicate, Option, None, Some, refl, arith, ap, sym, ◌∙◌, subst, ⊎_elim, length-set, get_or-set_other, get_or-set_same}
+use Rattle.std.proofs.Common.{◌≡◌, ◌≢◌, ℕ, ◌+◌, ◌-◌, ◌<◌, ◌≤◌, max, Bool, not, List, [], ◌∷◌, length, get_or, take, replicate, Option, None, Some, arith, ap, sym, ◌∙◌, subst, ⊎_elim, length-set, get_or-set_other, get_or-set_same}
 use Rattle.std.proofs.lemmas.Bool.{cases_eq, cases_lt}
 use Rattle.std.proofs.lemmas.List.{get_or-replicate, length-replicate, set_past}
-use Rattle.std.proofs.lemmas.Option.{none-some, slice_get-get_or}
+use Rattle.std.proofs.lemmas.Option.{none-some}
 use Rattle.std.specs.List.{Contains, fold}
 use Rattle.std.specs.Prelude.{option_map, slice_get}
 use Rattle.pb_lin.proofs.AtPlace.{All_place, take_place}
-use Rattle.scut_base.specs.Literal.{Literal}
 use Rattle.scut_base.proofs.Tracking.{none_under}
 use Rattle.clause_prop.specs.Steps.{AreSteps, TrailValue, assigned, cut, partial, with_step, with_true}
 use Rattle.clause_prop.specs.declared.step.Step.{Step}
@@ -24,9 +23,9 @@ opens t var none = ap (option_map (λ (b : Bool). b)) none
 open_before : (p : Values) (s : Step) (i : ℕ) → get_or (with_true p s) i None ≡ None → get_or p i None ≡ None
 open_before p s i none = ⊎_elim
     (λ (e : i ≡ s.lit.var - 1). ⊎_elim
-        (λ (inside : s.lit.var - 1 < length p). absurd (none-some (not s.lit.neg) (sym none ∙ ap (λ (j : ℕ). get_or (with_true p s) j None) e ∙ get_or-set_same p (s.lit.var - 1) (Some (not s.lit.neg)) None inside)))
-        (λ (past : length p ≤ s.lit.var - 1). ap (λ (v : Values). get_or v i None) (sym (set_past p (s.lit.var - 1) (Some (not s.lit.neg)) past)) ∙ none)
-        (cases_lt (s.lit.var - 1) (length p)))
+    (λ (inside : s.lit.var - 1 < length p). absurd (none-some (not s.lit.neg) (sym none ∙ ap (λ (j : ℕ). get_or (with_true p s) j None) e ∙ get_or-set_same p (s.lit.var - 1) (Some (not s.lit.neg)) None inside)))
+    (λ (past : length p ≤ s.lit.var - 1). ap (λ (v : Values). get_or v i None) (sym (set_past p (s.lit.var - 1) (Some (not s.lit.neg)) past)) ∙ none)
+    (cases_lt (s.lit.var - 1) (length p)))
     (λ (ne : i ≢ s.lit.var - 1). sym (get_or-set_other p (s.lit.var - 1) i (Some (not s.lit.neg)) None ne) ∙ none)
     (cases_eq i (s.lit.var - 1))
 
@@ -50,10 +49,10 @@ pub waiting_cut : (o p : OrderValue) (t : TrailValue) (k : ℕ) (s : Step) → A
 waiting_cut o p t k s are there waiting w var positive within open' = ⊎_elim
     (λ (e : var ≡ s.lit.var). subst (λ (v : ℕ). Contains p.waiting v) (sym e) w.here)
     (λ (ne : var ≢ s.lit.var). w.kept var (waiting var positive within (opens (cut t (k + 1)) var
-        (ap (λ (ss : List Step). get_or (assigned t.vars ss) (var - 1) None) (take_place t.steps k s there)
-        ∙ ap (λ (v : Values). get_or v (var - 1) None) (assigned-push t.vars (take k t.steps) s)
-        ∙ get_or-set_other (partial (cut t k)) (s.lit.var - 1) (var - 1) (Some (not s.lit.neg)) None (λ e. ne (omega (arith, own)))
-        ∙ is_open (cut t k) var open'))))
+    (ap (λ (ss : List Step). get_or (assigned t.vars ss) (var - 1) None) (take_place t.steps k s there)
+    ∙ ap (λ (v : Values). get_or v (var - 1) None) (assigned-push t.vars (take k t.steps) s)
+    ∙ get_or-set_other (partial (cut t k)) (s.lit.var - 1) (var - 1) (Some (not s.lit.neg)) None (λ e. ne (omega (arith, own)))
+    ∙ is_open (cut t k) var open'))))
     (cases_eq var s.lit.var)
   where
     own : 0 < s.lit.var
@@ -68,8 +67,8 @@ agree p q (s ∷ steps) n long longer same i less =
     set_both : (j : ℕ) → j < n → get_or (with_true p s) j None ≡ get_or (with_true q s) j None
     set_both j inside = ⊎_elim
         (λ (e : j ≡ s.lit.var - 1).
-            ap (λ (x : ℕ). get_or (with_true p s) x None) e ∙ get_or-set_same p (s.lit.var - 1) (Some (not s.lit.neg)) None (omega arith)
-            ∙ sym (ap (λ (x : ℕ). get_or (with_true q s) x None) e ∙ get_or-set_same q (s.lit.var - 1) (Some (not s.lit.neg)) None (omega arith)))
+        ap (λ (x : ℕ). get_or (with_true p s) x None) e ∙ get_or-set_same p (s.lit.var - 1) (Some (not s.lit.neg)) None (omega arith)
+        ∙ sym (ap (λ (x : ℕ). get_or (with_true q s) x None) e ∙ get_or-set_same q (s.lit.var - 1) (Some (not s.lit.neg)) None (omega arith)))
         (λ (ne : j ≢ s.lit.var - 1). get_or-set_other p (s.lit.var - 1) j (Some (not s.lit.neg)) None ne ∙ same j inside ∙ sym (get_or-set_other q (s.lit.var - 1) j (Some (not s.lit.neg)) None ne))
         (cases_eq j (s.lit.var - 1))
 
@@ -77,8 +76,8 @@ pub waiting_grown : (o p : OrderValue) (t : TrailValue) (n : ℕ) → t.vars ≡
 waiting_grown o p t n vars g waiting var positive within open' = ⊎_elim
     (λ (new : t.vars < var). g.fresh var (omega arith) (omega arith))
     (λ (old : var ≤ t.vars). g.kept var (waiting var positive old (opens t var
-        (agree (replicate t.vars None) (replicate (max n t.vars) None) t.steps t.vars (length-replicate {A = Option Bool} t.vars None) (omega (arith, length-replicate {A = Option Bool} (max n t.vars) None)) both (var - 1) (omega arith)
-        ∙ is_open (record { vars = max n t.vars; steps = t.steps }) var open'))))
+    (agree (replicate t.vars None) (replicate (max n t.vars) None) t.steps t.vars (length-replicate {A = Option Bool} t.vars None) (omega (arith, length-replicate {A = Option Bool} (max n t.vars) None)) both (var - 1) (omega arith)
+    ∙ is_open (record { vars = max n t.vars; steps = t.steps }) var open'))))
     (cases_lt t.vars var)
   where
     both : (i : ℕ) → i < t.vars → get_or (replicate {A = Option Bool} t.vars None) i None ≡ get_or (replicate {A = Option Bool} (max n t.vars) None) i None

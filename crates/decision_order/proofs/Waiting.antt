@@ -1,16 +1,12 @@
 -- Orders over their heaps: who waits, and what is kept.
-use Rattle.std.proofs.Common.{◌≡◌, ◌≢◌, ◌⊎◌, ℕ, ◌+◌, ◌-◌, ◌*◌, ◌/◌, ◌<◌, ◌≤◌, max, Bool, false, not, List, length, get_or, set, take, map, replicate, ◌++◌, All, Option, None, Some, refl, arith, ap, sym, ◌∙◌, subst, ⊎_elim, inl, inr, length-set, length-take, get_or-take}
+use Rattle.std.proofs.Common.{◌≡◌, ℕ, ◌-◌, ◌*◌, ◌/◌, ◌<◌, ◌≤◌, max, Bool, false, not, List, length, get_or, take, map, replicate, ◌++◌, All, arith, ap, sym, ◌∙◌, subst, ⊎_elim, inl, inr, length-take, get_or-take}
 use Rattle.std.proofs.lemmas.List.{get_or_default, length-map}
-use Rattle.std.proofs.lemmas.List.Elements.{All-map, All-set, All-weaker}
-use Rattle.std.proofs.lemmas.Option.{none-some}
+use Rattle.std.proofs.lemmas.List.Elements.{All-map, All-weaker}
 use Rattle.std.specs.List.{Contains}
-use Rattle.std.specs.Prelude.{if◌then◌else◌, option_map}
 use Rattle.scut_base.specs.Literal.{Literal}
-use Rattle.scut_base.specs.Assignment.{partial_truth}
-use Rattle.scut_base.proofs.Tracking.{none_under}
-use Rattle.clause_prop.specs.Steps.{TrailValue, partial}
-use Rattle.decision_order.specs.Heap.{HeapValue, IsAdded, IsGrownHeap, IsOrder, IsOrdered, IsRaised, IsTaken, Waits, key}
-use Rattle.decision_order.specs.Order.{AllOpenWait, IsGrown, IsNextChoice, IsOpenVar, IsTakenChoice, NoneOpen, NoneWaits, OrderValue, OtherOpenWait, SameWait, WaitsToo, activity, limit, phase}
+use Rattle.clause_prop.specs.Steps.{TrailValue}
+use Rattle.decision_order.specs.Heap.{HeapValue, IsAdded, IsGrownHeap, IsOrder, IsOrdered, IsTaken, Waits, key}
+use Rattle.decision_order.specs.Order.{AllOpenWait, IsGrown, IsTakenChoice, NoneOpen, NoneWaits, OrderValue, SameWait, WaitsToo, activity, limit, phase}
 
 -- ---- the list of those that wait
 

@@ -1,5 +1,5 @@
 -- Orders of variables by their activities.
-use Rattle.std.specs.Prelude.{◌≡◌, ◌≢◌, ◌⊎◌, ℕ, ◌+◌, ◌-◌, ◌/◌, ◌^◌, ◌<◌, ◌≤◌, max, Bool, false, not, if◌then◌else◌, nat_le, List, [], ◌++◌, length, map, replicate, Contains, slice_index_or, slice_set, None}
+use Rattle.std.specs.Prelude.{◌≡◌, ◌≢◌, ◌⊎◌, ℕ, ◌+◌, ◌-◌, ◌/◌, ◌^◌, ◌<◌, ◌≤◌, max, Bool, false, not, if◌then◌else◌, nat_le, List, ◌++◌, length, map, replicate, Contains, slice_index_or, slice_set, None}
 use Rattle.scut_base.specs.Literal.{Literal}
 use Rattle.scut_base.specs.Assignment.{partial_truth}
 use Rattle.clause_prop.specs.Steps.{TrailValue, partial}

@@ -6,8 +6,8 @@ use scut_base::NoMemory;
 use std::alloc::Global;
 use std::marker::Model;
 
-/// All variables from 1 on, of which those that wait form a heap with the most active in front. Taking,
-/// adding and raising a variable cost the logarithm of the number that wait.
+/// All variables from 1 on, of which those that wait form a heap with the most active in front.
+/// Taking, adding and raising a variable cost the logarithm of the number that wait.
 #[derive(Debug, Drop)]
 pub struct VariableHeap {
     activities: Vec<u64>,
@@ -25,7 +25,10 @@ impl Model for VariableHeap {
     ghost Value = { HeapValue };
 
     ghost view = { λ h. record {
-        activities = h.activities.items; vars = h.vars.items; count = h.count } };
+      activities = h.activities.items;
+      vars = h.vars.items;
+      count = h.count;
+    } };
 
     ghost invariant = { λ h.
         ArePlaces (length h.activities.items) h.vars.items h.places.items h.count };
@@ -42,13 +45,6 @@ impl VariableHeap {
             places: Vec::new(alloc),
             count: 0,
         }
-    }
-
-    /// The number of variables.
-    pub fn vars(&self) -> usize
-        ensures { result ≡ length self.now.activities }
-    {
-        self.activities.len()
     }
 
     // The activity of the variable at a place.
@@ -204,17 +200,16 @@ impl VariableHeap {
         ensures room { self.new.count ≤ length self.new.vars }
         ensures ordered { IsOrdered (key self.new) self.new.count }
         ensures halved { self.new ≡ record {
-            activities = map (λ a. a / 2) self.old.activities;
-            vars = self.old.vars;
-            count = self.old.count;
+          activities = map (λ a. a / 2) self.old.activities;
+          vars = self.old.vars;
+          count = self.old.count;
         } }
     {
         halve_all(&mut self.activities);
     }
 
-    /// Puts further variables up to `vars` among those that wait, with activity 0. Does nothing where there are as
-    /// many. After `NoMemory` nothing has changed. Costs the number of new variables, and memory is taken before
-    /// anything changes.
+    /// Puts further variables up to `vars` among those that wait, with activity 0. Does nothing where
+    /// there are as many. After `NoMemory` nothing has changed. Costs the number of new variables.
     pub fn grow(&mut self, vars: usize) -> Result<(), NoMemory>
         requires ordered { IsOrdered (key self.old) self.old.count }
         ensures room { self.new.count ≤ length self.new.vars }

@@ -10,7 +10,7 @@ pub fn longer_trail_keeps_waiting()
         → AllOpenWait o t → AllOpenWait o (with_step t s) }
 {}
 
-/// Law: where all but one open variable wait, as after `next`, each does once that one has a step.
+/// Law: where all open variables but one wait, as after `next`, all do once that one has a step.
 pub fn decision_keeps_waiting()
     ensures { (o : OrderValue) (t : TrailValue) (s : Step) → 0 < s.lit.var → s.lit.var ≤ t.vars
         → OtherOpenWait o t s.lit.var → AllOpenWait o (with_step t s) }

@@ -34,10 +34,10 @@ impl Model for VariableOrder {
     ghost Value = { OrderValue };
 
     ghost view = { λ o. record {
-        activities = o.heap.activities;
-        phases = o.phases.items;
-        waiting = take o.heap.count o.heap.vars;
-        step = o.step;
+      activities = o.heap.activities;
+      phases = o.phases.items;
+      waiting = take o.heap.count o.heap.vars;
+      step = o.step;
     } };
 
     ghost invariant = { λ o. IsOrder o.heap o.phases.items o.step };

@@ -1,4 +1,4 @@
-use Rattle.std.proofs.Common.{◌/◌, ◌<◌, ℕ, length, get_or, arith}
+use Rattle.std.proofs.Common.{◌/◌, ℕ, get_or, arith}
 use Rattle.std.proofs.lemmas.List.{get_or_default}
 use Rattle.std.proofs.lemmas.List.Edits.{map_over_more}
 use Rattle.decision_order.proofs.heap.halve_all.Goals as goal

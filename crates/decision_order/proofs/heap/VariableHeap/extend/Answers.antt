@@ -13,7 +13,7 @@ returns-clause-ok c =
     let new : HeapValue = record { activities = c.push_copies.new.list.items; vars = c.count_on.new.list.items; count = i.count } in
     subst (λ (x : HeapValue). IsExtended x new more) c.self.view_is
     (extended h new i.places.items more c.self.invariant (c.push_copies.ensures ∙ ap (λ (xs : List ℕ). xs ++ replicate more 0) c.reserve.ensures.items)
-        (subst (λ (xs : List ℕ). CountsOn xs c.count_on.new.list.items 1 more) c.reserve-2.ensures.items c.count_on.ensures) refl)
+    (subst (λ (xs : List ℕ). CountsOn xs c.count_on.new.list.items 1 more) c.reserve-2.ensures.items c.count_on.ensures) refl)
 
 pub invariant_of-self-2 : goal.invariant_of-self-2
 invariant_of-self-2 c =
@@ -23,5 +23,5 @@ invariant_of-self-2 c =
     = omega (arith, ap length c.push_copies.ensures, ap length c.reserve.ensures.items, length-append c.reserve.new.self.items (replicate more 0), length-replicate {A = ℕ} more 0) in
     subst (λ (n : ℕ). ArePlaces n c.count_on.new.list.items c.count_on-2.new.list.items i.count) (sym long)
     (places_longer (length i.activities.items) i.vars.items c.count_on.new.list.items i.places.items c.count_on-2.new.list.items i.count more c.self.invariant
-        (subst (λ (xs : List ℕ). CountsOn xs c.count_on.new.list.items 1 more) c.reserve-2.ensures.items c.count_on.ensures)
-        (subst (λ (xs : List ℕ). CountsOn xs c.count_on-2.new.list.items 0 more) c.reserve-3.ensures.items c.count_on-2.ensures))
+    (subst (λ (xs : List ℕ). CountsOn xs c.count_on.new.list.items 1 more) c.reserve-2.ensures.items c.count_on.ensures)
+    (subst (λ (xs : List ℕ). CountsOn xs c.count_on-2.new.list.items 0 more) c.reserve-3.ensures.items c.count_on-2.ensures))

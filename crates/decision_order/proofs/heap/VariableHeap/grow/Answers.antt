@@ -1,4 +1,4 @@
-use Rattle.std.proofs.Common.{◌≡◌, length, ap, arith}
+use Rattle.std.proofs.Common.{length, ap, arith}
 use Rattle.decision_order.specs.Heap.{HeapValue}
 use Rattle.decision_order.proofs.HeapChanges.{grown_from}
 use Rattle.decision_order.proofs.heap.VariableHeap.grow.Goals as goal

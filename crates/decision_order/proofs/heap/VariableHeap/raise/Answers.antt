@@ -1,4 +1,4 @@
-use Rattle.std.proofs.Common.{◌≡◌, ◌-◌, ◌+◌, ◌≤◌, ◌<◌, length, get_or, arith, ap, sym, ◌∙◌, subst}
+use Rattle.std.proofs.Common.{◌-◌, ◌+◌, ◌≤◌, length, arith, ap, sym, ◌∙◌, subst}
 use Rattle.std.proofs.lemmas.List.{get_or_default}
 use Rattle.decision_order.specs.Heap.{HeapValue, IsOrdered, IsRaised, key}
 use Rattle.decision_order.proofs.HeapChanges.{raise_ordered, raise_outside, raise_whole}

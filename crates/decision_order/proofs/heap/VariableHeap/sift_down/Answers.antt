@@ -1,5 +1,4 @@
 use Rattle.decision_order.proofs.HeapSteps.{sinking, same_heap}
-use Rattle.decision_order.specs.Heap.{key}
 use Rattle.decision_order.proofs.heap.VariableHeap.sift_down.Goals as goal
 
 pub loop-child-init : goal.loop-child-init

@@ -1,5 +1,4 @@
 use Rattle.decision_order.proofs.HeapSteps.{rising, same_heap}
-use Rattle.decision_order.specs.Heap.{key}
 use Rattle.decision_order.proofs.heap.VariableHeap.sift_up.Goals as goal
 
 pub loop-above-init : goal.loop-above-init

@@ -1,4 +1,4 @@
-use Rattle.std.proofs.Common.{◌≡◌, ◌-◌, ◌<◌, ℕ, ap, subst, length, get_or, set, arith, sym}
+use Rattle.std.proofs.Common.{◌-◌, ◌<◌, ℕ, ap, subst, length, get_or, set, arith, sym}
 use Rattle.decision_order.specs.Heap.{HeapValue, ArePlaces}
 use Rattle.decision_order.proofs.HeapPlaces.{places_swapped, var_of}
 use Rattle.decision_order.proofs.heap.VariableHeap.swap.Goals as goal
@@ -22,4 +22,4 @@ invariant_of-self c =
     let more = c.swap.new.self.items in
     subst (λ (v : ℕ). ArePlaces n more (set (set i.places.items (v - 1) c.args.second) (c.index-other.result.now - 1) c.args.first) i.count) (sym var.0)
     (subst (λ (w : ℕ). ArePlaces n more (set (set i.places.items (get_or i.vars.items c.args.first 0 - 1) c.args.second) (w - 1) c.args.first) i.count) (sym other.0)
-        (places_swapped n i.vars.items i.places.items i.count c.args.first c.args.second more c.self.invariant first second c.swap.ensures.items))
+    (places_swapped n i.vars.items i.places.items i.count c.args.first c.args.second more c.self.invariant first second c.swap.ensures.items))

@@ -1,4 +1,4 @@
-use Rattle.std.proofs.Common.{◌≡◌, ℕ, ◌-◌, ◌+◌, ◌≤◌, ◌<◌, length, get_or, arith, ap, sym, ◌∙◌, subst}
+use Rattle.std.proofs.Common.{◌≡◌, ◌-◌, ◌<◌, length, arith, ap, sym, ◌∙◌, subst}
 use Rattle.decision_order.specs.Heap.{HeapValue, IsOrdered, IsTaken, key, swapped}
 use Rattle.decision_order.proofs.HeapChanges.{take_ordered, take_taken}
 use Rattle.decision_order.proofs.HeapPlaces.{var_of}
@@ -26,4 +26,4 @@ returns-clause-taken c =
     let own = var_of (length i.activities.items) i.vars.items i.places.items i.count 0 c.index-var.result.now c.self.invariant front c.index-var.ensures in
     subst (λ (x : HeapValue). IsTaken x c.sift_down.new.self c.index-var.result.now) c.self.view_is
     (take_taken h v c.sift_down.new.self (i.count - 1) c.index-var.result.now is (omega arith) (omega (arith, c.self.invariant.counted, c.self.invariant.room)) (sym own.0) own.1 own.2
-        (subst (λ (x : HeapValue). IsOrdered (key x) x.count) (sym c.self.view_is) c.requires.ordered) c.sift_down.ensures.same)
+    (subst (λ (x : HeapValue). IsOrdered (key x) x.count) (sym c.self.view_is) c.requires.ordered) c.sift_down.ensures.same)

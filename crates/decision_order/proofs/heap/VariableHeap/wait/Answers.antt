@@ -1,4 +1,4 @@
-use Rattle.std.proofs.Common.{◌≡◌, ◌-◌, ◌≤◌, ◌<◌, length, get_or, arith, ap, sym, ◌∙◌, subst}
+use Rattle.std.proofs.Common.{◌≡◌, length, arith, ap, sym, ◌∙◌, subst}
 use Rattle.decision_order.specs.Heap.{HeapValue, IsAdded, IsOrdered, key, swapped}
 use Rattle.decision_order.proofs.HeapChanges.{wait_ordered, wait_added}
 use Rattle.decision_order.proofs.HeapPlaces.{place_of}

@@ -1,4 +1,4 @@
-use Rattle.std.proofs.Common.{◌≡◌, ℕ, length, ap, arith, subst}
+use Rattle.std.proofs.Common.{◌≡◌, length, ap, arith, subst}
 use Rattle.decision_order.specs.Heap.{HeapValue, IsWaitingFrom}
 use Rattle.decision_order.proofs.HeapChanges.{waiting_more}
 use Rattle.decision_order.proofs.heap.VariableHeap.wait_from.Goals as goal

@@ -1,4 +1,4 @@
-use Rattle.std.proofs.Common.{◌≡◌, ◌*◌, ◌+◌, ◌-◌, ◌<◌, ℕ, List, All, length, get_or, set, arith, ap, refl, sym, ◌∙◌, subst, length-set}
+use Rattle.std.proofs.Common.{◌*◌, ◌-◌, ◌<◌, ℕ, List, All, length, get_or, arith, ap, refl, sym, subst, length-set}
 use Rattle.std.proofs.lemmas.List.Elements.{All-set, All-get_or}
 use Rattle.decision_order.specs.Heap.{HeapValue, Waits}
 use Rattle.decision_order.specs.Order.{OrderValue, limit}

@@ -1,4 +1,4 @@
-use Rattle.std.proofs.Common.{◌≡◌, ◌*◌, ◌+◌, ◌<◌, arith}
+use Rattle.std.proofs.Common.{◌+◌, arith}
 use Rattle.decision_order.proofs.Waiting.{below_twice, order_halved}
 use Rattle.decision_order.proofs.order.VariableOrder.end_conflict.Goals as goal
 

@@ -1,4 +1,4 @@
-use Rattle.std.proofs.Common.{◌≡◌, Bool, List, ◌++◌, ◌-◌, false, replicate, length, arith, ap, refl, sym, ◌∙◌}
+use Rattle.std.proofs.Common.{Bool, List, ◌++◌, ◌-◌, false, replicate, arith, ap, refl, sym, ◌∙◌}
 use Rattle.decision_order.specs.Order.{OrderValue}
 use Rattle.decision_order.proofs.Waiting.{grown_order}
 use Rattle.decision_order.proofs.order.VariableOrder.grow.Goals as goal
