@@ -208,8 +208,9 @@ impl VariableHeap {
         halve_all(&mut self.activities);
     }
 
-    /// Puts further variables up to `vars` among those that wait, with activity 0. Does nothing where
-    /// there are as many. After `NoMemory` nothing has changed. Costs the number of new variables.
+    /// Puts further variables up to `vars` among those that wait, with activity 0. Does nothing
+    /// where there are as many. After `NoMemory` nothing has changed. Costs the number of new
+    /// variables.
     pub fn grow(&mut self, vars: usize) -> Result<(), NoMemory>
         requires ordered { IsOrdered (key self.old) self.old.count }
         ensures room { self.new.count ≤ length self.new.vars }

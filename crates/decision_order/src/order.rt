@@ -15,10 +15,10 @@ const FIRST_STEP: u64 = 1024;
 // What activities and the step stay below.
 const LIMIT: u64 = 1 << 40;
 
-/// The variables that wait to be decided, by activity: the variable state independent decaying sum of
-/// Moskewicz and others (2001), in whole numbers, over a heap that knows the place of each variable, as in
-/// MiniSat (Eén and Sörensson 2003). A variable is decided in its last phase (Pipatsrisawat and
-/// Darwiche 2007), and false where it had none.
+/// The variables that wait to be decided, by activity: the variable state independent decaying sum
+/// of Moskewicz and others (2001), in whole numbers, over a heap that knows the place of each
+/// variable, as in MiniSat (Eén and Sörensson 2003). A variable is decided in its last phase
+/// (Pipatsrisawat and Darwiche 2007), and false where it had none.
 #[derive(Debug, Drop)]
 pub struct VariableOrder {
     heap: VariableHeap,
@@ -55,9 +55,9 @@ impl VariableOrder {
         }
     }
 
-    /// Puts new variables up to `vars` among those that wait, with activity 0 and the phase false. Does
-    /// nothing where there are as many. After `NoMemory` nothing has changed. Costs the number of new
-    /// variables.
+    /// Puts new variables up to `vars` among those that wait, with activity 0 and the phase false.
+    /// Does nothing where there are as many. After `NoMemory` nothing has changed. Costs the number
+    /// of new variables.
     pub fn grow(&mut self, vars: u64) -> Result<(), NoMemory>
         ensures ok { OnOk result (IsGrown self.old self.new vars) }
         ensures err { OnErr result (self.new ≡ self.old) }
@@ -72,8 +72,8 @@ impl VariableOrder {
         Ok(())
     }
 
-    /// Adds the step to a variable's activity; where that reaches the limit, all are halved. Takes no
-    /// memory. Costs the logarithm of the number that wait, and seldom the number of variables.
+    /// Adds the step to a variable's activity; where that reaches the limit, all are halved. Takes
+    /// no memory. Costs the logarithm of the number that wait, and seldom the number of variables.
     pub fn bump(&mut self, var: u64)
         requires positive { 0 < var }
         requires within { var ≤ length self.old.activities }
@@ -87,8 +87,8 @@ impl VariableOrder {
         }
     }
 
-    /// Lets later bumps count more than those so far. Takes constant time, and seldom that of the number
-    /// of variables.
+    /// Lets later bumps count more than those so far. Takes no memory, and constant time, but seldom
+    /// that of the number of variables.
     pub fn end_conflict(&mut self)
         ensures weights { weights self.new ≡ after_conflict (weights self.old) }
         ensures phases { self.new.phases ≡ self.old.phases }
@@ -102,8 +102,8 @@ impl VariableOrder {
     }
 
     /// Puts the variable of a literal whose step was taken off the trail among those that wait, and
-    /// notes the literal's sign as its phase. Takes no memory. Costs the logarithm of the number that
-    /// wait.
+    /// notes the literal's sign as its phase. Takes no memory. Costs the logarithm of the number
+    /// that wait.
     pub fn put_back(&mut self, lit: Lit)
         requires { lit.var ≤ length self.old.activities }
         ensures weights { weights self.new ≡ weights self.old }
@@ -115,9 +115,9 @@ impl VariableOrder {
         self.heap.wait(var);
     }
 
-    /// An open variable of greatest activity, in its last phase, or `None` where no variable is open.
-    /// That variable and those that are not open and come before it no longer wait. Takes no memory.
-    /// Costs the logarithm of the number that wait for each of them.
+    /// An open variable of greatest activity, in its last phase, or `None` where no variable is
+    /// open. That variable and those that come before it and aren't open no longer wait. Takes no
+    /// memory. Costs the logarithm of the number that wait for each of them.
     pub fn next(&mut self, trail: &Trail) -> Option<Lit>
         requires vars { trail.now.vars ≡ length self.old.activities }
         requires waiting { AllOpenWait self.old trail.now }
@@ -135,8 +135,8 @@ impl VariableOrder {
         None
     }
 
-    // Takes a variable of greatest activity away from those that wait, and answers its literal in its last
-    // phase.
+    // Takes a variable of greatest activity away from those that wait, and answers its literal in
+    // its last phase.
     fn take_greatest(&mut self) -> Option<Lit>
         ensures taken { MatchOption result (NoneWaits self.old)
             (λ l. IsTakenChoice self.old self.new l) }
