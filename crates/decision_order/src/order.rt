@@ -60,6 +60,8 @@ impl VariableOrder {
     /// of new variables.
     pub fn grow(&mut self, vars: u64) -> Result<(), NoMemory>
         ensures ok { OnOk result (IsGrown self.old self.new vars) }
+        ensures vars { OnOk result
+            (length self.new.activities ≡ max vars (length self.old.activities)) }
         ensures err { OnErr result (self.new ≡ self.old) }
     {
         let known = self.phases.len();
@@ -78,6 +80,7 @@ impl VariableOrder {
         requires positive { 0 < var }
         requires within { var ≤ length self.old.activities }
         ensures weights { weights self.new ≡ bumped (weights self.old) var }
+        ensures vars { length self.new.activities ≡ length self.old.activities }
         ensures phases { self.new.phases ≡ self.old.phases }
         ensures waiting { SameWait self.old self.new }
     {
@@ -91,6 +94,7 @@ impl VariableOrder {
     /// that of the number of variables.
     pub fn end_conflict(&mut self)
         ensures weights { weights self.new ≡ after_conflict (weights self.old) }
+        ensures vars { length self.new.activities ≡ length self.old.activities }
         ensures phases { self.new.phases ≡ self.old.phases }
         ensures waiting { SameWait self.old self.new }
     {
