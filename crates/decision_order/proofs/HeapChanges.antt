@@ -64,7 +64,7 @@ take_taken h v new last var is count room own positive within o same =
 -- ---- an activity rises, or all are halved
 
 abbrev pub raised : HeapValue → ℕ → ℕ → HeapValue
-raised h var sum = record { activities = set h.activities (var - 1) sum; vars = h.vars; count = h.count }
+raised h var sum = record { activities = set h.activities (var - 1) sum; vars = h.vars; count = h.count; room = h.room }
 
 raised-other : (h : HeapValue) (places : List ℕ) (var sum k : ℕ) → ArePlaces (length h.activities) h.vars places h.count → k < length h.activities → k ≢ get_or places (var - 1) 0 → key (raised h var sum) k ≡ key h k
 raised-other h places var sum k are inside ne =
@@ -93,9 +93,9 @@ half_at [] i = refl
 half_at (x ∷ xs) zero = refl
 half_at (x ∷ xs) (suc i) = half_at xs i
 
-pub halve_ordered : (activities halves vars : List ℕ) (count : ℕ) → halves ≡ map (λ a. a / 2) activities → IsOrdered (key (record { activities = activities; vars = vars; count = count })) count → IsOrdered (key (record { activities = halves; vars = vars; count = count })) count
-halve_ordered activities halves vars count is o =
-    ordered_halved (key (record { activities = activities; vars = vars; count = count })) (key (record { activities = halves; vars = vars; count = count })) count
+pub halve_ordered : (activities halves vars : List ℕ) (count room : ℕ) → halves ≡ map (λ a. a / 2) activities → IsOrdered (key (record { activities = activities; vars = vars; count = count; room = room })) count → IsOrdered (key (record { activities = halves; vars = vars; count = count; room = room })) count
+halve_ordered activities halves vars count room is o =
+    ordered_halved (key (record { activities = activities; vars = vars; count = count; room = room })) (key (record { activities = halves; vars = vars; count = count; room = room })) count
     (λ k. ap (λ (xs : List ℕ). get_or xs (get_or vars k 0 - 1) 0) is ∙ half_at activities (get_or vars k 0 - 1)) o
 
 -- ---- more variables
@@ -138,18 +138,18 @@ waiting_more old h new known at from w a = record {
       (a.only var x);
 }
 
-pub grown : (old h new : HeapValue) (vars : ℕ) → length old.activities ≤ vars → IsExtended old h (vars - length old.activities) → IsWaitingFrom h new (length old.activities) (length h.activities) → IsGrownHeap old new vars
-grown old h new vars more e w =
-    let long : length h.activities ≡ vars = omega (arith, ap length e.activities, length-append old.activities (replicate (vars - length old.activities) 0), length-replicate {A = ℕ} (vars - length old.activities) 0) in record {
+pub grown : (old h new : HeapValue) (vars : ℕ) → IsExtended old h (vars - length old.activities) → IsWaitingFrom h new (length old.activities) (length h.activities) → IsGrownHeap old new vars
+grown old h new vars e w =
+    let long : length h.activities ≡ length old.activities + (vars - length old.activities) = ap length e.activities ∙ length-append old.activities (replicate (vars - length old.activities) 0) ∙ ap (λ (n : ℕ). length old.activities + n) (length-replicate {A = ℕ} (vars - length old.activities) 0) in record {
       activities = w.activities ∙ e.activities;
       kept = λ var x. w.kept var (e.kept var x);
       fresh = λ var above below. w.fresh var above (omega arith);
       only = λ var x. ⊎_elim
           (λ (before : Waits h var). inl (e.only var before))
-          (λ (later : (length old.activities < var) × (var ≤ length h.activities)). let l = later.1 in inr (later.0, omega arith))
+          (λ (later : (length old.activities < var) × (var ≤ length h.activities)). let l = later.1 in let first = later.0 in inr (first, omega arith))
           (w.only var x);
     }
 
-pub grown_from : (old h new : HeapValue) (vars known : ℕ) → known ≡ length old.activities → known < vars → IsExtended old h (vars - known) → IsWaitingFrom h new known (length h.activities) → IsGrownHeap old new vars
-grown_from old h new vars known is more e w =
-    grown old h new vars (omega arith) (subst (λ (n : ℕ). IsExtended old h (vars - n)) is e) (subst (λ (n : ℕ). IsWaitingFrom h new n (length h.activities)) is w)
+pub grown_from : (old h new : HeapValue) (vars known more : ℕ) → known ≡ length old.activities → more ≡ vars - known → IsExtended old h more → IsWaitingFrom h new known (length h.activities) → IsGrownHeap old new vars
+grown_from old h new vars known more is rest e w =
+    grown old h new vars (subst (IsExtended old h) (rest ∙ ap (λ (n : ℕ). vars - n) is) e) (subst (λ (n : ℕ). IsWaitingFrom h new n (length h.activities)) is w)

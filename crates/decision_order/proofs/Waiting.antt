@@ -49,7 +49,7 @@ waits_too h k o p var of_h of_k a = record {
 
 -- all halved, where they are below twice the limit
 pub order_halved : (h k : HeapValue) (phases : List Bool) (step half : ℕ) → length phases ≡ length h.activities → All (λ a. a < 2 * limit) h.activities → step < 2 * limit → h.count ≤ length h.vars
-    → k ≡ record { activities = map (λ a. a / 2) h.activities; vars = h.vars; count = h.count } → half ≡ max 1 (step / 2) → IsOrdered (key k) k.count → IsOrder k phases half
+    → k ≡ record { activities = map (λ a. a / 2) h.activities; vars = h.vars; count = h.count; room = h.room } → half ≡ max 1 (step / 2) → IsOrdered (key k) k.count → IsOrder k phases half
 order_halved h k phases step half phased below small room is half_is ordered = record {
   phased = phased ∙ sym (length-map h.activities (λ a. a / 2)) ∙ sym (ap (λ (x : HeapValue). length x.activities) is);
   below = subst (λ (x : HeapValue). All (λ a. a < limit) x.activities) (sym is) (All-map (λ a. a < limit) (λ a. a / 2) h.activities (All-weaker (λ a. a < 2 * limit) (λ a. a / 2 < limit) (λ a less. omega arith) h.activities below));

@@ -2,11 +2,12 @@
 use Rattle.std.specs.Prelude.{◌≡◌, ◌≢◌, ◌⊎◌, ℕ, ◌+◌, ◌-◌, ◌/◌, ◌<◌, ◌≤◌, Bool, List, length, All, ◌++◌, replicate, slice_index_or, slice_set, swap}
 use Rattle.decision_order.specs.Order.{limit}
 
--- activities by variable from 1 on; the variables, of which the first `count` wait
+-- activities by variable from 1 on; the variables, of which the first `count` wait; and for how many there is memory
 pub record HeapValue : Type 0 where
   pub activities : List ℕ
   pub vars : List ℕ
   pub count : ℕ
+  pub room : ℕ
 
 -- each variable up to n has one place, and the table of places tells it
 pub record ArePlaces (n : ℕ) (vars places : List ℕ) (count : ℕ) : Type 0 where
@@ -64,11 +65,15 @@ IsAboveChildren f count at = (k : ℕ) → 0 < k → k < count → parent k ≡ 
 
 -- the variables at two places exchanged
 abbrev pub swapped : HeapValue → ℕ → ℕ → HeapValue
-swapped h i j = record { activities = h.activities; vars = swap h.vars i j; count = h.count }
+swapped h i j = record { activities = h.activities; vars = swap h.vars i j; count = h.count; room = h.room }
 
 -- so many of them wait
 abbrev pub with_count : HeapValue → ℕ → HeapValue
-with_count h count = record { activities = h.activities; vars = h.vars; count = count }
+with_count h count = record { activities = h.activities; vars = h.vars; count = count; room = h.room }
+
+-- there is memory for so many of them
+abbrev pub with_room : HeapValue → ℕ → HeapValue
+with_room h room = record { activities = h.activities; vars = h.vars; count = h.count; room = room }
 
 -- the same variables wait
 pub record SameHeap (old new : HeapValue) : Type 0 where

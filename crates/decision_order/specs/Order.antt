@@ -4,12 +4,13 @@ use Rattle.scut_base.specs.Literal.{Literal}
 use Rattle.scut_base.specs.Assignment.{partial_truth}
 use Rattle.clause_prop.specs.Steps.{TrailValue, partial}
 
--- By variable from 1 on its activity and its last phase; the variables that wait to be decided; and what a bump adds.
+-- By variable from 1 on its activity and its last phase; the variables that wait to be decided; what a bump adds; and for how many variables there is memory.
 pub record OrderValue : Type 0 where
   pub activities : List ℕ
   pub phases : List Bool
   pub waiting : List ℕ
   pub step : ℕ
+  pub room : ℕ
 
 abbrev pub activity : OrderValue → ℕ → ℕ
 activity o var = slice_index_or o.activities (var - 1) 0
@@ -81,6 +82,13 @@ pub record WaitsToo (old new : OrderValue) (var : ℕ) : Type 0 where
   pub here : Contains new.waiting var
   pub kept : (other : ℕ) → Contains old.waiting other → Contains new.waiting other
   pub only : (other : ℕ) → Contains new.waiting other → Contains old.waiting other ⊎ (other ≡ var)
+
+-- nothing but the room has changed
+pub record SameOrder (old new : OrderValue) : Type 0 where
+  pub activities : new.activities ≡ old.activities
+  pub phases : new.phases ≡ old.phases
+  pub waiting : new.waiting ≡ old.waiting
+  pub step : new.step ≡ old.step
 
 -- further variables up to `vars` wait, with activity 0 and the phase false
 pub record IsGrown (old new : OrderValue) (vars : ℕ) : Type 0 where

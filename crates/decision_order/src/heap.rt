@@ -1,6 +1,6 @@
 // A binary heap of variables by activity, that knows the place of each.
-ghost use Rattle.std.specs.Prelude.{◌≡◌, ◌⊎◌, ℕ, ◌+◌, ◌-◌, ◌/◌, ◌*◌, ◌^◌, ◌<◌, ◌≤◌, ◌++◌, [], length, map, replicate, OnOk, OnErr, MatchOption, slice_index_or, slice_set, vec_capacity, vec_len};
-ghost use Rattle.decision_order.specs.Heap.{HeapValue, IsOrdered, IsOrderedButAbove, IsOrderedButBelow, IsLesserParent, IsGreaterChild, IsAboveChildren, SameHeap, CountsOn, IsAdded, IsExtended, IsGrownHeap, IsRaised, IsTaken, IsWaitingFrom, Waits, key, parent, swapped};
+ghost use Rattle.std.specs.Prelude.{◌≡◌, ◌⊎◌, ℕ, ◌+◌, ◌-◌, ◌/◌, ◌*◌, ◌^◌, ◌<◌, ◌≤◌, ◌++◌, [], length, map, replicate, OnOk, MatchOption, slice_index_or, slice_set, vec_capacity, vec_len};
+ghost use Rattle.decision_order.specs.Heap.{HeapValue, IsOrdered, IsOrderedButAbove, IsOrderedButBelow, IsLesserParent, IsGreaterChild, IsAboveChildren, SameHeap, CountsOn, IsAdded, IsExtended, IsGrownHeap, IsRaised, IsTaken, IsWaitingFrom, Waits, key, parent, swapped, with_room};
 
 use scut_base::NoMemory;
 use std::alloc::Global;
@@ -19,7 +19,7 @@ pub struct VariableHeap {
 }
 
 impl Model for VariableHeap {
-    ghost use Rattle.std.specs.Prelude.{length};
+    ghost use Rattle.std.specs.Prelude.{length, min, vec_capacity};
     ghost use Rattle.decision_order.specs.Heap.{HeapValue, ArePlaces};
 
     ghost Value = { HeapValue };
@@ -28,6 +28,7 @@ impl Model for VariableHeap {
       activities = h.activities.items;
       vars = h.vars.items;
       count = h.count;
+      room = min (vec_capacity h.activities) (min (vec_capacity h.vars) (vec_capacity h.places));
     } };
 
     ghost invariant = { λ h.
@@ -37,7 +38,7 @@ impl Model for VariableHeap {
 impl VariableHeap {
     /// No variable. Takes no memory.
     pub fn new(alloc: Global) -> VariableHeap
-        ensures { result ≡ record { activities = []; vars = []; count = 0 } }
+        ensures { result ≡ record { activities = []; vars = []; count = 0; room = 0 } }
     {
         VariableHeap {
             activities: Vec::new(alloc),
@@ -203,41 +204,47 @@ impl VariableHeap {
           activities = map (λ a. a / 2) self.old.activities;
           vars = self.old.vars;
           count = self.old.count;
+          room = self.old.room;
         } }
     {
         halve_all(&mut self.activities);
     }
 
-    /// Puts further variables up to `vars` among those that wait, with activity 0. Does nothing
-    /// where there are as many. After `NoMemory` nothing has changed. Costs the number of new
-    /// variables.
-    pub fn grow(&mut self, vars: usize) -> Result<(), NoMemory>
-        requires ordered { IsOrdered (key self.old) self.old.count }
-        ensures room { self.new.count ≤ length self.new.vars }
-        ensures ordered { OnOk result (IsOrdered (key self.new) self.new.count) }
-        ensures grown { OnOk result (IsGrownHeap self.old self.new vars) }
-        ensures err { OnErr result (self.new ≡ self.old) }
+    /// Makes room for so many variables. Does nothing where there is room; else it costs at most the
+    /// number of variables. After `NoMemory` nothing has changed, but there may be more room.
+    pub fn reserve(&mut self, vars: usize) -> Result<(), NoMemory>
+        ensures same { self.new ≡ with_room self.old self.new.room }
+        ensures room { OnOk result (vars ≤ self.new.room) }
     {
-        let known = self.activities.len();
-        if known < vars {
-            self.extend(vars - known)?;
-            self.wait_from(known);
-        }
-        Ok(())
-    }
-
-    // Adds variables with activity 0 that don't wait.
-    fn extend(&mut self, more: usize) -> Result<(), NoMemory>
-        ensures ok { OnOk result (IsExtended self.old self.new more) }
-        ensures err { OnErr result (self.new ≡ self.old) }
-    {
+        let more = vars.saturating_sub(self.activities.len());
         self.activities.reserve(more)?;
         self.vars.reserve(more)?;
         self.places.reserve(more)?;
+        Ok(())
+    }
+
+    /// Puts further variables up to `vars` among those that wait, with activity 0. Does nothing
+    /// where there are as many. Takes no memory. Costs the number of new variables.
+    pub fn grow(&mut self, vars: usize)
+        requires reserved { vars ≤ self.old.room }
+        requires ordered { IsOrdered (key self.old) self.old.count }
+        ensures room { self.new.count ≤ length self.new.vars }
+        ensures ordered { IsOrdered (key self.new) self.new.count }
+        ensures grown { IsGrownHeap self.old self.new vars }
+    {
+        let known = self.activities.len();
+        self.extend(vars.saturating_sub(known));
+        self.wait_from(known);
+    }
+
+    // Adds variables with activity 0 that don't wait.
+    fn extend(&mut self, more: usize)
+        requires reserved { more ≤ self.old.room - length self.old.activities }
+        ensures { IsExtended self.old self.new more }
+    {
         push_copies(&mut self.activities, 0, more);
         count_on(&mut self.vars, 1, more);
         count_on(&mut self.places, 0, more);
-        Ok(())
     }
 
     // Puts the variables after the first `known` among those that wait.

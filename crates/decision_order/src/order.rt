@@ -1,7 +1,7 @@
 // The order in which a search decides variables.
 ghost use Rattle.std.specs.Prelude.{◌≡◌, ℕ, ◌+◌, ◌-◌, ◌/◌, ◌<◌, ◌≤◌, [], max, not, length, slice_set, MatchOption, IfSome, IfNone, OnOk, OnErr};
 ghost use Rattle.clause_prop.specs.Steps.{TrailValue};
-ghost use Rattle.decision_order.specs.Order.{AllOpenWait, IsGrown, IsNextChoice, IsTakenChoice, NoneOpen, NoneWaits, OtherOpenWait, OrderValue, SameWait, WaitsToo, after_conflict, bumped, weights};
+ghost use Rattle.decision_order.specs.Order.{AllOpenWait, IsGrown, IsNextChoice, IsTakenChoice, NoneOpen, NoneWaits, OtherOpenWait, OrderValue, SameOrder, SameWait, WaitsToo, after_conflict, bumped, weights};
 
 use crate::heap::{VariableHeap, push_copies};
 use clause_prop::Trail;
@@ -27,7 +27,7 @@ pub struct VariableOrder {
 }
 
 impl Model for VariableOrder {
-    ghost use Rattle.std.specs.Prelude.{take};
+    ghost use Rattle.std.specs.Prelude.{min, take, vec_capacity};
     ghost use Rattle.decision_order.specs.Order.{OrderValue};
     ghost use Rattle.decision_order.specs.Heap.{IsOrder};
 
@@ -38,6 +38,7 @@ impl Model for VariableOrder {
       phases = o.phases.items;
       waiting = take o.heap.count o.heap.vars;
       step = o.step;
+      room = min o.heap.room (vec_capacity o.phases);
     } };
 
     ghost invariant = { λ o. IsOrder o.heap o.phases.items o.step };
@@ -46,7 +47,13 @@ impl Model for VariableOrder {
 impl VariableOrder {
     /// No variable. Takes no memory.
     pub fn new(alloc: Global) -> VariableOrder
-        ensures { result ≡ record { activities = []; phases = []; waiting = []; step = 1024 } }
+        ensures { result ≡ record {
+          activities = [];
+          phases = [];
+          waiting = [];
+          step = 1024;
+          room = 0;
+        } }
     {
         VariableOrder {
             heap: VariableHeap::new(alloc),
@@ -55,23 +62,29 @@ impl VariableOrder {
         }
     }
 
-    /// Puts new variables up to `vars` among those that wait, with activity 0 and the phase false.
-    /// Does nothing where there are as many. After `NoMemory` nothing has changed. Costs the number
-    /// of new variables.
-    pub fn grow(&mut self, vars: u64) -> Result<(), NoMemory>
-        ensures ok { OnOk result (IsGrown self.old self.new vars) }
-        ensures vars { OnOk result
-            (length self.new.activities ≡ max vars (length self.old.activities)) }
-        ensures err { OnErr result (self.new ≡ self.old) }
+    /// Makes room for so many variables, so that `grow` takes no memory. Does nothing where there is
+    /// room; else it costs at most the number of variables. After `NoMemory` nothing has changed,
+    /// but there may be more room.
+    pub fn reserve(&mut self, vars: u64) -> Result<(), NoMemory>
+        ensures same { SameOrder self.old self.new }
+        ensures room { OnOk result (vars ≤ self.new.room) }
     {
-        let known = self.phases.len();
         let vars = vars as usize;
-        if known < vars {
-            self.phases.reserve(vars - known)?;
-            self.heap.grow(vars)?;
-            push_copies(&mut self.phases, false, vars - known);
-        }
-        Ok(())
+        self.phases.reserve(vars.saturating_sub(self.phases.len()))?;
+        self.heap.reserve(vars)
+    }
+
+    /// Puts new variables up to `vars` among those that wait, with activity 0 and the phase false.
+    /// Does nothing where there are as many. Takes no memory. Costs the number of new variables.
+    pub fn grow(&mut self, vars: u64)
+        requires room { vars ≤ self.old.room }
+        ensures grown { IsGrown self.old self.new vars }
+        ensures vars { length self.new.activities ≡ max vars (length self.old.activities) }
+    {
+        let vars = vars as usize;
+        let more = vars.saturating_sub(self.phases.len());
+        self.heap.grow(vars);
+        push_copies(&mut self.phases, false, more);
     }
 
     /// Adds the step to a variable's activity; where that reaches the limit, all are halved. Takes
