@@ -210,8 +210,8 @@ impl VariableHeap {
         halve_all(&mut self.activities);
     }
 
-    /// Makes room for so many variables. Does nothing where there is room; else it costs at most the
-    /// number of variables. After `NoMemory` nothing has changed, but there may be more room.
+    /// Makes room for so many variables. Does nothing where there is room; else it costs at most
+    /// the number of variables. After `NoMemory` nothing has changed, but there may be more room.
     pub fn reserve(&mut self, vars: usize) -> Result<(), NoMemory>
         ensures same { self.new ≡ with_room self.old self.new.room }
         ensures room { OnOk result (vars ≤ self.new.room) }

@@ -62,9 +62,9 @@ impl VariableOrder {
         }
     }
 
-    /// Makes room for so many variables, so that `grow` takes no memory. Does nothing where there is
-    /// room; else it costs at most the number of variables. After `NoMemory` nothing has changed,
-    /// but there may be more room.
+    /// Makes room for so many variables, so that `grow` takes no memory. Does nothing where there
+    /// is room; else it costs at most the number of variables. After `NoMemory` nothing has
+    /// changed, but there may be more room.
     pub fn reserve(&mut self, vars: u64) -> Result<(), NoMemory>
         ensures same { SameOrder self.old self.new }
         ensures room { OnOk result (vars ≤ self.new.room) }
