@@ -1,2 +1,3 @@
 pub use Rattle.clause_prop.specs.Steps
 pub mod Order
+pub mod Heap
