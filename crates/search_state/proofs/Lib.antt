@@ -1,0 +1,6 @@
+pub mod StoredLines
+pub mod StepsBefore
+pub mod PutBack
+pub mod Waits
+pub mod InStep
+pub mod Learns
