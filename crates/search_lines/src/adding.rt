@@ -53,12 +53,13 @@ pub fn replays_go_on()
 /// Law: search lines that follow learned ones and reductions are search lines after the old ones.
 pub fn search_lines_join()
     ensures none { (p : ProblemValue) (a : List Line) → AddsLearned p a a }
-    ensures learned { (p : ProblemValue) (a : List Line) (goal : ConstraintValue) (hints : List Hint)
-        → AddsLearned p a (a ++ Learn goal hints ∷ []) }
+    ensures learned { (p : ProblemValue) (a : List Line) (goal : ConstraintValue)
+        (hints : List Hint) → AddsLearned p a (a ++ Learn goal hints ∷ []) }
     ensures reduced { (p : ProblemValue) (a : List Line) (ids : List ℕ)
         → All (IsLearnedId p a) ids → AddsLearned p a (a ++ Reduce ids ∷ []) }
-    ensures implied { (p : ProblemValue) (a : List Line) (goal : ConstraintValue) (hints : List Hint)
-        → is_clause goal ≡ true → AddsSearchLines p a (a ++ Rup goal hints ∷ []) }
+    ensures implied { (p : ProblemValue) (a : List Line) (goal : ConstraintValue)
+        (hints : List Hint) → is_clause goal ≡ true
+        → AddsSearchLines p a (a ++ Rup goal hints ∷ []) }
     ensures joined { (p : ProblemValue) (a b c : List Line)
         → AddsLearned p a b → AddsLearned p b c → AddsLearned p a c }
     ensures then_any { (p : ProblemValue) (a b c : List Line)
