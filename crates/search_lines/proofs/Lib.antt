@@ -5,3 +5,4 @@ pub mod SearchLines
 pub mod Earned
 pub mod NeverLong
 pub mod Hinted
+pub mod Fitting

@@ -1,20 +1,23 @@
 // Laws of the lines that a search adds.
 ghost use Rattle.std.specs.Prelude.{◌≡◌, ℕ, ◌<◌, ◌≤◌, ◌^◌, ◌++◌, ◌∷◌, [], false, true, List, All, AllPairs};
-ghost use Rattle.std.specs.List.{count_by};
 ghost use Rattle.scut_base.specs.Literal.{Literal};
+ghost use Rattle.pb_lin.specs.Constraint.{ConstraintValue};
 ghost use Rattle.pb_lin.specs.Problem.{ProblemValue};
 ghost use Rattle.pb_lin.specs.LineMap.{LineMap};
 ghost use Rattle.hint_rup.specs.declared.hint.Hint.{Hint};
 ghost use Rattle.proof_laws.specs.State.{StateValue, IsState};
 ghost use Rattle.proof_laws.specs.Steps.{clause};
+ghost use Rattle.proof_laws.specs.Refusal.{is_clause};
+ghost use Rattle.proof_laws.specs.Earned.{IsLearnedId};
 ghost use Rattle.proof_laws.specs.Replay.{IsReplay};
 ghost use Rattle.proof_laws.specs.Legal.{IsLegal, IsNext};
 ghost use Rattle.proof_laws.specs.WellFormed.{IsWellFormed};
 ghost use Rattle.proof_laws.specs.declared.line.Line.{Line};
-ghost use Rattle.proof_laws.specs.declared.line.Line.TheVariants.{Learn, Rup};
+ghost use Rattle.proof_laws.specs.declared.line.Line.TheVariants.{Learn, Reduce, Rup};
 ghost use Rattle.proof_rules.specs.Recording.{MayBeAdded};
-ghost use Rattle.oracle.specs.Solving.{AddsSearchLines, IsSearchLine, is_rup};
+ghost use Rattle.oracle.specs.Solving.{AddsSearchLines};
 ghost use Rattle.search_trail.specs.Learning.{AreHints};
+ghost use Rattle.search_lines.specs.SearchLines.{AddsLearned};
 ghost use Rattle.search_lines.specs.StoredLines.{IsStored};
 
 /// Law: stored hints make a clause legal as a learned and as an implied line, but for the number of lines.
@@ -47,13 +50,18 @@ pub fn replays_go_on()
         → IsReplay p lines s → IsNext p s line t → IsReplay p (lines ++ line ∷ []) t }
 {}
 
-/// Law: search lines follow search lines, where there is one implied clause at most.
-pub fn more_search_lines()
-    ensures none { (p : ProblemValue) (lines : List Line) → AddsSearchLines p lines lines }
-    ensures one { (p : ProblemValue) (old lines : List Line) (line : Line)
-        → AddsSearchLines p old lines → IsSearchLine p lines line → is_rup line ≡ false
-        → AddsSearchLines p old (lines ++ line ∷ []) }
-    ensures implied { (p : ProblemValue) (old more : List Line) (line : Line)
-        → AddsSearchLines p old (old ++ more) → count_by is_rup more ≡ 0
-        → IsSearchLine p (old ++ more) line → AddsSearchLines p old ((old ++ more) ++ line ∷ []) }
+/// Law: search lines that follow learned ones and reductions are search lines after the old ones.
+pub fn search_lines_join()
+    ensures none { (p : ProblemValue) (a : List Line) → AddsLearned p a a }
+    ensures learned { (p : ProblemValue) (a : List Line) (goal : ConstraintValue)
+        (hints : List Hint) → AddsLearned p a (a ++ Learn goal hints ∷ []) }
+    ensures reduced { (p : ProblemValue) (a : List Line) (ids : List ℕ)
+        → All (IsLearnedId p a) ids → AddsLearned p a (a ++ Reduce ids ∷ []) }
+    ensures implied { (p : ProblemValue) (a : List Line) (goal : ConstraintValue)
+        (hints : List Hint) → is_clause goal ≡ true
+        → AddsSearchLines p a (a ++ Rup goal hints ∷ []) }
+    ensures joined { (p : ProblemValue) (a b c : List Line)
+        → AddsLearned p a b → AddsLearned p b c → AddsLearned p a c }
+    ensures then_any { (p : ProblemValue) (a b c : List Line)
+        → AddsLearned p a b → AddsSearchLines p b c → AddsSearchLines p a c }
 {}

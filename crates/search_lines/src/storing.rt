@@ -8,6 +8,7 @@ ghost use Rattle.pb_lin.specs.Problem.{ProblemValue};
 ghost use Rattle.pb_lin.specs.LineMap.{LineMap};
 ghost use Rattle.hint_rup.specs.declared.hint.Hint.{Hint};
 ghost use Rattle.proof_laws.specs.State.{StateValue, IsState, Fits};
+ghost use Rattle.proof_laws.specs.Replay.{IsReplay};
 ghost use Rattle.proof_laws.specs.Legal.{IsNext};
 ghost use Rattle.proof_laws.specs.Refusal.{is_clause};
 ghost use Rattle.proof_laws.specs.declared.line.Line.{Line};
@@ -15,6 +16,12 @@ ghost use Rattle.proof_laws.specs.declared.line.Line.TheVariants.{Learn};
 ghost use Rattle.oracle.specs.Solving.{IsSolution};
 ghost use Rattle.search_trail.specs.SearchTrail.{AreLines};
 ghost use Rattle.search_lines.specs.StoredLines.{IsStored, deleted};
+
+/// Law: the state that lines reach fits their problem, whatever the lines are.
+pub fn reached_state_fits()
+    ensures { (p : ProblemValue) (lines : List Line) (s : StateValue)
+        → IsReplay p lines s → Fits p s }
+{}
 
 /// Law: at first nothing is stored.
 pub fn nothing_is_stored()
