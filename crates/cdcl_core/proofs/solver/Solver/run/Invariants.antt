@@ -1,0 +1,24 @@
+use Rattle.std.proofs.Common.{◌≡◌, ◌≤◌, ◌-◌, true, false}
+use Rattle.search_trail.specs.Rank.{rest}
+use Rattle.search_lines.specs.SearchLines.{AddsLearned}
+use Rattle.cdcl_core.specs.Work.{IsAtWork, IsLed, KeepsRecorder}
+use Rattle.cdcl_core.proofs.solver.Solver.run.Given as goal
+
+abbrev pub decreases-loop-since : goal.decreases-loop-since
+decreases-loop-since g l = rest (50 - l.restarts) l.self.search.trail
+
+abbrev pub invariant-loop-since : goal.invariant-loop-since
+invariant-loop-since g l =
+    let rec = g.R.Recorder in
+    record {
+      few : l.restarts ≤ 50;
+      begun : l.self.broken ≡ true;
+      whole : rec.broken l.self.recorder ≡ false;
+      work : IsAtWork (rec.problem l.self.recorder) l.self.limit (rec.lines l.self.recorder) l.self.search l.self.next l.self.rows;
+      led : IsLed l.assumptions l.self.search.trail;
+      vars : l.self.search.trail.vars ≡ l.fn.self.search.trail.vars;
+      adds : AddsLearned (rec.problem l.fn.self.recorder) (rec.lines l.fn.self.recorder) (rec.lines l.self.recorder);
+      limit : l.self.limit ≡ l.fn.self.limit;
+      kept : KeepsRecorder (rec.problem l.fn.self.recorder) (rec.problem l.self.recorder) (rec.limit l.fn.self.recorder) (rec.limit l.self.recorder)
+          (rec.around l.fn.self.recorder) (rec.around l.self.recorder) (rec.faults l.fn.self.recorder) (rec.faults l.self.recorder);
+    }

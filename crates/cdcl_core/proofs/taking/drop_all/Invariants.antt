@@ -1,0 +1,10 @@
+use Rattle.std.proofs.Common.{◌≡◌, List, [], take, fold}
+use Rattle.std.specs.FinMap.{remove}
+use Rattle.cdcl_core.proofs.taking.drop_all.Given as goal
+
+abbrev pub invariant-loop-id : goal.invariant-loop-id
+invariant-loop-id g l = record {
+  store : l.search.store ≡ fold remove l.fn.search.store (take l.id-index l.ids);
+  vars : l.search.trail.vars ≡ l.fn.search.trail.vars;
+  none : l.search.trail.steps ≡ [];
+}

@@ -1,0 +1,127 @@
+// What a search learns from a conflict.
+ghost use Rattle.std.specs.Prelude.{◌≡◌, ◌<◌, ◌≤◌, ◌^◌, ◌++◌, ◌∷◌, [], List, true, false, None, Some, All, Contains, length, IsTrue, IfOk, IfErr, OnOk, OnErr};
+ghost use Rattle.scut_base.specs.Faults.{Rose};
+ghost use Rattle.scut_base.specs.Literal.{Literal};
+ghost use Rattle.scut_base.specs.Assignment.{partial_truth};
+ghost use Rattle.clause_prop.specs.Steps.{partial, last_level};
+ghost use Rattle.clause_prop.specs.Propagating.{IsConflict, IsClosedFor};
+ghost use Rattle.search_trail.specs.Rank.{rank};
+ghost use Rattle.conflict_analysis.specs.Analysis.{IsLesson};
+ghost use Rattle.oracle.specs.declared.fault.OracleFault.TheVariants.{Spent, Full};
+ghost use Rattle.oracle.specs.Solving.{AddsSearchLines, AreAssumptions, AreEarned, IsAnswer, IsWithin};
+ghost use Rattle.search_lines.specs.SearchLines.{AddsLearned};
+ghost use Rattle.cdcl_core.specs.Work.{GoesOn, HasCause, IsAtWork, IsLed, IsRecordCause, KeepsRecorder};
+ghost use Rattle.cdcl_core.specs.Learnable.{IsForcedBySome, IsLearnable, MayLearn};
+
+use crate::Solver;
+use crate::recording::{learned_goal, record};
+use clause_prop::Propagator;
+use conflict_analysis::Lesson;
+use oracle::{Answer, Core, OracleFault};
+use pb_lin::Constraint;
+use proof_laws::Line;
+use proof_rules::{ProofState, Recorder};
+use scut_base::{Items, Lit};
+
+impl<R: Recorder + Drop, P: Propagator + Drop> Solver<R, P> {
+    // Jumps back to where the clause of a lesson forces its literal, records and stores the clause, and adds the step.
+    // `Spent` where no clause may be learned any more; then only the trail was cut.
+    pub(crate) fn learn(&mut self, lesson: Lesson) -> Result<(), OracleFault>
+        requires begun { self.old.broken ≡ true }
+        requires whole { R.broken self.old.recorder ≡ false }
+        requires work { IsAtWork (R.problem self.old.recorder) self.old.limit
+            (R.lines self.old.recorder) self.old.search self.old.next self.old.rows }
+        requires lesson { IsLesson self.old.search.store self.old.search.trail lesson }
+        ensures whole { OnOk result (R.broken self.new.recorder ≡ false) }
+        ensures work { OnOk result (IsAtWork (R.problem self.new.recorder) self.new.limit
+            (R.lines self.new.recorder) self.new.search self.new.next self.new.rows) }
+        ensures cause { IfErr result (λ f. HasCause f self.old.limit (R.problem self.new.recorder)
+            (R.lines self.new.recorder)
+            (Rose (R.faults self.old.recorder) (R.faults self.new.recorder))) }
+        ensures goes_on { IfErr result (λ f. GoesOn f ((R.broken self.new.recorder ≡ false)
+            × IsAtWork (R.problem self.new.recorder) self.new.limit
+            (R.lines self.new.recorder) self.new.search self.new.next self.new.rows)) }
+        ensures adds { AddsLearned (R.problem self.old.recorder) (R.lines self.old.recorder)
+            (R.lines self.new.recorder) }
+        ensures within { IsWithin self.old.limit (R.problem self.old.recorder)
+            (R.lines self.new.recorder) }
+        ensures rises { OnOk result (rank self.old.search.trail < rank self.new.search.trail) }
+        ensures vars { self.new.search.trail.vars ≡ self.old.search.trail.vars }
+        ensures led { OnOk result ((assumptions : List Literal)
+            → IsLed assumptions self.old.search.trail → IsLed assumptions self.new.search.trail) }
+        ensures limit { self.new.limit ≡ self.old.limit }
+        ensures kept { KeepsRecorder (R.problem self.old.recorder) (R.problem self.new.recorder)
+            (R.limit self.old.recorder) (R.limit self.new.recorder) (R.around self.old.recorder)
+            (R.around self.new.recorder) (R.faults self.old.recorder)
+            (R.faults self.new.recorder) }
+        ensures begun { self.new.broken ≡ true }
+    {
+        let Lesson {
+            lits,
+            lit,
+            level,
+            hints,
+            met: _,
+        } = lesson;
+        // Tells that the trail is one of a search.
+        let _level = self.search.level();
+        self.search.back_to(level);
+        let state = self.recorder.state();
+        let learned = state.learned();
+        if self.limit == Some(learned) {
+            return Err(spent(state, learned));
+        }
+        let line = Line::Learn {
+            goal: Constraint::clause(lits),
+            hints,
+        };
+        self.add_learned(&line, lit, level)
+    }
+
+    // Records the line of a learned clause after the jump back, stores the clause, and adds the step that it forces.
+    fn add_learned(&mut self, line: &Line, lit: Lit, level: u64) -> Result<(), OracleFault>
+        requires begun { self.old.broken ≡ true }
+        requires whole { R.broken self.old.recorder ≡ false }
+        requires work { IsAtWork (R.problem self.old.recorder) self.old.limit
+            (R.lines self.old.recorder) self.old.search self.old.next self.old.rows }
+        requires learnable { IsLearnable self.old.search level lit line.now }
+        requires more { MayLearn self.old.limit (R.problem self.old.recorder)
+            (R.lines self.old.recorder) }
+        ensures begun { self.new.broken ≡ true }
+        ensures whole { OnOk result (R.broken self.new.recorder ≡ false) }
+        ensures work { OnOk result (IsAtWork (R.problem self.new.recorder) self.new.limit
+            (R.lines self.new.recorder) self.new.search self.new.next self.new.rows) }
+        ensures cause { IfErr result (λ f. IsRecordCause f (R.lines self.new.recorder)
+            (Rose (R.faults self.old.recorder) (R.faults self.new.recorder))) }
+        ensures adds { AddsLearned (R.problem self.old.recorder) (R.lines self.old.recorder)
+            (R.lines self.new.recorder) }
+        ensures within { IsWithin self.old.limit (R.problem self.old.recorder)
+            (R.lines self.new.recorder) }
+        ensures forced { OnOk result
+            (IsForcedBySome self.old.search.trail self.new.search.trail lit level) }
+        ensures vars { self.new.search.trail.vars ≡ self.old.search.trail.vars }
+        ensures limit { self.new.limit ≡ self.old.limit }
+        ensures kept { KeepsRecorder (R.problem self.old.recorder) (R.problem self.new.recorder)
+            (R.limit self.old.recorder) (R.limit self.new.recorder) (R.around self.old.recorder)
+            (R.around self.new.recorder) (R.faults self.old.recorder)
+            (R.faults self.new.recorder) }
+    {
+        let id = record(&mut self.recorder, line)?;
+        // Tells that the lines reach a state.
+        let _vars = self.recorder.state().vars();
+        self.search.learn(id, learned_goal(line), lit, level)?;
+        self.next = id + 1;
+        Ok(())
+    }
+}
+
+// What is answered where the limit of learned clauses is reached and one more would be learned.
+fn spent(state: &ProofState, learned: u64) -> OracleFault
+    ensures full { 2 ^ 61 ≤ state.now.lines → result ≡ Full }
+    ensures spent { state.now.lines < 2 ^ 61 → result ≡ Spent learned }
+{
+    if state.lines() >= 1 << 61 {
+        return OracleFault::Full;
+    }
+    OracleFault::Spent { learned }
+}

@@ -1,0 +1,154 @@
+// The solver, as a recorder.
+ghost use Rattle.std.specs.Prelude.{◌≡◌, [], false, IfOk, IfErr};
+ghost use Rattle.std.specs.FinMap.{empty};
+ghost use Rattle.oracle.specs.Solving.{IsWithin};
+
+use crate::taking::drop_deleted;
+use clause_prop::Propagator;
+use pb_lin::PbProblem;
+use proof_laws::Line;
+use proof_rules::{ProofState, RecordFault, Recorder};
+use scut_base::NoMemory;
+use search_lines::{
+    deleting_line_keeps_stored, line_is_passed, nothing_is_stored, reached_state_fits, replays_go_on,
+};
+use search_state::Search;
+use std::alloc::Global;
+use std::marker::Model;
+
+/// A solver by conflict-driven clause learning (Marques-Silva and Sakallah 1999), over a recorder that keeps the proof and
+/// a propagator. It holds the problem's rows and every live clause. Lines that are added are taken up by the next call of
+/// `solve`, and deleted ones dropped at once.
+#[derive(Drop)]
+pub struct Solver<R: Recorder + Drop, P: Propagator + Drop> {
+    pub(crate) alloc: Global,
+    pub(crate) recorder: R,
+    pub(crate) search: Search<P>,
+    pub(crate) limit: Option<u64>,
+    pub(crate) rows: u64,
+    pub(crate) next: u64,
+    pub(crate) broken: bool,
+}
+
+impl<R: Recorder + Drop, P: Propagator + Drop> Model for Solver<R, P> {
+    ghost use Rattle.std.specs.Coded.{codes};
+    ghost use Rattle.pb_lin.specs.LineCodes.{line_code};
+    ghost use Rattle.std.specs.Prelude.{◌≡◌, false};
+    ghost use Rattle.cdcl_core.specs.Work.{SolverValue, IsHeld};
+
+    ghost Value = { SolverValue R };
+
+    ghost coded = { Prim.hlevel (codes, line_code) };
+
+    ghost view = { λ s. record {
+      recorder = s.recorder;
+      limit = s.limit;
+      broken = s.broken;
+      search = s.search;
+      next = s.next;
+      rows = s.rows;
+    } };
+
+    ghost invariant = { λ s. s.broken ≡ false → (R.broken s.recorder ≡ false)
+        × IsHeld (R.problem s.recorder) (R.lines s.recorder) s.search s.next s.rows };
+}
+
+/// Memory was refused, and the recorder is handed back.
+#[derive(Drop)]
+pub struct NoRoom<R: Recorder + Drop> {
+    /// The recorder, as it was given.
+    pub recorder: R,
+}
+
+impl<R: Recorder + Drop, P: Propagator + Drop> Solver<R, P> {
+    /// A solver over a recorder, which may have lines, and a propagator that knows none. It learns so many clauses at most
+    /// as the limit says. The problem is the recorder's.
+    pub fn new(
+        alloc: Global,
+        recorder: R,
+        propagator: P,
+        problem: &PbProblem,
+        limit: Option<u64>,
+    ) -> Result<Solver<R, P>, NoRoom<R>>
+        requires whole { R.broken recorder ≡ false }
+        requires problem { problem.now ≡ R.problem recorder }
+        requires in_step { P.in_step propagator empty (record { vars = 0; steps = [] }) }
+        requires within { IsWithin limit (R.problem recorder) (R.lines recorder) }
+        ensures recorder { IfOk result (λ s. s.recorder ≡ recorder) }
+        ensures limit { IfOk result (λ s. s.limit ≡ limit) }
+        ensures whole { IfOk result (λ s. s.broken ≡ false) }
+        ensures handed_back { IfErr result (λ e. e.recorder ≡ recorder) }
+    {
+        nothing_is_stored();
+        line_is_passed();
+        reached_state_fits();
+        // Tells that the lines reach a state.
+        let _vars = recorder.state().vars();
+        match Search::new(alloc, propagator) {
+            Ok(search) => Ok(Solver {
+                alloc,
+                recorder,
+                search,
+                limit,
+                rows: problem.rows().len() as u64,
+                next: 1,
+                broken: false,
+            }),
+            Err(NoMemory) => Err(NoRoom { recorder }),
+        }
+    }
+
+    /// The recorder, with all that was added. Takes no memory.
+    pub fn into_recorder(self) -> R
+        ensures { result ≡ self.recorder }
+    {
+        let Solver {
+            alloc: _,
+            recorder,
+            search: _,
+            limit: _,
+            rows: _,
+            next: _,
+            broken: _,
+        } = self;
+        recorder
+    }
+}
+
+impl<R: Recorder + Drop, P: Propagator + Drop> Recorder for Solver<R, P> {
+    ghost problem = { λ s. R.problem s.recorder };
+
+    ghost limit = { λ s. s.limit };
+
+    ghost lines = { λ s. R.lines s.recorder };
+
+    ghost faults = { λ s. R.faults s.recorder };
+
+    ghost broken = { λ s. s.broken };
+
+    ghost around = { λ s. R.around s.recorder };
+
+    /// The line is taken up by the next call of `solve`; what it deletes is dropped at once.
+    fn add_line(&mut self, line: &Line) -> Result<u64, RecordFault> {
+        match self.recorder.add_line(line) {
+            Ok(id) => {
+                deleting_line_keeps_stored();
+                reached_state_fits();
+                replays_go_on();
+                drop_deleted(&mut self.search, line);
+                // Tells that the lines reach a state.
+                let _vars = self.recorder.state().vars();
+                Ok(id)
+            }
+            Err(RecordFault::Full) => Err(RecordFault::Full),
+            Err(fault) => {
+                self.broken = true;
+                Err(fault)
+            }
+        }
+    }
+
+    fn state(&self) -> &ProofState {
+        self.recorder.state()
+    }
+}
