@@ -6,3 +6,6 @@ pub mod LearnedLine
 pub mod LearnedStep
 pub mod LearnedSolver
 pub mod LearnedLesson
+pub mod NamedLines
+pub mod Blaming
+pub mod Assuming

@@ -1,5 +1,5 @@
 -- What holds from turn to turn.
-use Rattle.std.proofs.Common.{◌≡◌, ◌≢◌, ◌⊎◌, ℕ, zero, suc, ◌+◌, ◌-◌, ◌<◌, ◌≤◌, max, Bool, true, false, not, List, [], ◌∷◌, ◌++◌, length, take, get_or, refl, arith, sym, ap, ◌∙◌, subst, inl, inr, ⊎_elim}
+use Rattle.std.proofs.Common.{◌≡◌, ◌≢◌, ◌⊎◌, ℕ, zero, suc, ◌-◌, ◌<◌, ◌≤◌, max, Bool, true, false, not, List, [], ◌∷◌, ◌++◌, length, refl, arith, sym, ap, ◌∙◌, subst, inl, inr, ⊎_elim}
 use Rattle.std.specs.Prelude.{All, Contains, Option, Some, None, Result, Ok, Err, OnOk, IfErr, slice_get}
 use Rattle.std.specs.FinMap.{get}
 use Rattle.std.proofs.lemmas.Bool.{cases_lt}
@@ -14,7 +14,7 @@ use Rattle.proof_laws.specs.declared.line.Line.{Line}
 use Rattle.clause_prop.specs.Steps.{TrailValue, cut, partial, last_level}
 use Rattle.clause_prop.specs.Propagating.{Extends}
 use Rattle.clause_prop.specs.declared.step.Step.{Step}
-use Rattle.search_trail.specs.SearchTrail.{IsSearchTrail, IsStepAt, IsUndecided}
+use Rattle.search_trail.specs.SearchTrail.{IsSearchTrail, IsUndecided}
 use Rattle.search_trail.specs.Rank.{rank}
 use Rattle.search_trail.proofs.Moves.{cut_of_longer, cut_of_cut}
 use Rattle.search_trail.proofs.Stores.{never_decided}
@@ -95,14 +95,14 @@ pub led_longer : (p : ProblemValue) (lines : List Line) (search : SearchValue) (
     → Extends search.store search.trail new → IsLed assumptions search.trail → IsLed assumptions new
 led_longer p lines search next rows assumptions new held extends led q s at decided =
     let same : new ≡ record { vars = search.trail.vars; steps = search.trail.steps ++ extends.more } =
-        ap (λ (n : ℕ). record { vars = n; steps = new.steps }) extends.vars ∙ ap (λ (ss : List Step). record { vars = search.trail.vars; steps = ss }) extends.is in
+    ap (λ (n : ℕ). record { vars = n; steps = new.steps }) extends.vars ∙ ap (λ (ss : List Step). record { vars = search.trail.vars; steps = ss }) extends.is in
     let there : slice_get (search.trail.steps ++ extends.more) q ≡ Some s = ap (λ (ss : List Step). slice_get ss q) (sym extends.is) ∙ at in
     ⊎_elim
     (λ (old : q < length search.trail.steps).
-      let before : cut search.trail q ≡ cut new q = cut_of_longer search.trail extends.more q (omega arith) ∙ ap (λ (t : TrailValue). cut t q) (sym same) in
-      ⊎_elim (λ (one : Contains assumptions s.lit). inl one)
-      (λ (all : All (λ l. partial_truth (partial (cut search.trail q)) l ≡ Some true) assumptions). inr (subst (λ (t : TrailValue). All (λ l. partial_truth (partial t) l ≡ Some true) assumptions) before all))
-      (led q s (in_front search.trail.steps extends.more q s old there) decided))
+    let before : cut search.trail q ≡ cut new q = cut_of_longer search.trail extends.more q (omega arith) ∙ ap (λ (t : TrailValue). cut t q) (sym same) in
+    ⊎_elim (λ (one : Contains assumptions s.lit). inl one)
+    (λ (all : All (λ l. partial_truth (partial (cut search.trail q)) l ≡ Some true) assumptions). inr (subst (λ (t : TrailValue). All (λ l. partial_truth (partial t) l ≡ Some true) assumptions) before all))
+    (led q s (in_front search.trail.steps extends.more q s old there) decided))
     (λ (more : length search.trail.steps ≤ q). absurd (never_forced more there))
     (cases_lt q (length search.trail.steps))
   where
@@ -138,7 +138,7 @@ led_back level old t assumptions back led = subst (IsLed assumptions) (sym back.
     let was = at_front old.steps back.keep q s at in
     ⊎_elim (λ (one : Contains assumptions s.lit). inl one)
     (λ (all : All (λ l. partial_truth (partial (cut old q)) l ≡ Some true) assumptions).
-      inr (subst (λ (u : TrailValue). All (λ l. partial_truth (partial u) l ≡ Some true) assumptions) (cut_of_cut old back.keep q (omega (arith, was.0))) all))
+    inr (subst (λ (u : TrailValue). All (λ l. partial_truth (partial u) l ≡ Some true) assumptions) (cut_of_cut old back.keep q (omega (arith, was.0))) all))
     (led q s was.1 decided))
 
 pub vars_back : (level : ℕ) (old t : TrailValue) → IsBackTo level old t → t.vars ≡ old.vars

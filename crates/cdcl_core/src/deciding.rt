@@ -20,13 +20,14 @@ use crate::Solver;
 use crate::recording::record;
 use crate::turn::Turn;
 use clause_prop::Propagator;
+use conflict_analysis::Blame;
 use hint_rup::Hint;
 use oracle::{Answer, Core, OracleFault};
 use pb_lin::Constraint;
 use proof_laws::Line;
 use proof_rules::{ProofState, Recorder};
 use scut_base::{Items, Lit, NoMemory};
-use conflict_analysis::Blame;
+use search_lines::stored_model_is_solution;
 use search_state::Search;
 use std::alloc::Global;
 
@@ -138,9 +139,9 @@ impl<R: Recorder + Drop, P: Propagator + Drop> Solver<R, P> {
         ensures turn { IsTurn result
             (IsAnswer (R.problem self.new.recorder) (R.lines self.new.recorder) assumptions.now)
             (IsOn (R.problem self.new.recorder) self.new.limit assumptions.now
-                (R.broken self.new.recorder) (R.lines self.old.recorder)
-                (R.lines self.new.recorder) self.old.search self.new.search self.new.next
-                self.new.rows) }
+            (R.broken self.new.recorder) (R.lines self.old.recorder)
+            (R.lines self.new.recorder) self.old.search self.new.search self.new.next
+            self.new.rows) }
         ensures done { OnOk result (IsDone (R.problem self.new.recorder)
             (R.broken self.new.recorder) (R.lines self.new.recorder) self.new.search
             self.new.next self.new.rows) }
@@ -157,6 +158,8 @@ impl<R: Recorder + Drop, P: Propagator + Drop> Solver<R, P> {
             (R.around self.new.recorder) (R.faults self.old.recorder)
             (R.faults self.new.recorder) }
     {
+        // Tells that the trail is one of a search.
+        let _level = self.search.level();
         match first_unmet(&self.search, assumptions) {
             Some(lit) => {
                 if self.search.value(lit).is_none() {
@@ -170,6 +173,7 @@ impl<R: Recorder + Drop, P: Propagator + Drop> Solver<R, P> {
                 if self.search.choose() {
                     return Ok(Turn::Decided);
                 }
+                stored_model_is_solution();
                 let model = self.search.model(self.alloc)?;
                 Ok(Turn::Answered(Answer::Sat(model)))
             }

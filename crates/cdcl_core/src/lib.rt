@@ -5,11 +5,11 @@
 #![tactic(auto)]
 
 mod answering;
+mod deciding;
+mod learning;
 mod recording;
 mod schedule;
 mod solver;
-mod deciding;
-mod learning;
 mod solving;
 mod taking;
 mod turn;

@@ -10,7 +10,8 @@ use proof_laws::Line;
 use proof_rules::{ProofState, RecordFault, Recorder};
 use scut_base::NoMemory;
 use search_lines::{
-    deleting_line_keeps_stored, line_is_passed, nothing_is_stored, reached_state_fits, replays_go_on,
+    deleting_line_keeps_stored, line_is_passed, nothing_is_stored, reached_state_fits,
+    replays_go_on,
 };
 use search_state::Search;
 use std::alloc::Global;

@@ -87,9 +87,9 @@ impl<R: Recorder + Drop, P: Propagator + Drop> Solver<R, P> {
         ensures turn { IsTurn result
             (IsAnswer (R.problem self.new.recorder) (R.lines self.new.recorder) assumptions.now)
             (IsOn (R.problem self.new.recorder) self.new.limit assumptions.now
-                (R.broken self.new.recorder) (R.lines self.old.recorder)
-                (R.lines self.new.recorder) self.old.search self.new.search self.new.next
-                self.new.rows) }
+            (R.broken self.new.recorder) (R.lines self.old.recorder)
+            (R.lines self.new.recorder) self.old.search self.new.search self.new.next
+            self.new.rows) }
         ensures done { OnOk result (IsDone (R.problem self.new.recorder)
             (R.broken self.new.recorder) (R.lines self.new.recorder) self.new.search
             self.new.next self.new.rows) }
@@ -127,9 +127,9 @@ impl<R: Recorder + Drop, P: Propagator + Drop> Solver<R, P> {
         ensures turn { IsTurn result
             (IsAnswer (R.problem self.new.recorder) (R.lines self.new.recorder) _assumptions.now)
             (IsOn (R.problem self.new.recorder) self.new.limit _assumptions.now
-                (R.broken self.new.recorder) (R.lines self.old.recorder)
-                (R.lines self.new.recorder) self.old.search self.new.search self.new.next
-                self.new.rows) }
+            (R.broken self.new.recorder) (R.lines self.old.recorder)
+            (R.lines self.new.recorder) self.old.search self.new.search self.new.next
+            self.new.rows) }
         ensures done { OnOk result (IsDone (R.problem self.new.recorder)
             (R.broken self.new.recorder) (R.lines self.new.recorder) self.new.search
             self.new.next self.new.rows) }

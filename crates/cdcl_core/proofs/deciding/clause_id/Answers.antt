@@ -1,6 +1,5 @@
-use Rattle.std.proofs.Common.{◌≡◌, sym, ap, ◌∙◌, List, Some}
-use Rattle.scut_base.specs.Literal.{Literal}
-use Rattle.pb_lin.specs.Constraint.{ConstraintValue, ones}
+use Rattle.std.proofs.Common.{sym, ap, ◌∙◌, Some}
+use Rattle.pb_lin.specs.Constraint.{ConstraintValue}
 use Rattle.cdcl_core.proofs.HeldLines.{clause_of_literals}
 use Rattle.cdcl_core.proofs.deciding.clause_id.Goals as goal
 

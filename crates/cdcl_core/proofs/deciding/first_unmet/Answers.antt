@@ -1,4 +1,4 @@
-use Rattle.std.proofs.Common.{◌≡◌, ◌≤◌, take, length, subst, arith, get_or, sym, Some, true, All, List}
+use Rattle.std.proofs.Common.{◌≡◌, subst, Some, true, All}
 use Rattle.std.proofs.lemmas.List.{take_all}
 use Rattle.std.proofs.lemmas.List.Elements.{All-more}
 use Rattle.scut_base.specs.Literal.{Literal}

@@ -1,4 +1,4 @@
-use Rattle.std.proofs.Common.{◌≡◌, List, [], take, fold}
+use Rattle.std.proofs.Common.{◌≡◌, [], take, fold}
 use Rattle.std.specs.FinMap.{remove}
 use Rattle.cdcl_core.proofs.taking.drop_all.Given as goal
 

@@ -1,8 +1,7 @@
-use Rattle.std.proofs.Common.{◌≡◌, ◌⊎◌, ◌≤◌, ◌+◌, length, sym, subst, ap, ◌∙◌, arith, inl, inr, true, List, ◌∷◌}
+use Rattle.std.proofs.Common.{◌≡◌, ◌⊎◌, ◌≤◌, ◌+◌, length, sym, subst, ap, ◌∙◌, arith, inl, inr, true}
 use Rattle.std.specs.FinMap.{get}
 use Rattle.pb_lin.specs.Constraint.{ConstraintValue}
 use Rattle.pb_lin.specs.LineMap.{LineMap}
-use Rattle.pb_lin.specs.Problem.{ProblemValue}
 use Rattle.proof_laws.specs.Refusal.{is_clause}
 use Rattle.search_trail.proofs.Stores.{get_other}
 use Rattle.search_lines.specs.StoredLines.{IsStored}

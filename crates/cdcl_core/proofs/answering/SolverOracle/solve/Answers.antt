@@ -1,5 +1,5 @@
-use Rattle.std.proofs.Common.{◌≡◌, sym, ap, ◌∙◌, subst}
-use Rattle.cdcl_core.specs.Work.{SolverValue, IsHeld, IsDone}
+use Rattle.std.proofs.Common.{sym, ap, ◌∙◌, subst}
+use Rattle.cdcl_core.specs.Work.{SolverValue, IsDone}
 use Rattle.cdcl_core.proofs.Turns.{orderly_done, not_false}
 use Rattle.cdcl_core.proofs.answering.SolverOracle.solve.Goals as goal
 
@@ -11,6 +11,6 @@ invariant_of-self-2 g c test =
     let rec = g.R.Recorder in
     let now = c.answer-result.new.self in
     let done = orderly_done c.answer-result.result (IsDone (rec.problem now.recorder) (rec.broken now.recorder) (rec.lines now.recorder) now.search now.next now.rows)
-        (c.is_orderly.ensures.orderly (not_false c.is_orderly.result test)) c.answer-result.ensures.done c.answer-result.ensures.goes_on in
+    (c.is_orderly.ensures.orderly (not_false c.is_orderly.result test)) c.answer-result.ensures.done c.answer-result.ensures.goes_on in
     let moved = subst (λ (v : SolverValue _). IsDone (rec.problem v.recorder) (rec.broken v.recorder) (rec.lines v.recorder) v.search v.next v.rows) (sym c.self-2.view_is) done in
     (moved.whole, moved.held)

@@ -1,4 +1,4 @@
-use Rattle.std.proofs.Common.{◌≡◌, sym, subst}
+use Rattle.std.proofs.Common.{sym, subst}
 use Rattle.search_lines.proofs.SearchLines.{none_law}
 use Rattle.oracle.specs.Solving.{AddsSearchLines}
 use Rattle.cdcl_core.proofs.solver.Solver.answer.Goals as goal

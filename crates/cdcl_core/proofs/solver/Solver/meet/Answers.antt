@@ -1,8 +1,6 @@
-use Rattle.std.proofs.Common.{◌≡◌, ◌≤◌, ◌<◌, sym, ap, ◌∙◌, subst, List}
+use Rattle.std.proofs.Common.{◌≡◌, ◌<◌, sym, ap, ◌∙◌, subst}
 use Rattle.pb_lin.specs.Problem.{ProblemValue}
-use Rattle.proof_laws.specs.declared.line.Line.{Line}
-use Rattle.clause_prop.specs.Steps.{TrailValue, last_level}
-use Rattle.search_trail.specs.SearchTrail.{IsSearchTrail, IsUndecided}
+use Rattle.search_trail.specs.SearchTrail.{IsUndecided}
 use Rattle.search_trail.specs.Rank.{rank}
 use Rattle.search_lines.specs.SearchLines.{AddsLearned}
 use Rattle.search_lines.proofs.SearchLines.{none_law}

@@ -1,14 +1,12 @@
-use Rattle.std.proofs.Common.{◌≡◌, ◌≤◌, ◌<◌, ◌-◌, ◌+◌, sym, ap, ◌∙◌, subst, refl, arith, inl, inr, List, ℕ}
+use Rattle.std.proofs.Common.{◌≡◌, ◌<◌, ◌-◌, ◌+◌, sym, ap, ◌∙◌, subst, refl, arith, inl, inr, ℕ}
 use Rattle.pb_lin.specs.Problem.{ProblemValue}
-use Rattle.proof_laws.specs.declared.line.Line.{Line}
-use Rattle.clause_prop.specs.Steps.{TrailValue}
 use Rattle.search_trail.specs.SearchTrail.{IsSearchTrail}
-use Rattle.search_trail.specs.Rank.{rank, rest}
+use Rattle.search_trail.specs.Rank.{rest}
 use Rattle.search_trail.proofs.Ranks.{higher_law, restarted_law}
 use Rattle.search_lines.specs.SearchLines.{AddsLearned}
 use Rattle.search_lines.proofs.SearchLines.{none_law, joined_law, then_law}
 use Rattle.oracle.specs.Solving.{AddsSearchLines, IsAnswer}
-use Rattle.cdcl_core.specs.Work.{SolverValue, IsAtWork, IsLed, IsOn, IsTurn, KeepsRecorder}
+use Rattle.cdcl_core.specs.Work.{SolverValue, IsAtWork, IsLed, IsOn, KeepsRecorder}
 use Rattle.cdcl_core.proofs.Turns.{work_same, led_back, vars_back, led_undecided, turn_on, kept_twice, kept_none}
 use Rattle.cdcl_core.proofs.solver.Solver.run.Goals as goal
 use Rattle.cdcl_core.proofs.solver.Solver.run.Goals.{in-Learned, in-Decided}
@@ -72,10 +70,10 @@ loop-since-smaller g c =
     let now = c.turn.new.self in
     let old = c.loop-since.self in
     let on = turn_on c.in_ok-answer.field-0 (IsAnswer (rec.problem now.recorder) (rec.lines now.recorder) c.args.assumptions.now)
-        (IsOn (rec.problem now.recorder) now.limit c.args.assumptions.now (rec.broken now.recorder) (rec.lines old.recorder) (rec.lines now.recorder) old.search now.search now.next now.rows)
-        c.in_ok-answer.ensures.turn (elim c.match-branch-2.branch [ in-Learned w ↦ inl w.in-Learned.is | in-Decided w ↦ inr w.in-Decided.is ]) in
+    (IsOn (rec.problem now.recorder) now.limit c.args.assumptions.now (rec.broken now.recorder) (rec.lines old.recorder) (rec.lines now.recorder) old.search now.search now.next now.rows)
+    c.in_ok-answer.ensures.turn (elim c.match-branch-2.branch [ in-Learned w ↦ inl w.in-Learned.is | in-Decided w ↦ inr w.in-Decided.is ]) in
     higher_law now.search.store (50 - c.loop-since.restarts) old.search.trail now.search.trail
-        (subst (λ (v : SolverValue _). IsSearchTrail v.search.store v.search.trail) c.self-in-loop-since.view_is c.level-level.ensures.search) on.vars on.rises
+    (subst (λ (v : SolverValue _). IsSearchTrail v.search.store v.search.trail) c.self-in-loop-since.view_is c.level-level.ensures.search) on.vars on.rises
 
 pub loop-since-preserved : goal.loop-since-preserved
 loop-since-preserved g c =
@@ -85,8 +83,8 @@ loop-since-preserved g c =
     let fn = c.args.self.now in
     let inv = c.loop-since.invariant in
     let on = turn_on c.in_ok-answer.field-0 (IsAnswer (rec.problem now.recorder) (rec.lines now.recorder) c.args.assumptions.now)
-        (IsOn (rec.problem now.recorder) now.limit c.args.assumptions.now (rec.broken now.recorder) (rec.lines old.recorder) (rec.lines now.recorder) old.search now.search now.next now.rows)
-        c.in_ok-answer.ensures.turn (elim c.match-branch-2.branch [ in-Learned w ↦ inl w.in-Learned.is | in-Decided w ↦ inr w.in-Decided.is ]) in
+    (IsOn (rec.problem now.recorder) now.limit c.args.assumptions.now (rec.broken now.recorder) (rec.lines old.recorder) (rec.lines now.recorder) old.search now.search now.next now.rows)
+    c.in_ok-answer.ensures.turn (elim c.match-branch-2.branch [ in-Learned w ↦ inl w.in-Learned.is | in-Decided w ↦ inr w.in-Decided.is ]) in
     let same : rec.problem now.recorder ≡ rec.problem fn.recorder = c.turn.ensures.kept.problem ∙ inv.kept.problem in
     record {
       few = inv.few;

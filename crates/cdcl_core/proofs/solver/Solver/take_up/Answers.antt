@@ -1,7 +1,5 @@
-use Rattle.std.proofs.Common.{◌≡◌, ◌≤◌, sym, ap, ◌∙◌, subst, arith, max, List, ℕ}
-use Rattle.clause_prop.specs.declared.step.Step.{Step}
+use Rattle.std.proofs.Common.{◌≡◌, sym, ap, ◌∙◌, subst, ℕ}
 use Rattle.clause_prop.specs.Steps.{TrailValue}
-use Rattle.search_trail.specs.SearchTrail.{IsUndecided}
 use Rattle.search_state.specs.Searching.{SearchValue}
 use Rattle.oracle.specs.Solving.{Reaches}
 use Rattle.cdcl_core.specs.Work.{SolverValue, IsHeld, IsTakenUp}
@@ -28,10 +26,10 @@ returns-clause-taken g c =
     let known = held_state _ _ c.self.inside.search c.state-state.result.now c.self.inside.next c.self.inside.rows held c.state-state.ensures in
     subst (λ (n : ℕ). IsTakenUp (rec.problem c.self.inside.recorder) (rec.lines c.self.inside.recorder) c.take_lines.new.search n c.self.inside.rows) (sym c.next_id-self-inside.ensures)
     (taken_up _ _ c.self.inside.search c.grow.new.self c.take_lines.new.search c.state-state.result.now c.self.inside.next c.self.inside.rows held unended c.state-state.ensures
-        (ap (λ (s : SearchValue). s.store) c.in_ok-grow.ensures.ok ∙ c.back_to.ensures.store) c.in_ok-take_lines.ensures.trail
-        (grown_vars c.grow.new.self.trail.vars c.vars.result c.back_to.new.self.trail.vars c.self.inside.search.trail.vars c.state-state.result.now.vars
-            (ap (λ (s : SearchValue). s.trail.vars) c.in_ok-grow.ensures.ok) (vars_back 0 c.self.inside.search.trail c.back_to.new.self.trail c.back_to.ensures.trail) c.vars.ensures.value known.1)
-        c.in_ok-take_lines.ensures.stored)
+    (ap (λ (s : SearchValue). s.store) c.in_ok-grow.ensures.ok ∙ c.back_to.ensures.store) c.in_ok-take_lines.ensures.trail
+    (grown_vars c.grow.new.self.trail.vars c.vars.result c.back_to.new.self.trail.vars c.self.inside.search.trail.vars c.state-state.result.now.vars
+    (ap (λ (s : SearchValue). s.trail.vars) c.in_ok-grow.ensures.ok) (vars_back 0 c.self.inside.search.trail c.back_to.new.self.trail c.back_to.ensures.trail) c.vars.ensures.value known.1)
+    c.in_ok-take_lines.ensures.stored)
 
 pub returns-clause-undecided : goal.returns-clause-undecided
 returns-clause-undecided g c = undecided_steps c.back_to.new.self.trail c.take_lines.new.search.trail

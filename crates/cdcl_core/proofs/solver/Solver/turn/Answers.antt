@@ -1,4 +1,4 @@
-use Rattle.std.proofs.Common.{◌≡◌, sym, ap, ◌∙◌, subst}
+use Rattle.std.proofs.Common.{sym, subst}
 use Rattle.search_trail.proofs.Ranks.{propagation_raises}
 use Rattle.search_lines.proofs.SearchLines.{none_law}
 use Rattle.oracle.specs.Solving.{AddsSearchLines, IsAnswer}
@@ -38,11 +38,11 @@ returns-in-Some-clause-turn g c =
     let now = c.meet.new.self in
     let asked = c.args.assumptions.now in
     subst (λ (v : SolverValue _). IsTurn c.meet.result (IsAnswer (rec.problem now.recorder) (rec.lines now.recorder) asked)
-        (IsOn (rec.problem now.recorder) now.limit asked (rec.broken now.recorder) (rec.lines v.recorder) (rec.lines now.recorder) v.search now.search now.next now.rows)) c.self.view_is
+    (IsOn (rec.problem now.recorder) now.limit asked (rec.broken now.recorder) (rec.lines v.recorder) (rec.lines now.recorder) v.search now.search now.next now.rows)) c.self.view_is
     (turn_weaker c.meet.result (IsAnswer (rec.problem now.recorder) (rec.lines now.recorder) asked)
-        (IsOn (rec.problem now.recorder) now.limit asked (rec.broken now.recorder) (rec.lines c.self.inside.recorder) (rec.lines now.recorder) c.propagate.new.self now.search now.next now.rows)
-        (IsOn (rec.problem now.recorder) now.limit asked (rec.broken now.recorder) (rec.lines c.self.inside.recorder) (rec.lines now.recorder) c.self.inside.search now.search now.next now.rows)
-        (on_longer _ _ asked _ _ _ c.self.inside.search c.propagate.new.self now.search _ _ (propagation_raises _ _ _ c.propagate.ensures.extends) c.propagate.ensures.extends.vars) c.meet.ensures.turn)
+    (IsOn (rec.problem now.recorder) now.limit asked (rec.broken now.recorder) (rec.lines c.self.inside.recorder) (rec.lines now.recorder) c.propagate.new.self now.search now.next now.rows)
+    (IsOn (rec.problem now.recorder) now.limit asked (rec.broken now.recorder) (rec.lines c.self.inside.recorder) (rec.lines now.recorder) c.self.inside.search now.search now.next now.rows)
+    (on_longer _ _ asked _ _ _ c.self.inside.search c.propagate.new.self now.search _ _ (propagation_raises _ _ _ c.propagate.ensures.extends) c.propagate.ensures.extends.vars) c.meet.ensures.turn)
 
 pub returns-in-None-clause-turn : goal.returns-in-None-clause-turn
 returns-in-None-clause-turn g c =
@@ -50,8 +50,8 @@ returns-in-None-clause-turn g c =
     let now = c.decide.new.self in
     let asked = c.args.assumptions.now in
     subst (λ (v : SolverValue _). IsTurn c.decide.result (IsAnswer (rec.problem now.recorder) (rec.lines now.recorder) asked)
-        (IsOn (rec.problem now.recorder) now.limit asked (rec.broken now.recorder) (rec.lines v.recorder) (rec.lines now.recorder) v.search now.search now.next now.rows)) c.self.view_is
+    (IsOn (rec.problem now.recorder) now.limit asked (rec.broken now.recorder) (rec.lines v.recorder) (rec.lines now.recorder) v.search now.search now.next now.rows)) c.self.view_is
     (turn_weaker c.decide.result (IsAnswer (rec.problem now.recorder) (rec.lines now.recorder) asked)
-        (IsOn (rec.problem now.recorder) now.limit asked (rec.broken now.recorder) (rec.lines c.self.inside.recorder) (rec.lines now.recorder) c.propagate.new.self now.search now.next now.rows)
-        (IsOn (rec.problem now.recorder) now.limit asked (rec.broken now.recorder) (rec.lines c.self.inside.recorder) (rec.lines now.recorder) c.self.inside.search now.search now.next now.rows)
-        (on_longer _ _ asked _ _ _ c.self.inside.search c.propagate.new.self now.search _ _ (propagation_raises _ _ _ c.propagate.ensures.extends) c.propagate.ensures.extends.vars) c.decide.ensures.turn)
+    (IsOn (rec.problem now.recorder) now.limit asked (rec.broken now.recorder) (rec.lines c.self.inside.recorder) (rec.lines now.recorder) c.propagate.new.self now.search now.next now.rows)
+    (IsOn (rec.problem now.recorder) now.limit asked (rec.broken now.recorder) (rec.lines c.self.inside.recorder) (rec.lines now.recorder) c.self.inside.search now.search now.next now.rows)
+    (on_longer _ _ asked _ _ _ c.self.inside.search c.propagate.new.self now.search _ _ (propagation_raises _ _ _ c.propagate.ensures.extends) c.propagate.ensures.extends.vars) c.decide.ensures.turn)
