@@ -29,6 +29,7 @@ use Rattle.search_lines.proofs.Replays.{one_law}
 use Rattle.search_lines.proofs.SearchLines.{none_law}
 use Rattle.search_state.specs.Searching.{SearchValue}
 use Rattle.cdcl_core.specs.Work.{IsAtWork, IsLed, IsOn}
+use Rattle.cdcl_core.proofs.Turns.{work_same as work_kept}
 
 -- all assumptions are true
 abbrev pub AreMet : TrailValue → List Literal → Type 0
@@ -119,35 +120,11 @@ led_on t assumptions l led may q s at zero_reason = elim (at_push t.steps (decis
     whole : (q : ℕ) → q ≡ length t.steps → t ≡ cut (with_step t (decision t l)) q
     whole q is = sym (cut_whole t) ∙ ap (cut t) (sym is) ∙ cut_of_longer t (decision t l ∷ []) q (omega (arith, is))
 
-work_on : (p : ProblemValue) (limit : Option ℕ) (lines : List Line) (search now : SearchValue) (next rows : ℕ) → now.store ≡ search.store → now.trail.vars ≡ search.trail.vars → IsAtWork p limit lines search next rows → IsAtWork p limit lines now next rows
-work_on p limit lines search now next rows store vars work =
-    let taken = work.taken in
-    let held = taken.held in
-    record {
-      taken = record {
-        held = record {
-          state = held.state;
-          replay = held.replay;
-          fits = held.fits;
-          is = held.is;
-          row_count = held.row_count;
-          positive = held.positive;
-          stored = subst (IsStored p held.state next) (sym store) held.stored;
-          vars = let old = held.vars in omega (arith, old, vars);
-        };
-        all = taken.all;
-        vars = vars ∙ taken.vars;
-        unended = taken.unended;
-      };
-      earned = work.earned;
-      within = work.within;
-    }
-
 pub work_same : (p : ProblemValue) (limit : Option ℕ) (lines : List Line) (search now : SearchValue) (next rows : ℕ) → now.store ≡ search.store → now.trail ≡ search.trail → IsAtWork p limit lines search next rows → IsAtWork p limit lines now next rows
-work_same p limit lines search now next rows store trail work = work_on p limit lines search now next rows store (ap (λ (t : TrailValue). t.vars) trail) work
+work_same p limit lines search now next rows store trail work = work_kept p limit lines search now next rows store (ap (λ (t : TrailValue). t.vars) trail) work
 
 pub work_decided : (p : ProblemValue) (limit : Option ℕ) (lines : List Line) (search now : SearchValue) (next rows : ℕ) (l : Literal) → now.store ≡ search.store → now.trail ≡ with_step search.trail (decision search.trail l) → IsAtWork p limit lines search next rows → IsAtWork p limit lines now next rows
-work_decided p limit lines search now next rows l store trail work = work_on p limit lines search now next rows store (ap (λ (t : TrailValue). t.vars) trail) work
+work_decided p limit lines search now next rows l store trail work = work_kept p limit lines search now next rows store (ap (λ (t : TrailValue). t.vars) trail) work
 
 -- the parts of a search that has decided a literal
 pub decided_parts : (search now : SearchValue) (l : Literal) → now ≡ record { store = search.store; trail = with_step search.trail (decision search.trail l) } → (now.store ≡ search.store) × (now.trail ≡ with_step search.trail (decision search.trail l))

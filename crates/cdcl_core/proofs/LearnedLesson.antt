@@ -22,7 +22,7 @@ use Rattle.cdcl_core.specs.Work.{SolverValue, IsAtWork, HasCause, GoesOn}
 use Rattle.cdcl_core.specs.Learnable.{IsLearnable, MayLearn}
 use Rattle.cdcl_core.proofs.LineCounts.{full_lines}
 use Rattle.cdcl_core.proofs.LearnedLine.{has_more}
-use Rattle.cdcl_core.proofs.LearnedStep.{work_moved}
+use Rattle.cdcl_core.proofs.Turns.{work_same}
 
 pub learnable : (old new : SearchValue) (lesson : Lesson) (line : Line) → IsSearchTrail old.store old.trail → IsLesson old.store old.trail lesson → new.store ≡ old.store
     → IsBackTo lesson.level old.trail new.trail → line ≡ Learn (clause lesson.lits) lesson.hints → IsLearnable new lesson.level lesson.lit line
@@ -85,7 +85,7 @@ taught_inside problem lines broken a b lesson same work is whole =
 -- after the jump
 pub work_back : (p : ProblemValue) (limit : Option ℕ) (lines : List Line) (old new : SearchValue) (next rows level : ℕ) → new.store ≡ old.store → IsBackTo level old.trail new.trail
     → IsAtWork p limit lines old next rows → IsAtWork p limit lines new next rows
-work_back p limit lines old new next rows level store back work = work_moved p limit lines old new next rows store (ap (λ (t : TrailValue). t.vars) back.is) work
+work_back p limit lines old new next rows level store back work = work_same p limit lines old new next rows store (ap (λ (t : TrailValue). t.vars) back.is) work
 
 -- ---- results
 

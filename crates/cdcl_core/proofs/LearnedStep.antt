@@ -43,30 +43,3 @@ pub led_after : (old back new : TrailValue) (level : ℕ) (l : Literal) (assumpt
 led_after old back new level l assumptions jump forced led =
     subst (λ (t : TrailValue). IsLed assumptions t) (sym (forced.2 ∙ ap (λ (t : TrailValue). with_step t (asserted l level forced.0)) jump.is))
     (led_before assumptions old jump.keep l level forced.0 forced.1 led)
-
--- ---- what has changed since
-
--- only lines and the number of variables count
-pub work_moved : (p : ProblemValue) (limit : Option ℕ) (lines : List Line) (old new : SearchValue) (next rows : ℕ) → new.store ≡ old.store → new.trail.vars ≡ old.trail.vars
-    → IsAtWork p limit lines old next rows → IsAtWork p limit lines new next rows
-work_moved p limit lines old new next rows store vars work =
-    let held = work.taken.held in
-    record {
-      taken = record {
-        held = record {
-          state = held.state;
-          replay = held.replay;
-          fits = held.fits;
-          is = held.is;
-          row_count = held.row_count;
-          positive = held.positive;
-          stored = subst (λ (m : LineMap). IsStored p held.state next m) (sym store) held.stored;
-          vars = let was = held.vars in omega (arith, was, vars);
-        };
-        all = work.taken.all;
-        vars = vars ∙ work.taken.vars;
-        unended = work.taken.unended;
-      };
-      earned = work.earned;
-      within = work.within;
-    }
