@@ -36,9 +36,9 @@ pub fn stored_lines_are_normal()
 
 /// Law: the next line is stored where it is a row or a clause.
 pub fn line_is_taken()
-    ensures stored { (p : ProblemValue) (s : StateValue) (next : ℕ) (store : LineMap) (c : ConstraintValue)
-        → IsStored p s next store → get s.live next ≡ Some c → next < s.next_id → 0 < next
-        → (next ≤ length p.rows) ⊎ (is_clause c ≡ true)
+    ensures stored { (p : ProblemValue) (s : StateValue) (next : ℕ) (store : LineMap)
+        (c : ConstraintValue) → IsStored p s next store → get s.live next ≡ Some c
+        → next < s.next_id → 0 < next → (next ≤ length p.rows) ⊎ (is_clause c ≡ true)
         → IsStored p s (next + 1) (insert store next c) }
     ensures fresh { (p : ProblemValue) (s : StateValue) (next : ℕ) (store : LineMap)
         → IsStored p s next store → get store next ≡ None }
@@ -49,8 +49,8 @@ pub fn line_is_passed()
     ensures none { (p : ProblemValue) (s : StateValue) (next : ℕ) (store : LineMap)
         → IsStored p s next store → get s.live next ≡ None → next < s.next_id
         → IsStored p s (next + 1) store }
-    ensures other { (p : ProblemValue) (s : StateValue) (next : ℕ) (store : LineMap) (c : ConstraintValue)
-        → IsStored p s next store → get s.live next ≡ Some c → next < s.next_id
+    ensures other { (p : ProblemValue) (s : StateValue) (next : ℕ) (store : LineMap)
+        (c : ConstraintValue) → IsStored p s next store → get s.live next ≡ Some c → next < s.next_id
         → length p.rows < next → is_clause c ≡ false → IsStored p s (next + 1) store }
 {}
 
@@ -70,8 +70,8 @@ pub fn deleting_line_keeps_stored()
 
 /// Law: where all lines are stored, a clause that is learned is to be stored under its id.
 pub fn learned_line_is_stored()
-    ensures stored { (p : ProblemValue) (s t : StateValue) (goal : ConstraintValue) (hints : List Hint)
-        (store : LineMap) → IsState s → Fits p s → IsStored p s s.next_id store
+    ensures stored { (p : ProblemValue) (s t : StateValue) (goal : ConstraintValue)
+        (hints : List Hint) (store : LineMap) → IsState s → Fits p s → IsStored p s s.next_id store
         → IsNext p s (Learn goal hints) t
         → IsStored p t t.next_id (insert store s.next_id goal) }
     ensures id { (p : ProblemValue) (s t : StateValue) (goal : ConstraintValue) (hints : List Hint)
