@@ -1,0 +1,148 @@
+-- Outputs that are made in falling order, one after the other.
+use Rattle.std.proofs.Common.{◌≡◌, ◌≢◌, ◌⊎◌, inl, inr, ℕ, ◌-◌, ◌<◌, ◌≤◌, List, [], ◌∷◌, ◌++◌, get_or, length, drop, refl, sym, subst, ◌∙◌, ⊎_elim, arith}
+use Rattle.std.specs.List.{All, Contains}
+use Rattle.std.proofs.lemmas.Bool.{cases_order}
+use Rattle.std.proofs.lemmas.List.{length-drop}
+use Rattle.std.proofs.lemmas.List.Elements.{All-nil, All-cons, All-append, All-drop, Contains-append_left, Contains-append_right}
+use Rattle.std.proofs.lemmas.List.Quantifiers.{all_pairs_push}
+use Rattle.scut_base.proofs.Lists.{Contains-head}
+use Rattle.pb_lin.specs.Constraint.{total}
+use Rattle.cutting_planes.proofs.Terms.{Terms}
+use Rattle.proof_laws.specs.State.{StateValue}
+use Rattle.sum_outputs.specs.Totals.{AreWeights, IsLeastSum}
+use Rattle.sum_outputs.specs.Adding.{Snapshot, IsReady, Continues}
+use Rattle.sum_outputs.specs.Outputs.{IsDefined}
+use Rattle.sum_outputs.specs.Joining.{IsOutputAt, AreOutputsAt, IsCompleteTo, AreChildrenNow, IsNewOutput}
+use Rattle.sum_outputs.specs.Sums.{IsLeastOf, IsRun, IsRunTo}
+use Rattle.sum_outputs.specs.Falling.{AreFalling, AreFallingTo, AreAllBetween, IsHalfWay}
+use Rattle.sum_outputs.specs.declared.made.SumOutput.{SumOutput}
+use Rattle.sum_outputs.proofs.OutputsLater.{defined_then, now_later}
+use Rattle.sum_outputs.proofs.JoinLines.{output_then}
+use Rattle.sum_outputs.proofs.SumLists.{least_is}
+use Rattle.sum_outputs.proofs.Runs.{IsLastOf, run_pop}
+
+-- outputs are complete to a number below
+pub complete_less : (terms : Terms) (os : List SumOutput) (k j : ℕ) → j ≤ k → IsCompleteTo terms os k → IsCompleteTo terms os j
+complete_less terms os k j le complete m can some = ⊎_elim
+    (λ (exact : (o : SumOutput) × Contains os o × (o.sum ≡ m)). inl exact)
+    (λ (over : (o : SumOutput) × Contains os o × (k ≤ o.sum) × (o.sum ≤ m)). inr (over.0, over.1, (let large = over.2 in omega arith), over.3))
+    (complete m can some)
+
+-- nothing is made yet
+pub halfway_starts : (a : Snapshot) (terms : Terms) (firsts seconds : List SumOutput) (last k : ℕ) (sums : List (ℕ × ℕ)) → IsRunTo firsts seconds (total terms) last k sums → IsHalfWay a a terms firsts seconds (total terms) last k sums []
+halfway_starts a terms firsts seconds last k sums run = record {
+  middle = run.0;
+  high = run.0;
+  run = run.1;
+  are = record {
+    outputs = λ t reached. All-nil (IsOutputAt a t terms);
+    defined = λ t reached. All-nil (IsDefined a t terms);
+    falling = λ i j d less short. absurd (omega arith);
+    above = All-nil (λ o. run.0 < o.sum);
+    fresh = λ s reached. All-nil (λ o. s.vars < o.lit.var);
+    apart = λ i j d less short. absurd (omega arith);
+  };
+  all = λ m can low high. absurd (omega arith);
+  within = All-nil (λ o. o.sum ≤ run.0);
+  below = omega arith;
+  top = inl refl;
+  enough = run.3;
+}
+
+-- the least sum that the last of a run says
+pub least_of_run : (a : Snapshot) → IsReady a → (first second terms : Terms) (firsts seconds : List SumOutput) (j k r : ℕ) → AreChildrenNow a first second firsts seconds → terms ≡ first ++ second → j ≤ k → IsCompleteTo first firsts k → IsCompleteTo second seconds k → IsLeastOf firsts seconds j (total terms) r → IsLeastSum terms j r
+least_of_run a ready first second terms firsts seconds j k r children same le left right least =
+    let are = children ready.state ready.reached in
+    subst (λ (ts : Terms). IsLeastSum ts j r) (sym same)
+    (least_is first second firsts seconds are.weights (λ i d short. (are.of_first.each i d short).attainable) (λ i d short. (are.of_second.each i d short).attainable) j
+    (complete_less first firsts k j le left) (complete_less second seconds k j le right) r
+    (subst (λ (ts : Terms). IsLeastOf firsts seconds j (total ts) r) same least))
+
+module _ (a b c : Snapshot) (ready : IsReady a) (ready_b : IsReady b) (before : Continues a b) (on : Continues b c) (terms : Terms) (firsts seconds : List SumOutput) (greatest last k : ℕ) (sums : List (ℕ × ℕ)) (s : ℕ × ℕ) (os : List SumOutput) (o : SumOutput) (half : IsHalfWay a b terms firsts seconds greatest last k (sums ++ s ∷ []) os) (new : IsNewOutput b c terms o) (sum : o.sum ≡ s.1) (least : IsLeastSum terms s.0 s.1) where
+  popped : IsLastOf firsts seconds greatest k last sums s half.middle
+  popped = run_pop firsts seconds greatest k last sums half.middle s half.run
+
+  old_variables : All (λ p. p.lit.var < o.lit.var) os
+  old_variables i d short =
+      let is = (half.are.outputs ready_b.state ready_b.reached i d short).literal.variable in
+      let fresh = new.fresh ready_b.state ready_b.reached in
+      omega arith
+
+  falling_more : AreFalling a c terms popped.middle (os ++ o ∷ [])
+  falling_more =
+      let reaches = least.reaches in
+      let from = popped.from in
+      let is = popped.is in
+      record {
+        outputs = λ t reached. All-append (IsOutputAt c t terms) os (o ∷ [])
+            (now_later b c (λ d u. All (IsOutputAt d u terms) os) ready_b on (λ u has all i d short. output_then b c on u has terms (get_or os i d) (all i d short)) half.are.outputs t reached)
+            (All-cons (IsOutputAt c t terms) o [] (new.is t reached) (All-nil (IsOutputAt c t terms)));
+        defined = λ t reached. All-append (IsDefined c t terms) os (o ∷ [])
+            (now_later b c (λ d u. All (IsDefined d u terms) os) ready_b on (λ u has all i d short. defined_then b c on u has terms (get_or os i d) (all i d short)) half.are.defined t reached)
+            (All-cons (IsDefined c t terms) o [] (new.defined t reached) (All-nil (IsDefined c t terms)));
+        falling = all_pairs_push (λ p q. q.sum < p.sum) os o half.are.falling (λ i d short. let w = half.are.above i d short in omega arith);
+        above = All-append (λ p. popped.middle < p.sum) os (o ∷ []) (λ i d short. let w = half.are.above i d short in omega arith) (All-cons (λ p. popped.middle < p.sum) o [] (omega arith) (All-nil (λ p. popped.middle < p.sum)));
+        fresh = λ u reached. All-append (λ p. u.vars < p.lit.var) os (o ∷ []) (half.are.fresh u reached)
+            (All-cons (λ p. u.vars < p.lit.var) o [] (let has = before.states u reached in let more = has.later.vars in let f = new.fresh has.state has.reached in omega arith) (All-nil (λ p. u.vars < p.lit.var)));
+        apart = all_pairs_push (λ p q. p.lit.var ≢ q.lit.var) os o half.are.apart (λ i d short e. let w = old_variables i d short in omega arith);
+      }
+
+  all_more : AreAllBetween terms popped.middle half.high (os ++ o ∷ [])
+  all_more m can low high =
+      let from = popped.from in
+      let is = popped.is in
+      let most = least.least m can (omega arith) in
+      ⊎_elim
+      (λ (same : m ≡ o.sum). (o, Contains-append_right os (o ∷ []) o (Contains-head o []), sym same))
+      (λ (other : (m < o.sum) ⊎ (o.sum < m)). ⊎_elim
+      (λ (less : m < o.sum). absurd (omega arith))
+      (λ (more : o.sum < m). let found = half.all m can (omega arith) high in (found.0, Contains-append_left os (o ∷ []) found.0 found.1, found.2))
+      other)
+      (cases_order m o.sum)
+
+  pub halfway_more : IsHalfWay a c terms firsts seconds greatest last k sums (os ++ o ∷ [])
+  halfway_more =
+      let from = popped.from in
+      let is = popped.is in
+      let reaches = least.reaches in
+      let below = half.below in
+      record {
+        middle = popped.middle;
+        high = half.high;
+        run = popped.run;
+        are = falling_more;
+        all = all_more;
+        within = All-append (λ p. p.sum ≤ half.high) os (o ∷ []) half.within (All-cons (λ p. p.sum ≤ half.high) o [] (omega arith) (All-nil (λ p. p.sum ≤ half.high)));
+        below = omega arith;
+        top = ⊎_elim
+            (λ (none : half.high ≡ half.middle). inr (o, Contains-append_right os (o ∷ []) o (Contains-head o []), sum ∙ sym is ∙ sym none))
+            (λ (found : (p : SumOutput) × Contains os p × (p.sum ≡ half.high)). inr (found.0, Contains-append_left os (o ∷ []) found.0 found.1, found.2))
+            half.top;
+        enough = half.enough;
+      }
+
+-- all are made
+pub halfway_ends : (a b : Snapshot) (terms : Terms) (firsts seconds : List SumOutput) (greatest last k : ℕ) (sums : List (ℕ × ℕ)) (os : List SumOutput) → sums ≡ [] → IsHalfWay a b terms firsts seconds greatest last k sums os → AreFallingTo a b terms last k os
+halfway_ends a b terms firsts seconds greatest last k sums os none half =
+    let at : half.middle ≡ last = subst (λ (ss : List (ℕ × ℕ)). IsRun firsts seconds greatest k last ss half.middle) none half.run in
+    record {
+      high = half.high;
+      are = subst (λ (n : ℕ). AreFalling a b terms n os) at half.are;
+      all = subst (λ (n : ℕ). AreAllBetween terms n half.high os) at half.all;
+      within = half.within;
+      top = ⊎_elim (λ (none : half.high ≡ half.middle). inl (none ∙ at)) (λ (found : (p : SumOutput) × Contains os p × (p.sum ≡ half.high)). inr found) half.top;
+      enough = half.enough;
+    }
+
+-- the last of outputs alone
+pub last_outputs : (b : Snapshot) (terms : Terms) (os : List SumOutput) (t : StateValue) → AreWeights terms → All (IsOutputAt b t terms) os → AreOutputsAt b t terms (drop (length os - 1) os)
+last_outputs b terms os t weights all =
+    let each = All-drop (IsOutputAt b t terms) (length os - 1) os all in
+    let few = length-drop (length os - 1) os in
+    record {
+      each = each;
+      rising = record {
+        rising = λ i j d less short. absurd (omega arith);
+        small = λ i d short. let most = (each i d short).literal.most in let w = weights.small in omega arith;
+      };
+    }

@@ -1,0 +1,26 @@
+-- What a line more leaves of a recorder.
+use Rattle.std.proofs.lemmas.Result.{err_from_is_err_and}
+use Rattle.sum_outputs.proofs.recording.record.Goals as goal
+use Rattle.sum_outputs.proofs.LaterStates.{continues_same, continues_more, recorded_ok, recorded_err, added_fault}
+use Rattle.sum_outputs.specs.Adding.{seen}
+
+pub returns-in_err-id-clause-recorded : goal.returns-in_err-id-clause-recorded
+returns-in_err-id-clause-recorded g c =
+    let p = err_from_is_err_and c.from_residual.result c.from_residual.ensures.1 in
+    let R = g.R.Recorder in
+    let a = seen R.problem R.limit R.lines R.faults R.broken R.around c.args.rec.now in
+    let b = seen R.problem R.limit R.lines R.faults R.broken R.around c.add_line.new.self in
+    let was = c.in_err-id.ensures in
+    recorded_err a b p.0 c.from_residual.result p.1
+    (continues_same a b was.problem was.limit was.later was.around was.kept)
+    (rw p.2 (added_fault a b c.in_err-id.field-0.0 was.full was.failed was.full_whole was.kept))
+
+pub returns-clause-recorded : goal.returns-clause-recorded
+returns-clause-recorded g c =
+    let R = g.R.Recorder in
+    let a = seen R.problem R.limit R.lines R.faults R.broken R.around c.args.rec.now in
+    let b = seen R.problem R.limit R.lines R.faults R.broken R.around c.add_line.new.self in
+    let was = c.in_ok-id.ensures in
+    recorded_ok a b c.in_ok-id.id
+    (continues_more a b c.args.line.now c.state.result.now c.state-state.result.now was.problem was.limit was.later was.around was.added c.requires.kind c.vars-vars.ensures.state c.state.ensures c.state-state.ensures)
+    was.whole

@@ -1,0 +1,65 @@
+-- The clauses of the pairs are added for one output after the other.
+use Rattle.std.proofs.Common.{◌≡◌, [], ◌∷◌, get_or, ap, sym, subst, arith}
+use Rattle.std.proofs.lemmas.Result.{err_from_is_err_and}
+use Rattle.sum_outputs.specs.Adding.{seen}
+use Rattle.sum_outputs.specs.Outputs.{CanImplyNow, Imply}
+use Rattle.sum_outputs.specs.Joining.{PairsImply}
+use Rattle.sum_outputs.specs.declared.made.SumOutput.{SumOutput}
+use Rattle.sum_outputs.proofs.LaterStates.{always_later, handed_on}
+use Rattle.sum_outputs.proofs.OutputsLater.{can_later, way_starts, way_ready, way_on, done_step}
+use Rattle.sum_outputs.proofs.windows.add_all_pairs.Goals as goal
+
+pub loop-at-init : goal.loop-at-init
+loop-at-init g c =
+    let R = g.R.Recorder in
+    let a = seen R.problem R.limit R.lines R.faults R.broken R.around c.args.rec.now in
+    record { way = way_starts a c.requires.ready; done = λ k d low high. absurd (omega arith) }
+
+pub add_pairs-requires-clause-ready : goal.add_pairs-requires-clause-ready
+add_pairs-requires-clause-ready g c =
+    let R = g.R.Recorder in
+    let a = seen R.problem R.limit R.lines R.faults R.broken R.around c.args.rec.now in
+    let b = seen R.problem R.limit R.lines R.faults R.broken R.around c.loop-at.rec in
+    way_ready a b c.requires.ready c.loop-at.invariant.way
+
+pub add_pairs-requires-clause-small : goal.add_pairs-requires-clause-small
+add_pairs-requires-clause-small g c =
+    let x = c.index-firsts-at.result in
+    let sums : x.sum ≡ (get_or c.args.firsts.now c.loop-at.at x).sum = ap (λ (o : SumOutput). o.sum) c.index-firsts-at.is in
+    let small = c.requires.rising.small c.loop-at.at x (omega arith) in
+    omega arith
+
+pub add_pairs-requires-clause-can : goal.add_pairs-requires-clause-can
+add_pairs-requires-clause-can g c = λ j e short reach.
+    let R = g.R.Recorder in
+    let a = seen R.problem R.limit R.lines R.faults R.broken R.around c.args.rec.now in
+    let b = seen R.problem R.limit R.lines R.faults R.broken R.around c.loop-at.rec in
+    let x = c.index-firsts-at.result in
+    let is = c.index-firsts-at.is in
+    let sums : x.sum ≡ (get_or c.args.firsts.now c.loop-at.at x).sum = ap (λ (o : SumOutput). o.sum) is in
+    can_later a b (x ∷ get_or c.args.seconds.now j e ∷ []) [] c.args.target.now c.requires.ready c.loop-at.invariant.way.on
+    (subst (λ (o : SumOutput). CanImplyNow a (o ∷ get_or c.args.seconds.now j e ∷ []) [] c.args.target.now) (sym is) (c.requires.can c.loop-at.at x j e (omega arith) short (omega arith)))
+
+pub returns-in_err-add_pairs-clause-recorded : goal.returns-in_err-add_pairs-clause-recorded
+returns-in_err-add_pairs-clause-recorded g c =
+    let R = g.R.Recorder in
+    let a = seen R.problem R.limit R.lines R.faults R.broken R.around c.args.rec.now in
+    let b = seen R.problem R.limit R.lines R.faults R.broken R.around c.loop-at.rec in
+    let b' = seen R.problem R.limit R.lines R.faults R.broken R.around c.add_pairs.new.rec in
+    let p = err_from_is_err_and c.from_residual.result c.from_residual.ensures.1 in
+    handed_on a b b' c.in_err-add_pairs.field-0.0 p.0 c.from_residual.result p.1 p.2 c.loop-at.invariant.way.on c.in_err-add_pairs.ensures.recorded
+
+pub loop-at-preserved : goal.loop-at-preserved
+loop-at-preserved g c =
+    let R = g.R.Recorder in
+    let a = seen R.problem R.limit R.lines R.faults R.broken R.around c.args.rec.now in
+    let b = seen R.problem R.limit R.lines R.faults R.broken R.around c.loop-at.rec in
+    let b' = seen R.problem R.limit R.lines R.faults R.broken R.around c.add_pairs.new.rec in
+    let way = c.loop-at.invariant.way in
+    let call = c.in_ok-add_pairs.ensures in
+    let ready = way_ready a b c.requires.ready way in
+    record {
+      way = way_on a b b' way call.recorded.continues call.recorded.whole;
+      done = done_step (λ (o : SumOutput). PairsImply b' o c.args.seconds.now c.args.target.now c.args.below) c.args.firsts.now c.index-firsts-at.result 0 c.loop-at.at c.index-firsts-at.is (omega arith) call.says
+          (λ k d low high j e short reach less. always_later b b' (Imply (get_or c.args.firsts.now k d ∷ get_or c.args.seconds.now j e ∷ []) c.args.target.now) ready call.recorded.continues (c.loop-at.invariant.done k d low high j e short reach less));
+    }

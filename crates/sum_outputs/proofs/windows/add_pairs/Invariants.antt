@@ -1,0 +1,12 @@
+-- The clauses of the pairs so far are there.
+use Rattle.std.proofs.Common.{ℕ, ◌<◌, ◌≤◌, [], ◌∷◌, slice_index_or}
+use Rattle.sum_outputs.specs.Adding.{seen, Always, IsUnderWay}
+use Rattle.sum_outputs.specs.Outputs.{Imply}
+use Rattle.sum_outputs.specs.declared.made.SumOutput.{SumOutput}
+use Rattle.sum_outputs.proofs.windows.add_pairs.Given as goal
+
+abbrev pub invariant-loop-at : goal.invariant-loop-at
+invariant-loop-at g l = let R = g.R.Recorder in record {
+  way : IsUnderWay (seen R.problem R.limit R.lines R.faults R.broken R.around l.fn.rec) (seen R.problem R.limit R.lines R.faults R.broken R.around l.rec);
+  done : (k : ℕ) (d : SumOutput) → l.from ≤ k → k < l.at → Always (seen R.problem R.limit R.lines R.faults R.broken R.around l.rec) (Imply (l.part ∷ slice_index_or l.others k d ∷ []) l.target);
+}

@@ -1,0 +1,85 @@
+-- A node and the outputs of its two children.
+use Rattle.std.specs.Prelude.{◌≡◌, ◌≢◌, ◌⊎◌, ℕ, ◌+◌, ◌<◌, ◌≤◌, Bool, true, List, [], ◌∷◌, ◌++◌, length, slice_index_or, All, Contains}
+use Rattle.scut_base.specs.Literal.{Literal}
+use Rattle.scut_base.specs.Assignment.{lit_true}
+use Rattle.pb_lin.specs.Constraint.{IsVariable, total, value}
+use Rattle.proof_laws.specs.State.{StateValue}
+use Rattle.sum_outputs.specs.Totals.{AreWeights, IsAttainable}
+use Rattle.sum_outputs.specs.Adding.{Snapshot, IsReached, KeptHold, Always}
+use Rattle.sum_outputs.specs.Outputs.{IsDefined, IsLiteralOf, AreRising, Imply}
+use Rattle.sum_outputs.specs.declared.made.SumOutput.{SumOutput}
+
+-- where the sum reaches the output's, its literal is true
+abbrev pub Follows : Snapshot → StateValue → List (Literal × ℕ) → SumOutput → Type 0
+Follows a s terms o = (x : List Bool) → KeptHold a.problem a.lines s x → o.sum ≤ value x terms → lit_true x o.lit ≡ true
+
+-- an output of the node of these terms
+pub record IsOutputAt (a : Snapshot) (s : StateValue) (terms : List (Literal × ℕ)) (o : SumOutput) : Type 0 where
+  pub literal : IsLiteralOf a s terms o
+  pub attainable : IsAttainable terms o.sum
+  pub gap : (m : ℕ) → IsAttainable terms m → o.from ≤ m → o.sum ≤ m
+  pub follows : Follows a s terms o
+
+-- the outputs of the node
+pub record AreOutputsAt (a : Snapshot) (s : StateValue) (terms : List (Literal × ℕ)) (os : List SumOutput) : Type 0 where
+  pub each : All (IsOutputAt a s terms) os
+  pub rising : AreRising os
+
+-- Each sum of the terms is that of an output, or an output's sum of at least k is below it.
+abbrev pub IsCompleteTo : List (Literal × ℕ) → List SumOutput → ℕ → Type 0
+IsCompleteTo terms os k = (m : ℕ) → IsAttainable terms m → 0 < m →
+    ((o : SumOutput) × Contains os o × (o.sum ≡ m)) ⊎ ((o : SumOutput) × Contains os o × (k ≤ o.sum) × (o.sum ≤ m))
+
+-- two children of a node, and their outputs
+pub record AreChildren (a : Snapshot) (s : StateValue) (first second : List (Literal × ℕ)) (firsts seconds : List SumOutput) : Type 0 where
+  pub weights : AreWeights (first ++ second)
+  pub variables : All (λ t. IsVariable s.vars t.0.var) (first ++ second)
+  pub of_first : AreOutputsAt a s first firsts
+  pub of_second : AreOutputsAt a s second seconds
+  pub apart : All (λ f. All (λ g. f.lit.var ≢ g.lit.var) seconds) firsts
+  pub first_outside : All (λ f. All (λ t. f.lit.var ≢ t.0.var) second) firsts
+  pub second_outside : All (λ g. All (λ t. g.lit.var ≢ t.0.var) first) seconds
+
+abbrev pub AreChildrenNow : Snapshot → List (Literal × ℕ) → List (Literal × ℕ) → List SumOutput → List SumOutput → Type 0
+AreChildrenNow a first second firsts seconds = (s : StateValue) → IsReached a s → AreChildren a s first second firsts seconds
+
+-- a literal that was defined by a node's terms, apart from all that its children have
+pub record IsTarget (a : Snapshot) (s : StateValue) (terms : List (Literal × ℕ)) (firsts seconds : List SumOutput) (target : SumOutput) : Type 0 where
+  pub defined : IsDefined a s terms target
+  pub some : 0 < target.sum
+  pub variable : IsVariable s.vars target.lit.var
+  pub outside : All (λ t. target.lit.var ≢ t.0.var) terms
+  pub from_firsts : All (λ f. f.lit.var ≢ target.lit.var) firsts
+  pub from_seconds : All (λ g. g.lit.var ≢ target.lit.var) seconds
+
+abbrev pub IsTargetNow : Snapshot → List (Literal × ℕ) → List SumOutput → List SumOutput → SumOutput → Type 0
+IsTargetNow a terms firsts seconds target = (s : StateValue) → IsReached a s → IsTarget a s terms firsts seconds target
+
+-- the pairs of an output with others, whose sums reach the target's and are below a number, imply it
+abbrev pub PairsImply : Snapshot → SumOutput → List SumOutput → SumOutput → ℕ → Type 0
+PairsImply a part others target below = (k : ℕ) (d : SumOutput) → k < length others
+    → target.sum ≤ part.sum + (slice_index_or others k d).sum → part.sum + (slice_index_or others k d).sum < below
+    → Always a (Imply (part ∷ slice_index_or others k d ∷ []) target)
+
+-- the outputs whose sums, alone or in pairs, reach the target's and are below a number imply it
+pub record AreImplying (a : Snapshot) (firsts seconds : List SumOutput) (target : SumOutput) (below : ℕ) : Type 0 where
+  pub by_firsts : (i : ℕ) (d : SumOutput) → i < length firsts → target.sum ≤ (slice_index_or firsts i d).sum → (slice_index_or firsts i d).sum < below
+      → Always a (Imply (slice_index_or firsts i d ∷ []) target)
+  pub by_seconds : (j : ℕ) (e : SumOutput) → j < length seconds → target.sum ≤ (slice_index_or seconds j e).sum → (slice_index_or seconds j e).sum < below
+      → Always a (Imply (slice_index_or seconds j e ∷ []) target)
+  pub by_pairs : (i : ℕ) (d : SumOutput) → i < length firsts → PairsImply a (slice_index_or firsts i d) seconds target below
+
+-- ---- one output more
+
+abbrev pub AreOutputsNow : Snapshot → List (Literal × ℕ) → List SumOutput → Type 0
+AreOutputsNow a terms os = (s : StateValue) → IsReached a s → AreOutputsAt a s terms os
+
+-- the number is above all sums of the terms, or is that of the first output
+abbrev pub IsAboveAll : List (Literal × ℕ) → List SumOutput → ℕ → Type 0
+IsAboveAll terms os below = (total terms < below) ⊎ ((0 < length os) × ((d : SumOutput) → (slice_index_or os 0 d).sum ≡ below))
+
+-- an output of these terms, whose variable is new
+pub record IsNewOutput (a b : Snapshot) (terms : List (Literal × ℕ)) (o : SumOutput) : Type 0 where
+  pub fresh : (s : StateValue) → IsReached a s → o.lit.var ≡ s.vars + 1
+  pub is : (t : StateValue) → IsReached b t → IsOutputAt b t terms o
+  pub defined : (t : StateValue) → IsReached b t → IsDefined b t terms o

@@ -1,0 +1,11 @@
+pub use Rattle.proof_rules.specs.State
+pub mod Totals
+pub mod ClauseTokens
+pub mod Adding
+pub mod Outputs
+pub mod Joining
+pub mod Sums
+pub mod Falling
+pub mod Tree
+pub mod Leaves
+pub mod MadeOutputs

@@ -1,0 +1,39 @@
+-- The outputs of all nodes of a tree.
+use Rattle.std.specs.Prelude.{◌≡◌, ◌≢◌, ℕ, ◌+◌, ◌<◌, List, length, slice_index_or, All}
+use Rattle.scut_base.specs.Literal.{Literal}
+use Rattle.pb_lin.specs.Constraint.{IsVariable}
+use Rattle.proof_laws.specs.State.{StateValue}
+use Rattle.sum_outputs.specs.Adding.{Snapshot, IsReached}
+use Rattle.sum_outputs.specs.Outputs.{IsDefined}
+use Rattle.sum_outputs.specs.Joining.{AreOutputsAt, IsCompleteTo}
+use Rattle.sum_outputs.specs.Sums.{last_sum}
+use Rattle.sum_outputs.specs.Falling.{AreAllBetween}
+use Rattle.sum_outputs.specs.Tree.{IsInner}
+use Rattle.sum_outputs.specs.declared.node.Node.{Node}
+use Rattle.sum_outputs.specs.declared.made.SumOutput.{SumOutput}
+
+-- the variables of these outputs are none of the terms'
+abbrev pub AreOutside : List SumOutput → List (Literal × ℕ) → Type 0
+AreOutside os terms = All (λ o. All (λ t. o.lit.var ≢ t.0.var) terms) os
+
+-- Each node has outputs, of variables of their own; those of a child are none of its sibling's terms.
+pub record AreMade (a : Snapshot) (s : StateValue) (nodes : List Node) (made : List (List SumOutput)) : Type 0 where
+  pub size : length made ≡ length nodes
+  pub variables : (i : ℕ) (n : Node) → i < length nodes → All (λ t. IsVariable s.vars t.0.var) (slice_index_or nodes i n).terms
+  pub outputs : (i : ℕ) (n : Node) (os : List SumOutput) → i < length nodes → AreOutputsAt a s (slice_index_or nodes i n).terms (slice_index_or made i os)
+  pub defined : (i : ℕ) (n : Node) (os : List SumOutput) → i < length nodes → 1 < length (slice_index_or nodes i n).terms → All (IsDefined a s (slice_index_or nodes i n).terms) (slice_index_or made i os)
+  -- the root, which is last, has the outputs that were asked for; every other node has all up to its last
+  pub gapless : (i : ℕ) (n : Node) (os : List SumOutput) → i + 1 < length nodes → AreAllBetween (slice_index_or nodes i n).terms 0 (last_sum (slice_index_or made i os)) (slice_index_or made i os)
+  pub leaves : (i : ℕ) (n : Node) (os : List SumOutput) (k : ℕ) → i < length nodes → length (slice_index_or nodes i n).terms ≡ 1 → IsCompleteTo (slice_index_or nodes i n).terms (slice_index_or made i os) k
+  pub apart : (i j : ℕ) (os ps : List SumOutput) → i < length nodes → j < length nodes → i ≢ j → All (λ o. All (λ p. o.lit.var ≢ p.lit.var) (slice_index_or made j ps)) (slice_index_or made i os)
+  pub first_outside : (i : ℕ) (n m : Node) (os : List SumOutput) → i < length nodes → IsInner nodes i (slice_index_or nodes i n)
+      → AreOutside (slice_index_or made (slice_index_or nodes i n).first os) (slice_index_or nodes (slice_index_or nodes i n).second m).terms
+  pub second_outside : (i : ℕ) (n m : Node) (os : List SumOutput) → i < length nodes → IsInner nodes i (slice_index_or nodes i n)
+      → AreOutside (slice_index_or made (slice_index_or nodes i n).second os) (slice_index_or nodes (slice_index_or nodes i n).first m).terms
+
+abbrev pub AreMadeNow : Snapshot → List Node → List (List SumOutput) → Type 0
+AreMadeNow a nodes made = (s : StateValue) → IsReached a s → AreMade a s nodes made
+
+-- the first nodes have all outputs up to the least of at least k
+abbrev pub AreCompleteTo : List Node → List (List SumOutput) → ℕ → ℕ → Type 0
+AreCompleteTo nodes made count k = (i : ℕ) (n : Node) (os : List SumOutput) → i < count → IsCompleteTo (slice_index_or nodes i n).terms (slice_index_or made i os) k

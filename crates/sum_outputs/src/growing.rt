@@ -1,0 +1,115 @@
+// The outputs of all nodes below the root, up to a bound.
+ghost use Rattle.std.specs.Prelude.{◌≡◌, ◌+◌, ◌-◌, ◌<◌, List, length, slice_index_or, OnOk};
+ghost use Rattle.sum_outputs.specs.Adding.{seen, IsReady, IsRecorded};
+ghost use Rattle.sum_outputs.specs.Tree.{IsTree};
+ghost use Rattle.sum_outputs.specs.MadeOutputs.{AreCompleteTo, AreMadeNow};
+ghost use Rattle.sum_outputs.specs.declared.node.Node.{Node};
+ghost use Rattle.sum_outputs.specs.declared.made.SumOutput.{SumOutput};
+
+use crate::SumOutput;
+use crate::extended::extended;
+use crate::node::Node;
+use crate::windows::Child;
+use proof_rules::{RecordFault, Recorder};
+use scut_base::Items;
+use std::alloc::Global;
+
+/// Makes the outputs of all nodes before the last, each up to its least sum of at least `k`, or all. Costs a look
+/// at each node, and what the new outputs do.
+pub fn extend_all<R: Recorder>(
+    alloc: Global,
+    rec: &mut R,
+    nodes: &[Node],
+    made: &mut Items<Items<SumOutput>>,
+    k: u64,
+) -> Result<(), RecordFault>
+    requires ready { IsReady (seen R.problem R.limit R.lines R.faults R.broken R.around rec.old) }
+    requires tree { IsTree nodes.now }
+    requires some { 0 < length nodes.now }
+    requires made { AreMadeNow (seen R.problem R.limit R.lines R.faults R.broken R.around rec.old) nodes.now made.old }
+    requires from_one { 0 < k }
+    ensures recorded { IsRecorded (seen R.problem R.limit R.lines R.faults R.broken R.around rec.old) (seen R.problem R.limit R.lines R.faults R.broken R.around rec.new) result }
+    ensures made { OnOk result (AreMadeNow (seen R.problem R.limit R.lines R.faults R.broken R.around rec.new) nodes.now made.new) }
+    ensures complete { OnOk result (AreCompleteTo nodes.now made.new (length nodes.now - 1) k) }
+{
+    for at in 0..nodes.len() - 1 {
+        extend_node(alloc, rec, nodes, made, at, k)?;
+    }
+    Ok(())
+}
+
+// Makes the outputs of a node before the last, whose children have theirs; those of a leaf are there.
+fn extend_node<R: Recorder>(
+    alloc: Global,
+    rec: &mut R,
+    nodes: &[Node],
+    made: &mut Items<Items<SumOutput>>,
+    at: usize,
+    k: u64,
+) -> Result<(), RecordFault>
+    requires ready { IsReady (seen R.problem R.limit R.lines R.faults R.broken R.around rec.old) }
+    requires tree { IsTree nodes.now }
+    requires at { at + 1 < length nodes.now }
+    requires made { AreMadeNow (seen R.problem R.limit R.lines R.faults R.broken R.around rec.old) nodes.now made.old }
+    requires complete { AreCompleteTo nodes.now made.old at k }
+    requires from_one { 0 < k }
+    ensures recorded { IsRecorded (seen R.problem R.limit R.lines R.faults R.broken R.around rec.old) (seen R.problem R.limit R.lines R.faults R.broken R.around rec.new) result }
+    ensures made { OnOk result (AreMadeNow (seen R.problem R.limit R.lines R.faults R.broken R.around rec.new) nodes.now made.new) }
+    ensures complete { OnOk result (AreCompleteTo nodes.now made.new (at + 1) k) }
+{
+    if nodes[at].terms.len() == 1 {
+        return Ok(());
+    }
+    extend_inner(alloc, rec, nodes, made, at, k)
+}
+
+// Makes the outputs of an inner node before the last, whose children have theirs.
+fn extend_inner<R: Recorder>(
+    alloc: Global,
+    rec: &mut R,
+    nodes: &[Node],
+    made: &mut Items<Items<SumOutput>>,
+    at: usize,
+    k: u64,
+) -> Result<(), RecordFault>
+    requires ready { IsReady (seen R.problem R.limit R.lines R.faults R.broken R.around rec.old) }
+    requires tree { IsTree nodes.now }
+    requires at { at + 1 < length nodes.now }
+    requires long { (d : Node) → 1 < length (slice_index_or nodes.now at d).terms }
+    requires made { AreMadeNow (seen R.problem R.limit R.lines R.faults R.broken R.around rec.old) nodes.now made.old }
+    requires complete { AreCompleteTo nodes.now made.old at k }
+    requires from_one { 0 < k }
+    ensures recorded { IsRecorded (seen R.problem R.limit R.lines R.faults R.broken R.around rec.old) (seen R.problem R.limit R.lines R.faults R.broken R.around rec.new) result }
+    ensures made { OnOk result (AreMadeNow (seen R.problem R.limit R.lines R.faults R.broken R.around rec.new) nodes.now made.new) }
+    ensures complete { OnOk result (AreCompleteTo nodes.now made.new (at + 1) k) }
+{
+    let node = &nodes[at];
+    let first = child(nodes, made, node.first);
+    let second = child(nodes, made, node.second);
+    let outputs = outputs_at(made, at);
+    let terms = node.terms.as_slice();
+    let all = extended(alloc, rec, first, second, terms, node.total, outputs, k)?;
+    made.set(at, all);
+    Ok(())
+}
+
+// The terms and outputs of a node.
+fn child<'a>(nodes: &'a [Node], made: &'a Items<Items<SumOutput>>, at: usize) -> Child<'a>
+    requires node { at < length nodes.now }
+    requires outputs { at < length made.now }
+    ensures terms { (d : Node) → result.terms.now ≡ (slice_index_or nodes.now at d).terms }
+    ensures outputs { (e : List SumOutput) → result.outputs.now ≡ slice_index_or made.now at e }
+{
+    Child {
+        terms: nodes[at].terms.as_slice(),
+        outputs: outputs_at(made, at),
+    }
+}
+
+// The outputs of a node.
+fn outputs_at(made: &Items<Items<SumOutput>>, at: usize) -> &[SumOutput]
+    requires { at < length made.now }
+    ensures { (e : List SumOutput) → result.now ≡ slice_index_or made.now at e }
+{
+    made.at(at).as_slice()
+}

@@ -1,0 +1,49 @@
+// One output of a node.
+ghost use Rattle.std.specs.Prelude.{◌≡◌, ℕ, ◌+◌, ◌<◌, ◌≤◌, ◌^◌, ◌⊎◌, [], ◌∷◌, ◌++◌, length, slice_index_or, IfOk};
+ghost use Rattle.pb_lin.specs.Constraint.{total};
+ghost use Rattle.sum_outputs.specs.Totals.{IsLeastSum};
+ghost use Rattle.sum_outputs.specs.Adding.{seen, IsReady, IsRecorded};
+ghost use Rattle.sum_outputs.specs.Joining.{AreChildrenNow, AreOutputsNow, IsAboveAll, IsCompleteTo, IsNewOutput};
+
+use crate::SumOutput;
+use crate::definition::define;
+use crate::windows::{Child, add_singles, add_window};
+use proof_rules::{RecordFault, Recorder};
+use scut_base::Lit;
+use std::alloc::Global;
+
+// Makes the output of a node at a sum: its definition, the clause by which the next greater output, where
+// there is one, implies it, and the clauses from the children's outputs. The sum is the least of at least
+// `from`, and `below` is the next greater output's, or above all sums.
+pub(crate) fn make_output<R: Recorder>(
+    alloc: Global,
+    rec: &mut R,
+    first: Child<'_>,
+    second: Child<'_>,
+    terms: &[(Lit, u64)],
+    next: &[SumOutput],
+    from: u64,
+    sum: u64,
+    below: u64,
+) -> Result<SumOutput, RecordFault>
+    requires ready { IsReady (seen R.problem R.limit R.lines R.faults R.broken R.around rec.old) }
+    requires children { AreChildrenNow (seen R.problem R.limit R.lines R.faults R.broken R.around rec.old)
+        first.terms.now second.terms.now first.outputs.now second.outputs.now }
+    requires terms { terms.now ≡ first.terms.now ++ second.terms.now }
+    requires next { AreOutputsNow (seen R.problem R.limit R.lines R.faults R.broken R.around rec.old) terms.now next.now }
+    requires above { IsAboveAll terms.now next.now below }
+    requires greater { (k : ℕ) (d : SumOutput) → k < length next.now
+        → sum < (slice_index_or next.now k d).sum }
+    requires from_one { 0 < from }
+    requires least { IsLeastSum terms.now from sum }
+    requires first_complete { IsCompleteTo first.terms.now first.outputs.now from }
+    requires second_complete { IsCompleteTo second.terms.now second.outputs.now from }
+    ensures recorded { IsRecorded (seen R.problem R.limit R.lines R.faults R.broken R.around rec.old) (seen R.problem R.limit R.lines R.faults R.broken R.around rec.new) result }
+    ensures sum { IfOk result (λ o. (o.sum ≡ sum) × (o.from ≡ from)) }
+    ensures made { IfOk result (IsNewOutput (seen R.problem R.limit R.lines R.faults R.broken R.around rec.old) (seen R.problem R.limit R.lines R.faults R.broken R.around rec.new) terms.now) }
+{
+    let made = define(alloc, rec, terms, from, sum)?;
+    add_singles(alloc, rec, next, &[], &made, u64::MAX)?;
+    add_window(alloc, rec, first, second, &made, below)?;
+    Ok(made)
+}

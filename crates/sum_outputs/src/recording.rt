@@ -1,0 +1,42 @@
+// One line more in a recorder.
+ghost use Rattle.std.specs.Prelude.{◌≡◌, ◌++◌, ◌∷◌, [], Ok, IfOk, IfErr, OnOk};
+ghost use Rattle.proof_laws.specs.WellFormed.{IsWellFormed};
+ghost use Rattle.proof_rules.specs.Recording.{MayBeAdded, IsNextId};
+ghost use Rattle.sum_outputs.specs.Totals.{IsTotalizerLine};
+ghost use Rattle.sum_outputs.specs.Adding.{seen, IsReady, IsRecorded};
+
+use proof_laws::Line;
+use proof_rules::{RecordFault, Recorder};
+use scut_base::NoMemory;
+
+// Records a line, and answers the first id that it makes.
+pub(crate) fn record<R: Recorder>(rec: &mut R, line: &Line) -> Result<u64, RecordFault>
+    requires ready { IsReady
+        (seen R.problem R.limit R.lines R.faults R.broken R.around rec.old) }
+    requires formed { IsWellFormed line.now }
+    requires kind { IsTotalizerLine line.now }
+    requires legal { MayBeAdded (R.problem rec.old) (R.lines rec.old) line.now }
+    ensures recorded { IsRecorded
+        (seen R.problem R.limit R.lines R.faults R.broken R.around rec.old)
+        (seen R.problem R.limit R.lines R.faults R.broken R.around rec.new) result }
+    ensures added { OnOk result (R.lines rec.new ≡ R.lines rec.old ++ line.now ∷ []) }
+    ensures id { IfOk result (IsNextId (R.problem rec.old) (R.lines rec.old)) }
+{
+    // Tells that the lines so far reach a state.
+    let _vars = rec.state().vars();
+    let id = rec.add_line(line)?;
+    // And that they still do.
+    let _state = rec.state();
+    Ok(id)
+}
+
+// The same want of memory, as a recorder's fault.
+pub(crate) fn in_memory<T: Drop>(made: Result<T, NoMemory>) -> Result<T, RecordFault>
+    ensures ok { IfOk result (λ x. made ≡ Ok x) }
+    ensures fault { IfErr result (λ f. f ≡ RecordFault.NoMemory) }
+{
+    match made {
+        Ok(made) => Ok(made),
+        Err(NoMemory) => Err(RecordFault::NoMemory),
+    }
+}
