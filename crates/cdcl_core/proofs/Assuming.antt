@@ -28,6 +28,7 @@ use Rattle.search_lines.specs.StoredLines.{IsStored}
 use Rattle.search_lines.proofs.Replays.{one_law}
 use Rattle.search_lines.proofs.SearchLines.{none_law}
 use Rattle.search_state.specs.Searching.{SearchValue}
+use Rattle.cdcl_core.specs.Ledgers.{LedgerValue, left}
 use Rattle.cdcl_core.specs.Work.{IsAtWork, IsLed, IsOn}
 use Rattle.cdcl_core.proofs.Turns.{work_same as work_kept}
 
@@ -120,27 +121,27 @@ led_on t assumptions l led may q s at zero_reason = elim (at_push t.steps (decis
     whole : (q : ℕ) → q ≡ length t.steps → t ≡ cut (with_step t (decision t l)) q
     whole q is = sym (cut_whole t) ∙ ap (cut t) (sym is) ∙ cut_of_longer t (decision t l ∷ []) q (omega (arith, is))
 
-pub work_same : (p : ProblemValue) (limit : Option ℕ) (lines : List Line) (search now : SearchValue) (next rows : ℕ) → now.store ≡ search.store → now.trail ≡ search.trail → IsAtWork p limit lines search next rows → IsAtWork p limit lines now next rows
-work_same p limit lines search now next rows store trail work = work_kept p limit lines search now next rows store (ap (λ (t : TrailValue). t.vars) trail) work
+pub work_same : (p : ProblemValue) (limit : Option ℕ) (lines : List Line) (search now : SearchValue) (next rows : ℕ) (ledger : LedgerValue) → now.store ≡ search.store → now.trail ≡ search.trail → IsAtWork p limit lines search next rows ledger → IsAtWork p limit lines now next rows ledger
+work_same p limit lines search now next rows ledger store trail work = work_kept p limit lines search now next rows ledger store (ap (λ (t : TrailValue). t.vars) trail) work
 
-pub work_decided : (p : ProblemValue) (limit : Option ℕ) (lines : List Line) (search now : SearchValue) (next rows : ℕ) (l : Literal) → now.store ≡ search.store → now.trail ≡ with_step search.trail (decision search.trail l) → IsAtWork p limit lines search next rows → IsAtWork p limit lines now next rows
-work_decided p limit lines search now next rows l store trail work = work_kept p limit lines search now next rows store (ap (λ (t : TrailValue). t.vars) trail) work
+pub work_decided : (p : ProblemValue) (limit : Option ℕ) (lines : List Line) (search now : SearchValue) (next rows : ℕ) (ledger : LedgerValue) (l : Literal) → now.store ≡ search.store → now.trail ≡ with_step search.trail (decision search.trail l) → IsAtWork p limit lines search next rows ledger → IsAtWork p limit lines now next rows ledger
+work_decided p limit lines search now next rows ledger l store trail work = work_kept p limit lines search now next rows ledger store (ap (λ (t : TrailValue). t.vars) trail) work
 
 -- the parts of a search that has decided a literal
 pub decided_parts : (search now : SearchValue) (l : Literal) → now ≡ record { store = search.store; trail = with_step search.trail (decision search.trail l) } → (now.store ≡ search.store) × (now.trail ≡ with_step search.trail (decision search.trail l))
 decided_parts search now l is = (ap (λ (s : SearchValue). s.store) is, ap (λ (s : SearchValue). s.trail) is)
 
 -- the search goes on from a decision
-pub goes_on : (p : ProblemValue) (limit : Option ℕ) (assumptions : List Literal) (broken : Bool) (lines : List Line) (search now : SearchValue) (next rows : ℕ) (l : Literal)
-    → IsAtWork p limit lines search next rows → IsLed assumptions search.trail → broken ≡ false → now.store ≡ search.store → now.trail ≡ with_step search.trail (decision search.trail l)
-    → Contains assumptions l ⊎ AreMet search.trail assumptions → IsOn p limit assumptions broken lines lines search now next rows
-goes_on p limit assumptions broken lines search now next rows l work led whole store trail may =
+pub goes_on : (p : ProblemValue) (limit : Option ℕ) (assumptions : List Literal) (broken : Bool) (lines : List Line) (search now : SearchValue) (next rows : ℕ) (ledger : LedgerValue) (l : Literal)
+    → IsAtWork p limit lines search next rows ledger → IsLed assumptions search.trail → broken ≡ false → now.store ≡ search.store → now.trail ≡ with_step search.trail (decision search.trail l)
+    → Contains assumptions l ⊎ AreMet search.trail assumptions → IsOn p limit assumptions broken lines lines search now next rows ledger (left ledger.reductions)
+goes_on p limit assumptions broken lines search now next rows ledger l work led whole store trail may =
     record {
       whole = whole;
-      work = work_decided p limit lines search now next rows l store trail work;
+      work = work_decided p limit lines search now next rows ledger l store trail work;
       led = subst (IsLed assumptions) (sym trail) (led_on search.trail assumptions l led may);
       adds = none_law p lines;
-      rises = subst (λ (t : TrailValue). rank search.trail < rank t) (sym trail) (push_raises search.trail (decision search.trail l));
+      nearer = inr (refl, subst (λ (t : TrailValue). rank search.trail < rank t) (sym trail) (push_raises search.trail (decision search.trail l)));
       vars = ap (λ (t : TrailValue). t.vars) trail;
     }
 
@@ -153,12 +154,12 @@ core_among p lines assumptions lits id among core s replay =
     record { among = among; line = is.line; live = is.live; against = is.against }
 
 -- a full trail on which nothing is left to force gives a solution
-pub solution_found : (p : ProblemValue) (limit : Option ℕ) (lines : List Line) (search : SearchValue) (next rows : ℕ) (assumptions : List Literal) (a : List Bool)
-    → IsAtWork p limit lines search next rows → length a ≡ search.trail.vars → IsOfSteps search.trail a → ((id : ℕ) (c : ConstraintValue) → get search.store id ≡ Some c → Holds a c) → AreMet search.trail assumptions
+pub solution_found : (p : ProblemValue) (limit : Option ℕ) (lines : List Line) (search : SearchValue) (next rows : ℕ) (ledger : LedgerValue) (assumptions : List Literal) (a : List Bool)
+    → IsAtWork p limit lines search next rows ledger → length a ≡ search.trail.vars → IsOfSteps search.trail a → ((id : ℕ) (c : ConstraintValue) → get search.store id ≡ Some c → Holds a c) → AreMet search.trail assumptions
     → ((p : ProblemValue) (s : StateValue) (store : LineMap) (a : List Bool) (assumptions : List Literal) → Fits p s → IsState s → IsStored p s s.next_id store → length a ≡ s.vars
     → ((id : ℕ) (c : ConstraintValue) → get store id ≡ Some c → Holds a c) → All (λ l. lit_true a l ≡ true) assumptions → IsSolution p assumptions a s)
     → Reaches p lines (IsSolution p assumptions a)
-solution_found p limit lines search next rows assumptions a work long steps holds met law t replay =
+solution_found p limit lines search next rows ledger assumptions a work long steps holds met law t replay =
     let taken = work.taken in
     let held = taken.held in
     subst (IsSolution p assumptions a) (one_law p lines held.state t held.replay replay)

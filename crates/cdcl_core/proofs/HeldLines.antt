@@ -19,7 +19,9 @@ use Rattle.search_lines.specs.StoredLines.{IsStored, deleted}
 use Rattle.search_lines.proofs.Stored.{deleting_law}
 use Rattle.search_lines.proofs.Replays.{last_law}
 use Rattle.search_state.specs.Searching.{SearchValue}
+use Rattle.cdcl_core.specs.Ledgers.{LedgerValue, IsLedger, ledger_after}
 use Rattle.cdcl_core.specs.Work.{IsHeld}
+use Rattle.cdcl_core.proofs.LedgerLines.{ledger_added}
 
 same_vars : (s t u : StateValue) → t ≡ u → u.vars ≡ s.vars → s.vars ≤ t.vars
 same_vars s t u is same = let e : t.vars ≡ s.vars = ap (λ (x : StateValue). x.vars) is ∙ same in omega arith
@@ -42,11 +44,11 @@ none_at_zero s is None found = found
 none_at_zero s is (Some c) found = absurd (let ids = is.ids 0 c found in omega arith)
 
 -- at first nothing is held
-pub held_nothing : (p : ProblemValue) (lines : List Line) (s : StateValue) (rows : ℕ) (search : SearchValue)
-    → IsReplay p lines s → Fits p s → IsState s → rows ≡ length p.rows → search.store ≡ empty → search.trail.vars ≡ 0
+pub held_nothing : (p : ProblemValue) (lines : List Line) (s : StateValue) (rows : ℕ) (search : SearchValue) (ledger : LedgerValue)
+    → IsReplay p lines s → Fits p s → IsState s → rows ≡ length p.rows → search.store ≡ empty → search.trail.vars ≡ 0 → IsLedger p lines 1 ledger
     → ((p : ProblemValue) (s : StateValue) (next : ℕ) (store : LineMap) → IsStored p s next store → get s.live next ≡ None → next < s.next_id → IsStored p s (next + 1) store)
-    → ((p : ProblemValue) (s : StateValue) → IsStored p s 0 empty) → IsHeld p lines search 1 rows
-held_nothing p lines s rows search replay fits is count none vars passed nothing = record {
+    → ((p : ProblemValue) (s : StateValue) → IsStored p s 0 empty) → IsHeld p lines search 1 rows ledger
+held_nothing p lines s rows search ledger replay fits is count none vars told passed nothing = record {
   state = s;
   replay = replay;
   fits = fits;
@@ -55,13 +57,14 @@ held_nothing p lines s rows search replay fits is count none vars passed nothing
   positive = omega arith;
   stored = subst (IsStored p s 1) (sym none) (passed p s 0 empty (nothing p s) (none_at_zero s is (get s.live 0) refl) is.first_id);
   vars = omega (arith, vars);
+  listed = told;
 }
 
 -- after a line
-pub held_added : (p : ProblemValue) (lines new : List Line) (line : Line) (t : StateValue) (search now : SearchValue) (next rows : ℕ)
-    → IsHeld p lines search next rows → new ≡ lines ++ line ∷ [] → IsReplay p new t → Fits p t → IsState t
-    → now.store ≡ fold remove search.store (deleted line) → now.trail.vars ≡ search.trail.vars → IsHeld p new now next rows
-held_added p lines new line t search now next rows held added replay fits is store vars =
+pub held_added : (p : ProblemValue) (lines new : List Line) (line : Line) (t : StateValue) (search now : SearchValue) (next rows : ℕ) (ledger : LedgerValue)
+    → IsHeld p lines search next rows ledger → new ≡ lines ++ line ∷ [] → IsReplay p new t → Fits p t → IsState t
+    → now.store ≡ fold remove search.store (deleted line) → now.trail.vars ≡ search.trail.vars → IsHeld p new now next rows (ledger_after ledger line)
+held_added p lines new line t search now next rows ledger held added replay fits is store vars =
     let step = last_law p lines line held.state t held.replay (subst (λ (ls : List Line). IsReplay p ls t) added replay) in
     let rise = vars_rise p held.state t line step in
     record {
@@ -73,6 +76,7 @@ held_added p lines new line t search now next rows held added replay fits is sto
       positive = held.positive;
       stored = subst (IsStored p t next) (sym store) (deleting_law p held.state t line next search.store held.is held.stored step);
       vars = let old = held.vars in omega (arith, old, rise, vars);
+      listed = ledger_added p lines new line next ledger added held.listed;
     }
 
 ones_tested : (terms : List (Literal × ℕ)) → AreOnes terms → list_all (λ t. t.1 == 1) terms ≡ true
@@ -88,9 +92,9 @@ clause_test c b told test =
     ap (λ (b : Bool). b && (c.degree == 1)) (ones_tested c.terms is.0) ∙ eq-eqb c.degree 1 is.1
 
 -- over the same lines
-pub held_moved : (p q : ProblemValue) (lines new : List Line) (search : SearchValue) (next rows : ℕ) → p ≡ q → lines ≡ new → IsHeld p lines search next rows → IsHeld q new search next rows
-held_moved p q lines new search next rows same is held =
-    subst (λ (r : ProblemValue). IsHeld r new search next rows) same (subst (λ (ls : List Line). IsHeld p ls search next rows) is held)
+pub held_moved : (p q : ProblemValue) (lines new : List Line) (search : SearchValue) (next rows : ℕ) (ledger : LedgerValue) → p ≡ q → lines ≡ new → IsHeld p lines search next rows ledger → IsHeld q new search next rows ledger
+held_moved p q lines new search next rows ledger same is held =
+    subst (λ (r : ProblemValue). IsHeld r new search next rows ledger) same (subst (λ (ls : List Line). IsHeld p ls search next rows ledger) is held)
 
 ones_literals : (terms : List (Literal × ℕ)) → AreOnes terms → ones (literals terms) ≡ terms
 ones_literals [] all = refl

@@ -18,6 +18,7 @@ use Rattle.conflict_analysis.specs.Analysis.{IsLesson}
 use Rattle.conflict_analysis.specs.declared.lesson.Lesson.{Lesson}
 use Rattle.search_lines.proofs.Replays.{one_law}
 use Rattle.search_state.specs.Searching.{SearchValue, IsBackTo}
+use Rattle.cdcl_core.specs.Ledgers.{LedgerValue}
 use Rattle.cdcl_core.specs.Work.{SolverValue, IsAtWork, HasCause, GoesOn}
 use Rattle.cdcl_core.specs.Learnable.{IsLearnable, MayLearn}
 use Rattle.cdcl_core.proofs.LineCounts.{full_lines}
@@ -44,16 +45,16 @@ learnable old new lesson line search is store back learns =
 
 -- ---- where no more may be learned
 
-pub spent_cause : (p : ProblemValue) (limit : Option ℕ) (lines : List Line) (search : SearchValue) (next rows level : ℕ) (l : Literal) (line : Line)
-    → IsAtWork p limit lines search next rows → IsLearnable search level l line → (s : StateValue) (f : OracleFault) (learned : ℕ) (Rose : Type 0)
+pub spent_cause : (p : ProblemValue) (limit : Option ℕ) (lines : List Line) (search : SearchValue) (next rows : ℕ) (ledger : LedgerValue) (level : ℕ) (l : Literal) (line : Line)
+    → IsAtWork p limit lines search next rows ledger → IsLearnable search level l line → (s : StateValue) (f : OracleFault) (learned : ℕ) (Rose : Type 0)
     → IsReplay p lines s → (2 ^ 61 ≤ s.lines → f ≡ Full) → (s.lines < 2 ^ 61 → f ≡ Spent learned) → limit ≡ Some learned → learned ≡ s.learned → HasCause f limit p lines Rose
-spent_cause p limit lines search next rows level l line work can s f learned Rose replay full spent reached count =
+spent_cause p limit lines search next rows ledger level l line work can s f learned Rose replay full spent reached count =
     let same : work.taken.held.state ≡ s = one_law p lines work.taken.held.state s work.taken.held.replay replay in
     ⊎_elim
     (λ (room : s.lines < 2 ^ 61). subst (λ (f : OracleFault). HasCause f limit p lines Rose) (sym (spent room)) (record {
       limit = reached;
       reached = λ t other. ap (λ (u : StateValue). u.learned) (one_law p lines t s other replay) ∙ sym count;
-      more = has_more p limit lines search next rows level l line work can s replay room;
+      more = has_more p limit lines search next rows ledger level l line work can s replay room;
     }))
     (λ (none : 2 ^ 61 ≤ s.lines). subst (λ (f : OracleFault). HasCause f limit p lines Rose) (sym (full none))
     (full_lines p lines s replay (subst IsState same work.taken.held.is) none))
@@ -72,20 +73,20 @@ may_learn p limit lines s learned replay count other t reached same =
 -- ---- the solver's two views
 
 pub record IsTaught {R : Type 0} (problem : R → ProblemValue) (lines : R → List Line) (broken : R → Bool) (s : SolverValue R) (lesson : Lesson) : Type 0 where
-  pub work : IsAtWork (problem s.recorder) s.limit (lines s.recorder) s.search s.next s.rows
+  pub work : IsAtWork (problem s.recorder) s.limit (lines s.recorder) s.search s.next s.rows s.ledger
   pub lesson_is : IsLesson s.search.store s.search.trail lesson
   pub whole : broken s.recorder ≡ false
 
 pub taught_inside : {R : Type 0} (problem : R → ProblemValue) (lines : R → List Line) (broken : R → Bool) (a b : SolverValue R) (lesson : Lesson) → a ≡ b
-    → IsAtWork (problem b.recorder) b.limit (lines b.recorder) b.search b.next b.rows → IsLesson b.search.store b.search.trail lesson → broken b.recorder ≡ false
+    → IsAtWork (problem b.recorder) b.limit (lines b.recorder) b.search b.next b.rows b.ledger → IsLesson b.search.store b.search.trail lesson → broken b.recorder ≡ false
     → IsTaught problem lines broken a lesson
 taught_inside problem lines broken a b lesson same work is whole =
     subst (λ (s : SolverValue _). IsTaught problem lines broken s lesson) (sym same) (record { work = work; lesson_is = is; whole = whole })
 
 -- after the jump
-pub work_back : (p : ProblemValue) (limit : Option ℕ) (lines : List Line) (old new : SearchValue) (next rows level : ℕ) → new.store ≡ old.store → IsBackTo level old.trail new.trail
-    → IsAtWork p limit lines old next rows → IsAtWork p limit lines new next rows
-work_back p limit lines old new next rows level store back work = work_same p limit lines old new next rows store (ap (λ (t : TrailValue). t.vars) back.is) work
+pub work_back : (p : ProblemValue) (limit : Option ℕ) (lines : List Line) (old new : SearchValue) (next rows : ℕ) (ledger : LedgerValue) (level : ℕ) → new.store ≡ old.store → IsBackTo level old.trail new.trail
+    → IsAtWork p limit lines old next rows ledger → IsAtWork p limit lines new next rows ledger
+work_back p limit lines old new next rows ledger level store back work = work_same p limit lines old new next rows ledger store (ap (λ (t : TrailValue). t.vars) back.is) work
 
 -- ---- results
 

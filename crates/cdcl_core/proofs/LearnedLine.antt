@@ -30,8 +30,10 @@ use Rattle.search_lines.proofs.SearchLines.{learned_law as adds_law}
 use Rattle.search_lines.proofs.Stored.{learned_law as stored_law}
 use Rattle.search_lines.proofs.Fitting.{fits_law}
 use Rattle.search_state.specs.Searching.{SearchValue}
+use Rattle.cdcl_core.specs.Ledgers.{LedgerValue, IsLedger, with_id}
 use Rattle.cdcl_core.specs.Work.{IsAtWork}
 use Rattle.cdcl_core.specs.Learnable.{IsLearnable, MayLearn}
+use Rattle.cdcl_core.proofs.LedgerLines.{ledger_learned}
 
 -- ---- the clause's variables
 
@@ -50,8 +52,8 @@ asserting_within t top level lits l steps asserting = λ k d short. elim (assert
 
 -- ---- before the line, and after it
 
-module _ (p : ProblemValue) (limit : Option ℕ) (lines : List Line) (search : SearchValue) (next rows level : ℕ) (l : Literal) (line : Line)
-    (work : IsAtWork p limit lines search next rows) (can : IsLearnable search level l line) where
+module _ (p : ProblemValue) (limit : Option ℕ) (lines : List Line) (search : SearchValue) (next rows : ℕ) (ledger : LedgerValue) (level : ℕ) (l : Literal) (line : Line)
+    (work : IsAtWork p limit lines search next rows ledger) (can : IsLearnable search level l line) where
   abbrev state : StateValue
   state = work.taken.held.state
 
@@ -128,9 +130,9 @@ module _ (p : ProblemValue) (limit : Option ℕ) (lines : List Line) (search : S
             let other : m ≢ state.learned = λ same. may state work.taken.held.replay (ap Some same) in
             omega (arith, count, low, other)
 
-    pub at_work : (t : StateValue) (id : ℕ) (now : SearchValue) → IsReplay p new t → IsState t → id ≡ state.next_id → MayLearn limit p lines
-        → now ≡ record { store = insert search.store id (clause can.lits); trail = with_step search.trail (asserted l level id) } → IsAtWork p limit new now (id + 1) rows
-    at_work t id now replay is named may made =
+    pub at_work : (t : StateValue) (id : ℕ) (now : SearchValue) (kept : LedgerValue) → IsReplay p new t → IsState t → id ≡ state.next_id → MayLearn limit p lines
+        → now ≡ record { store = insert search.store id (clause can.lits); trail = with_step search.trail (asserted l level id) } → kept ≡ with_id ledger id → IsAtWork p limit new now (id + 1) rows kept
+    at_work t id now kept replay is named may made entered =
         let step = step_to t replay in
         let held = work.taken.held in
         let next_is : t.next_id ≡ state.next_id + 1 = ap (λ (u : StateValue). u.next_id) step.makes in
@@ -150,6 +152,8 @@ module _ (p : ProblemValue) (limit : Option ℕ) (lines : List Line) (search : S
               stored = subst (λ n. IsStored p t n now.store) (omega (arith, next_is, named))
                   (subst (λ (m : LineMap). IsStored p t t.next_id m) (ap (λ n. insert search.store n (clause can.lits)) (sym named) ∙ sym (ap (λ (x : SearchValue). x.store) made)) stored);
               vars = omega (arith, vars_are, same_vars, old_vars);
+              listed = subst (IsLedger p new (id + 1)) (sym entered)
+                  (ledger_learned p lines new state (clause can.lits) can.hints next id ledger same_lines held.replay held.fits held.is work.taken.all named held.listed);
             };
             all = omega (arith, next_is, named);
             vars = omega (arith, vars_are, same_vars, old_vars);

@@ -1,10 +1,8 @@
 -- The step that a learned clause forces, after the jump back.
-use Rattle.std.proofs.Common.{◌≡◌, ◌≢◌, ℕ, ◌<◌, true, Option, Some, List, [], ◌∷◌, take, All, arith, sym, ap, ◌∙◌, subst, inl, inr}
+use Rattle.std.proofs.Common.{◌≡◌, ◌≢◌, ℕ, ◌<◌, true, Some, List, [], ◌∷◌, take, All, arith, sym, ap, ◌∙◌, subst, inl, inr}
 use Rattle.scut_base.specs.Literal.{Literal}
 use Rattle.scut_base.specs.Assignment.{partial_truth}
 use Rattle.pb_lin.specs.LineMap.{LineMap}
-use Rattle.pb_lin.specs.Problem.{ProblemValue}
-use Rattle.proof_laws.specs.declared.line.Line.{Line}
 use Rattle.clause_prop.specs.Steps.{TrailValue, cut, partial, with_step}
 use Rattle.clause_prop.specs.declared.step.Step.{Step}
 use Rattle.search_trail.specs.SearchTrail.{IsSearchTrail}
@@ -13,9 +11,8 @@ use Rattle.search_trail.specs.Rank.{rank}
 use Rattle.search_trail.proofs.Moves.{cut_of_cut, cut_of_longer}
 use Rattle.search_trail.proofs.Places.{at_front, at_push}
 use Rattle.search_trail.proofs.Ranks.{learning_raises}
-use Rattle.search_lines.specs.StoredLines.{IsStored}
-use Rattle.search_state.specs.Searching.{SearchValue, IsBackTo}
-use Rattle.cdcl_core.specs.Work.{IsAtWork, IsLed}
+use Rattle.search_state.specs.Searching.{IsBackTo}
+use Rattle.cdcl_core.specs.Work.{IsLed}
 use Rattle.cdcl_core.specs.Learnable.{IsForcedBySome}
 
 pub rises : (store : LineMap) (old back new : TrailValue) (top level : ℕ) (lits : List Literal) (l : Literal) → IsSearchTrail store old → IsAsserting old top level lits l

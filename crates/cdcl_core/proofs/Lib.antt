@@ -1,4 +1,10 @@
 pub mod Schedules
+pub mod LedgerLines
+pub mod Parts
+pub mod LevelCounts
+pub mod ReducedLine
+pub mod ReducedSolver
+pub mod Endings
 pub mod HeldLines
 pub mod Turns
 pub mod LineCounts

@@ -24,6 +24,7 @@ use Rattle.search_lines.proofs.Hinted.{formed_law, implied_law as legal_law}
 use Rattle.search_lines.proofs.Replays.{last_law, one_law}
 use Rattle.search_lines.proofs.SearchLines.{none_law, implied_law}
 use Rattle.search_state.specs.Searching.{SearchValue}
+use Rattle.cdcl_core.specs.Ledgers.{LedgerValue}
 use Rattle.cdcl_core.specs.Work.{IsAtWork, IsDone, IsHeld, SolverValue}
 use Rattle.cdcl_core.proofs.HeldLines.{clause_test, held_added, held_moved}
 
@@ -35,9 +36,9 @@ pub over_same : (P : ProblemValue → Type 0) (p q : ProblemValue) → q ≡ p �
 over_same P p q same holds = subst P (sym same) holds
 
 -- what a solver has is what it is seen to have
-pub work_inside : {R : Type 0} (problem : R → ProblemValue) (lines : R → List Line) (v w : SolverValue R) → v ≡ w → IsAtWork (problem w.recorder) w.limit (lines w.recorder) w.search w.next w.rows
-    → IsAtWork (problem v.recorder) v.limit (lines v.recorder) v.search v.next v.rows
-work_inside {R} problem lines v w same work = subst (λ (u : SolverValue R). IsAtWork (problem u.recorder) u.limit (lines u.recorder) u.search u.next u.rows) (sym same) work
+pub work_inside : {R : Type 0} (problem : R → ProblemValue) (lines : R → List Line) (v w : SolverValue R) → v ≡ w → IsAtWork (problem w.recorder) w.limit (lines w.recorder) w.search w.next w.rows w.ledger
+    → IsAtWork (problem v.recorder) v.limit (lines v.recorder) v.search v.next v.rows v.ledger
+work_inside {R} problem lines v w same work = subst (λ (u : SolverValue R). IsAtWork (problem u.recorder) u.limit (lines u.recorder) u.search u.next u.rows u.ledger) (sym same) work
 
 pub trail_inside : {R : Type 0} (P : TrailValue → Type 0) (v w : SolverValue R) → v ≡ w → P w.search.trail → P v.search.trail
 trail_inside {R} P v w same holds = subst (λ (u : SolverValue R). P u.search.trail) (sym same) holds
@@ -45,8 +46,8 @@ trail_inside {R} P v w same holds = subst (λ (u : SolverValue R). P u.search.tr
 -- ---- over the same lines
 
 -- a stored line is live
-pub stored_reached : (p : ProblemValue) (lines : List Line) (search : SearchValue) (next rows id : ℕ) (c : ConstraintValue) → IsHeld p lines search next rows → get search.store id ≡ Some c → Reaches p lines (λ s. get s.live id ≡ Some c)
-stored_reached p lines search next rows id c held there t replay =
+pub stored_reached : (p : ProblemValue) (lines : List Line) (search : SearchValue) (next rows : ℕ) (ledger : LedgerValue) (id : ℕ) (c : ConstraintValue) → IsHeld p lines search next rows ledger → get search.store id ≡ Some c → Reaches p lines (λ s. get s.live id ≡ Some c)
+stored_reached p lines search next rows ledger id c held there t replay =
     subst (λ (u : StateValue). get u.live id ≡ Some c) (one_law p lines held.state t held.replay replay) (held.stored.live id c there).1
 
 -- nothing is added
@@ -56,11 +57,11 @@ adds_none p lines new same = subst (AddsSearchLines p lines) (sym same) (none_la
 pub within_moved : (limit : Option ℕ) (p : ProblemValue) (lines new : List Line) → new ≡ lines → IsWithin limit p lines → IsWithin limit p new
 within_moved limit p lines new same within = subst (IsWithin limit p) (sym same) within
 
-pub done_moved : (p q : ProblemValue) (limit : Option ℕ) (broken : Bool) (lines : List Line) (search : SearchValue) (next rows : ℕ) → IsAtWork p limit lines search next rows → q ≡ p → broken ≡ false → IsDone q broken lines search next rows
-done_moved p q limit broken lines search next rows work same whole = record {
+pub done_moved : (p q : ProblemValue) (limit : Option ℕ) (broken : Bool) (lines : List Line) (search : SearchValue) (next rows : ℕ) (ledger : LedgerValue) → IsAtWork p limit lines search next rows ledger → q ≡ p → broken ≡ false → IsDone q broken lines search next rows ledger
+done_moved p q limit broken lines search next rows ledger work same whole = record {
   whole = whole;
   earned = over_same (λ (r : ProblemValue). AreEarned r lines) p q same work.earned;
-  held = held_moved p q lines lines search next rows (sym same) refl work.taken.held;
+  held = held_moved p q lines lines search next rows ledger (sym same) refl work.taken.held;
 }
 
 -- ---- before an implied clause
@@ -72,7 +73,7 @@ pub record IsProvable (search : SearchValue) (lits : List Literal) (hints : List
   pub given : AreHints search.store search.trail.vars lits hints
 
 module _ {R : Type 0} (problem : R → ProblemValue) (lines : R → List Line) (v w : SolverValue R) (lits : List Literal) (hints : List Hint) (same : v ≡ w)
-    (work : IsAtWork (problem w.recorder) w.limit (lines w.recorder) w.search w.next w.rows) (provable : IsProvable w.search lits hints) where
+    (work : IsAtWork (problem w.recorder) w.limit (lines w.recorder) w.search w.next w.rows w.ledger) (provable : IsProvable w.search lits hints) where
   within_state : All (λ l. (0 < l.var) × (l.var ≤ work.taken.held.state.vars)) lits
   within_state = subst (λ (n : ℕ). All (λ l. (0 < l.var) × (l.var ≤ n)) lits) work.taken.vars provable.within
 
@@ -108,7 +109,7 @@ module _ (p q : ProblemValue) (lines new : List Line) (lits : List Literal) (hin
   within_implied None s before within = within
   within_implied (Some limit) s before within = with_clause s (λ (t : StateValue). t.learned ≤ limit) before (within s before)
 
-  module _ (limit : Option ℕ) (t : StateValue) (search : SearchValue) (next rows : ℕ) (work : IsAtWork p limit lines search next rows) (replay : IsReplay q new t) where
+  module _ (limit : Option ℕ) (t : StateValue) (search : SearchValue) (next rows : ℕ) (ledger : LedgerValue) (work : IsAtWork p limit lines search next rows ledger) (replay : IsReplay q new t) where
     replay_here : IsReplay p (lines ++ Rup (clause lits) hints ∷ []) t
     replay_here = subst (λ (ls : List Line). IsReplay p ls t) added (subst (λ (r : ProblemValue). IsReplay r new t) same replay)
 
@@ -121,11 +122,11 @@ module _ (p q : ProblemValue) (lines new : List Line) (lits : List Literal) (hin
               (last_law p lines (Rup (clause lits) hints) held.state t held.replay replay_here) refl),
         )
 
-    pub done_implied : (broken : Bool) → broken ≡ false → Fits q t → IsState t → IsDone q broken new search next rows
+    pub done_implied : (broken : Bool) → broken ≡ false → Fits q t → IsState t → IsDone q broken new search next rows ledger
     done_implied broken whole fits is = record {
       whole = whole;
       earned = over_same (λ (r : ProblemValue). AreEarned r new) p q same earned_implied;
-      held = held_moved p q new new search next rows (sym same) refl
-          (held_added p lines new (Rup (clause lits) hints) t search search next rows work.taken.held added
+      held = held_moved p q new new search next rows ledger (sym same) refl
+          (held_added p lines new (Rup (clause lits) hints) t search search next rows ledger work.taken.held added
           (subst (λ (r : ProblemValue). IsReplay r new t) same replay) (subst (λ (r : ProblemValue). Fits r t) same fits) is refl refl);
     }

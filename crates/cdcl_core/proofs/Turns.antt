@@ -32,7 +32,9 @@ use Rattle.oracle.specs.declared.fault.OracleFault.{OracleFault}
 use Rattle.oracle.specs.declared.fault.OracleFault.TheVariants.{Spent, Failed, Full, NoMemory}
 use Rattle.cdcl_core.specs.declared.turn.Turn.{Turn}
 use Rattle.cdcl_core.specs.declared.turn.Turn.TheVariants.{Answered, Learned, Decided}
-use Rattle.cdcl_core.specs.Work.{IsHeld, IsTakenUp, IsAtWork, IsLed, IsOn, IsTurn, KeepsRecorder, GoesOn}
+use Rattle.cdcl_core.specs.Ledgers.{LedgerValue, IsLedger}
+use Rattle.cdcl_core.specs.Work.{IsHeld, IsTakenUp, IsAtWork, IsLed, IsNearer, IsOn, IsTurn, KeepsRecorder, GoesOn}
+use Rattle.cdcl_core.proofs.LedgerLines.{ledger_later}
 
 -- where no step is above level 0, nothing is decided
 pub undecided_at_zero : (store : LineMap) (t : TrailValue) → IsSearchTrail store t → last_level t.steps ≡ 0 → IsUndecided t
@@ -50,8 +52,8 @@ undecided_back store old t search back = all_places (λ (s : Step). s.reason ≢
     omega (arith, above, low))
 
 -- another search over the same lines and as many variables holds the same
-pub held_same : (p : ProblemValue) (lines : List Line) (search now : SearchValue) (next rows : ℕ) → now.store ≡ search.store → now.trail.vars ≡ search.trail.vars → IsHeld p lines search next rows → IsHeld p lines now next rows
-held_same p lines search now next rows store vars held = record {
+pub held_same : (p : ProblemValue) (lines : List Line) (search now : SearchValue) (next rows : ℕ) (ledger : LedgerValue) → now.store ≡ search.store → now.trail.vars ≡ search.trail.vars → IsHeld p lines search next rows ledger → IsHeld p lines now next rows ledger
+held_same p lines search now next rows ledger store vars held = record {
   state = held.state;
   replay = held.replay;
   fits = held.fits;
@@ -60,13 +62,14 @@ held_same p lines search now next rows store vars held = record {
   positive = held.positive;
   stored = subst (IsStored p held.state next) (sym store) held.stored;
   vars = subst (λ (n : ℕ). n ≤ held.state.vars) (sym vars) held.vars;
+  listed = held.listed;
 }
 
-pub work_same : (p : ProblemValue) (limit : Option ℕ) (lines : List Line) (search now : SearchValue) (next rows : ℕ) → now.store ≡ search.store → now.trail.vars ≡ search.trail.vars → IsAtWork p limit lines search next rows → IsAtWork p limit lines now next rows
+pub work_same : (p : ProblemValue) (limit : Option ℕ) (lines : List Line) (search now : SearchValue) (next rows : ℕ) (ledger : LedgerValue) → now.store ≡ search.store → now.trail.vars ≡ search.trail.vars → IsAtWork p limit lines search next rows ledger → IsAtWork p limit lines now next rows ledger
 unfolding held_same
-work_same p limit lines search now next rows store vars work = record {
+work_same p limit lines search now next rows ledger store vars work = record {
   taken = record {
-    held = held_same p lines search now next rows store vars work.taken.held;
+    held = held_same p lines search now next rows ledger store vars work.taken.held;
     all = work.taken.all;
     vars = vars ∙ work.taken.vars;
     unended = work.taken.unended;
@@ -74,6 +77,32 @@ work_same p limit lines search now next rows store vars work = record {
   earned = work.earned;
   within = work.within;
 }
+
+-- another ledger of the same lines
+pub work_listed : (p : ProblemValue) (limit : Option ℕ) (lines : List Line) (search : SearchValue) (next rows : ℕ) (ledger other : LedgerValue) → IsLedger p lines next other
+    → IsAtWork p limit lines search next rows ledger → IsAtWork p limit lines search next rows other
+work_listed p limit lines search next rows ledger other listed work =
+    let held = work.taken.held in
+    record {
+      taken = record {
+        held = record {
+          state = held.state;
+          replay = held.replay;
+          fits = held.fits;
+          is = held.is;
+          row_count = held.row_count;
+          positive = held.positive;
+          stored = held.stored;
+          vars = held.vars;
+          listed = listed;
+        };
+        all = work.taken.all;
+        vars = work.taken.vars;
+        unended = work.taken.unended;
+      };
+      earned = work.earned;
+      within = work.within;
+    }
 
 in_front : (xs ys : List Step) (k : ℕ) (x : Step) → k < length xs → slice_get (xs ++ ys) k ≡ Some x → slice_get xs k ≡ Some x
 in_front [] ys k x less there = absurd (let h : k < 0 = less in omega arith)
@@ -91,9 +120,9 @@ at_split (y ∷ xs) zero x there = ([], xs, ap (λ (z : Step). z ∷ xs) (same_S
 at_split (y ∷ xs) (suc k) x there = let rest = at_split xs k x there in (y ∷ rest.0, rest.1, ap (λ (zs : List Step). y ∷ zs) rest.2)
 
 -- steps that lines force leave decisions as they are
-pub led_longer : (p : ProblemValue) (lines : List Line) (search : SearchValue) (next rows : ℕ) (assumptions : List Literal) (new : TrailValue) → IsHeld p lines search next rows
+pub led_longer : (p : ProblemValue) (lines : List Line) (search : SearchValue) (next rows : ℕ) (ledger : LedgerValue) (assumptions : List Literal) (new : TrailValue) → IsHeld p lines search next rows ledger
     → Extends search.store search.trail new → IsLed assumptions search.trail → IsLed assumptions new
-led_longer p lines search next rows assumptions new held extends led q s at decided =
+led_longer p lines search next rows ledger assumptions new held extends led q s at decided =
     let same : new ≡ record { vars = search.trail.vars; steps = search.trail.steps ++ extends.more } =
     ap (λ (n : ℕ). record { vars = n; steps = new.steps }) extends.vars ∙ ap (λ (ss : List Step). record { vars = search.trail.vars; steps = ss }) extends.is in
     let there : slice_get (search.trail.steps ++ extends.more) q ≡ Some s = ap (λ (ss : List Step). slice_get ss q) (sym extends.is) ∙ at in
@@ -120,15 +149,21 @@ turn_weaker (Ok Learned) P Q S more is = more is
 turn_weaker (Ok Decided) P Q S more is = more is
 turn_weaker (Err fault) P Q S more is = is
 
+nearer_longer : (before mid after : TrailValue) (was now : ℕ) → rank before ≤ rank mid → IsNearer mid after was now → IsNearer before after was now
+nearer_longer before mid after was now kept nearer = ⊎_elim
+    (λ (fewer : now < was). inl fewer)
+    (λ (higher : (now ≡ was) × (rank mid < rank after)). inr (higher.0, omega (arith, kept, higher.1)))
+    nearer
+
 -- a turn that began with steps that lines force
-pub on_longer : (p : ProblemValue) (limit : Option ℕ) (assumptions : List Literal) (broken : Bool) (old lines : List Line) (before mid search : SearchValue) (next rows : ℕ)
-    → rank before.trail ≤ rank mid.trail → mid.trail.vars ≡ before.trail.vars → IsOn p limit assumptions broken old lines mid search next rows → IsOn p limit assumptions broken old lines before search next rows
-on_longer p limit assumptions broken old lines before mid search next rows kept vars on = record {
+pub on_longer : (p : ProblemValue) (limit : Option ℕ) (assumptions : List Literal) (broken : Bool) (old lines : List Line) (before mid search : SearchValue) (next rows : ℕ) (ledger : LedgerValue) (was : ℕ)
+    → rank before.trail ≤ rank mid.trail → mid.trail.vars ≡ before.trail.vars → IsOn p limit assumptions broken old lines mid search next rows ledger was → IsOn p limit assumptions broken old lines before search next rows ledger was
+on_longer p limit assumptions broken old lines before mid search next rows ledger was kept vars on = record {
   whole = on.whole;
   work = on.work;
   led = on.led;
   adds = on.adds;
-  rises = let less = on.rises in omega (arith, kept, less);
+  nearer = nearer_longer before.trail mid.trail search.trail was _ kept on.nearer;
   vars = on.vars ∙ vars;
 }
 
@@ -190,10 +225,10 @@ kept_none p l a i = record {
 }
 
 -- what the search holds once all is taken up
-pub taken_up : (p : ProblemValue) (lines : List Line) (old mid new : SearchValue) (s : StateValue) (next rows : ℕ)
-    → IsHeld p lines old next rows → Reaches p lines (λ t. t.ended ≡ false) → IsReplay p lines s → mid.store ≡ old.store → new.trail ≡ mid.trail → mid.trail.vars ≡ s.vars
-    → ((q : ProblemValue) → rows ≡ length q.rows → IsStored q s next mid.store → IsStored q s s.next_id new.store) → IsTakenUp p lines new s.next_id rows
-taken_up p lines old mid new s next rows held unended replay store trail vars takes =
+pub taken_up : (p : ProblemValue) (lines : List Line) (old mid new : SearchValue) (s : StateValue) (next rows : ℕ) (ledger : LedgerValue)
+    → IsHeld p lines old next rows ledger → Reaches p lines (λ t. t.ended ≡ false) → IsReplay p lines s → mid.store ≡ old.store → new.trail ≡ mid.trail → mid.trail.vars ≡ s.vars
+    → ((q : ProblemValue) → rows ≡ length q.rows → IsStored q s next mid.store → IsStored q s s.next_id new.store) → IsTakenUp p lines new s.next_id rows ledger
+taken_up p lines old mid new s next rows ledger held unended replay store trail vars takes =
     let same : held.state ≡ s = one_law p lines held.state s held.replay replay in
     let all : new.trail.vars ≡ s.vars = ap (λ (t : TrailValue). t.vars) trail ∙ vars in
     record {
@@ -206,6 +241,7 @@ taken_up p lines old mid new s next rows held unended replay store trail vars ta
         positive = subst (λ (t : StateValue). 0 < t.next_id) same held.is.first_id;
         stored = takes p held.row_count (subst (IsStored p s next) (sym store) (subst (λ (t : StateValue). IsStored p t next old.store) same held.stored));
         vars = omega (arith, all);
+        listed = subst (λ (t : StateValue). IsLedger p lines t.next_id ledger) same (ledger_later p lines next held.state.next_id ledger held.stored.within held.listed);
       };
       all = refl;
       vars = all;
@@ -213,8 +249,8 @@ taken_up p lines old mid new s next rows held unended replay store trail vars ta
     }
 
 -- the state that is held is the one that is told
-pub held_state : (p : ProblemValue) (lines : List Line) (search : SearchValue) (s : StateValue) (next rows : ℕ) → IsHeld p lines search next rows → IsReplay p lines s → (next ≤ s.next_id) × (search.trail.vars ≤ s.vars)
-held_state p lines search s next rows held replay =
+pub held_state : (p : ProblemValue) (lines : List Line) (search : SearchValue) (s : StateValue) (next rows : ℕ) (ledger : LedgerValue) → IsHeld p lines search next rows ledger → IsReplay p lines s → (next ≤ s.next_id) × (search.trail.vars ≤ s.vars)
+held_state p lines search s next rows ledger held replay =
     let same : held.state ≡ s = one_law p lines held.state s held.replay replay in
     (subst (λ (t : StateValue). next ≤ t.next_id) same held.stored.within, subst (λ (t : StateValue). search.trail.vars ≤ t.vars) same held.vars)
 

@@ -18,6 +18,7 @@ use Rattle.search_trail.specs.Rank.{rank}
 use Rattle.search_lines.specs.SearchLines.{AddsLearned}
 use Rattle.search_state.specs.Searching.{SearchValue}
 use Rattle.oracle.specs.declared.answer.Answer.{Answer}
+use Rattle.cdcl_core.specs.Ledgers.{LedgerValue, IsLedger, left}
 use Rattle.cdcl_core.specs.declared.turn.Turn.{Turn}
 use Rattle.cdcl_core.specs.declared.turn.Turn.TheVariants.{Answered, Learned, Decided}
 
@@ -30,9 +31,10 @@ pub record SolverValue (R : Type 0) : Type 0 where
   pub search : SearchValue
   pub next : ℕ
   pub rows : ℕ
+  pub ledger : LedgerValue
 
--- The lines reach a state of which the search holds the rows and the clauses up to an id.
-pub record IsHeld (p : ProblemValue) (lines : List Line) (search : SearchValue) (next rows : ℕ) : Type 0 where
+-- The lines reach a state of which the search holds the rows and the clauses up to an id; its ledger is of these lines.
+pub record IsHeld (p : ProblemValue) (lines : List Line) (search : SearchValue) (next rows : ℕ) (ledger : LedgerValue) : Type 0 where
   pub state : StateValue
   pub replay : IsReplay p lines state
   pub fits : Fits p state
@@ -41,10 +43,11 @@ pub record IsHeld (p : ProblemValue) (lines : List Line) (search : SearchValue) 
   pub positive : 0 < next
   pub stored : IsStored p state next search.store
   pub vars : search.trail.vars ≤ state.vars
+  pub listed : IsLedger p lines next ledger
 
 -- the same, with all lines and variables
-pub record IsTakenUp (p : ProblemValue) (lines : List Line) (search : SearchValue) (next rows : ℕ) : Type 0 where
-  pub held : IsHeld p lines search next rows
+pub record IsTakenUp (p : ProblemValue) (lines : List Line) (search : SearchValue) (next rows : ℕ) (ledger : LedgerValue) : Type 0 where
+  pub held : IsHeld p lines search next rows ledger
   pub all : next ≡ held.state.next_id
   pub vars : search.trail.vars ≡ held.state.vars
   pub unended : held.state.ended ≡ false
@@ -55,8 +58,8 @@ IsLed assumptions t = (q : ℕ) (s : Step) → IsStepAt t q s → s.reason ≡ 0
     → Contains assumptions s.lit ⊎ All (λ l. partial_truth (partial (cut t q)) l ≡ Some true) assumptions
 
 -- All lines are taken up, and have earned their clauses, no more than may be learned.
-pub record IsAtWork (p : ProblemValue) (limit : Option ℕ) (lines : List Line) (search : SearchValue) (next rows : ℕ) : Type 0 where
-  pub taken : IsTakenUp p lines search next rows
+pub record IsAtWork (p : ProblemValue) (limit : Option ℕ) (lines : List Line) (search : SearchValue) (next rows : ℕ) (ledger : LedgerValue) : Type 0 where
+  pub taken : IsTakenUp p lines search next rows ledger
   pub earned : AreEarned p lines
   pub within : IsWithin limit p lines
 
@@ -87,18 +90,23 @@ IsRecordCause Full lines Rose = length lines ≡ 2 ^ 61
 IsRecordCause NoMemory lines Rose = Unit {0}
 
 -- what a turn of a search ends in
-pub record IsDone (p : ProblemValue) (broken : Bool) (lines : List Line) (search : SearchValue) (next rows : ℕ) : Type 0 where
+pub record IsDone (p : ProblemValue) (broken : Bool) (lines : List Line) (search : SearchValue) (next rows : ℕ) (ledger : LedgerValue) : Type 0 where
   pub whole : broken ≡ false
   pub earned : AreEarned p lines
-  pub held : IsHeld p lines search next rows
+  pub held : IsHeld p lines search next rows ledger
 
--- what a turn leaves where the search goes on: more learned lines, or more steps
-pub record IsOn (p : ProblemValue) (limit : Option ℕ) (assumptions : List Literal) (broken : Bool) (old lines : List Line) (before search : SearchValue) (next rows : ℕ) : Type 0 where
+-- What brings a search nearer to its end: fewer reductions are left, or as many, and the trail ranks higher.
+abbrev pub IsNearer : TrailValue → TrailValue → ℕ → ℕ → Type 0
+IsNearer before after was now = (now < was) ⊎ ((now ≡ was) × (rank before < rank after))
+
+-- What a turn leaves where the search goes on: more learned lines, or more steps. So many reductions were left before.
+pub record IsOn (p : ProblemValue) (limit : Option ℕ) (assumptions : List Literal) (broken : Bool) (old lines : List Line)
+    (before search : SearchValue) (next rows : ℕ) (ledger : LedgerValue) (was : ℕ) : Type 0 where
   pub whole : broken ≡ false
-  pub work : IsAtWork p limit lines search next rows
+  pub work : IsAtWork p limit lines search next rows ledger
   pub led : IsLed assumptions search.trail
   pub adds : AddsLearned p old lines
-  pub rises : rank before.trail < rank search.trail
+  pub nearer : IsNearer before.trail search.trail was (left ledger.reductions)
   pub vars : search.trail.vars ≡ before.trail.vars
 
 -- P of the answer of a turn, and Q where there is none yet

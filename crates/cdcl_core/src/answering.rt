@@ -26,7 +26,7 @@ impl<R: Recorder + Drop, P: Propagator + Drop> Solver<R, P> {
         requires begun { self.old.broken ≡ true }
         requires whole { R.broken self.old.recorder ≡ false }
         requires held { IsHeld (R.problem self.old.recorder) (R.lines self.old.recorder)
-            self.old.search self.old.next self.old.rows }
+            self.old.search self.old.next self.old.rows self.old.ledger }
         requires unended { Reaches (R.problem self.old.recorder) (R.lines self.old.recorder)
             (λ s. s.ended ≡ false) }
         requires assumptions { Reaches (R.problem self.old.recorder) (R.lines self.old.recorder)
@@ -38,13 +38,13 @@ impl<R: Recorder + Drop, P: Propagator + Drop> Solver<R, P> {
             (IsAnswer (R.problem self.new.recorder) (R.lines self.new.recorder) assumptions.now) }
         ensures done { OnOk result (IsDone (R.problem self.new.recorder)
             (R.broken self.new.recorder) (R.lines self.new.recorder) self.new.search
-            self.new.next self.new.rows) }
+            self.new.next self.new.rows self.new.ledger) }
         ensures cause { IfErr result (λ f. HasCause f self.old.limit (R.problem self.new.recorder)
             (R.lines self.new.recorder)
             (Rose (R.faults self.old.recorder) (R.faults self.new.recorder))) }
         ensures goes_on { IfErr result (λ f. GoesOn f (IsDone (R.problem self.new.recorder)
             (R.broken self.new.recorder) (R.lines self.new.recorder) self.new.search
-            self.new.next self.new.rows)) }
+            self.new.next self.new.rows self.new.ledger)) }
         ensures adds { AddsSearchLines (R.problem self.old.recorder) (R.lines self.old.recorder)
             (R.lines self.new.recorder) }
         ensures within { IsWithin self.old.limit (R.problem self.old.recorder)

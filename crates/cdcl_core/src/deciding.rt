@@ -1,20 +1,18 @@
 // What a search does where nothing is left to propagate: it decides a literal, or answers.
-ghost use Rattle.std.specs.Prelude.{◌≡◌, ◌≢◌, ◌<◌, ◌≤◌, ◌⊎◌, [], List, true, false, None, Some, All, AllPairs, Contains, IfOk, IfErr, IfSome, IfNone, OnOk, OnErr, map};
+ghost use Rattle.std.specs.Prelude.{◌≡◌, ◌≢◌, ◌<◌, ◌≤◌, ◌⊎◌, [], true, false, None, Some, All, AllPairs, Contains, IfOk, IfErr, IfSome, IfNone, OnOk, map};
 ghost use Rattle.std.specs.FinMap.{get};
 ghost use Rattle.scut_base.specs.Faults.{Rose};
-ghost use Rattle.scut_base.specs.Literal.{Literal};
 ghost use Rattle.scut_base.specs.Assignment.{partial_truth};
 ghost use Rattle.pb_lin.specs.Constraint.{opposite};
 ghost use Rattle.proof_laws.specs.Steps.{clause};
-ghost use Rattle.proof_laws.specs.State.{StateValue};
 ghost use Rattle.clause_prop.specs.Steps.{partial};
 ghost use Rattle.clause_prop.specs.Propagating.{IsClosedFor, IsConflict};
 ghost use Rattle.search_trail.specs.SearchTrail.{IsUndecided};
 ghost use Rattle.conflict_analysis.specs.Analysis.{IsDecided, IsForcedFalse};
 ghost use Rattle.search_trail.specs.Learning.{AreHints};
-ghost use Rattle.search_lines.specs.SearchLines.{AddsLearned};
 ghost use Rattle.oracle.specs.Solving.{AddsSearchLines, AreAssumptions, IsAnswer, IsCore, IsWithin, Reaches};
-ghost use Rattle.cdcl_core.specs.Work.{GoesOn, HasCause, IsAtWork, IsDone, IsLed, IsOn, IsRecordCause, IsTurn, KeepsRecorder};
+ghost use Rattle.cdcl_core.specs.Ledgers.{left};
+ghost use Rattle.cdcl_core.specs.Work.{IsAtWork, IsDone, IsLed, IsOn, IsRecordCause, IsTurn, KeepsRecorder};
 
 use crate::Solver;
 use crate::recording::record;
@@ -25,7 +23,7 @@ use hint_rup::Hint;
 use oracle::{Answer, Core, OracleFault};
 use pb_lin::Constraint;
 use proof_laws::Line;
-use proof_rules::{ProofState, Recorder};
+use proof_rules::Recorder;
 use scut_base::{Items, Lit, NoMemory};
 use search_lines::stored_model_is_solution;
 use search_state::Search;
@@ -132,7 +130,8 @@ impl<R: Recorder + Drop, P: Propagator + Drop> Solver<R, P> {
         requires begun { self.old.broken ≡ true }
         requires whole { R.broken self.old.recorder ≡ false }
         requires work { IsAtWork (R.problem self.old.recorder) self.old.limit
-            (R.lines self.old.recorder) self.old.search self.old.next self.old.rows }
+            (R.lines self.old.recorder) self.old.search self.old.next self.old.rows
+            self.old.ledger }
         requires led { IsLed assumptions.now self.old.search.trail }
         requires assumptions { AreAssumptions self.old.search.trail.vars assumptions.now }
         requires closed { IsClosedFor self.old.search.store self.old.search.trail }
@@ -141,10 +140,11 @@ impl<R: Recorder + Drop, P: Propagator + Drop> Solver<R, P> {
             (IsOn (R.problem self.new.recorder) self.new.limit assumptions.now
             (R.broken self.new.recorder) (R.lines self.old.recorder)
             (R.lines self.new.recorder) self.old.search self.new.search self.new.next
-            self.new.rows) }
+            self.new.rows self.new.ledger
+            (left self.old.ledger.reductions)) }
         ensures done { OnOk result (IsDone (R.problem self.new.recorder)
             (R.broken self.new.recorder) (R.lines self.new.recorder) self.new.search
-            self.new.next self.new.rows) }
+            self.new.next self.new.rows self.new.ledger) }
         ensures cause { IfErr result (λ f. IsRecordCause f (R.lines self.new.recorder)
             (Rose (R.faults self.old.recorder) (R.faults self.new.recorder))) }
         ensures adds { AddsSearchLines (R.problem self.old.recorder) (R.lines self.old.recorder)
@@ -185,7 +185,8 @@ impl<R: Recorder + Drop, P: Propagator + Drop> Solver<R, P> {
         requires begun { self.old.broken ≡ true }
         requires whole { R.broken self.old.recorder ≡ false }
         requires work { IsAtWork (R.problem self.old.recorder) self.old.limit
-            (R.lines self.old.recorder) self.old.search self.old.next self.old.rows }
+            (R.lines self.old.recorder) self.old.search self.old.next self.old.rows
+            self.old.ledger }
         requires rising { AllPairs (λ l m. l.var < m.var) lits }
         requires within { All (λ l. (0 < l.var) × (l.var ≤ self.old.search.trail.vars)) lits }
         requires hints { AreHints self.old.search.store self.old.search.trail.vars lits hints }
@@ -193,7 +194,7 @@ impl<R: Recorder + Drop, P: Propagator + Drop> Solver<R, P> {
             (R.lines self.new.recorder) (λ s. get s.live id ≡ Some (clause lits))) }
         ensures done { OnOk result (IsDone (R.problem self.new.recorder)
             (R.broken self.new.recorder) (R.lines self.new.recorder) self.new.search
-            self.new.next self.new.rows) }
+            self.new.next self.new.rows self.new.ledger) }
         ensures cause { IfErr result (λ f. IsRecordCause f (R.lines self.new.recorder)
             (Rose (R.faults self.old.recorder) (R.faults self.new.recorder))) }
         ensures adds { AddsSearchLines (R.problem self.old.recorder) (R.lines self.old.recorder)
@@ -225,7 +226,8 @@ impl<R: Recorder + Drop, P: Propagator + Drop> Solver<R, P> {
         requires begun { self.old.broken ≡ true }
         requires whole { R.broken self.old.recorder ≡ false }
         requires work { IsAtWork (R.problem self.old.recorder) self.old.limit
-            (R.lines self.old.recorder) self.old.search self.old.next self.old.rows }
+            (R.lines self.old.recorder) self.old.search self.old.next self.old.rows
+            self.old.ledger }
         requires falsified { IsForcedFalse self.old.search.trail lit }
         ensures core { IfOk result (λ core. Reaches (R.problem self.new.recorder)
             (R.lines self.new.recorder) (IsCore core.lits core.lits core.id)) }
@@ -233,7 +235,7 @@ impl<R: Recorder + Drop, P: Propagator + Drop> Solver<R, P> {
             (λ core. All (λ m. (m ≡ lit) ⊎ IsDecided self.old.search.trail m) core.lits) }
         ensures done { OnOk result (IsDone (R.problem self.new.recorder)
             (R.broken self.new.recorder) (R.lines self.new.recorder) self.new.search
-            self.new.next self.new.rows) }
+            self.new.next self.new.rows self.new.ledger) }
         ensures cause { IfErr result (λ f. IsRecordCause f (R.lines self.new.recorder)
             (Rose (R.faults self.old.recorder) (R.faults self.new.recorder))) }
         ensures adds { AddsSearchLines (R.problem self.old.recorder) (R.lines self.old.recorder)
@@ -260,7 +262,8 @@ impl<R: Recorder + Drop, P: Propagator + Drop> Solver<R, P> {
         requires begun { self.old.broken ≡ true }
         requires whole { R.broken self.old.recorder ≡ false }
         requires work { IsAtWork (R.problem self.old.recorder) self.old.limit
-            (R.lines self.old.recorder) self.old.search self.old.next self.old.rows }
+            (R.lines self.old.recorder) self.old.search self.old.next self.old.rows
+            self.old.ledger }
         requires conflict { IsConflict self.old.search.store self.old.search.trail conflict }
         requires undecided { IsUndecided self.old.search.trail }
         ensures core { IfOk result (λ core. Reaches (R.problem self.new.recorder)
@@ -268,7 +271,7 @@ impl<R: Recorder + Drop, P: Propagator + Drop> Solver<R, P> {
         ensures none { IfOk result (λ core. core.lits ≡ []) }
         ensures done { OnOk result (IsDone (R.problem self.new.recorder)
             (R.broken self.new.recorder) (R.lines self.new.recorder) self.new.search
-            self.new.next self.new.rows) }
+            self.new.next self.new.rows self.new.ledger) }
         ensures cause { IfErr result (λ f. IsRecordCause f (R.lines self.new.recorder)
             (Rose (R.faults self.old.recorder) (R.faults self.new.recorder))) }
         ensures adds { AddsSearchLines (R.problem self.old.recorder) (R.lines self.old.recorder)

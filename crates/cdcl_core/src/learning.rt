@@ -1,27 +1,26 @@
 // What a search learns from a conflict.
-ghost use Rattle.std.specs.Prelude.{◌≡◌, ◌<◌, ◌≤◌, ◌^◌, ◌++◌, ◌∷◌, [], List, true, false, None, Some, All, Contains, length, IsTrue, IfOk, IfErr, OnOk, OnErr};
+ghost use Rattle.std.specs.Prelude.{◌≡◌, ◌<◌, ◌≤◌, ◌^◌, List, true, false, Some, IfErr, OnOk};
 ghost use Rattle.scut_base.specs.Faults.{Rose};
 ghost use Rattle.scut_base.specs.Literal.{Literal};
-ghost use Rattle.scut_base.specs.Assignment.{partial_truth};
-ghost use Rattle.clause_prop.specs.Steps.{partial, last_level};
-ghost use Rattle.clause_prop.specs.Propagating.{IsConflict, IsClosedFor};
 ghost use Rattle.search_trail.specs.Rank.{rank};
 ghost use Rattle.conflict_analysis.specs.Analysis.{IsLesson};
 ghost use Rattle.oracle.specs.declared.fault.OracleFault.TheVariants.{Spent, Full};
-ghost use Rattle.oracle.specs.Solving.{AddsSearchLines, AreAssumptions, AreEarned, IsAnswer, IsWithin};
+ghost use Rattle.oracle.specs.Solving.{IsWithin};
 ghost use Rattle.search_lines.specs.SearchLines.{AddsLearned};
+ghost use Rattle.cdcl_core.specs.Ledgers.{EndsLearned};
 ghost use Rattle.cdcl_core.specs.Work.{GoesOn, HasCause, IsAtWork, IsLed, IsRecordCause, KeepsRecorder};
 ghost use Rattle.cdcl_core.specs.Learnable.{IsForcedBySome, IsLearnable, MayLearn};
 
 use crate::Solver;
+use crate::distance::block_distance;
 use crate::recording::{learned_goal, record};
 use clause_prop::Propagator;
 use conflict_analysis::Lesson;
-use oracle::{Answer, Core, OracleFault};
+use oracle::OracleFault;
 use pb_lin::Constraint;
 use proof_laws::Line;
 use proof_rules::{ProofState, Recorder};
-use scut_base::{Items, Lit};
+use scut_base::Lit;
 
 impl<R: Recorder + Drop, P: Propagator + Drop> Solver<R, P> {
     // Jumps back to where the clause of a lesson forces its literal, records and stores the clause, and adds the step.
@@ -30,17 +29,20 @@ impl<R: Recorder + Drop, P: Propagator + Drop> Solver<R, P> {
         requires begun { self.old.broken ≡ true }
         requires whole { R.broken self.old.recorder ≡ false }
         requires work { IsAtWork (R.problem self.old.recorder) self.old.limit
-            (R.lines self.old.recorder) self.old.search self.old.next self.old.rows }
+            (R.lines self.old.recorder) self.old.search self.old.next self.old.rows
+            self.old.ledger }
         requires lesson { IsLesson self.old.search.store self.old.search.trail lesson }
         ensures whole { OnOk result (R.broken self.new.recorder ≡ false) }
         ensures work { OnOk result (IsAtWork (R.problem self.new.recorder) self.new.limit
-            (R.lines self.new.recorder) self.new.search self.new.next self.new.rows) }
+            (R.lines self.new.recorder) self.new.search self.new.next self.new.rows
+            self.new.ledger) }
         ensures cause { IfErr result (λ f. HasCause f self.old.limit (R.problem self.new.recorder)
             (R.lines self.new.recorder)
             (Rose (R.faults self.old.recorder) (R.faults self.new.recorder))) }
         ensures goes_on { IfErr result (λ f. GoesOn f ((R.broken self.new.recorder ≡ false)
             × IsAtWork (R.problem self.new.recorder) self.new.limit
-            (R.lines self.new.recorder) self.new.search self.new.next self.new.rows)) }
+            (R.lines self.new.recorder) self.new.search self.new.next self.new.rows
+            self.new.ledger)) }
         ensures adds { AddsLearned (R.problem self.old.recorder) (R.lines self.old.recorder)
             (R.lines self.new.recorder) }
         ensures within { IsWithin self.old.limit (R.problem self.old.recorder)
@@ -55,7 +57,12 @@ impl<R: Recorder + Drop, P: Propagator + Drop> Solver<R, P> {
             (R.around self.new.recorder) (R.faults self.old.recorder)
             (R.faults self.new.recorder) }
         ensures begun { self.new.broken ≡ true }
+        ensures last { OnOk result (EndsLearned (R.lines self.new.recorder)) }
+        ensures number { self.new.ledger.reductions ≡ self.old.ledger.reductions }
     {
+        // Tells that the trail is one of a search.
+        let _level = self.search.level();
+        let distance = block_distance(self.alloc, &self.search, lesson.lits.as_slice())?;
         let Lesson {
             lits,
             lit,
@@ -63,8 +70,6 @@ impl<R: Recorder + Drop, P: Propagator + Drop> Solver<R, P> {
             hints,
             met: _,
         } = lesson;
-        // Tells that the trail is one of a search.
-        let _level = self.search.level();
         self.search.back_to(level);
         let state = self.recorder.state();
         let learned = state.learned();
@@ -75,22 +80,30 @@ impl<R: Recorder + Drop, P: Propagator + Drop> Solver<R, P> {
             goal: Constraint::clause(lits),
             hints,
         };
-        self.add_learned(&line, lit, level)
+        self.add_learned(&line, lit, level, distance)
     }
 
     // Records the line of a learned clause after the jump back, stores the clause, and adds the step that it forces.
-    fn add_learned(&mut self, line: &Line, lit: Lit, level: u64) -> Result<(), OracleFault>
+    fn add_learned(
+        &mut self,
+        line: &Line,
+        lit: Lit,
+        level: u64,
+        distance: u64,
+    ) -> Result<(), OracleFault>
         requires begun { self.old.broken ≡ true }
         requires whole { R.broken self.old.recorder ≡ false }
         requires work { IsAtWork (R.problem self.old.recorder) self.old.limit
-            (R.lines self.old.recorder) self.old.search self.old.next self.old.rows }
+            (R.lines self.old.recorder) self.old.search self.old.next self.old.rows
+            self.old.ledger }
         requires learnable { IsLearnable self.old.search level lit line.now }
         requires more { MayLearn self.old.limit (R.problem self.old.recorder)
             (R.lines self.old.recorder) }
         ensures begun { self.new.broken ≡ true }
         ensures whole { OnOk result (R.broken self.new.recorder ≡ false) }
         ensures work { OnOk result (IsAtWork (R.problem self.new.recorder) self.new.limit
-            (R.lines self.new.recorder) self.new.search self.new.next self.new.rows) }
+            (R.lines self.new.recorder) self.new.search self.new.next self.new.rows
+            self.new.ledger) }
         ensures cause { IfErr result (λ f. IsRecordCause f (R.lines self.new.recorder)
             (Rose (R.faults self.old.recorder) (R.faults self.new.recorder))) }
         ensures adds { AddsLearned (R.problem self.old.recorder) (R.lines self.old.recorder)
@@ -105,12 +118,15 @@ impl<R: Recorder + Drop, P: Propagator + Drop> Solver<R, P> {
             (R.limit self.old.recorder) (R.limit self.new.recorder) (R.around self.old.recorder)
             (R.around self.new.recorder) (R.faults self.old.recorder)
             (R.faults self.new.recorder) }
+        ensures last { OnOk result (EndsLearned (R.lines self.new.recorder)) }
+        ensures number { self.new.ledger.reductions ≡ self.old.ledger.reductions }
     {
         let id = record(&mut self.recorder, line)?;
         // Tells that the lines reach a state.
         let _vars = self.recorder.state().vars();
         self.search.learn(id, learned_goal(line), lit, level)?;
         self.next = id + 1;
+        self.ledger.push(id, distance)?;
         Ok(())
     }
 }

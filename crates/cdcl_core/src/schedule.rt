@@ -1,8 +1,11 @@
-// When a search restarts.
-ghost use Rattle.std.specs.Prelude.{◌≡◌, ◌↔◌, ◌+◌, ◌*◌, ◌^◌, ◌<◌, ◌≤◌, IsTrue};
+// When a search restarts, and when it lets go of learned clauses.
+ghost use Rattle.std.specs.Prelude.{◌≡◌, ◌↔◌, ◌+◌, ◌-◌, ◌*◌, ◌^◌, ◌<◌, ◌≤◌, IsTrue};
 
 /// How often a call of `solve` restarts at most.
 pub const RESTARTS: u32 = 50;
+
+/// How many reductions a run makes at most.
+pub const REDUCTIONS: u32 = 40;
 
 /// Whether a restart is due, where so many clauses were learned since the last one, and so many restarts were made in
 /// the call: the k-th comes at 100·2^k clauses, and there are 50 at most.
@@ -11,4 +14,14 @@ pub fn restart_due(since: u64, done: u32) -> bool
     ensures { IsTrue result ↔ ((done < 50) × (since ≡ 100 * 2 ^ (done + 1))) }
 {
     done < RESTARTS && since == 100 << (done + 1)
+}
+
+/// Whether a reduction is due directly after a learned line, where so many clauses were learned in
+/// the run, and so many reductions were made in it: the k-th comes after clause 1000·(2^k − 1), and
+/// there are 40 at most.
+pub fn reduce_due(learned: u64, done: u32) -> bool
+    requires { done ≤ 40 }
+    ensures { IsTrue result ↔ ((done < 40) × (learned ≡ 1000 * (2 ^ (done + 1) - 1))) }
+{
+    done < REDUCTIONS && learned == 1000 * ((1 << (done + 1)) - 1)
 }

@@ -3,6 +3,7 @@ ghost use Rattle.std.specs.Prelude.{◌≡◌, [], false, IfOk, IfErr};
 ghost use Rattle.std.specs.FinMap.{empty};
 ghost use Rattle.oracle.specs.Solving.{IsWithin};
 
+use crate::ledger::Ledger;
 use crate::taking::drop_deleted;
 use clause_prop::Propagator;
 use pb_lin::PbProblem;
@@ -10,16 +11,17 @@ use proof_laws::Line;
 use proof_rules::{ProofState, RecordFault, Recorder};
 use scut_base::NoMemory;
 use search_lines::{
-    deleting_line_keeps_stored, line_is_passed, nothing_is_stored, reached_state_fits,
-    replays_go_on,
+    deleting_line_keeps_stored, first_line_is_no_reduction, line_is_passed, nothing_is_stored,
+    reached_state_fits, replays_go_on,
 };
 use search_state::Search;
 use std::alloc::Global;
 use std::marker::Model;
 
-/// A solver by conflict-driven clause learning (Marques-Silva and Sakallah 1999), over a recorder that keeps the proof and
-/// a propagator. It holds the problem's rows and every live clause. Lines that are added are taken up by the next call of
-/// `solve`, and deleted ones dropped at once.
+/// A solver by conflict-driven clause learning (Marques-Silva and Sakallah 1999), over a recorder
+/// that keeps the proof and a propagator. It holds the problem's rows and every live clause. Lines
+/// that are added are taken up by the next call of `solve`, and deleted ones dropped at once. At
+/// fixed places it lets go of about half of the clauses that it has learned.
 #[derive(Drop)]
 pub struct Solver<R: Recorder + Drop, P: Propagator + Drop> {
     pub(crate) alloc: Global,
@@ -28,6 +30,7 @@ pub struct Solver<R: Recorder + Drop, P: Propagator + Drop> {
     pub(crate) limit: Option<u64>,
     pub(crate) rows: u64,
     pub(crate) next: u64,
+    pub(crate) ledger: Ledger,
     pub(crate) broken: bool,
 }
 
@@ -48,10 +51,12 @@ impl<R: Recorder + Drop, P: Propagator + Drop> Model for Solver<R, P> {
       search = s.search;
       next = s.next;
       rows = s.rows;
+      ledger = s.ledger;
     } };
 
     ghost invariant = { λ s. s.broken ≡ false → (R.broken s.recorder ≡ false)
-        × IsHeld (R.problem s.recorder) (R.lines s.recorder) s.search s.next s.rows };
+        × IsHeld (R.problem s.recorder) (R.lines s.recorder) s.search s.next s.rows
+        s.ledger };
 }
 
 /// Memory was refused, and the recorder is handed back.
@@ -62,8 +67,9 @@ pub struct NoRoom<R: Recorder + Drop> {
 }
 
 impl<R: Recorder + Drop, P: Propagator + Drop> Solver<R, P> {
-    /// A solver over a recorder, which may have lines, and a propagator that knows none. It learns so many clauses at most
-    /// as the limit says. The problem is the recorder's.
+    /// A solver over a recorder, which may have lines, and a propagator that knows none. It learns
+    /// so many clauses at most as the limit says. The problem is the recorder's. Where the recorder
+    /// has lines, the number of reductions among them isn't known, and the solver makes none.
     pub fn new(
         alloc: Global,
         recorder: R,
@@ -83,8 +89,11 @@ impl<R: Recorder + Drop, P: Propagator + Drop> Solver<R, P> {
         nothing_is_stored();
         line_is_passed();
         reached_state_fits();
+        first_line_is_no_reduction();
+        let state = recorder.state();
         // Tells that the lines reach a state.
-        let _vars = recorder.state().vars();
+        let _vars = state.vars();
+        let begins = state.lines() == 0;
         match Search::new(alloc, propagator) {
             Ok(search) => Ok(Solver {
                 alloc,
@@ -93,15 +102,17 @@ impl<R: Recorder + Drop, P: Propagator + Drop> Solver<R, P> {
                 limit,
                 rows: problem.rows().len() as u64,
                 next: 1,
+                ledger: Ledger::new(alloc, begins),
                 broken: false,
             }),
             Err(NoMemory) => Err(NoRoom { recorder }),
         }
     }
 
-    /// The recorder, with all that was added. Takes no memory.
+    /// The recorder, with all that was added; it isn't broken where the solver isn't. Takes no memory.
     pub fn into_recorder(self) -> R
-        ensures { result ≡ self.recorder }
+        ensures recorder { result ≡ self.recorder }
+        ensures whole { self.broken ≡ false → R.broken result ≡ false }
     {
         let Solver {
             alloc: _,
@@ -110,6 +121,7 @@ impl<R: Recorder + Drop, P: Propagator + Drop> Solver<R, P> {
             limit: _,
             rows: _,
             next: _,
+            ledger: _,
             broken: _,
         } = self;
         recorder
@@ -137,6 +149,7 @@ impl<R: Recorder + Drop, P: Propagator + Drop> Recorder for Solver<R, P> {
                 reached_state_fits();
                 replays_go_on();
                 drop_deleted(&mut self.search, line);
+                self.ledger.note(line);
                 // Tells that the lines reach a state.
                 let _vars = self.recorder.state().vars();
                 Ok(id)

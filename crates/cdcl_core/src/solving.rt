@@ -1,51 +1,44 @@
 // The search: turns of propagation, learning and decisions.
-ghost use Rattle.std.specs.Prelude.{◌≡◌, ◌<◌, ◌≤◌, ◌^◌, ◌++◌, ◌∷◌, [], List, true, false, None, Some, All, Contains, length, IsTrue, IfOk, IfErr, OnOk, OnErr};
+ghost use Rattle.std.specs.Prelude.{◌≡◌, ◌<◌, true, false, None, Some, IfOk, IfErr, OnOk};
 ghost use Rattle.scut_base.specs.Faults.{Rose};
-ghost use Rattle.scut_base.specs.Literal.{Literal};
-ghost use Rattle.scut_base.specs.Assignment.{partial_truth};
-ghost use Rattle.clause_prop.specs.Steps.{partial, last_level};
-ghost use Rattle.clause_prop.specs.Propagating.{IsConflict, IsClosedFor};
+ghost use Rattle.clause_prop.specs.Propagating.{IsConflict};
 ghost use Rattle.search_trail.specs.SearchTrail.{IsUndecided};
 ghost use Rattle.search_trail.specs.Rank.{rank};
-ghost use Rattle.conflict_analysis.specs.Analysis.{IsLesson};
-ghost use Rattle.oracle.specs.declared.fault.OracleFault.TheVariants.{Spent, Full};
-ghost use Rattle.oracle.specs.Solving.{AddsSearchLines, AreAssumptions, AreEarned, IsAnswer, IsWithin};
-ghost use Rattle.search_lines.specs.SearchLines.{AddsLearned};
+ghost use Rattle.oracle.specs.Solving.{AddsSearchLines, AreAssumptions, IsAnswer, IsWithin};
+ghost use Rattle.cdcl_core.specs.Ledgers.{left};
 ghost use Rattle.cdcl_core.specs.Work.{GoesOn, HasCause, IsAtWork, IsDone, IsLed, IsOn, IsTurn, KeepsRecorder};
 
 use crate::Solver;
-use crate::recording::{learned_goal, record};
 use crate::schedule::restart_due;
 use crate::turn::Turn;
 use clause_prop::Propagator;
-use conflict_analysis::Lesson;
 use oracle::{Answer, OracleFault};
-use pb_lin::Constraint;
-use proof_laws::Line;
-use proof_rules::{ProofState, Recorder};
-use scut_base::{Items, Lit};
+use proof_rules::Recorder;
+use scut_base::Lit;
 
 impl<R: Recorder + Drop, P: Propagator + Drop> Solver<R, P> {
-    // Goes on until there is an answer, with restarts (Luby and others 1993 showed that they help; the places are fixed).
-    // It ends because the steps of the trail, level by level, are a number that rises between restarts.
+    // Goes on until there is an answer, with restarts (Luby and others 1993 showed that they help; the
+    // places are fixed). It ends because the steps of the trail, level by level, are a number that
+    // rises between restarts and reductions, of which there are only so many.
     pub(crate) fn run(&mut self, assumptions: &[Lit]) -> Result<Answer, OracleFault>
         requires begun { self.old.broken ≡ true }
         requires whole { R.broken self.old.recorder ≡ false }
         requires work { IsAtWork (R.problem self.old.recorder) self.old.limit
-            (R.lines self.old.recorder) self.old.search self.old.next self.old.rows }
+            (R.lines self.old.recorder) self.old.search self.old.next self.old.rows
+            self.old.ledger }
         requires undecided { IsUndecided self.old.search.trail }
         requires assumptions { AreAssumptions self.old.search.trail.vars assumptions.now }
         ensures answer { IfOk result
             (IsAnswer (R.problem self.new.recorder) (R.lines self.new.recorder) assumptions.now) }
         ensures done { OnOk result (IsDone (R.problem self.new.recorder)
             (R.broken self.new.recorder) (R.lines self.new.recorder) self.new.search
-            self.new.next self.new.rows) }
+            self.new.next self.new.rows self.new.ledger) }
         ensures cause { IfErr result (λ f. HasCause f self.old.limit (R.problem self.new.recorder)
             (R.lines self.new.recorder)
             (Rose (R.faults self.old.recorder) (R.faults self.new.recorder))) }
         ensures goes_on { IfErr result (λ f. GoesOn f (IsDone (R.problem self.new.recorder)
             (R.broken self.new.recorder) (R.lines self.new.recorder) self.new.search
-            self.new.next self.new.rows)) }
+            self.new.next self.new.rows self.new.ledger)) }
         ensures adds { AddsSearchLines (R.problem self.old.recorder) (R.lines self.old.recorder)
             (R.lines self.new.recorder) }
         ensures within { IsWithin self.old.limit (R.problem self.old.recorder)
@@ -81,7 +74,8 @@ impl<R: Recorder + Drop, P: Propagator + Drop> Solver<R, P> {
         requires begun { self.old.broken ≡ true }
         requires whole { R.broken self.old.recorder ≡ false }
         requires work { IsAtWork (R.problem self.old.recorder) self.old.limit
-            (R.lines self.old.recorder) self.old.search self.old.next self.old.rows }
+            (R.lines self.old.recorder) self.old.search self.old.next self.old.rows
+            self.old.ledger }
         requires led { IsLed assumptions.now self.old.search.trail }
         requires assumptions { AreAssumptions self.old.search.trail.vars assumptions.now }
         ensures turn { IsTurn result
@@ -89,16 +83,17 @@ impl<R: Recorder + Drop, P: Propagator + Drop> Solver<R, P> {
             (IsOn (R.problem self.new.recorder) self.new.limit assumptions.now
             (R.broken self.new.recorder) (R.lines self.old.recorder)
             (R.lines self.new.recorder) self.old.search self.new.search self.new.next
-            self.new.rows) }
+            self.new.rows self.new.ledger
+            (left self.old.ledger.reductions)) }
         ensures done { OnOk result (IsDone (R.problem self.new.recorder)
             (R.broken self.new.recorder) (R.lines self.new.recorder) self.new.search
-            self.new.next self.new.rows) }
+            self.new.next self.new.rows self.new.ledger) }
         ensures cause { IfErr result (λ f. HasCause f self.old.limit (R.problem self.new.recorder)
             (R.lines self.new.recorder)
             (Rose (R.faults self.old.recorder) (R.faults self.new.recorder))) }
         ensures goes_on { IfErr result (λ f. GoesOn f (IsDone (R.problem self.new.recorder)
             (R.broken self.new.recorder) (R.lines self.new.recorder) self.new.search
-            self.new.next self.new.rows)) }
+            self.new.next self.new.rows self.new.ledger)) }
         ensures adds { AddsSearchLines (R.problem self.old.recorder) (R.lines self.old.recorder)
             (R.lines self.new.recorder) }
         ensures within { IsWithin self.old.limit (R.problem self.old.recorder)
@@ -116,12 +111,14 @@ impl<R: Recorder + Drop, P: Propagator + Drop> Solver<R, P> {
         }
     }
 
-    // Learns from a conflict, or answers where nothing is decided.
+    // Learns from a conflict, and makes the reduction that is due directly after that; or answers
+    // where nothing is decided.
     fn meet(&mut self, conflict: u64, _assumptions: &[Lit]) -> Result<Turn, OracleFault>
         requires begun { self.old.broken ≡ true }
         requires whole { R.broken self.old.recorder ≡ false }
         requires work { IsAtWork (R.problem self.old.recorder) self.old.limit
-            (R.lines self.old.recorder) self.old.search self.old.next self.old.rows }
+            (R.lines self.old.recorder) self.old.search self.old.next self.old.rows
+            self.old.ledger }
         requires led { IsLed _assumptions.now self.old.search.trail }
         requires conflict { IsConflict self.old.search.store self.old.search.trail conflict }
         ensures turn { IsTurn result
@@ -129,16 +126,17 @@ impl<R: Recorder + Drop, P: Propagator + Drop> Solver<R, P> {
             (IsOn (R.problem self.new.recorder) self.new.limit _assumptions.now
             (R.broken self.new.recorder) (R.lines self.old.recorder)
             (R.lines self.new.recorder) self.old.search self.new.search self.new.next
-            self.new.rows) }
+            self.new.rows self.new.ledger
+            (left self.old.ledger.reductions)) }
         ensures done { OnOk result (IsDone (R.problem self.new.recorder)
             (R.broken self.new.recorder) (R.lines self.new.recorder) self.new.search
-            self.new.next self.new.rows) }
+            self.new.next self.new.rows self.new.ledger) }
         ensures cause { IfErr result (λ f. HasCause f self.old.limit (R.problem self.new.recorder)
             (R.lines self.new.recorder)
             (Rose (R.faults self.old.recorder) (R.faults self.new.recorder))) }
         ensures goes_on { IfErr result (λ f. GoesOn f (IsDone (R.problem self.new.recorder)
             (R.broken self.new.recorder) (R.lines self.new.recorder) self.new.search
-            self.new.next self.new.rows)) }
+            self.new.next self.new.rows self.new.ledger)) }
         ensures adds { AddsSearchLines (R.problem self.old.recorder) (R.lines self.old.recorder)
             (R.lines self.new.recorder) }
         ensures within { IsWithin self.old.limit (R.problem self.old.recorder)
@@ -155,7 +153,9 @@ impl<R: Recorder + Drop, P: Propagator + Drop> Solver<R, P> {
             return Ok(Turn::Answered(Answer::Unsat(core)));
         }
         let lesson = self.search.lesson(conflict)?;
+        self.ledger.use_all(lesson.hints.as_slice());
         self.learn(lesson)?;
+        self.reduce_where_due()?;
         Ok(Turn::Learned)
     }
 }

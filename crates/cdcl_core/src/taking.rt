@@ -1,8 +1,8 @@
 // Lines that a search takes up and drops.
-ghost use Rattle.std.specs.Prelude.{◌≡◌, ◌<◌, ◌≤◌, ◌+◌, ℕ, false, true, None, length, fold, OnOk};
+ghost use Rattle.std.specs.Prelude.{◌≡◌, ◌<◌, ◌≤◌, ◌+◌, [], ℕ, false, true, None, length, fold, OnOk};
 ghost use Rattle.std.specs.FinMap.{get, remove};
 ghost use Rattle.pb_lin.specs.Problem.{ProblemValue};
-ghost use Rattle.proof_laws.specs.State.{StateValue, IsState};
+ghost use Rattle.proof_laws.specs.Earned.{is_reduce};
 ghost use Rattle.search_trail.specs.SearchTrail.{IsUndecided};
 ghost use Rattle.oracle.specs.Solving.{Reaches};
 ghost use Rattle.cdcl_core.specs.Work.{IsHeld, IsTakenUp};
@@ -22,6 +22,7 @@ pub(crate) fn drop_deleted<P: Propagator + Drop>(search: &mut Search<P>, line: &
     requires { IsWellFormed line.now }
     ensures store { search.new.store ≡ fold remove search.old.store (deleted line.now) }
     ensures vars { search.new.trail.vars ≡ search.old.trail.vars }
+    ensures none { is_reduce line.now ≡ true → search.new.trail.steps ≡ [] }
 {
     match line {
         Line::Del { ids } => drop_all(search, ids.as_slice()),
@@ -34,6 +35,7 @@ pub(crate) fn drop_deleted<P: Propagator + Drop>(search: &mut Search<P>, line: &
 fn drop_all<P: Propagator + Drop>(search: &mut Search<P>, ids: &[u64])
     ensures store { search.new.store ≡ fold remove search.old.store ids.now }
     ensures vars { search.new.trail.vars ≡ search.old.trail.vars }
+    ensures none { search.new.trail.steps ≡ [] }
 {
     search.clear();
     for id in ids {
@@ -103,11 +105,12 @@ impl<R: Recorder + Drop, P: Propagator + Drop> Solver<R, P> {
     pub(crate) fn take_up(&mut self) -> Result<(), NoMemory>
         requires begun { self.old.broken ≡ true }
         requires held { IsHeld (R.problem self.old.recorder) (R.lines self.old.recorder)
-            self.old.search self.old.next self.old.rows }
+            self.old.search self.old.next self.old.rows self.old.ledger }
         requires unended { Reaches (R.problem self.old.recorder) (R.lines self.old.recorder)
             (λ s. s.ended ≡ false) }
         ensures taken { OnOk result (IsTakenUp (R.problem self.new.recorder)
-            (R.lines self.new.recorder) self.new.search self.new.next self.new.rows) }
+            (R.lines self.new.recorder) self.new.search self.new.next self.new.rows
+            self.new.ledger) }
         ensures undecided { OnOk result (IsUndecided self.new.search.trail) }
         ensures recorder { self.new.recorder ≡ self.old.recorder }
         ensures limit { self.new.limit ≡ self.old.limit }

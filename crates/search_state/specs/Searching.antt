@@ -45,6 +45,14 @@ pub record IsReadyToLearn (store : LineMap) (old t : TrailValue) (top level : �
   pub asserting : IsAsserting old top level lits l
   pub back : IsBackTo level old t
 
+-- the step of the literal's variable, of which there is one at most, is of this level
+pub record IsLevelOf (t : TrailValue) (l : Literal) (level : ℕ) : Type 0 where
+  pub place : ℕ
+  pub step : Step
+  pub there : IsStepAt t place step
+  pub variable : step.lit.var ≡ l.var
+  pub is : step.level ≡ level
+
 -- no step of the literal has this reason
 abbrev pub HasOtherReason : TrailValue → ℕ → Literal → Type 0
 HasOtherReason t id l = (p : ℕ) (s : Step) → IsStepAt t p s → s.lit ≡ l → s.reason ≢ id

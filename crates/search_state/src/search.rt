@@ -11,7 +11,7 @@ ghost use Rattle.clause_prop.specs.Propagating.{Extends, IsConflict, IsClosedFor
 ghost use Rattle.search_trail.specs.SearchTrail.{IsSearchTrail, IsUndecided, IsFull, IsOfSteps, decision};
 ghost use Rattle.search_trail.specs.Learning.{AreHints, asserted};
 ghost use Rattle.conflict_analysis.specs.Analysis.{IsLesson, IsBlame, IsForcedFalse};
-ghost use Rattle.search_state.specs.Searching.{no_lines, IsBackTo, IsReadyToLearn};
+ghost use Rattle.search_state.specs.Searching.{no_lines, IsBackTo, IsLevelOf, IsReadyToLearn};
 
 use crate::steps::{assignment_of, forces_step, push_decision};
 use crate::waiting::{bump_all, put_back};
@@ -91,6 +91,20 @@ impl<P: Propagator + Drop> Search<P> {
         ensures { result ≡ partial_truth (partial self.now.trail) lit }
     {
         self.trail.value(lit)
+    }
+
+    /// The level of the step of the literal's variable, or `None` where the variable is open.
+    pub fn level_of(&self, lit: Lit) -> Option<u64>
+        requires { lit.var ≤ self.now.trail.vars }
+        ensures { MatchOption result (partial_truth (partial self.now.trail) lit ≡ None)
+            (IsLevelOf self.now.trail lit) }
+    {
+        // Tells that no two steps are of one variable.
+        let _steps = self.trail.len();
+        match self.trail.place_of(lit) {
+            Some(place) => Some(self.trail.step_at(place).level),
+            None => None,
+        }
     }
 
     /// The line of an id.

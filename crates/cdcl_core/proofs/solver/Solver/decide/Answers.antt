@@ -14,15 +14,15 @@ returns-then-is_none-clause-turn g c =
     let led = trail_inside (IsLed c.args.assumptions.now) _ _ c.self.view_is c.requires.led in
     let whole = rw (← c.self.view_is) at c.requires.whole in
     let parts = decided_parts c.self.inside.search c.decide.new.self c.in-Some.lit c.decide.ensures in
-    rw (← c.self.view_is) (goes_on _ _ c.args.assumptions.now _ _ c.self.inside.search c.decide.new.self c.self.inside.next c.self.inside.rows c.in-Some.lit work led whole parts.0 parts.1 (inl c.in-Some.ensures.unmet.0))
+    rw (← c.self.view_is) (goes_on _ _ c.args.assumptions.now _ _ c.self.inside.search c.decide.new.self c.self.inside.next c.self.inside.rows c.self.inside.ledger c.in-Some.lit work led whole parts.0 parts.1 (inl c.in-Some.ensures.unmet.0))
 
 pub returns-then-is_none-clause-done : goal.returns-then-is_none-clause-done
 returns-then-is_none-clause-done g c =
     let work = work_inside g.R.Recorder.problem g.R.Recorder.lines _ _ c.self.view_is c.requires.work in
     let whole = rw (← c.self.view_is) at c.requires.whole in
     let parts = decided_parts c.self.inside.search c.decide.new.self c.in-Some.lit c.decide.ensures in
-    let now = work_decided _ _ _ c.self.inside.search c.decide.new.self c.self.inside.next c.self.inside.rows c.in-Some.lit parts.0 parts.1 work in
-    done_moved _ _ _ _ _ c.decide.new.self c.self.inside.next c.self.inside.rows now refl whole
+    let now = work_decided _ _ _ c.self.inside.search c.decide.new.self c.self.inside.next c.self.inside.rows c.self.inside.ledger c.in-Some.lit parts.0 parts.1 work in
+    done_moved _ _ _ _ _ c.decide.new.self c.self.inside.next c.self.inside.rows c.self.inside.ledger now refl whole
 
 pub returns-then-is_none-clause-adds : goal.returns-then-is_none-clause-adds
 returns-then-is_none-clause-adds g c = rw (← c.self.view_is) (adds_none _ _ _ refl)
@@ -40,7 +40,7 @@ returns-then-choose-clause-turn g c =
     let led = trail_inside (IsLed c.args.assumptions.now) _ _ c.self.view_is c.requires.led in
     let whole = rw (← c.self.view_is) at c.requires.whole in
     let chosen = c.if-choose.ensures.chosen (search rules) in
-    rw (← c.self.view_is) (goes_on _ _ c.args.assumptions.now _ _ c.self.inside.search c.choose.new.self c.self.inside.next c.self.inside.rows chosen.0 work led whole
+    rw (← c.self.view_is) (goes_on _ _ c.args.assumptions.now _ _ c.self.inside.search c.choose.new.self c.self.inside.next c.self.inside.rows c.self.inside.ledger chosen.0 work led whole
     c.if-choose.ensures.store chosen.1 (inr c.in-None.ensures.met))
 
 pub returns-then-choose-clause-done : goal.returns-then-choose-clause-done
@@ -48,8 +48,8 @@ returns-then-choose-clause-done g c =
     let work = work_inside g.R.Recorder.problem g.R.Recorder.lines _ _ c.self.view_is c.requires.work in
     let whole = rw (← c.self.view_is) at c.requires.whole in
     let chosen = c.if-choose.ensures.chosen (search rules) in
-    let now = work_decided _ _ _ c.self.inside.search c.choose.new.self c.self.inside.next c.self.inside.rows chosen.0 c.if-choose.ensures.store chosen.1 work in
-    done_moved _ _ _ _ _ c.choose.new.self c.self.inside.next c.self.inside.rows now refl whole
+    let now = work_decided _ _ _ c.self.inside.search c.choose.new.self c.self.inside.next c.self.inside.rows c.self.inside.ledger chosen.0 c.if-choose.ensures.store chosen.1 work in
+    done_moved _ _ _ _ _ c.choose.new.self c.self.inside.next c.self.inside.rows c.self.inside.ledger now refl whole
 
 pub returns-then-choose-clause-adds : goal.returns-then-choose-clause-adds
 returns-then-choose-clause-adds g c = rw (← c.self.view_is) (adds_none _ _ _ refl)
@@ -72,8 +72,8 @@ pub returns-in_ok-model-in-None-clause-turn : goal.returns-in_ok-model-in-None-c
 returns-in_ok-model-in-None-clause-turn g c =
     let work = work_inside g.R.Recorder.problem g.R.Recorder.lines _ _ c.self.view_is c.requires.work in
     let same = c.if-choose.ensures.stays refl in
-    let now = work_same _ _ _ c.self.inside.search c.choose.new.self c.self.inside.next c.self.inside.rows c.if-choose.ensures.store same work in
-    solution_found _ _ _ c.choose.new.self c.self.inside.next c.self.inside.rows c.args.assumptions.now c.in_ok-model-in-None.model now
+    let now = work_same _ _ _ c.self.inside.search c.choose.new.self c.self.inside.next c.self.inside.rows c.self.inside.ledger c.if-choose.ensures.store same work in
+    solution_found _ _ _ c.choose.new.self c.self.inside.next c.self.inside.rows c.self.inside.ledger c.args.assumptions.now c.in_ok-model-in-None.model now
     c.in_ok-model-in-None.ensures.length c.in_ok-model-in-None.ensures.steps c.in_ok-model-in-None.ensures.holds
     (subst (λ (t : TrailValue). AreMet t c.args.assumptions.now) (sym same) c.in-None.ensures.met) c.stored_model_is_solution.ensures
 
@@ -81,8 +81,8 @@ pub returns-in_ok-model-in-None-clause-done : goal.returns-in_ok-model-in-None-c
 returns-in_ok-model-in-None-clause-done g c =
     let work = work_inside g.R.Recorder.problem g.R.Recorder.lines _ _ c.self.view_is c.requires.work in
     let whole = rw (← c.self.view_is) at c.requires.whole in
-    let now = work_same _ _ _ c.self.inside.search c.choose.new.self c.self.inside.next c.self.inside.rows c.if-choose.ensures.store (c.if-choose.ensures.stays refl) work in
-    done_moved _ _ _ _ _ c.choose.new.self c.self.inside.next c.self.inside.rows now refl whole
+    let now = work_same _ _ _ c.self.inside.search c.choose.new.self c.self.inside.next c.self.inside.rows c.self.inside.ledger c.if-choose.ensures.store (c.if-choose.ensures.stays refl) work in
+    done_moved _ _ _ _ _ c.choose.new.self c.self.inside.next c.self.inside.rows c.self.inside.ledger now refl whole
 
 pub returns-in_ok-model-in-None-clause-adds : goal.returns-in_ok-model-in-None-clause-adds
 returns-in_ok-model-in-None-clause-adds g c = rw (← c.self.view_is) (adds_none _ _ _ refl)

@@ -2,6 +2,7 @@ use Rattle.std.proofs.Common.{◌≡◌, ◌≢◌, ◌<◌, ap, sym, subst, Lis
 use Rattle.scut_base.specs.Faults.{Rose}
 use Rattle.scut_base.specs.Literal.{Literal}
 use Rattle.search_trail.specs.Rank.{rank}
+use Rattle.search_lines.proofs.SearchLines.{none_law}
 use Rattle.cdcl_core.specs.Work.{SolverValue, HasCause, IsLed}
 use Rattle.cdcl_core.specs.Learnable.{IsForcedBySome}
 use Rattle.cdcl_core.proofs.LearnedSolver.{adds_none}
@@ -16,14 +17,17 @@ returns-then-eq-clause-cause g c =
     let rose = Rose (g.R.Recorder.faults c.args.self.now.recorder) (g.R.Recorder.faults c.self.inside.recorder) in
     subst (λ (limit : Option ℕ). HasCause c.spent.result limit (g.R.Recorder.problem c.self.inside.recorder) (g.R.Recorder.lines c.self.inside.recorder) rose)
     (ap (λ (s : SolverValue _). s.limit) c.self.view_is)
-    (spent_cause _ _ _ _ _ _ _ _ _ (work_back _ _ _ _ _ _ _ _ c.back_to.ensures.store c.back_to.ensures.trail taught.work)
+    (spent_cause _ _ _ _ _ _ _ _ _ _ (work_back _ _ _ _ _ _ _ _ _ c.back_to.ensures.store c.back_to.ensures.trail taught.work)
     (learnable _ _ _ _ c.level-level.ensures.search taught.lesson_is c.back_to.ensures.store c.back_to.ensures.trail refl)
     c.state-state.result.now c.spent.result c.learned-learned.result rose c.state-state.ensures c.spent.ensures.full c.spent.ensures.spent reached c.learned-learned.ensures)
 
 pub returns-then-eq-clause-goes_on : goal.returns-then-eq-clause-goes_on
 returns-then-eq-clause-goes_on g c =
     let taught = taught_inside g.R.Recorder.problem g.R.Recorder.lines g.R.Recorder.broken _ _ _ c.self.view_is c.requires.work c.requires.lesson c.requires.whole in
-    goes_on_with c.spent.result _ (taught.whole, work_back _ _ _ _ _ _ _ _ c.back_to.ensures.store c.back_to.ensures.trail taught.work)
+    goes_on_with c.spent.result _ (taught.whole, work_back _ _ _ _ _ _ _ _ _ c.back_to.ensures.store c.back_to.ensures.trail taught.work)
+
+pub returns-in_err-distance-clause-adds : goal.returns-in_err-distance-clause-adds
+returns-in_err-distance-clause-adds g c = none_law _ _
 
 pub returns-then-eq-clause-adds : goal.returns-then-eq-clause-adds
 returns-then-eq-clause-adds g c = adds_none g.R.Recorder.problem g.R.Recorder.lines _ _ _ c.self.view_is refl
@@ -31,7 +35,7 @@ returns-then-eq-clause-adds g c = adds_none g.R.Recorder.problem g.R.Recorder.li
 pub add_learned-requires-clause-work : goal.add_learned-requires-clause-work
 add_learned-requires-clause-work g c =
     let taught = taught_inside g.R.Recorder.problem g.R.Recorder.lines g.R.Recorder.broken _ _ _ c.self.view_is c.requires.work c.requires.lesson c.requires.whole in
-    work_back _ _ _ _ _ _ _ _ c.back_to.ensures.store c.back_to.ensures.trail taught.work
+    work_back _ _ _ _ _ _ _ _ _ c.back_to.ensures.store c.back_to.ensures.trail taught.work
 
 pub add_learned-requires-clause-more : goal.add_learned-requires-clause-more
 add_learned-requires-clause-more g c =

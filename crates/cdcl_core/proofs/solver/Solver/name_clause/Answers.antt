@@ -12,7 +12,7 @@ use Rattle.cdcl_core.proofs.solver.Solver.name_clause.Goals as goal
 pub returns-in-Some-clause-named : goal.returns-in-Some-clause-named
 returns-in-Some-clause-named g c =
     let work = work_inside g.R.Recorder.problem g.R.Recorder.lines _ _ c.self.view_is c.requires.work in
-    rw (← c.self.view_is) (stored_reached _ _ c.self.inside.search c.self.inside.next c.self.inside.rows c.in-Some.id (clause c.args.lits) work.taken.held
+    rw (← c.self.view_is) (stored_reached _ _ c.self.inside.search c.self.inside.next c.self.inside.rows c.self.inside.ledger c.in-Some.id (clause c.args.lits) work.taken.held
     (c.in-Some.ensures ∙ ap (λ (ls : List Literal). Some (clause ls)) c.as_slice.ensures))
 
 pub returns-in-Some-clause-adds : goal.returns-in-Some-clause-adds
@@ -41,7 +41,7 @@ pub returns-clause-done : goal.returns-clause-done
 returns-clause-done g c =
     let work = work_inside g.R.Recorder.problem g.R.Recorder.lines _ _ c.self.view_is c.requires.work in
     let added = rw c.clause.ensures at c.in_ok-id.ensures.added in
-    done_implied _ _ _ _ c.args.lits c.args.hints c.in_ok-id.ensures.kept.problem added c.self.inside.limit c.state.result.now c.self.inside.search c.self.inside.next c.self.inside.rows
+    done_implied _ _ _ _ c.args.lits c.args.hints c.in_ok-id.ensures.kept.problem added c.self.inside.limit c.state.result.now c.self.inside.search c.self.inside.next c.self.inside.rows c.self.inside.ledger
     work c.state.ensures _ c.in_ok-id.ensures.whole (fits_law _ _ _ c.state.ensures) c.vars-vars.ensures.state
 
 pub returns-clause-adds : goal.returns-clause-adds

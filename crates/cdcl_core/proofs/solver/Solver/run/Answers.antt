@@ -1,13 +1,13 @@
-use Rattle.std.proofs.Common.{◌≡◌, ◌<◌, ◌-◌, ◌+◌, sym, ap, ◌∙◌, subst, refl, arith, inl, inr, ℕ}
+use Rattle.std.proofs.Common.{◌≡◌, ◌-◌, ◌+◌, sym, ap, ◌∙◌, subst, refl, arith, inl, inr}
 use Rattle.pb_lin.specs.Problem.{ProblemValue}
 use Rattle.search_trail.specs.SearchTrail.{IsSearchTrail}
-use Rattle.search_trail.specs.Rank.{rest}
-use Rattle.search_trail.proofs.Ranks.{higher_law, restarted_law}
 use Rattle.search_lines.specs.SearchLines.{AddsLearned}
 use Rattle.search_lines.proofs.SearchLines.{none_law, joined_law, then_law}
 use Rattle.oracle.specs.Solving.{AddsSearchLines, IsAnswer}
+use Rattle.cdcl_core.specs.Ledgers.{left}
 use Rattle.cdcl_core.specs.Work.{SolverValue, IsAtWork, IsLed, IsOn, KeepsRecorder}
 use Rattle.cdcl_core.proofs.Turns.{work_same, led_back, vars_back, led_undecided, turn_on, kept_twice, kept_none}
+use Rattle.cdcl_core.proofs.Endings.{fewer_law, nearer_law}
 use Rattle.cdcl_core.proofs.solver.Solver.run.Goals as goal
 use Rattle.cdcl_core.proofs.solver.Solver.run.Goals.{in-Learned, in-Decided}
 
@@ -29,8 +29,8 @@ loop-since-smaller-then-restart_due g c =
     let due = c.restart_due.ensures.0 c.if-restart_due.true in
     let before = c.loop-since.self.search.trail in
     let vars : c.back_to.new.self.trail.vars ≡ before.vars = vars_back 0 c.self.inside.search.trail c.back_to.new.self.trail c.back_to.ensures.trail ∙ ap (λ (v : SolverValue _). v.search.trail.vars) c.self.view_is in
-    subst (λ (n : ℕ). rest (50 - (c.loop-since.restarts + 1)) c.back_to.new.self.trail < rest n before) (let e : 50 - (c.loop-since.restarts + 1) + 1 ≡ 50 - c.loop-since.restarts = omega (arith, due.0) in e)
-    (restarted_law (50 - (c.loop-since.restarts + 1)) before c.back_to.new.self.trail vars)
+    let same : left c.self.inside.ledger.reductions ≡ left c.loop-since.self.ledger.reductions = ap (λ (v : SolverValue _). left v.ledger.reductions) c.self.view_is in
+    fewer_law (50 - (c.loop-since.restarts + 1) + left c.self.inside.ledger.reductions) (50 - c.loop-since.restarts + left c.loop-since.self.ledger.reductions) before c.back_to.new.self.trail vars (omega (arith, due.0, same))
 
 pub loop-since-preserved-then-restart_due : goal.loop-since-preserved-then-restart_due
 loop-since-preserved-then-restart_due g c =
@@ -43,8 +43,8 @@ loop-since-preserved-then-restart_due g c =
       few = omega (arith, due.0);
       begun = subst (λ (v : SolverValue _). v.broken ≡ _) e inv.begun;
       whole = subst (λ (v : SolverValue _). rec.broken v.recorder ≡ _) e inv.whole;
-      work = work_same _ _ _ c.self.inside.search c.back_to.new.self c.self.inside.next c.self.inside.rows c.back_to.ensures.store (vars_back 0 c.self.inside.search.trail c.back_to.new.self.trail c.back_to.ensures.trail)
-          (subst (λ (v : SolverValue _). IsAtWork (rec.problem v.recorder) v.limit (rec.lines v.recorder) v.search v.next v.rows) e inv.work);
+      work = work_same _ _ _ c.self.inside.search c.back_to.new.self c.self.inside.next c.self.inside.rows c.self.inside.ledger c.back_to.ensures.store (vars_back 0 c.self.inside.search.trail c.back_to.new.self.trail c.back_to.ensures.trail)
+          (subst (λ (v : SolverValue _). IsAtWork (rec.problem v.recorder) v.limit (rec.lines v.recorder) v.search v.next v.rows v.ledger) e inv.work);
       led = led_back 0 c.self.inside.search.trail c.back_to.new.self.trail c.args.assumptions.now c.back_to.ensures.trail (subst (λ (v : SolverValue _). IsLed c.args.assumptions.now v.search.trail) e inv.led);
       vars = vars_back 0 c.self.inside.search.trail c.back_to.new.self.trail c.back_to.ensures.trail ∙ ap (λ (v : SolverValue _). v.search.trail.vars) c.self.view_is ∙ inv.vars;
       adds = subst (λ (v : SolverValue _). AddsLearned (rec.problem fn.recorder) (rec.lines fn.recorder) (rec.lines v.recorder)) e inv.adds;
@@ -70,10 +70,10 @@ loop-since-smaller g c =
     let now = c.turn.new.self in
     let old = c.loop-since.self in
     let on = turn_on c.in_ok-answer.field-0 (IsAnswer (rec.problem now.recorder) (rec.lines now.recorder) c.args.assumptions.now)
-    (IsOn (rec.problem now.recorder) now.limit c.args.assumptions.now (rec.broken now.recorder) (rec.lines old.recorder) (rec.lines now.recorder) old.search now.search now.next now.rows)
+    (IsOn (rec.problem now.recorder) now.limit c.args.assumptions.now (rec.broken now.recorder) (rec.lines old.recorder) (rec.lines now.recorder) old.search now.search now.next now.rows now.ledger (left old.ledger.reductions))
     c.in_ok-answer.ensures.turn (elim c.match-branch-2.branch [ in-Learned w ↦ inl w.in-Learned.is | in-Decided w ↦ inr w.in-Decided.is ]) in
-    higher_law now.search.store (50 - c.loop-since.restarts) old.search.trail now.search.trail
-    (subst (λ (v : SolverValue _). IsSearchTrail v.search.store v.search.trail) c.self-in-loop-since.view_is c.level-level.ensures.search) on.vars on.rises
+    nearer_law now.search.store (50 - c.loop-since.restarts) (left old.ledger.reductions) (left now.ledger.reductions) old.search.trail now.search.trail
+    (subst (λ (v : SolverValue _). IsSearchTrail v.search.store v.search.trail) c.self-in-loop-since.view_is c.level-level.ensures.search) on.vars on.nearer
 
 pub loop-since-preserved : goal.loop-since-preserved
 loop-since-preserved g c =
@@ -83,7 +83,7 @@ loop-since-preserved g c =
     let fn = c.args.self.now in
     let inv = c.loop-since.invariant in
     let on = turn_on c.in_ok-answer.field-0 (IsAnswer (rec.problem now.recorder) (rec.lines now.recorder) c.args.assumptions.now)
-    (IsOn (rec.problem now.recorder) now.limit c.args.assumptions.now (rec.broken now.recorder) (rec.lines old.recorder) (rec.lines now.recorder) old.search now.search now.next now.rows)
+    (IsOn (rec.problem now.recorder) now.limit c.args.assumptions.now (rec.broken now.recorder) (rec.lines old.recorder) (rec.lines now.recorder) old.search now.search now.next now.rows now.ledger (left old.ledger.reductions))
     c.in_ok-answer.ensures.turn (elim c.match-branch-2.branch [ in-Learned w ↦ inl w.in-Learned.is | in-Decided w ↦ inr w.in-Decided.is ]) in
     let same : rec.problem now.recorder ≡ rec.problem fn.recorder = c.turn.ensures.kept.problem ∙ inv.kept.problem in
     record {

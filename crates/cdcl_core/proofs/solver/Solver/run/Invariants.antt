@@ -1,11 +1,12 @@
-use Rattle.std.proofs.Common.{◌≡◌, ◌≤◌, ◌-◌, true, false}
+use Rattle.std.proofs.Common.{◌≡◌, ◌≤◌, ◌+◌, ◌-◌, true, false}
 use Rattle.search_trail.specs.Rank.{rest}
 use Rattle.search_lines.specs.SearchLines.{AddsLearned}
+use Rattle.cdcl_core.specs.Ledgers.{left}
 use Rattle.cdcl_core.specs.Work.{IsAtWork, IsLed, KeepsRecorder}
 use Rattle.cdcl_core.proofs.solver.Solver.run.Given as goal
 
 abbrev pub decreases-loop-since : goal.decreases-loop-since
-decreases-loop-since g l = rest (50 - l.restarts) l.self.search.trail
+decreases-loop-since g l = rest (50 - l.restarts + left l.self.ledger.reductions) l.self.search.trail
 
 abbrev pub invariant-loop-since : goal.invariant-loop-since
 invariant-loop-since g l =
@@ -14,7 +15,7 @@ invariant-loop-since g l =
       few : l.restarts ≤ 50;
       begun : l.self.broken ≡ true;
       whole : rec.broken l.self.recorder ≡ false;
-      work : IsAtWork (rec.problem l.self.recorder) l.self.limit (rec.lines l.self.recorder) l.self.search l.self.next l.self.rows;
+      work : IsAtWork (rec.problem l.self.recorder) l.self.limit (rec.lines l.self.recorder) l.self.search l.self.next l.self.rows l.self.ledger;
       led : IsLed l.assumptions l.self.search.trail;
       vars : l.self.search.trail.vars ≡ l.fn.self.search.trail.vars;
       adds : AddsLearned (rec.problem l.fn.self.recorder) (rec.lines l.fn.self.recorder) (rec.lines l.self.recorder);
