@@ -18,7 +18,7 @@ use Rattle.sum_outputs.specs.Joining.{IsOutputAt, AreOutputsAt, AreOutputsNow, I
 use Rattle.sum_outputs.specs.declared.made.SumOutput.{SumOutput}
 use Rattle.sum_outputs.proofs.OutputsLater.{defined_then, now_later}
 use Rattle.sum_outputs.proofs.MakeLines.{outputs_later}
-use Rattle.sum_outputs.specs.Falling.{IsAsked, IsKept, asked_from}
+use Rattle.sum_outputs.specs.Falling.{IsAsked, IsFresh, IsKept, asked_from}
 use Rattle.sum_outputs.proofs.JoinLines.{tie_can, output_then}
 use Rattle.sum_outputs.proofs.ExtendedLists.{pairs_joined}
 
@@ -80,7 +80,7 @@ module _ (a b : Snapshot) (ready : IsReady a) (on : Continues a b) (terms : Term
       let f = new.fresh ready.state ready.reached in
       tie_can b t terms o (get_or (drop m (take place outputs)) i d) weights (def i d short) q.literal.some q.literal.variable (new.is t reached).literal (omega arith) (λ same. omega arith)
 
-  module _ (d : Snapshot) (ready_b : IsReady b) (later : Continues b d) (absent : All (λ q. q.sum ≢ n) outputs) (k : ℕ) (least : IsLeastSum terms k n) where
+  module _ (d : Snapshot) (ready_b : IsReady b) (later : Continues b d) (absent : All (λ q. q.sum ≢ n) outputs) (k : ℕ) (least : IsLeastSum terms k n) (from : o.from ≡ k) where
     abbrev all : List SumOutput
     all = (take place outputs ++ o ∷ []) ++ drop place outputs
 
@@ -123,25 +123,48 @@ module _ (a b : Snapshot) (ready : IsReady a) (on : Continues a b) (terms : Term
         dropped_rising
         (λ i j e short short'. let low = front_low i e short in let high = above_place outputs n place is absent j e short' in omega arith)
 
+    -- an output before the place or after it is among all
+    among_all : (q : SumOutput) → Contains outputs q → Contains all q
+    among_all q there = ⊎_elim
+        (λ (left : Contains (take place outputs) q). Contains-append_left (take place outputs ++ o ∷ []) (drop place outputs) q (Contains-append_left (take place outputs) (o ∷ []) q left))
+        (λ (right : Contains (drop place outputs) q). Contains-append_right (take place outputs ++ o ∷ []) (drop place outputs) q right)
+        (Contains-append_cases (take place outputs) (drop place outputs) q (subst (λ (os : List SumOutput). Contains os q) (sym (take-append-drop place outputs)) there))
+
+    -- and all but the new one were there
+    kept_or_new : (q : SumOutput) → Contains all q → IsKept outputs q ⊎ ((q ≡ o) × IsFresh a q)
+    kept_or_new q there = ⊎_elim
+        (λ (front : Contains (take place outputs ++ o ∷ []) q). ⊎_elim
+        (λ (left : Contains (take place outputs) q). inl (q, subst (λ (os : List SumOutput). Contains os q) (take-append-drop place outputs) (Contains-append_left (take place outputs) (drop place outputs) q left), refl, refl))
+        (λ (here : Contains (o ∷ []) q). ⊎_elim
+        (λ (same : o ≡ q). inr (sym same, λ s reached. let f = new.fresh s reached in let e : o.lit.var ≡ q.lit.var = ap (λ (p : SumOutput). p.lit.var) same in omega arith))
+        (λ (never : Contains [] q). absurd (Contains-nil q never))
+        (Contains-cons_cases o q [] here))
+        (Contains-append_cases (take place outputs) (o ∷ []) q front))
+        (λ (right : Contains (drop place outputs) q). inl (q, subst (λ (os : List SumOutput). Contains os q) (take-append-drop place outputs) (Contains-append_right (take place outputs) (drop place outputs) q right), refl, refl))
+        (Contains-append_cases (take place outputs ++ o ∷ []) (drop place outputs) q there)
+
+    -- all others were there as they are
+    others_before : All (λ q. (q ≡ o) ⊎ Contains outputs q) all
+    others_before =
+        let own : All (λ q. (q ≡ o) ⊎ Contains outputs q) outputs = λ i e short. inr (Contains-get_or outputs i e short) in
+        All-append (λ q. (q ≡ o) ⊎ Contains outputs q) (take place outputs ++ o ∷ []) (drop place outputs)
+        (All-append (λ q. (q ≡ o) ⊎ Contains outputs q) (take place outputs) (o ∷ []) (All-take (λ q. (q ≡ o) ⊎ Contains outputs q) place outputs own)
+        (All-cons (λ q. (q ≡ o) ⊎ Contains outputs q) o [] (inl refl) (All-nil (λ q. (q ≡ o) ⊎ Contains outputs q))))
+        (All-drop (λ q. (q ≡ o) ⊎ Contains outputs q) place outputs own)
+
     pub is_asked : IsAsked a d terms outputs k o all
     is_asked = record {
       there = Contains-append_left (take place outputs ++ o ∷ []) (drop place outputs) o (Contains-append_right (take place outputs) (o ∷ []) o (Contains-head o []));
       least = subst (λ (m : ℕ). IsLeastSum terms k m) (sym sum) least;
+      from = from;
       outputs = λ t reached. record {
         each = each_d t reached;
         rising = record { rising = all_rising; small = λ i e short. let most = (each_d t reached i e short).literal.most in let w = weights.small in omega arith };
       };
       defined = defined_d;
-      kept = λ q there. ⊎_elim
-          (λ (front : Contains (take place outputs ++ o ∷ []) q). ⊎_elim
-          (λ (left : Contains (take place outputs) q). inl (q, subst (λ (os : List SumOutput). Contains os q) (take-append-drop place outputs) (Contains-append_left (take place outputs) (drop place outputs) q left), refl, refl))
-          (λ (here : Contains (o ∷ []) q). ⊎_elim
-          (λ (same : o ≡ q). inr (λ s reached. let f = new.fresh s reached in let e : o.lit.var ≡ q.lit.var = ap (λ (p : SumOutput). p.lit.var) same in omega arith))
-          (λ (never : Contains [] q). absurd (Contains-nil q never))
-          (Contains-cons_cases o q [] here))
-          (Contains-append_cases (take place outputs) (o ∷ []) q front))
-          (λ (right : Contains (drop place outputs) q). inl (q, subst (λ (os : List SumOutput). Contains os q) (take-append-drop place outputs) (Contains-append_right (take place outputs) (drop place outputs) q right), refl, refl))
-          (Contains-append_cases (take place outputs ++ o ∷ []) (drop place outputs) q there);
+      stays = λ i e short. (get_or outputs i e, among_all (get_or outputs i e) (Contains-get_or outputs i e short), refl, refl);
+      kept = λ i e short. kept_or_new (get_or all i e) (Contains-get_or all i e short);
+      others = others_before;
     }
 
 -- where the output at the place has another sum, none has it
@@ -173,7 +196,7 @@ module _ (a : Snapshot) (terms : Terms) (outputs : List SumOutput) (now : AreOut
       (cases_order i place)
 
   defined_found : (s : StateValue) → IsDefined a s terms (get_or outputs place x) → IsDefined a s terms found
-  defined_found s is = record { sum = is.sum; degree = is.degree; normal = is.normal; same = is.same; whole = is.whole; below = is.below; positive = is.positive; named = is.named; lower = is.lower; upper = is.upper }
+  defined_found s is = record { sum = is.sum; degree = is.degree; normal = is.normal; order = is.order; same = is.same; whole = is.whole; below = is.below; above = is.above; positive = is.positive; named = is.named; lower = is.lower; upper = is.upper }
 
   each_changed : (s : StateValue) → IsReached a s → All (IsOutputAt a s terms) changed
   each_changed s reached =
@@ -215,11 +238,26 @@ module _ (a : Snapshot) (terms : Terms) (outputs : List SumOutput) (now : AreOut
       (λ (ne : (i < place) ⊎ (place < i)). (q, (i, omega arith, sym (get_or-set_other outputs place i found q (not_place i ne)) ∙ is), refl, refl))
       (cases_order i place)
 
+  stays_changed : All (IsKept changed) outputs
+  stays_changed i d within =
+      let size = length-set outputs place found in
+      ⊎_elim
+      (λ (same : i ≡ place).
+      let here : get_or outputs place x ≡ get_or outputs i d = get_or_default outputs place x d short ∙ ap (λ (j : ℕ). get_or outputs j d) (sym same) in
+      (found, (place, omega arith, get_or-set_same outputs place found found short), ap (λ (o : SumOutput). o.lit) here, ap (λ (o : SumOutput). o.sum) here))
+      (λ (ne : (i < place) ⊎ (place < i)).
+      let q = get_or outputs i d in
+      (q, (i, omega arith, get_or-set_other outputs place i found q (not_place i ne) ∙ get_or_default outputs i q d within), refl, refl))
+      (cases_order i place)
+
   pub asked_again : IsAsked a a terms outputs k found changed
   asked_again = record {
     there = (place, (let size = length-set outputs place found in omega arith), get_or-set_same outputs place found found short);
     least = least;
+    from = refl;
     outputs = λ t reached. record { each = each_changed t reached; rising = rising_changed t reached };
     defined = λ t reached. all_changed (IsDefined a t terms) (defined t reached) (defined_found t (defined t reached place x short));
-    kept = λ q there. inl (kept_changed q there);
+    stays = stays_changed;
+    kept = λ i d within. inl (kept_changed (get_or changed i d) (Contains-get_or changed i d within));
+    others = all_changed (λ q. (q ≡ found) ⊎ Contains outputs q) (λ i d within. inr (Contains-get_or outputs i d within)) (inl refl);
   }

@@ -31,7 +31,7 @@ use Rattle.sum_outputs.specs.Adding.{Snapshot, IsReached, IsReady}
 use Rattle.sum_outputs.specs.Outputs.{IsDefinedBy, IsDefinedNext, IsInOrder, IsSumOf}
 use Rattle.sum_outputs.specs.Totals.{AreWeights}
 use Rattle.sum_outputs.specs.declared.made.SumOutput.{SumOutput}
-use Rattle.sum_outputs.proofs.LaterStates.{get_other, replay_before, replay_once, after_not_learned}
+use Rattle.sum_outputs.proofs.LaterStates.{get_other, replay_before, replay_once, replay_vars, after_not_learned}
 use Rattle.sum_outputs.proofs.PartLines.{total_one}
 use Rattle.sum_outputs.proofs.ImplyLines.{none_found, put_live}
 
@@ -184,10 +184,11 @@ sum_of_order s terms c var n order weights next some most variables =
       variables = all_permuted (λ t. t.0.var ≤ s.vars) terms c.terms order.order variables;
     }
 
-pub defined_next : (a b : Snapshot) (terms : Terms) (c : ConstraintValue) (o : SumOutput) (n : ℕ) → o.sum ≡ n → IsInOrder terms n c → ((s : StateValue) → IsReached a s → All (λ t. t.0.var ≤ s.vars) terms) → IsReady a → IsDefinedBy a b c o → IsDefinedNext a b terms o
-defined_next a b terms c o n sum order variables ready is =
+pub defined_next : (a b : Snapshot) (terms : Terms) (c : ConstraintValue) (o : SumOutput) (n : ℕ) → o.sum ≡ n → IsInOrder terms n c → ((s : StateValue) → IsReached a s → All (λ t. t.0.var ≤ s.vars) terms) → IsReady a → b.problem ≡ a.problem → IsDefinedBy a b c o → IsDefinedNext a b terms o
+defined_next a b terms c o n sum order variables ready problem is =
     let values_same : (x : List Bool) → value x c.terms ≡ value x terms = λ x. sum_by-IsPermutation (term_value x) terms c.terms order.order in
     let fresh = is.fresh ready.state ready.reached in
+    let all = replay_vars a.problem a.lines ready.state ready.reached in
     record {
       constraint = c;
       line = is.line;
@@ -198,9 +199,11 @@ defined_next a b terms c o n sum order variables ready is =
         sum = c;
         degree = order.degree ∙ sym sum;
         normal = order.normal;
+        order = order.order;
         same = values_same;
         whole = sum_by-IsPermutation (λ (t : Literal × ℕ). t.1) terms c.terms order.order;
         below = all_permuted (λ t. t.0.var < o.lit.var) terms c.terms order.order (λ k d short. let w = variables ready.state ready.reached k d short in omega arith);
+        above = let same : b.problem.vars ≡ a.problem.vars = ap (λ (p : ProblemValue). p.vars) problem in omega arith;
         positive = is.positive;
         named = is.named;
         lower = is.lower t after;

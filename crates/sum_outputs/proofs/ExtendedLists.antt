@@ -7,7 +7,7 @@ use Rattle.std.proofs.lemmas.List.Elements.{All-append, All-drop, All-contains, 
 use Rattle.pb_lin.specs.Constraint.{total}
 use Rattle.cutting_planes.proofs.Terms.{Terms}
 use Rattle.proof_laws.specs.State.{StateValue}
-use Rattle.sum_outputs.specs.Totals.{AreWeights, IsAttainable}
+use Rattle.sum_outputs.specs.Totals.{AreWeights, IsAttainable, IsUpToLeast}
 use Rattle.sum_outputs.specs.Adding.{Snapshot, IsReached, IsReady, Continues}
 use Rattle.sum_outputs.specs.Outputs.{IsDefined, AreRising, CanImplyNow}
 use Rattle.sum_outputs.specs.Joining.{IsOutputAt, AreOutputsNow, IsCompleteTo}
@@ -143,6 +143,7 @@ module _ (a b : Snapshot) (ready : IsReady a) (on : Continues a b) (terms : Term
         (all_reversed (IsDefined b t terms) falling (made.are.defined t reached));
     gapless = all_gapless;
     complete = all_complete;
+    needed = all_reversed (λ o. IsUpToLeast terms k o.sum) falling made.needed;
     fresh = λ s reached. all_reversed (λ o. s.vars < o.lit.var) falling (made.are.fresh s reached);
     apart = pairs_reversed (λ o q. o.lit.var ≢ q.lit.var) (λ o q. o.lit.var ≢ q.lit.var) (λ x y ne e. ne (sym e)) falling made.are.apart;
   }
@@ -181,6 +182,7 @@ extended_later a b c ready on terms before k os is = record {
   defined = now_later b c (λ d s. All (IsDefined d s terms) os) ready on (λ s has all i d short. defined_then b c on s has terms (get_or os i d) (all i d short)) is.defined;
   gapless = is.gapless;
   complete = is.complete;
+  needed = is.needed;
   fresh = is.fresh;
   apart = is.apart;
 }

@@ -9,7 +9,7 @@ use Rattle.scut_base.proofs.Lists.{Contains-head}
 use Rattle.pb_lin.specs.Constraint.{total}
 use Rattle.cutting_planes.proofs.Terms.{Terms}
 use Rattle.proof_laws.specs.State.{StateValue}
-use Rattle.sum_outputs.specs.Totals.{AreWeights, IsLeastSum}
+use Rattle.sum_outputs.specs.Totals.{AreWeights, IsAttainable, IsLeastSum, IsUpToLeast}
 use Rattle.sum_outputs.specs.Adding.{Snapshot, IsReady, Continues}
 use Rattle.sum_outputs.specs.Outputs.{IsDefined}
 use Rattle.sum_outputs.specs.Joining.{IsOutputAt, AreOutputsAt, IsCompleteTo, AreChildrenNow, IsNewOutput}
@@ -42,6 +42,7 @@ halfway_starts a terms firsts seconds last k sums run = record {
     fresh = λ s reached. All-nil (λ o. s.vars < o.lit.var);
     apart = λ i j d less short. absurd (omega arith);
   };
+  needed = All-nil (λ o. IsUpToLeast terms k o.sum);
   all = λ m can low high. absurd (omega arith);
   within = All-nil (λ o. o.sum ≤ run.0);
   below = omega arith;
@@ -87,6 +88,18 @@ module _ (a b c : Snapshot) (ready : IsReady a) (ready_b : IsReady b) (before : 
         apart = all_pairs_push (λ p q. p.lit.var ≢ q.lit.var) os o half.are.apart (λ i d short e. let w = old_variables i d short in omega arith);
       }
 
+  -- the number that a run asks for is at most k, so the least sum of at least that is none too many
+  new_needed : IsUpToLeast terms k o.sum
+  new_needed =
+      let from = popped.from in
+      let most = popped.most in
+      let reaches = least.reaches in
+      record {
+        attainable = subst (λ (n : ℕ). IsAttainable terms n) (sym sum) least.attainable;
+        some = omega arith;
+        least = λ m can high. let low = least.least m can (omega arith) in omega arith;
+      }
+
   all_more : AreAllBetween terms popped.middle half.high (os ++ o ∷ [])
   all_more m can low high =
       let from = popped.from in
@@ -111,6 +124,7 @@ module _ (a b c : Snapshot) (ready : IsReady a) (ready_b : IsReady b) (before : 
         high = half.high;
         run = popped.run;
         are = falling_more;
+        needed = All-append (λ p. IsUpToLeast terms k p.sum) os (o ∷ []) half.needed (All-cons (λ p. IsUpToLeast terms k p.sum) o [] new_needed (All-nil (λ p. IsUpToLeast terms k p.sum)));
         all = all_more;
         within = All-append (λ p. p.sum ≤ half.high) os (o ∷ []) half.within (All-cons (λ p. p.sum ≤ half.high) o [] (omega arith) (All-nil (λ p. p.sum ≤ half.high)));
         below = omega arith;
@@ -128,6 +142,7 @@ halfway_ends a b terms firsts seconds greatest last k sums os none half =
     record {
       high = half.high;
       are = subst (λ (n : ℕ). AreFalling a b terms n os) at half.are;
+      needed = half.needed;
       all = subst (λ (n : ℕ). AreAllBetween terms n half.high os) at half.all;
       within = half.within;
       top = ⊎_elim (λ (none : half.high ≡ half.middle). inl (none ∙ at)) (λ (found : (p : SumOutput) × Contains os p × (p.sum ≡ half.high)). inr found) half.top;

@@ -120,23 +120,34 @@ not_learned_later p lines line s id replay below not_before (before, goal, hints
     (λ (early : (rest : List Line) × (lines ≡ before ++ (Learn goal hints ∷ rest))). not_before (before, goal, hints, early.0, u, early.1, reached, is))
     (split_end lines before after line (Learn goal hints) splits)
 
--- ---- ids rise
+-- ---- ids and variables rise
 
-ids_rise : (p : ProblemValue) (s t : StateValue) (line : Line) → IsNext p s line t → s.next_id ≤ t.next_id
-ids_rise p s t (Pol tokens) next = let makes = next.makes in subst (λ (u : StateValue). s.next_id ≤ u.next_id) (sym makes.2) (omega arith)
-ids_rise p s t (Rup goal hints) next = subst (λ (u : StateValue). s.next_id ≤ u.next_id) (sym next.makes) (omega arith)
-ids_rise p s t (Learn goal hints) next = subst (λ (u : StateValue). s.next_id ≤ u.next_id) (sym next.makes) (omega arith)
-ids_rise p s t (Def var sum) next = subst (λ (u : StateValue). s.next_id ≤ u.next_id) (sym next.makes) (omega arith)
-ids_rise p s t (Red goal w proofs) next = subst (λ (u : StateValue). s.next_id ≤ u.next_id) (sym next.makes) (omega arith)
-ids_rise p s t (Dom goal w proofs) next = subst (λ (u : StateValue). s.next_id ≤ u.next_id) (sym next.makes) (omega arith)
-ids_rise p s t (Sol model cut ids) next = subst (λ (u : StateValue). s.next_id ≤ u.next_id) (sym next.makes) (omega arith)
-ids_rise p s t (Del ids) next = subst (λ (u : StateValue). s.next_id ≤ u.next_id) (sym next.makes) (omega arith)
-ids_rise p s t (Reduce ids) next = subst (λ (u : StateValue). s.next_id ≤ u.next_id) (sym next.makes) (omega arith)
-ids_rise p s t (End id) next = subst (λ (u : StateValue). s.next_id ≤ u.next_id) (sym next.makes) (omega arith)
+record Rises (s t : StateValue) : Type 0 where
+  ids : s.next_id ≤ t.next_id
+  vars : s.vars ≤ t.vars
 
-leads_rise : (p : ProblemValue) (s t : StateValue) (lines : List Line) → Leads p s lines t → s.next_id ≤ t.next_id
-leads_rise p s t [] leads = subst (λ (u : StateValue). s.next_id ≤ u.next_id) (sym leads) (omega arith)
-leads_rise p s t (line ∷ lines) leads = let one = ids_rise p s leads.0 line leads.1 in let rest = leads_rise p leads.0 t lines leads.2 in omega arith
+line_rises : (p : ProblemValue) (s t : StateValue) (line : Line) → IsNext p s line t → Rises s t
+line_rises p s t (Pol tokens) next = let makes = next.makes in subst (λ (u : StateValue). Rises s u) (sym makes.2) (record { ids = omega arith; vars = omega arith })
+line_rises p s t (Rup goal hints) next = subst (λ (u : StateValue). Rises s u) (sym next.makes) (record { ids = omega arith; vars = omega arith })
+line_rises p s t (Learn goal hints) next = subst (λ (u : StateValue). Rises s u) (sym next.makes) (record { ids = omega arith; vars = omega arith })
+line_rises p s t (Def var sum) next = subst (λ (u : StateValue). Rises s u) (sym next.makes) (record { ids = omega arith; vars = omega arith })
+line_rises p s t (Red goal w proofs) next = subst (λ (u : StateValue). Rises s u) (sym next.makes) (record { ids = omega arith; vars = omega arith })
+line_rises p s t (Dom goal w proofs) next = subst (λ (u : StateValue). Rises s u) (sym next.makes) (record { ids = omega arith; vars = omega arith })
+line_rises p s t (Sol model cut ids) next = subst (λ (u : StateValue). Rises s u) (sym next.makes) (record { ids = omega arith; vars = omega arith })
+line_rises p s t (Del ids) next = subst (λ (u : StateValue). Rises s u) (sym next.makes) (record { ids = omega arith; vars = omega arith })
+line_rises p s t (Reduce ids) next = subst (λ (u : StateValue). Rises s u) (sym next.makes) (record { ids = omega arith; vars = omega arith })
+line_rises p s t (End id) next = subst (λ (u : StateValue). Rises s u) (sym next.makes) (record { ids = omega arith; vars = omega arith })
+
+leads_rise : (p : ProblemValue) (s t : StateValue) (lines : List Line) → Leads p s lines t → Rises s t
+leads_rise p s t [] leads = subst (λ (u : StateValue). Rises s u) (sym leads) (record { ids = omega arith; vars = omega arith })
+leads_rise p s t (line ∷ lines) leads =
+    let one = line_rises p s leads.0 line leads.1 in
+    let rest = leads_rise p leads.0 t lines leads.2 in
+    record { ids = let i = one.ids in let j = rest.ids in omega arith; vars = let v = one.vars in let w = rest.vars in omega arith }
+
+-- a state has the problem's variables
+pub replay_vars : (p : ProblemValue) (lines : List Line) (s : StateValue) → IsReplay p lines s → p.vars ≤ s.vars
+replay_vars p lines s replay = (leads_rise p (start p) s lines replay).vars
 
 leads_from : (p : ProblemValue) (s t : StateValue) (before after : List Line) → Leads p s (before ++ after) t → (u : StateValue) × Leads p s before u × Leads p u after t
 leads_from p s t [] after leads = (s, refl, leads)
@@ -152,7 +163,7 @@ learned_below p lines s id replay (before, goal, hints, after, u, splits, reache
     let next = parts.2 in
     let makes = next.1 in
     let learned : next.0.next_id ≡ parts.0.next_id + 1 = ap (λ (v : StateValue). v.next_id) makes.makes in
-    let rest = leads_rise p next.0 s after next.2 in
+    let rest = (leads_rise p next.0 s after next.2).ids in
     let ids : parts.0.next_id ≡ u.next_id = ap (λ (v : StateValue). v.next_id) same in
     omega arith
 

@@ -16,7 +16,9 @@ pub mod Runs
 pub mod FallingLines
 pub mod ExtendedLists
 pub mod AskedLists
+pub mod TreeParts
 pub mod TreeLists
 pub mod LeafLists
-pub mod BoundLines
 pub mod MadeLists
+pub mod GrownOutputs
+pub mod DefinitionCounts

@@ -46,7 +46,7 @@ module _ (nodes : List Node) (tree : IsTree nodes) (i : ℕ) (n m : Node) (short
       }
 
 -- what holds at one place and what holds at all others holds in a list with another element there
-set_cases : (P : ℕ → List SumOutput → Type 0) (made : List (List SumOutput)) (i : ℕ) (os : List SumOutput) → i < length made → P i os → ((j : ℕ) (d : List SumOutput) → j ≢ i → P j (get_or made j d)) → (j : ℕ) (d : List SumOutput) → P j (get_or (set made i os) j d)
+pub set_cases : (P : ℕ → List SumOutput → Type 0) (made : List (List SumOutput)) (i : ℕ) (os : List SumOutput) → i < length made → P i os → ((j : ℕ) (d : List SumOutput) → j ≢ i → P j (get_or made j d)) → (j : ℕ) (d : List SumOutput) → P j (get_or (set made i os) j d)
 set_cases P made i os short here there j d = ⊎_elim
     (λ (same : j ≡ i). subst (λ (k : ℕ). P k (get_or (set made i os) k d)) (sym same) (subst (λ (ps : List SumOutput). P i ps) (sym (get_or-set_same made i os d short)) here))
     (λ (other : (j < i) ⊎ (i < j)).

@@ -25,9 +25,11 @@ module _ (a b : Snapshot) (on : Continues a b) (s : StateValue) (has : HasLater 
     sum = is.sum;
     degree = is.degree;
     normal = is.normal;
+    order = is.order;
     same = is.same;
     whole = is.whole;
     below = is.below;
+    above = subst (λ (p : ProblemValue). p.vars < o.lit.var) (sym on.problem) is.above;
     positive = is.positive;
     named = is.named;
     lower = own_then o.lower (reached_if o.lit.var is.sum) is.lower;

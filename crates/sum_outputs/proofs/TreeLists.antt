@@ -1,13 +1,16 @@
 -- Trees with nodes put behind them.
 use Rattle.std.proofs.Common.{◌≡◌, inl, inr, ℕ, ◌+◌, ◌-◌, ◌<◌, ◌≤◌, ◌/◌, ◌%◌, List, [], ◌∷◌, ◌++◌, get_or, length, take, drop, refl, ap, sym, subst, ◌∙◌, ⊎_elim, arith, append_assoc}
+use Rattle.std.specs.List.{All, Contains}
 use Rattle.std.proofs.lemmas.Bool.{cases_lt}
-use Rattle.std.proofs.lemmas.List.{get_or_append_left, get_or-append_right, length-append, length-drop, take-append-drop, take_all}
+use Rattle.std.proofs.lemmas.List.{get_or_append_left, length-append, length-drop, take-append-drop, take_all}
+use Rattle.std.proofs.lemmas.List.Elements.{All-nil, All-cons, All-append, All-contains_itself}
 use Rattle.pb_lin.specs.Constraint.{total}
 use Rattle.cutting_planes.proofs.Terms.{Terms}
 use Rattle.sum_outputs.specs.Totals.{AreWeights, first_half, first_child, second_child}
 use Rattle.sum_outputs.specs.Tree.{IsInner, IsNode, IsTree, IsGrown}
 use Rattle.sum_outputs.specs.declared.node.Node.{Node}
 use Rattle.sum_outputs.proofs.Attaining.{weights_left, weights_right}
+use Rattle.sum_outputs.proofs.TreeParts.{last_node, parts_among, all_parents, all_apart}
 
 -- a node stays one where others are put behind all
 node_longer : (nodes more : List Node) (i : ℕ) (n : Node) → i ≤ length nodes → IsNode nodes i n → IsNode (nodes ++ more) i n
@@ -26,9 +29,6 @@ node_longer nodes more i n short is = record {
       }))
       is.shape;
 }
-
-last_node : (nodes : List Node) (n d : Node) → get_or (nodes ++ n ∷ []) (length nodes) d ≡ n
-last_node nodes n d = get_or-append_right nodes (n ∷ []) (length nodes) (length nodes) d refl (omega arith) ∙ ap (λ (k : ℕ). get_or (n ∷ []) k d) (let e : length nodes - length nodes ≡ 0 = omega arith in e)
 
 tree_push : (nodes : List Node) (n : Node) → IsTree nodes → IsNode nodes (length nodes) n → IsTree (nodes ++ n ∷ [])
 tree_push nodes n tree is i d short =
@@ -50,6 +50,9 @@ grown_by_node nodes now n at tree is place same =
       tree = subst IsTree (sym same) (tree_push nodes n tree is);
       last = omega arith;
       from = omega arith;
+      among = All-cons (λ m. All (Contains n.terms) m.terms) n [] (All-contains_itself n.terms) (All-nil (λ m. All (Contains n.terms) m.terms));
+      parents = λ i from short. absurd (omega arith);
+      leaves_apart = λ i j from less short. absurd (omega arith);
       has = λ d. ap (λ (ns : List Node). (get_or ns at d).terms) same ∙ ap (λ (k : ℕ). (get_or (nodes ++ n ∷ []) k d).terms) place ∙ ap (λ (m : Node). m.terms) (last_node nodes n d);
     }
 
@@ -88,6 +91,9 @@ grown_by_inner nodes one two now terms first second at weights long left right p
       last = grown.last;
       from = let a = left.from in let b = grown.from in omega arith;
       has = grown.has;
+      among = All-append (λ m. All (Contains terms) m.terms) (left.more ++ right.more) grown.more (parts_among nodes one two now n at weights long left right place same) grown.among;
+      parents = all_parents nodes one two now n at weights long left right place same;
+      leaves_apart = all_apart nodes one two now n at weights long left right place same;
     }
 
 -- the weights of the children

@@ -3,7 +3,7 @@ use Rattle.std.specs.Prelude.{◌≡◌, ◌≢◌, ◌⊎◌, ℕ, ◌<◌, ◌
 use Rattle.scut_base.specs.Literal.{Literal}
 use Rattle.pb_lin.specs.Constraint.{total}
 use Rattle.proof_laws.specs.State.{StateValue}
-use Rattle.sum_outputs.specs.Totals.{IsAttainable, IsLeastSum}
+use Rattle.sum_outputs.specs.Totals.{IsAttainable, IsLeastSum, IsUpToLeast}
 use Rattle.sum_outputs.specs.Adding.{Snapshot, IsReached}
 use Rattle.sum_outputs.specs.Outputs.{IsDefined}
 use Rattle.sum_outputs.specs.Joining.{IsOutputAt, AreOutputsAt, IsCompleteTo}
@@ -23,10 +23,11 @@ pub record AreFalling (a b : Snapshot) (terms : List (Literal × ℕ)) (low : �
 abbrev pub AreAllBetween : List (Literal × ℕ) → ℕ → ℕ → List SumOutput → Type 0
 AreAllBetween terms low high os = (m : ℕ) → IsAttainable terms m → low < m → m ≤ high → (o : SumOutput) × Contains os o × (o.sum ≡ m)
 
--- all that a number and those after it ask for, up to the least sum of at least k, or the greatest
+-- all that a number and those after it ask for, up to the least sum of at least k, or the greatest, and no more
 pub record AreFallingTo (a b : Snapshot) (terms : List (Literal × ℕ)) (low k : ℕ) (os : List SumOutput) : Type 0 where
   pub high : ℕ
   pub are : AreFalling a b terms low os
+  pub needed : All (λ o. IsUpToLeast terms k o.sum) os
   pub all : AreAllBetween terms low high os
   pub within : All (λ o. o.sum ≤ high) os
   pub top : (high ≡ low) ⊎ ((o : SumOutput) × Contains os o × (o.sum ≡ high))
@@ -38,13 +39,14 @@ pub record IsHalfWay (a b : Snapshot) (terms : List (Literal × ℕ)) (firsts se
   pub high : ℕ
   pub run : IsRun firsts seconds greatest k last sums middle
   pub are : AreFalling a b terms middle os
+  pub needed : All (λ o. IsUpToLeast terms k o.sum) os
   pub all : AreAllBetween terms middle high os
   pub within : All (λ o. o.sum ≤ high) os
   pub below : middle ≤ high
   pub top : (high ≡ middle) ⊎ ((o : SumOutput) × Contains os o × (o.sum ≡ high))
   pub enough : (k ≤ high) ⊎ (total terms ≤ high)
 
--- more outputs of new variables after those that were there, so that all sums up to the least of at least k have one
+-- Outputs of new variables after those that were there, each at a sum up to the least of at least k, so that all these have one.
 pub record AreExtended (a b : Snapshot) (terms : List (Literal × ℕ)) (before : List SumOutput) (k : ℕ) (os : List SumOutput) : Type 0 where
   pub more : List SumOutput
   pub is : os ≡ before ++ more
@@ -52,6 +54,7 @@ pub record AreExtended (a b : Snapshot) (terms : List (Literal × ℕ)) (before 
   pub defined : (t : StateValue) → IsReached b t → All (IsDefined b t terms) os
   pub gapless : AreAllBetween terms 0 (last_sum os) os
   pub complete : IsCompleteTo terms os k
+  pub needed : All (λ o. IsUpToLeast terms k o.sum) more
   pub fresh : (s : StateValue) → IsReached a s → All (λ o. s.vars < o.lit.var) more
   pub apart : AllPairs (λ o q. o.lit.var ≢ q.lit.var) more
 
@@ -59,13 +62,20 @@ pub record AreExtended (a b : Snapshot) (terms : List (Literal × ℕ)) (before 
 abbrev pub IsKept : List SumOutput → SumOutput → Type 0
 IsKept os q = (p : SumOutput) × Contains os p × (p.lit ≡ q.lit) × (p.sum ≡ q.sum)
 
--- an output among those of a node, for the least sum of at least k; each was there before, or has a new variable
+-- the output's variable is one that no state so far has
+abbrev pub IsFresh : Snapshot → SumOutput → Type 0
+IsFresh a o = (s : StateValue) → IsReached a s → s.vars < o.lit.var
+
+-- An output among those of a node, for the least sum of at least k; all others were there before, and stay.
 pub record IsAsked (a b : Snapshot) (terms : List (Literal × ℕ)) (before : List SumOutput) (k : ℕ) (o : SumOutput) (os : List SumOutput) : Type 0 where
   pub there : Contains os o
   pub least : IsLeastSum terms k o.sum
+  pub from : o.from ≡ k
   pub outputs : (t : StateValue) → IsReached b t → AreOutputsAt b t terms os
   pub defined : (t : StateValue) → IsReached b t → All (IsDefined b t terms) os
-  pub kept : (q : SumOutput) → Contains os q → IsKept before q ⊎ ((s : StateValue) → IsReached a s → s.vars < q.lit.var)
+  pub stays : All (IsKept os) before
+  pub kept : All (λ q. IsKept before q ⊎ ((q ≡ o) × IsFresh a q)) os
+  pub others : All (λ q. (q ≡ o) ⊎ Contains before q) os
 
 -- the output, where no sum is from k on and below its own
 abbrev pub asked_from : ℕ → SumOutput → SumOutput

@@ -1,5 +1,5 @@
 -- The outputs of all nodes of a tree.
-use Rattle.std.specs.Prelude.{◌≡◌, ◌≢◌, ℕ, ◌+◌, ◌<◌, List, length, slice_index_or, All}
+use Rattle.std.specs.Prelude.{◌≡◌, ◌≢◌, ◌⊎◌, ℕ, ◌+◌, ◌<◌, List, length, slice_index_or, sum_by, All, Contains}
 use Rattle.scut_base.specs.Literal.{Literal}
 use Rattle.pb_lin.specs.Constraint.{IsVariable}
 use Rattle.proof_laws.specs.State.{StateValue}
@@ -7,7 +7,8 @@ use Rattle.sum_outputs.specs.Adding.{Snapshot, IsReached}
 use Rattle.sum_outputs.specs.Outputs.{IsDefined}
 use Rattle.sum_outputs.specs.Joining.{AreOutputsAt, IsCompleteTo}
 use Rattle.sum_outputs.specs.Sums.{last_sum}
-use Rattle.sum_outputs.specs.Falling.{AreAllBetween}
+use Rattle.sum_outputs.specs.Totals.{IsUpToLeast}
+use Rattle.sum_outputs.specs.Falling.{AreAllBetween, IsFresh}
 use Rattle.sum_outputs.specs.Tree.{IsInner}
 use Rattle.sum_outputs.specs.declared.node.Node.{Node}
 use Rattle.sum_outputs.specs.declared.made.SumOutput.{SumOutput}
@@ -37,3 +38,21 @@ AreMadeNow a nodes made = (s : StateValue) → IsReached a s → AreMade a s nod
 -- the first nodes have all outputs up to the least of at least k
 abbrev pub AreCompleteTo : List Node → List (List SumOutput) → ℕ → ℕ → Type 0
 AreCompleteTo nodes made count k = (i : ℕ) (n : Node) (os : List SumOutput) → i < count → IsCompleteTo (slice_index_or nodes i n).terms (slice_index_or made i os) k
+
+-- how many outputs there are
+abbrev pub count_outputs : List (List SumOutput) → ℕ
+count_outputs made = sum_by length made
+
+-- an output of the node at i that was made: at one of its sums up to the least of at least k, with a new variable
+pub record IsNeeded (a : Snapshot) (nodes : List Node) (i k : ℕ) (o : SumOutput) : Type 0 where
+  pub inner : (n : Node) → 1 < length (slice_index_or nodes i n).terms
+  pub below_root : i + 1 < length nodes
+  pub sum : (n : Node) → IsUpToLeast (slice_index_or nodes i n).terms k o.sum
+  pub fresh : IsFresh a o
+
+-- Nodes below the root have the outputs that were there, and those that are needed.
+pub record AreGrownTo (a : Snapshot) (nodes : List Node) (before now : List (List SumOutput)) (k : ℕ) : Type 0 where
+  pub size : length now ≡ length before
+  pub stays : (i : ℕ) (os ps : List SumOutput) → i < length nodes → All (Contains (slice_index_or now i ps)) (slice_index_or before i os)
+  pub needed : (i : ℕ) (os ps : List SumOutput) → i < length nodes
+      → All (λ o. Contains (slice_index_or before i os) o ⊎ IsNeeded a nodes i k o) (slice_index_or now i ps)

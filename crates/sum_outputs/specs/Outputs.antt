@@ -20,9 +20,12 @@ pub record IsDefined (a : Snapshot) (s : StateValue) (terms : List (Literal × �
   pub sum : ConstraintValue
   pub degree : sum.degree ≡ o.sum
   pub normal : IsNormal sum.terms sum.degree
+  pub order : IsPermutation terms sum.terms
   pub same : (x : List Bool) → value x sum.terms ≡ value x terms
   pub whole : total sum.terms ≡ total terms
   pub below : All (λ t. t.0.var < o.lit.var) sum.terms
+  -- it is none of the problem's
+  pub above : a.problem.vars < o.lit.var
   pub positive : o.lit ≡ record { var = o.lit.var; neg = false }
   pub named : 0 < o.lower
   pub lower : IsOwn a.problem a.lines s o.lower (reached_if o.lit.var sum)
@@ -99,7 +102,7 @@ pub record IsDefinedBy (a b : Snapshot) (c : ConstraintValue) (o : SumOutput) : 
 pub record IsDefinedNext (a b : Snapshot) (terms : List (Literal × ℕ)) (o : SumOutput) : Type 0 where
   pub constraint : ConstraintValue
   pub line : b.lines ≡ a.lines ++ Def o.lit.var constraint ∷ []
-  pub defines : Defines (Def o.lit.var constraint) (terms, o.sum)
+  pub defines : Defines (Def o.lit.var constraint) terms o.sum
   pub fresh : (s : StateValue) → IsReached a s → o.lit.var ≡ s.vars + 1
   pub variable : (t : StateValue) → IsReached b t → IsVariable t.vars o.lit.var
   pub defined : (t : StateValue) → IsReached b t → IsDefined b t terms o

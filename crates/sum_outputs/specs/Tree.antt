@@ -1,5 +1,5 @@
 -- The tree of a totalizer, as a list of nodes, each after its children.
-use Rattle.std.specs.Prelude.{◌≡◌, ◌⊎◌, ℕ, ◌+◌, ◌<◌, List, ◌++◌, length, slice_index_or}
+use Rattle.std.specs.Prelude.{◌≡◌, ◌⊎◌, ℕ, ◌+◌, ◌<◌, ◌≢◌, ◌≤◌, List, ◌++◌, length, slice_index_or, All, Contains}
 use Rattle.scut_base.specs.Literal.{Literal}
 use Rattle.pb_lin.specs.Constraint.{total}
 use Rattle.sum_outputs.specs.Totals.{AreWeights, first_child, second_child}
@@ -22,7 +22,17 @@ pub record IsNode (nodes : List Node) (i : ℕ) (n : Node) : Type 0 where
 abbrev pub IsTree : List Node → Type 0
 IsTree nodes = (i : ℕ) (d : Node) → i < length nodes → IsNode nodes i (slice_index_or nodes i d)
 
--- nodes were put after the others, the last of them with these terms
+-- the node at i is a child of the node at j
+abbrev pub IsChildOf : List Node → ℕ → ℕ → Type 0
+IsChildOf nodes i j = (d : Node) → (1 < length (slice_index_or nodes j d).terms)
+    × ((i ≡ (slice_index_or nodes j d).first) ⊎ (i ≡ (slice_index_or nodes j d).second))
+
+-- the nodes at i and j have one term each, of different variables
+abbrev pub AreLeavesApart : List Node → ℕ → ℕ → Type 0
+AreLeavesApart nodes i j = (d : Node) → length (slice_index_or nodes i d).terms ≡ 1 → length (slice_index_or nodes j d).terms ≡ 1
+    → All (λ s. All (λ t. s.0.var ≢ t.0.var) (slice_index_or nodes j d).terms) (slice_index_or nodes i d).terms
+
+-- Nodes were put after the others: a tree of parts of these terms, whose root is the last and has them all.
 pub record IsGrown (before now : List Node) (terms : List (Literal × ℕ)) (at : ℕ) : Type 0 where
   pub more : List Node
   pub is : now ≡ before ++ more
@@ -30,3 +40,6 @@ pub record IsGrown (before now : List Node) (terms : List (Literal × ℕ)) (at 
   pub last : at + 1 ≡ length now
   pub from : length before < length now
   pub has : (d : Node) → (slice_index_or now at d).terms ≡ terms
+  pub among : All (λ n. All (Contains terms) n.terms) more
+  pub parents : (i : ℕ) → length before ≤ i → i < at → (j : ℕ) × (j < length now) × IsChildOf now i j
+  pub leaves_apart : (i j : ℕ) → length before ≤ i → i < j → j < length now → AreLeavesApart now i j

@@ -1,7 +1,7 @@
 // An output of the root, where it is asked for.
-ghost use Rattle.std.specs.Prelude.{◌≡◌, ◌≢◌, ℕ, ◌+◌, ◌<◌, ◌≤◌, ◌^◌, ◌++◌, [], ◌∷◌, true, false, length, take, drop, slice_index_or, slice_set, All, AllPairs, IfOk};
+ghost use Rattle.std.specs.Prelude.{◌≡◌, ◌≢◌, ℕ, ◌+◌, ◌<◌, ◌≤◌, ◌^◌, ◌++◌, [], ◌∷◌, true, false, length, take, drop, slice_index_or, slice_set, All, AllPairs, IfOk, OnOk};
 ghost use Rattle.pb_lin.specs.Constraint.{total};
-ghost use Rattle.sum_outputs.specs.Totals.{IsLeastSum};
+ghost use Rattle.sum_outputs.specs.Totals.{IsLeastSum, definitions};
 ghost use Rattle.pb_lin.specs.Place.{IsPlace};
 ghost use Rattle.proof_laws.specs.State.{StateValue};
 ghost use Rattle.sum_outputs.specs.Outputs.{CanImplyNow, IsDefined};
@@ -48,6 +48,8 @@ pub fn ask<R: Recorder>(
     ensures recorded { IsRecorded (seen R.problem R.limit R.lines R.faults R.broken R.around rec.old) (seen R.problem R.limit R.lines R.faults R.broken R.around rec.new) result }
     ensures asked { IfOk result (λ r. IsAsked (seen R.problem R.limit R.lines R.faults R.broken R.around rec.old) (seen R.problem R.limit R.lines R.faults R.broken R.around rec.new)
         terms.now outputs.now k r.0 r.1) }
+    ensures defined { IfOk result (λ r. definitions (R.lines rec.new) + length outputs.now
+        ≡ definitions (R.lines rec.old) + length r.1) }
 {
     let sum = least_sum(first.outputs, second.outputs, k, greatest);
     let place = place_of(outputs, sum);
@@ -147,6 +149,8 @@ fn ask_anew<R: Recorder>(
     ensures recorded { IsRecorded (seen R.problem R.limit R.lines R.faults R.broken R.around rec.old) (seen R.problem R.limit R.lines R.faults R.broken R.around rec.new) result }
     ensures asked { IfOk result (λ r. IsAsked (seen R.problem R.limit R.lines R.faults R.broken R.around rec.old) (seen R.problem R.limit R.lines R.faults R.broken R.around rec.new)
         terms.now outputs.now k r.0 r.1) }
+    ensures defined { IfOk result (λ r. definitions (R.lines rec.new) + length outputs.now
+        ≡ definitions (R.lines rec.old) + length r.1) }
 {
     let greater = &outputs[place..];
     let made = make_between(alloc, rec, first, second, terms, greatest, greater, k, sum)?;
@@ -166,7 +170,9 @@ fn tie_one<R: Recorder>(
     requires small { greater.now.sum < 2 ^ 63 }
     requires can { (i : ℕ) (d : SumOutput) → i < length smaller.now → CanImplyNow (seen R.problem R.limit R.lines R.faults R.broken R.around rec.old)
         (greater.now ∷ []) [] (slice_index_or smaller.now i d) }
-    ensures { IsRecorded (seen R.problem R.limit R.lines R.faults R.broken R.around rec.old) (seen R.problem R.limit R.lines R.faults R.broken R.around rec.new) result }
+    ensures recorded { IsRecorded (seen R.problem R.limit R.lines R.faults R.broken R.around rec.old) (seen R.problem R.limit R.lines R.faults R.broken R.around rec.new) result }
+    ensures defines_none { OnOk result
+        (definitions (R.lines rec.new) ≡ definitions (R.lines rec.old)) }
 {
     tie(alloc, rec, &[*greater], smaller)
 }
@@ -216,6 +222,8 @@ fn make_between<R: Recorder>(
     ensures recorded { IsRecorded (seen R.problem R.limit R.lines R.faults R.broken R.around rec.old) (seen R.problem R.limit R.lines R.faults R.broken R.around rec.new) result }
     ensures sum { IfOk result (λ o. (o.sum ≡ sum) × (o.from ≡ k)) }
     ensures made { IfOk result (IsNewOutput (seen R.problem R.limit R.lines R.faults R.broken R.around rec.old) (seen R.problem R.limit R.lines R.faults R.broken R.around rec.new) terms.now) }
+    ensures defines_one { OnOk result
+        (definitions (R.lines rec.new) ≡ definitions (R.lines rec.old) + 1) }
 {
     let next = first_of(greater);
     let below = next_sum(next, greatest + 1);

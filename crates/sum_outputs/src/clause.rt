@@ -2,6 +2,7 @@
 ghost use Rattle.std.specs.Prelude.{◌≡◌, ℕ, ◌<◌, ◌≤◌, ◌^◌, OnOk};
 ghost use Rattle.sum_outputs.specs.Adding.{seen, Always, IsReady, IsRecorded};
 ghost use Rattle.sum_outputs.specs.Outputs.{CanImplyNow, Imply, sums};
+ghost use Rattle.sum_outputs.specs.Totals.{definitions};
 
 use crate::SumOutput;
 use crate::recording::{in_memory, record};
@@ -30,6 +31,8 @@ pub(crate) fn add_clause<R: Recorder>(
     ensures says { OnOk result
         (Always (seen R.problem R.limit R.lines R.faults R.broken R.around rec.new)
         (Imply parts.now target)) }
+    ensures defines_none { OnOk result
+        (definitions (R.lines rec.new) ≡ definitions (R.lines rec.old)) }
 {
     // Tells that the lines so far reach a state.
     let _vars = rec.state().vars();

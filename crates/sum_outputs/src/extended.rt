@@ -1,8 +1,8 @@
 // The outputs of a node, and those that it gets.
-ghost use Rattle.std.specs.Prelude.{◌≡◌, ℕ, ◌<◌, ◌≤◌, ◌++◌, [], ◌∷◌, length, reverse, slice_index_or, All, IfOk};
+ghost use Rattle.std.specs.Prelude.{◌≡◌, ℕ, ◌+◌, ◌<◌, ◌≤◌, ◌++◌, [], ◌∷◌, length, reverse, slice_index_or, All, IfOk, OnOk};
 ghost use Rattle.pb_lin.specs.Constraint.{total};
 ghost use Rattle.proof_laws.specs.State.{StateValue};
-ghost use Rattle.sum_outputs.specs.Totals.{AreWeights};
+ghost use Rattle.sum_outputs.specs.Totals.{definitions};
 ghost use Rattle.sum_outputs.specs.Adding.{seen, IsReached, IsReady, IsRecorded};
 ghost use Rattle.sum_outputs.specs.Outputs.{AreRising, CanImplyNow, IsDefined};
 ghost use Rattle.sum_outputs.specs.Joining.{AreChildrenNow, AreOutputsNow, IsCompleteTo};
@@ -45,6 +45,8 @@ pub(crate) fn extended<R: Recorder>(
     ensures recorded { IsRecorded (seen R.problem R.limit R.lines R.faults R.broken R.around rec.old) (seen R.problem R.limit R.lines R.faults R.broken R.around rec.new) result }
     ensures extended { IfOk result (AreExtended (seen R.problem R.limit R.lines R.faults R.broken R.around rec.old) (seen R.problem R.limit R.lines R.faults R.broken R.around rec.new)
         terms.now outputs.now k) }
+    ensures defined { IfOk result (λ all. definitions (R.lines rec.new) + length outputs.now
+        ≡ definitions (R.lines rec.old) + length all) }
 {
     let last = last_sum(outputs);
     let falling = make_falling(alloc, rec, first, second, terms, greatest, last, k)?;
@@ -65,7 +67,9 @@ pub(crate) fn tie<R: Recorder>(
         → i < length smaller.now → k < length greater.now
         → CanImplyNow (seen R.problem R.limit R.lines R.faults R.broken R.around rec.old)
         (slice_index_or greater.now k e ∷ []) [] (slice_index_or smaller.now i d) }
-    ensures { IsRecorded (seen R.problem R.limit R.lines R.faults R.broken R.around rec.old) (seen R.problem R.limit R.lines R.faults R.broken R.around rec.new) result }
+    ensures recorded { IsRecorded (seen R.problem R.limit R.lines R.faults R.broken R.around rec.old) (seen R.problem R.limit R.lines R.faults R.broken R.around rec.new) result }
+    ensures defines_none { OnOk result
+        (definitions (R.lines rec.new) ≡ definitions (R.lines rec.old)) }
 {
     for at in 0..smaller.len() {
         add_singles(alloc, rec, greater, &[], &smaller[at], u64::MAX)?;

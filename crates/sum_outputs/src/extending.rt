@@ -1,7 +1,7 @@
 // Further outputs of a node, in rising order of sums without a gap.
-ghost use Rattle.std.specs.Prelude.{◌≡◌, ℕ, ◌+◌, ◌-◌, ◌<◌, ◌≤◌, ◌^◌, ◌++◌, length, drop, slice_index_or, All, IfOk};
+ghost use Rattle.std.specs.Prelude.{◌≡◌, ℕ, ◌+◌, ◌-◌, ◌<◌, ◌≤◌, ◌^◌, ◌++◌, length, drop, slice_index_or, All, IfOk, OnOk};
 ghost use Rattle.pb_lin.specs.Constraint.{total};
-ghost use Rattle.sum_outputs.specs.Totals.{IsLeastSum};
+ghost use Rattle.sum_outputs.specs.Totals.{IsLeastSum, definitions};
 ghost use Rattle.sum_outputs.specs.Adding.{seen, IsReady, IsRecorded};
 ghost use Rattle.sum_outputs.specs.Outputs.{AreRising};
 ghost use Rattle.sum_outputs.specs.Joining.{AreChildrenNow, AreOutputsNow, IsCompleteTo, IsNewOutput};
@@ -42,6 +42,8 @@ pub(crate) fn make_falling<R: Recorder>(
     ensures recorded { IsRecorded (seen R.problem R.limit R.lines R.faults R.broken R.around rec.old) (seen R.problem R.limit R.lines R.faults R.broken R.around rec.new) result }
     ensures falling { IfOk result (AreFallingTo (seen R.problem R.limit R.lines R.faults R.broken R.around rec.old) (seen R.problem R.limit R.lines R.faults R.broken R.around rec.new)
         terms.now last k) }
+    ensures defined { IfOk result (λ os. definitions (R.lines rec.new)
+        ≡ definitions (R.lines rec.old) + length os) }
 {
     let mut sums = in_memory(new_sums(alloc, first.outputs, second.outputs, last, k, greatest))?;
     let mut falling = Items::new(alloc);
@@ -87,6 +89,8 @@ fn make_next<R: Recorder>(
     ensures recorded { IsRecorded (seen R.problem R.limit R.lines R.faults R.broken R.around rec.old) (seen R.problem R.limit R.lines R.faults R.broken R.around rec.new) result }
     ensures sum { IfOk result (λ o. (o.sum ≡ run.1) × (o.from ≡ run.0)) }
     ensures made { IfOk result (IsNewOutput (seen R.problem R.limit R.lines R.faults R.broken R.around rec.old) (seen R.problem R.limit R.lines R.faults R.broken R.around rec.new) terms.now) }
+    ensures defines_one { OnOk result
+        (definitions (R.lines rec.new) ≡ definitions (R.lines rec.old) + 1) }
 {
     let below = least_or(falling, greatest + 1);
     make_output(

@@ -2,7 +2,8 @@
 ghost use Rattle.std.specs.Prelude.{◌≡◌, ◌+◌, ◌-◌, ◌<◌, List, length, slice_index_or, OnOk};
 ghost use Rattle.sum_outputs.specs.Adding.{seen, IsReady, IsRecorded};
 ghost use Rattle.sum_outputs.specs.Tree.{IsTree};
-ghost use Rattle.sum_outputs.specs.MadeOutputs.{AreCompleteTo, AreMadeNow};
+ghost use Rattle.sum_outputs.specs.Totals.{definitions};
+ghost use Rattle.sum_outputs.specs.MadeOutputs.{AreCompleteTo, AreGrownTo, AreMadeNow, count_outputs};
 ghost use Rattle.sum_outputs.specs.declared.node.Node.{Node};
 ghost use Rattle.sum_outputs.specs.declared.made.SumOutput.{SumOutput};
 
@@ -31,6 +32,11 @@ pub fn extend_all<R: Recorder>(
     ensures recorded { IsRecorded (seen R.problem R.limit R.lines R.faults R.broken R.around rec.old) (seen R.problem R.limit R.lines R.faults R.broken R.around rec.new) result }
     ensures made { OnOk result (AreMadeNow (seen R.problem R.limit R.lines R.faults R.broken R.around rec.new) nodes.now made.new) }
     ensures complete { OnOk result (AreCompleteTo nodes.now made.new (length nodes.now - 1) k) }
+    ensures grown { OnOk result (AreGrownTo
+        (seen R.problem R.limit R.lines R.faults R.broken R.around rec.old)
+        nodes.now made.old made.new k) }
+    ensures defined { OnOk result (definitions (R.lines rec.new) + count_outputs made.old
+        ≡ definitions (R.lines rec.old) + count_outputs made.new) }
 {
     for at in 0..nodes.len() - 1 {
         extend_node(alloc, rec, nodes, made, at, k)?;
@@ -56,6 +62,11 @@ fn extend_node<R: Recorder>(
     ensures recorded { IsRecorded (seen R.problem R.limit R.lines R.faults R.broken R.around rec.old) (seen R.problem R.limit R.lines R.faults R.broken R.around rec.new) result }
     ensures made { OnOk result (AreMadeNow (seen R.problem R.limit R.lines R.faults R.broken R.around rec.new) nodes.now made.new) }
     ensures complete { OnOk result (AreCompleteTo nodes.now made.new (at + 1) k) }
+    ensures grown { OnOk result (AreGrownTo
+        (seen R.problem R.limit R.lines R.faults R.broken R.around rec.old)
+        nodes.now made.old made.new k) }
+    ensures defined { OnOk result (definitions (R.lines rec.new) + count_outputs made.old
+        ≡ definitions (R.lines rec.old) + count_outputs made.new) }
 {
     if nodes[at].terms.len() == 1 {
         return Ok(());
@@ -82,6 +93,11 @@ fn extend_inner<R: Recorder>(
     ensures recorded { IsRecorded (seen R.problem R.limit R.lines R.faults R.broken R.around rec.old) (seen R.problem R.limit R.lines R.faults R.broken R.around rec.new) result }
     ensures made { OnOk result (AreMadeNow (seen R.problem R.limit R.lines R.faults R.broken R.around rec.new) nodes.now made.new) }
     ensures complete { OnOk result (AreCompleteTo nodes.now made.new (at + 1) k) }
+    ensures grown { OnOk result (AreGrownTo
+        (seen R.problem R.limit R.lines R.faults R.broken R.around rec.old)
+        nodes.now made.old made.new k) }
+    ensures defined { OnOk result (definitions (R.lines rec.new) + count_outputs made.old
+        ≡ definitions (R.lines rec.old) + count_outputs made.new) }
 {
     let node = &nodes[at];
     let first = child(nodes, made, node.first);
@@ -93,8 +109,8 @@ fn extend_inner<R: Recorder>(
     Ok(())
 }
 
-// The terms and outputs of a node.
-fn child<'a>(nodes: &'a [Node], made: &'a Items<Items<SumOutput>>, at: usize) -> Child<'a>
+/// The terms and outputs of a node.
+pub fn child<'a>(nodes: &'a [Node], made: &'a Items<Items<SumOutput>>, at: usize) -> Child<'a>
     requires node { at < length nodes.now }
     requires outputs { at < length made.now }
     ensures terms { (d : Node) → result.terms.now ≡ (slice_index_or nodes.now at d).terms }

@@ -2,12 +2,12 @@
 //! lines that prove what they mean, for the nodes of a generalised totalizer (Joshi, Martins and Manquinho 2015).
 //!
 //! Its public contract: `push_nodes` makes the tree of a list of terms; `extend_all` makes the outputs of all nodes
-//! below the root up to a bound; `ask` makes one output of the root. Each output's literal is true where the rows and the
-//! clauses that stay hold and the sum is reached. They only add definitions and lines by cutting planes.
+//! below the root up to a bound, and no more; `ask` makes one output of the root, where it isn't there. Each output's
+//! literal is true where the rows and the clauses that stay hold and the sum is reached. They only add definitions, one
+//! for each new output, and lines by cutting planes.
 #![tactic(auto)]
 
 mod asked;
-mod bound;
 mod clause;
 mod definition;
 mod extended;
@@ -18,16 +18,14 @@ mod made;
 mod making;
 mod node;
 mod recording;
-mod reform;
 mod sums;
 mod tokens;
 mod windows;
 
 pub use asked::ask;
-pub use bound::Bound;
-pub use growing::extend_all;
+pub use growing::{child, extend_all};
 pub use leaf::leaf_output;
 pub use made::SumOutput;
 pub use node::{Node, push_nodes};
-pub use reform::Reform;
-pub use windows::Child;
+pub use recording::in_memory;
+pub use windows::{Child, place_of};

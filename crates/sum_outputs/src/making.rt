@@ -1,7 +1,7 @@
 // One output of a node.
-ghost use Rattle.std.specs.Prelude.{◌≡◌, ℕ, ◌+◌, ◌<◌, ◌≤◌, ◌^◌, ◌⊎◌, [], ◌∷◌, ◌++◌, length, slice_index_or, IfOk};
+ghost use Rattle.std.specs.Prelude.{◌≡◌, ℕ, ◌+◌, ◌<◌, ◌≤◌, ◌^◌, ◌⊎◌, [], ◌∷◌, ◌++◌, length, slice_index_or, IfOk, OnOk};
 ghost use Rattle.pb_lin.specs.Constraint.{total};
-ghost use Rattle.sum_outputs.specs.Totals.{IsLeastSum};
+ghost use Rattle.sum_outputs.specs.Totals.{IsLeastSum, definitions};
 ghost use Rattle.sum_outputs.specs.Adding.{seen, IsReady, IsRecorded};
 ghost use Rattle.sum_outputs.specs.Joining.{AreChildrenNow, AreOutputsNow, IsAboveAll, IsCompleteTo, IsNewOutput};
 
@@ -41,6 +41,8 @@ pub(crate) fn make_output<R: Recorder>(
     ensures recorded { IsRecorded (seen R.problem R.limit R.lines R.faults R.broken R.around rec.old) (seen R.problem R.limit R.lines R.faults R.broken R.around rec.new) result }
     ensures sum { IfOk result (λ o. (o.sum ≡ sum) × (o.from ≡ from)) }
     ensures made { IfOk result (IsNewOutput (seen R.problem R.limit R.lines R.faults R.broken R.around rec.old) (seen R.problem R.limit R.lines R.faults R.broken R.around rec.new) terms.now) }
+    ensures defines_one { OnOk result
+        (definitions (R.lines rec.new) ≡ definitions (R.lines rec.old) + 1) }
 {
     let made = define(alloc, rec, terms, from, sum)?;
     add_singles(alloc, rec, next, &[], &made, u64::MAX)?;

@@ -30,8 +30,8 @@ pub(crate) fn record<R: Recorder>(rec: &mut R, line: &Line) -> Result<u64, Recor
     Ok(id)
 }
 
-// The same want of memory, as a recorder's fault.
-pub(crate) fn in_memory<T: Drop>(made: Result<T, NoMemory>) -> Result<T, RecordFault>
+/// The same want of memory, as a recorder's fault.
+pub fn in_memory<T: Drop>(made: Result<T, NoMemory>) -> Result<T, RecordFault>
     ensures ok { IfOk result (λ x. made ≡ Ok x) }
     ensures fault { IfErr result (λ f. f ≡ RecordFault.NoMemory) }
 {

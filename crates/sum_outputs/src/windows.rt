@@ -1,6 +1,7 @@
 // Clauses from the outputs of a node's children to an output of the node.
 ghost use Rattle.std.specs.Prelude.{◌≡◌, ℕ, ◌+◌, ◌<◌, ◌≤◌, ◌^◌, [], ◌∷◌, ◌++◌, length, slice_index_or, All, AllPairs, OnOk};
 ghost use Rattle.pb_lin.specs.Place.{IsPlace};
+ghost use Rattle.sum_outputs.specs.Totals.{definitions};
 ghost use Rattle.sum_outputs.specs.Adding.{seen, Always, IsReady, IsRecorded};
 ghost use Rattle.sum_outputs.specs.Outputs.{AreRising, CanImplyNow, Imply};
 ghost use Rattle.sum_outputs.specs.Joining.{AreChildrenNow, AreImplying, IsTargetNow, PairsImply};
@@ -12,8 +13,8 @@ use proof_rules::{RecordFault, Recorder};
 use scut_base::Lit;
 use std::alloc::Global;
 
-// The first place whose sum isn't below a number.
-pub(crate) fn place_of(outputs: &[SumOutput], number: u64) -> usize
+/// The first place whose sum isn't below a number.
+pub fn place_of(outputs: &[SumOutput], number: u64) -> usize
     requires { AllPairs (λ o q. o.sum < q.sum) outputs.now }
     ensures { IsPlace (λ o. o.sum) outputs.now number result }
 {
@@ -40,6 +41,8 @@ pub(crate) fn add_singles<R: Recorder>(
         → target.now.sum ≤ (slice_index_or parts.now k d).sum
         → (slice_index_or parts.now k d).sum < below
         → Always (seen R.problem R.limit R.lines R.faults R.broken R.around rec.new) (Imply (slice_index_or parts.now k d ∷ []) target.now)) }
+    ensures defines_none { OnOk result
+        (definitions (R.lines rec.new) ≡ definitions (R.lines rec.old)) }
 {
     for at in place_of(parts, target.sum)..place_of(parts, below) {
         imply_by_one(alloc, rec, &parts[at], weakened, target)?;
@@ -68,6 +71,8 @@ pub(crate) fn add_pairs<R: Recorder>(
     ensures says { OnOk result (PairsImply
         (seen R.problem R.limit R.lines R.faults R.broken R.around rec.new)
         part.now others.now target.now below) }
+    ensures defines_none { OnOk result
+        (definitions (R.lines rec.new) ≡ definitions (R.lines rec.old)) }
 {
     let from = place_of(others, target.sum.saturating_sub(part.sum));
     for at in from..place_of(others, below.saturating_sub(part.sum)) {
@@ -88,6 +93,8 @@ fn imply_by_one<R: Recorder>(
     requires can { CanImplyNow (seen R.problem R.limit R.lines R.faults R.broken R.around rec.old) (part.now ∷ []) weakened.now target.now }
     ensures recorded { IsRecorded (seen R.problem R.limit R.lines R.faults R.broken R.around rec.old) (seen R.problem R.limit R.lines R.faults R.broken R.around rec.new) result }
     ensures says { OnOk result (Always (seen R.problem R.limit R.lines R.faults R.broken R.around rec.new) (Imply (part.now ∷ []) target.now)) }
+    ensures defines_none { OnOk result
+        (definitions (R.lines rec.new) ≡ definitions (R.lines rec.old)) }
 {
     add_clause(alloc, rec, &[*part], weakened, *target)
 }
@@ -104,6 +111,8 @@ fn imply_by_two<R: Recorder>(
     requires can { CanImplyNow (seen R.problem R.limit R.lines R.faults R.broken R.around rec.old) (first.now ∷ second.now ∷ []) [] target.now }
     ensures recorded { IsRecorded (seen R.problem R.limit R.lines R.faults R.broken R.around rec.old) (seen R.problem R.limit R.lines R.faults R.broken R.around rec.new) result }
     ensures says { OnOk result (Always (seen R.problem R.limit R.lines R.faults R.broken R.around rec.new) (Imply (first.now ∷ second.now ∷ []) target.now)) }
+    ensures defines_none { OnOk result
+        (definitions (R.lines rec.new) ≡ definitions (R.lines rec.old)) }
 {
     add_clause(alloc, rec, &[*first, *second], &[], *target)
 }
@@ -137,6 +146,8 @@ pub(crate) fn add_window<R: Recorder>(
     ensures says { OnOk result (AreImplying
         (seen R.problem R.limit R.lines R.faults R.broken R.around rec.new)
         first.entry.outputs.now second.entry.outputs.now target.now below) }
+    ensures defines_none { OnOk result
+        (definitions (R.lines rec.new) ≡ definitions (R.lines rec.old)) }
 {
     add_singles(alloc, rec, first.outputs, second.terms, target, below)?;
     add_singles(alloc, rec, second.outputs, first.terms, target, below)?;
@@ -163,6 +174,8 @@ fn add_all_pairs<R: Recorder>(
     ensures recorded { IsRecorded (seen R.problem R.limit R.lines R.faults R.broken R.around rec.old) (seen R.problem R.limit R.lines R.faults R.broken R.around rec.new) result }
     ensures says { OnOk result ((i : ℕ) (d : SumOutput) → i < length firsts.now
         → PairsImply (seen R.problem R.limit R.lines R.faults R.broken R.around rec.new) (slice_index_or firsts.now i d) seconds.now target.now below) }
+    ensures defines_none { OnOk result
+        (definitions (R.lines rec.new) ≡ definitions (R.lines rec.old)) }
 {
     for at in 0..firsts.len() {
         add_pairs(alloc, rec, &firsts[at], seconds, target, below)?;

@@ -1,10 +1,11 @@
 -- The output is there, or it is made.
-use Rattle.std.proofs.Common.{◌≡◌, ℕ, List, Ok, refl, sym, subst, arith}
+use Rattle.std.proofs.Common.{◌≡◌, ℕ, ◌+◌, List, length, Ok, refl, ap, sym, subst, ◌∙◌, arith}
 use Rattle.std.proofs.Math.ListN.{set}
 use Rattle.std.specs.Prelude.{slice_index_or}
+use Rattle.std.proofs.lemmas.List.{length-set}
 use Rattle.std.proofs.lemmas.Result.{IfOk-at_ok, IfOk-weaker}
 use Rattle.sum_outputs.specs.Adding.{seen}
-use Rattle.sum_outputs.specs.Totals.{IsLeastSum}
+use Rattle.sum_outputs.specs.Totals.{IsLeastSum, definitions}
 use Rattle.sum_outputs.specs.Sums.{IsLeastOf}
 use Rattle.sum_outputs.specs.Falling.{IsAsked, asked_from}
 use Rattle.sum_outputs.specs.declared.made.SumOutput.{SumOutput}
@@ -33,6 +34,16 @@ returns-then-has_sum-clause-asked g c =
     let made = asked_again a c.args.terms.now c.args.outputs.now c.requires.outputs c.requires.defined c.place_of-place.result c.args.k r.0 there.0 (subst (λ (n : ℕ). IsLeastSum c.args.terms.now c.args.k n) (sym (there.1 r.0)) least) in
     subst (λ (os : List SumOutput). IsAsked a a c.args.terms.now c.args.outputs.now c.args.k r.0 os) (sym facts.1)
     (subst (λ (o : SumOutput). IsAsked a a c.args.terms.now c.args.outputs.now c.args.k o (set c.args.outputs.now c.place_of-place.result o)) (sym facts.0) made))
+    c.in_memory.ensures.ok
+
+pub returns-then-has_sum-clause-defined : goal.returns-then-has_sum-clause-defined
+returns-then-has_sum-clause-defined g c =
+    let R = g.R.Recorder in
+    IfOk-weaker c.in_memory.result (λ r. c.asked_again.result ≡ Ok r) (λ r. definitions (R.lines c.args.rec.now) + length c.args.outputs.now ≡ definitions (R.lines c.args.rec.now) + length r.1)
+    (λ r is.
+    let facts = IfOk-at_ok (λ q. (d : SumOutput) → (q.0 ≡ asked_from c.args.k (slice_index_or c.args.outputs.now c.place_of-place.result d)) × (q.1 ≡ set c.args.outputs.now c.place_of-place.result q.0)) is c.asked_again.ensures r.0 in
+    let size = ap length facts.1 ∙ length-set c.args.outputs.now c.place_of-place.result r.0 in
+    omega arith)
     c.in_memory.ensures.ok
 
 pub ask_anew-requires-clause-least : goal.ask_anew-requires-clause-least

@@ -9,9 +9,11 @@ use Rattle.proof_rules.specs.declared.recorder.RecordFault.{RecordFault}
 use Rattle.proof_rules.specs.declared.recorder.RecordFault.TheVariants.{NoMemory}
 use Rattle.sum_outputs.specs.ClauseTokens.{clause_tokens}
 use Rattle.sum_outputs.proofs.TokenLists.{lowers_of}
+use Rattle.sum_outputs.specs.Totals.{definitions}
 use Rattle.sum_outputs.specs.Adding.{seen}
 use Rattle.sum_outputs.proofs.LaterStates.{continues_again, recorded_err}
 use Rattle.sum_outputs.proofs.ImplyLines.{imply_tokens, sums_small, imply_formed, imply_legal, imply_says}
+use Rattle.sum_outputs.proofs.DefinitionCounts.{definitions_push}
 use Rattle.sum_outputs.proofs.clause.add_clause.Goals as goal
 
 pub sum_of-requires : goal.sum_of-requires
@@ -67,3 +69,9 @@ returns-clause-says g c =
     let b = seen R.problem R.limit R.lines R.faults R.broken R.around c.record.new.rec in
     imply_says a c.state.result.now c.vars-vars.ensures.state c.state.ensures c.args.parts.now c.args.weakened.now c.args.target can b c.in_ok-_id.ensures.recorded.continues.problem
     (c.in_ok-_id.ensures.added ∙ ap (λ (ts : List PolToken). a.lines ++ Pol ts ∷ []) tokens_are)
+
+pub returns-clause-defines_none : goal.returns-clause-defines_none
+returns-clause-defines_none g c =
+    let R = g.R.Recorder in
+    let more = ap definitions c.in_ok-_id.ensures.added ∙ definitions_push (R.lines c.args.rec.now) (Pol c.in_ok-tokens.tokens) in
+    omega arith

@@ -34,5 +34,5 @@ returns-clause-defined g c =
     let b = seen R.problem R.limit R.lines R.faults R.broken R.around c.define_next.new.rec in
     let order : IsInOrder c.args.terms.now c.args.sum c.in_ok-constraint.constraint = IfOk-at_ok (IsInOrder c.args.terms.now c.args.sum) c.in_ok-constraint.ensures.ok c.at_least.ensures in
     if_ok_both c.define_next.result (λ o. (o.sum ≡ c.args.sum) × (o.from ≡ c.args.from)) (IsDefinedBy a b c.in_ok-constraint.constraint) (IsDefinedNext a b c.args.terms.now)
-    (λ o sum is. defined_next a b c.args.terms.now c.in_ok-constraint.constraint o c.args.sum sum.0 order c.requires.variables c.requires.ready is)
+    (λ o sum is. defined_next a b c.args.terms.now c.in_ok-constraint.constraint o c.args.sum sum.0 order c.requires.variables c.requires.ready c.define_next.ensures.recorded.continues.problem is)
     c.define_next.ensures.sum c.define_next.ensures.defined

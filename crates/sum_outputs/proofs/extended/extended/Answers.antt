@@ -1,9 +1,10 @@
 -- What is made, and what is put behind the others.
-use Rattle.std.proofs.Common.{◌≡◌, ℕ, ◌-◌, ◌<◌, List, [], ◌∷◌, ◌++◌, get_or, length, drop, reverse, Ok, ap, sym, subst, ◌∙◌, arith}
+use Rattle.std.proofs.Common.{◌≡◌, ℕ, ◌+◌, ◌-◌, ◌<◌, List, [], ◌∷◌, ◌++◌, get_or, length, drop, reverse, Ok, ap, sym, subst, ◌∙◌, arith}
+use Rattle.std.proofs.lemmas.List.{length-append, length-reverse}
 use Rattle.std.proofs.lemmas.Result.{err_from_is_err_and, IfOk-at_ok, IfOk-weaker}
 use Rattle.scut_base.specs.Literal.{Literal}
 use Rattle.sum_outputs.specs.Adding.{seen}
-use Rattle.sum_outputs.specs.Totals.{AreWeights}
+use Rattle.sum_outputs.specs.Totals.{AreWeights, definitions}
 use Rattle.sum_outputs.specs.Outputs.{AreRising, CanImplyNow}
 use Rattle.sum_outputs.specs.Sums.{last_sum}
 use Rattle.sum_outputs.specs.Falling.{AreFallingTo, AreExtended}
@@ -70,7 +71,7 @@ returns-in_err-tie-clause-recorded g c =
     let falling : AreFallingTo a b c.args.terms.now (last_sum c.args.outputs.now) c.args.k c.in_ok-falling.falling = subst (λ (n : ℕ). AreFallingTo a b c.args.terms.now n c.args.k c.in_ok-falling.falling) c.last_sum-last.ensures made.falling in
     let d = seen R.problem R.limit R.lines R.faults R.broken R.around c.tie.new.rec in
     let p = err_from_is_err_and c.from_residual-in_err-tie.result c.from_residual-in_err-tie.ensures.1 in
-    handed_on a b d c.in_err-tie.field-0.0 p.0 c.from_residual-in_err-tie.result p.1 p.2 made.recorded.continues c.in_err-tie.ensures
+    handed_on a b d c.in_err-tie.field-0.0 p.0 c.from_residual-in_err-tie.result p.1 p.2 made.recorded.continues c.in_err-tie.ensures.recorded
 
 pub returns-clause-recorded : goal.returns-clause-recorded
 returns-clause-recorded g c =
@@ -82,7 +83,7 @@ returns-clause-recorded g c =
     let weights = subst (λ (ts : List (Literal × ℕ)). AreWeights ts) (sym c.requires.terms) (c.requires.children c.requires.ready.state c.requires.ready.reached).weights in
     let falling : AreFallingTo a b c.args.terms.now (last_sum c.args.outputs.now) c.args.k c.in_ok-falling.falling = subst (λ (n : ℕ). AreFallingTo a b c.args.terms.now n c.args.k c.in_ok-falling.falling) c.last_sum-last.ensures made.falling in
     let d = seen R.problem R.limit R.lines R.faults R.broken R.around c.tie.new.rec in
-    memory_recorded a d c.in_memory.result (continues_twice a b d made.recorded.continues c.in_ok-tie.ensures.continues) c.in_ok-tie.ensures.whole c.in_memory.ensures.fault
+    memory_recorded a d c.in_memory.result (continues_twice a b d made.recorded.continues c.in_ok-tie.ensures.recorded.continues) c.in_ok-tie.ensures.recorded.whole c.in_memory.ensures.fault
 
 pub returns-clause-extended : goal.returns-clause-extended
 returns-clause-extended g c =
@@ -95,7 +96,20 @@ returns-clause-extended g c =
     let falling : AreFallingTo a b c.args.terms.now (last_sum c.args.outputs.now) c.args.k c.in_ok-falling.falling = subst (λ (n : ℕ). AreFallingTo a b c.args.terms.now n c.args.k c.in_ok-falling.falling) c.last_sum-last.ensures made.falling in
     let d = seen R.problem R.limit R.lines R.faults R.broken R.around c.tie.new.rec in
     IfOk-weaker c.in_memory.result (λ os. c.joined.result ≡ Ok os) (AreExtended a d c.args.terms.now c.args.outputs.now c.args.k)
-    (λ os is. extended_later a b d ready_b c.in_ok-tie.ensures.continues c.args.terms.now c.args.outputs.now c.args.k os
+    (λ os is. extended_later a b d ready_b c.in_ok-tie.ensures.recorded.continues c.args.terms.now c.args.outputs.now c.args.k os
     (subst (λ (all : List SumOutput). AreExtended a b c.args.terms.now c.args.outputs.now c.args.k all) (sym (IfOk-at_ok (λ all. all ≡ c.args.outputs.now ++ reverse c.in_ok-falling.falling) is c.joined.ensures))
     (are_extended a b c.requires.ready made.recorded.continues c.args.terms.now weights c.args.outputs.now c.in_ok-falling.falling c.args.k c.requires.from_one c.requires.outputs c.requires.defined c.requires.gapless falling)))
+    c.in_memory.ensures.ok
+
+pub returns-clause-defined : goal.returns-clause-defined
+returns-clause-defined g c =
+    let R = g.R.Recorder in
+    let made = c.in_ok-falling.ensures in
+    IfOk-weaker c.in_memory.result (λ os. c.joined.result ≡ Ok os) (λ os. definitions (R.lines c.tie.new.rec) + length c.args.outputs.now ≡ definitions (R.lines c.args.rec.now) + length os)
+    (λ os is.
+    let size = ap length (IfOk-at_ok (λ all. all ≡ c.args.outputs.now ++ reverse c.in_ok-falling.falling) is c.joined.ensures) ∙ length-append c.args.outputs.now (reverse c.in_ok-falling.falling) in
+    let same = length-reverse c.in_ok-falling.falling in
+    let some = made.defined in
+    let none = c.in_ok-tie.ensures.defines_none in
+    omega arith)
     c.in_memory.ensures.ok

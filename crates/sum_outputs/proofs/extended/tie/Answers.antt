@@ -1,5 +1,5 @@
 -- One smaller output after the other.
-use Rattle.std.proofs.Common.{[], ◌∷◌, get_or, sym, subst, arith}
+use Rattle.std.proofs.Common.{[], ◌∷◌, get_or, refl, sym, subst, ◌∙◌, arith}
 use Rattle.std.proofs.lemmas.Result.{err_from_is_err_and}
 use Rattle.sum_outputs.specs.Adding.{seen}
 use Rattle.sum_outputs.specs.Outputs.{CanImplyNow}
@@ -12,14 +12,14 @@ pub loop-at-init : goal.loop-at-init
 loop-at-init g c =
     let R = g.R.Recorder in
     let a = seen R.problem R.limit R.lines R.faults R.broken R.around c.args.rec.now in
-    way_starts a c.requires.ready
+    record { way = way_starts a c.requires.ready; defines_none = refl }
 
 pub add_singles-requires-clause-ready : goal.add_singles-requires-clause-ready
 add_singles-requires-clause-ready g c =
     let R = g.R.Recorder in
     let a = seen R.problem R.limit R.lines R.faults R.broken R.around c.args.rec.now in
     let b = seen R.problem R.limit R.lines R.faults R.broken R.around c.loop-at.rec in
-    way_ready a b c.requires.ready c.loop-at.invariant
+    way_ready a b c.requires.ready c.loop-at.invariant.way
 
 pub add_singles-requires-clause-can : goal.add_singles-requires-clause-can
 add_singles-requires-clause-can g c = λ k e short reach.
@@ -27,17 +27,17 @@ add_singles-requires-clause-can g c = λ k e short reach.
     let a = seen R.problem R.limit R.lines R.faults R.broken R.around c.args.rec.now in
     let b = seen R.problem R.limit R.lines R.faults R.broken R.around c.loop-at.rec in
     let x = c.index-smaller-at.result in
-    can_later a b (get_or c.args.greater.now k e ∷ []) [] x c.requires.ready c.loop-at.invariant.on
+    can_later a b (get_or c.args.greater.now k e ∷ []) [] x c.requires.ready c.loop-at.invariant.way.on
     (subst (λ (o : SumOutput). CanImplyNow a (get_or c.args.greater.now k e ∷ []) [] o) (sym c.index-smaller-at.is) (c.requires.can c.loop-at.at x k e (omega arith) short))
 
-pub returns-in_err-add_singles : goal.returns-in_err-add_singles
-returns-in_err-add_singles g c =
+pub returns-in_err-add_singles-clause-recorded : goal.returns-in_err-add_singles-clause-recorded
+returns-in_err-add_singles-clause-recorded g c =
     let R = g.R.Recorder in
     let a = seen R.problem R.limit R.lines R.faults R.broken R.around c.args.rec.now in
     let b = seen R.problem R.limit R.lines R.faults R.broken R.around c.loop-at.rec in
     let d = seen R.problem R.limit R.lines R.faults R.broken R.around c.add_singles.new.rec in
     let p = err_from_is_err_and c.from_residual.result c.from_residual.ensures.1 in
-    handed_on a b d c.in_err-add_singles.field-0.0 p.0 c.from_residual.result p.1 p.2 c.loop-at.invariant.on c.in_err-add_singles.ensures.recorded
+    handed_on a b d c.in_err-add_singles.field-0.0 p.0 c.from_residual.result p.1 p.2 c.loop-at.invariant.way.on c.in_err-add_singles.ensures.recorded
 
 pub loop-at-preserved : goal.loop-at-preserved
 loop-at-preserved g c =
@@ -45,4 +45,5 @@ loop-at-preserved g c =
     let a = seen R.problem R.limit R.lines R.faults R.broken R.around c.args.rec.now in
     let b = seen R.problem R.limit R.lines R.faults R.broken R.around c.loop-at.rec in
     let d = seen R.problem R.limit R.lines R.faults R.broken R.around c.add_singles.new.rec in
-    way_on a b d c.loop-at.invariant c.in_ok-add_singles.ensures.recorded.continues c.in_ok-add_singles.ensures.recorded.whole
+    let call = c.in_ok-add_singles.ensures in
+    record { way = way_on a b d c.loop-at.invariant.way call.recorded.continues call.recorded.whole; defines_none = call.defines_none ∙ c.loop-at.invariant.defines_none }

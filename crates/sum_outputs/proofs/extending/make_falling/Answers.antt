@@ -1,6 +1,7 @@
 -- One sum after the other is made.
 use Rattle.std.proofs.Common.{◌≡◌, ℕ, ◌-◌, ◌<◌, List, [], ◌∷◌, ◌++◌, length, drop, Err, ap, sym, subst, ◌∙◌, arith}
 use Rattle.std.specs.List.{All}
+use Rattle.std.proofs.lemmas.List.{length-append}
 use Rattle.std.proofs.lemmas.Result.{err_from_is_err_and, IfOk-at_ok}
 use Rattle.scut_base.specs.Literal.{Literal}
 use Rattle.pb_lin.specs.Constraint.{total}
@@ -39,6 +40,7 @@ loop-run-init g c =
           (subst (λ (os : List SumOutput). IsHalfWay a a c.args.terms.now c.args.first.outputs.now c.args.second.outputs.now (total c.args.terms.now) c.args.last c.args.k c.in_ok-sums.sums os) (sym c.new-falling.ensures)
           (halfway_starts a c.args.terms.now c.args.first.outputs.now c.args.second.outputs.now c.args.last c.args.k c.in_ok-sums.sums
           (subst (λ (n : ℕ). IsRunTo c.args.first.outputs.now c.args.second.outputs.now n c.args.last c.args.k c.in_ok-sums.sums) c.requires.greatest run)));
+      defined = let none = ap length c.new-falling.ensures in omega arith;
     }
 
 pub make_next-requires-clause-ready : goal.make_next-requires-clause-ready
@@ -163,6 +165,7 @@ loop-run-preserved g c =
       way = way_on a b d way made.recorded.continues made.recorded.whole;
       half = subst (λ (os : List SumOutput). IsHalfWay a d c.args.terms.now c.args.first.outputs.now c.args.second.outputs.now c.args.greatest c.args.last c.args.k c.pop.new.self os) (sym pushed)
           (halfway_more a b d c.requires.ready ready_b way.on made.recorded.continues c.args.terms.now c.args.first.outputs.now c.args.second.outputs.now c.args.greatest c.args.last c.args.k c.pop.new.self c.in-Some.run' c.loop-run.falling c.in_ok-made.made half made.made made.sum.0 least);
+      defined = let before = c.loop-run.invariant.defined in let one = made.defines_one in let size = ap length pushed ∙ length-append c.loop-run.falling (c.in_ok-made.made ∷ []) in omega arith;
     }
 
 pub returns-in_err-in_memory-clause-recorded : goal.returns-in_err-in_memory-clause-recorded

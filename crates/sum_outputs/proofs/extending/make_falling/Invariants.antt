@@ -1,5 +1,6 @@
 -- Some sums are left, and the others are made.
-use Rattle.std.proofs.Common.{length}
+use Rattle.std.proofs.Common.{◌≡◌, ◌+◌, length}
+use Rattle.sum_outputs.specs.Totals.{definitions}
 use Rattle.sum_outputs.specs.Adding.{seen, IsUnderWay}
 use Rattle.sum_outputs.specs.Falling.{IsHalfWay}
 use Rattle.sum_outputs.proofs.extending.make_falling.Given as goal
@@ -8,6 +9,7 @@ abbrev pub invariant-loop-run : goal.invariant-loop-run
 invariant-loop-run g l = let R = g.R.Recorder in record {
   way : IsUnderWay (seen R.problem R.limit R.lines R.faults R.broken R.around l.fn.rec) (seen R.problem R.limit R.lines R.faults R.broken R.around l.rec);
   half : IsHalfWay (seen R.problem R.limit R.lines R.faults R.broken R.around l.fn.rec) (seen R.problem R.limit R.lines R.faults R.broken R.around l.rec) l.terms l.first.outputs.now l.second.outputs.now l.greatest l.last l.k l.sums l.falling;
+  defined : definitions (R.lines l.rec) ≡ definitions (R.lines l.fn.rec) + length l.falling;
 }
 
 abbrev pub decreases-loop-run : goal.decreases-loop-run

@@ -1,16 +1,18 @@
 -- A node's outputs, by those of its children in the tree.
 use Rattle.std.proofs.Common.{◌≡◌, ◌+◌, ◌<◌, List, [], ◌++◌, length, get_or, ap, sym, subst, ◌∙◌, arith}
 use Rattle.std.specs.List.{All}
+use Rattle.std.proofs.lemmas.List.Sums.{sum_by-set}
 use Rattle.cutting_planes.proofs.Terms.{Terms}
 use Rattle.sum_outputs.specs.Adding.{seen}
 use Rattle.sum_outputs.specs.Outputs.{IsDefined}
 use Rattle.sum_outputs.specs.Joining.{AreChildren, AreOutputsAt, IsCompleteTo}
 use Rattle.sum_outputs.specs.Sums.{last_sum}
 use Rattle.sum_outputs.specs.Falling.{AreAllBetween, AreExtended}
-use Rattle.sum_outputs.specs.MadeOutputs.{AreMade, AreCompleteTo}
+use Rattle.sum_outputs.specs.MadeOutputs.{AreMade, AreCompleteTo, AreGrownTo, count_outputs}
 use Rattle.sum_outputs.specs.declared.node.Node.{Node}
 use Rattle.sum_outputs.specs.declared.made.SumOutput.{SumOutput}
 use Rattle.sum_outputs.proofs.MadeLists.{terms_divide, children_of, inner_of, made_extended, complete_more}
+use Rattle.sum_outputs.proofs.GrownOutputs.{grown_node}
 use Rattle.sum_outputs.proofs.growing.extend_inner.Goals as goal
 
 pub extended-requires-clause-children : goal.extended-requires-clause-children
@@ -197,3 +199,30 @@ returns-clause-complete g c =
     (subst (λ (os : List SumOutput). AreExtended a b c.as_slice-terms.result.now os c.args.k c.in_ok-all.all) here call.extended) in
     subst (λ (ms : List (List SumOutput)). AreCompleteTo nodes ms (c.args.at + 1) c.args.k) (sym c.set.ensures)
     (complete_more a b c.requires.ready call.recorded.continues nodes made c.args.at c.args.k x c.in_ok-all.all [] short c.requires.made ext c.requires.complete)
+
+pub returns-clause-grown : goal.returns-clause-grown
+returns-clause-grown g c =
+    let R = g.R.Recorder in
+    let a = seen R.problem R.limit R.lines R.faults R.broken R.around c.args.rec.now in
+    let b = seen R.problem R.limit R.lines R.faults R.broken R.around c.extended.new.rec in
+    let nodes = c.args.nodes.now in
+    let made = c.args.made.now in
+    let x = c.index-nodes-at.result in
+    let whole : c.as_slice-terms.result.now ≡ (get_or nodes c.args.at x).terms = c.as_slice-terms.ensures ∙ ap (λ (nd : Node). nd.terms) c.index-nodes-at.is in
+    let here : c.outputs_at-outputs.result.now ≡ get_or made c.args.at [] = c.outputs_at-outputs.ensures [] in
+    let ext : AreExtended a b (get_or nodes c.args.at x).terms (get_or made c.args.at []) c.args.k c.in_ok-all.all =
+    subst (λ (ts : Terms). AreExtended a b ts (get_or made c.args.at []) c.args.k c.in_ok-all.all) whole
+    (subst (λ (os : List SumOutput). AreExtended a b c.as_slice-terms.result.now os c.args.k c.in_ok-all.all) here c.in_ok-all.ensures.extended) in
+    subst (λ (ms : List (List SumOutput)). AreGrownTo a nodes made ms c.args.k) (sym c.set.ensures)
+    (grown_node a b nodes made c.args.at c.args.k x c.in_ok-all.all [] (c.requires.made c.requires.ready.state c.requires.ready.reached).size c.requires.at c.requires.long ext)
+
+pub returns-clause-defined : goal.returns-clause-defined
+returns-clause-defined g c =
+    let made = c.args.made.now in
+    let size = (c.requires.made c.requires.ready.state c.requires.ready.reached).size in
+    let within = c.requires.at in
+    let here : length c.outputs_at-outputs.result.now ≡ length (get_or made c.args.at []) = ap length (c.outputs_at-outputs.ensures []) in
+    let all = sum_by-set length made c.args.at c.in_ok-all.all [] (omega arith) in
+    let changed = ap count_outputs c.set.ensures in
+    let more = c.in_ok-all.ensures.defined in
+    omega arith

@@ -3,6 +3,7 @@ use Rattle.std.proofs.Common.{◌<◌, length, sym, ◌∙◌, arith}
 use Rattle.sum_outputs.specs.Adding.{seen}
 use Rattle.sum_outputs.proofs.LaterStates.{continues_again, recorded_ok}
 use Rattle.sum_outputs.proofs.MadeLists.{complete_leaf, long_node}
+use Rattle.sum_outputs.proofs.GrownOutputs.{grown_again}
 use Rattle.sum_outputs.proofs.growing.extend_node.Goals as goal
 
 pub returns-then-len-eq1-clause-recorded : goal.returns-then-len-eq1-clause-recorded
@@ -20,6 +21,12 @@ returns-then-len-eq1-clause-complete g c =
     let x = c.index-nodes-at.result in
     let short : c.args.at < length c.args.nodes.now = let w = c.requires.at in omega arith in
     complete_leaf a c.requires.ready.state c.args.nodes.now c.args.made.now c.args.at c.args.k x (c.requires.made c.requires.ready.state c.requires.ready.reached) short (sym c.len.ensures ∙ c.if-len-eq1.true) c.requires.complete
+
+pub returns-then-len-eq1-clause-grown : goal.returns-then-len-eq1-clause-grown
+returns-then-len-eq1-clause-grown g c =
+    let R = g.R.Recorder in
+    let a = seen R.problem R.limit R.lines R.faults R.broken R.around c.args.rec.now in
+    grown_again a c.args.nodes.now c.args.made.now c.args.k (c.requires.made c.requires.ready.state c.requires.ready.reached).size
 
 pub extend_inner-requires-clause-long : goal.extend_inner-requires-clause-long
 extend_inner-requires-clause-long g c =

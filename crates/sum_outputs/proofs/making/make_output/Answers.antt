@@ -1,11 +1,13 @@
 -- What is made for an output, step by step.
-use Rattle.std.proofs.Common.{ℕ, ◌<◌, ◌++◌, sym, subst, arith}
+use Rattle.std.proofs.Common.{ℕ, ◌<◌, ◌++◌, ap, sym, subst, ◌∙◌, arith}
 use Rattle.std.proofs.lemmas.Result.{err_from_is_err_and}
+use Rattle.proof_laws.specs.declared.line.Line.TheVariants.{Def}
 use Rattle.sum_outputs.specs.Adding.{seen}
-use Rattle.sum_outputs.specs.Totals.{IsLeastSum}
+use Rattle.sum_outputs.specs.Totals.{IsLeastSum, definitions}
 use Rattle.sum_outputs.proofs.Glue.{value-le-total}
 use Rattle.sum_outputs.proofs.LaterStates.{handed_on, recorded_ok, ready_later, continues_twice}
 use Rattle.sum_outputs.proofs.MakeLines.{children_later, target_later, target_now, ties_now, output_made}
+use Rattle.sum_outputs.proofs.DefinitionCounts.{definitions_push}
 use Rattle.sum_outputs.proofs.making.make_output.Goals as goal
 
 pub define-requires-clause-most : goal.define-requires-clause-most
@@ -125,3 +127,12 @@ returns-clause-made g c =
     c.requires.from_one made.sum.1 (subst (λ (n : ℕ). IsLeastSum c.args.terms.now c.args.from n) (sym made.sum.0) c.requires.least) c.requires.first_complete c.requires.second_complete made.defined
     (λ k e short. let less = c.requires.greater k e short in let s = made.sum.0 in let small = (c.requires.next c.requires.ready.state c.requires.ready.reached).rising.small k e short in ties.says k e short (omega arith) (omega arith))
     last.says
+
+pub returns-clause-defines_one : goal.returns-clause-defines_one
+returns-clause-defines_one g c =
+    let R = g.R.Recorder in
+    let defined = c.in_ok-made.ensures.defined in
+    let one = ap definitions defined.line ∙ definitions_push (R.lines c.args.rec.now) (Def c.in_ok-made.made.lit.var defined.constraint) in
+    let ties = c.in_ok-add_singles.ensures.defines_none in
+    let window = c.in_ok-add_window.ensures.defines_none in
+    omega arith

@@ -1,5 +1,5 @@
 -- The clauses of the pairs are added for one output after the other.
-use Rattle.std.proofs.Common.{◌≡◌, [], ◌∷◌, get_or, ap, sym, subst, arith}
+use Rattle.std.proofs.Common.{◌≡◌, [], ◌∷◌, get_or, refl, ap, sym, subst, ◌∙◌, arith}
 use Rattle.std.proofs.lemmas.Result.{err_from_is_err_and}
 use Rattle.sum_outputs.specs.Adding.{seen}
 use Rattle.sum_outputs.specs.Outputs.{CanImplyNow, Imply}
@@ -13,7 +13,7 @@ pub loop-at-init : goal.loop-at-init
 loop-at-init g c =
     let R = g.R.Recorder in
     let a = seen R.problem R.limit R.lines R.faults R.broken R.around c.args.rec.now in
-    record { way = way_starts a c.requires.ready; done = λ k d low high. absurd (omega arith) }
+    record { way = way_starts a c.requires.ready; defines_none = refl; done = λ k d low high. absurd (omega arith) }
 
 pub add_pairs-requires-clause-ready : goal.add_pairs-requires-clause-ready
 add_pairs-requires-clause-ready g c =
@@ -60,6 +60,7 @@ loop-at-preserved g c =
     let ready = way_ready a b c.requires.ready way in
     record {
       way = way_on a b b' way call.recorded.continues call.recorded.whole;
+      defines_none = call.defines_none ∙ c.loop-at.invariant.defines_none;
       done = done_step (λ (o : SumOutput). PairsImply b' o c.args.seconds.now c.args.target.now c.args.below) c.args.firsts.now c.index-firsts-at.result 0 c.loop-at.at c.index-firsts-at.is (omega arith) call.says
           (λ k d low high j e short reach less. always_later b b' (Imply (get_or c.args.firsts.now k d ∷ get_or c.args.seconds.now j e ∷ []) c.args.target.now) ready call.recorded.continues (c.loop-at.invariant.done k d low high j e short reach less));
     }

@@ -1,5 +1,5 @@
 -- The clauses are added one by one.
-use Rattle.std.proofs.Common.{◌≡◌, ◌<◌, [], ◌∷◌, get_or, length, ap, sym, subst, arith}
+use Rattle.std.proofs.Common.{◌≡◌, ◌<◌, [], ◌∷◌, get_or, length, refl, ap, sym, subst, ◌∙◌, arith}
 use Rattle.std.proofs.lemmas.Result.{err_from_is_err_and}
 use Rattle.sum_outputs.specs.Adding.{seen, Always}
 use Rattle.sum_outputs.specs.Outputs.{CanImplyNow, Imply}
@@ -12,7 +12,7 @@ pub loop-at-init : goal.loop-at-init
 loop-at-init g c =
     let R = g.R.Recorder in
     let a = seen R.problem R.limit R.lines R.faults R.broken R.around c.args.rec.now in
-    record { way = way_starts a c.requires.ready; done = λ k d low high. absurd (omega arith) }
+    record { way = way_starts a c.requires.ready; defines_none = refl; done = λ k d low high. absurd (omega arith) }
 
 pub imply_by_one-requires-clause-ready : goal.imply_by_one-requires-clause-ready
 imply_by_one-requires-clause-ready g c =
@@ -55,6 +55,7 @@ loop-at-preserved g c =
     let short : c.loop-at.at < length c.args.parts.now = let end = c.place_of-at-end.ensures.bound in omega arith in
     record {
       way = way_on a b b' way call.recorded.continues call.recorded.whole;
+      defines_none = call.defines_none ∙ c.loop-at.invariant.defines_none;
       done = done_step (λ (o : SumOutput). Always b' (Imply (o ∷ []) c.args.target.now)) c.args.parts.now c.index-parts-at.result _ c.loop-at.at c.index-parts-at.is short call.says
           (λ k d low high. always_later b b' (Imply ((get_or c.args.parts.now k d) ∷ []) c.args.target.now) ready call.recorded.continues (c.loop-at.invariant.done k d low high));
     }

@@ -1,5 +1,6 @@
 -- The clauses of the outputs so far are there.
-use Rattle.std.proofs.Common.{ℕ, ◌<◌, ◌≤◌, [], ◌∷◌, slice_index_or}
+use Rattle.std.proofs.Common.{◌≡◌, ℕ, ◌<◌, ◌≤◌, [], ◌∷◌, slice_index_or}
+use Rattle.sum_outputs.specs.Totals.{definitions}
 use Rattle.sum_outputs.specs.Adding.{seen, Always, IsUnderWay}
 use Rattle.sum_outputs.specs.Outputs.{Imply}
 use Rattle.sum_outputs.specs.declared.made.SumOutput.{SumOutput}
@@ -8,5 +9,6 @@ use Rattle.sum_outputs.proofs.windows.add_singles.Given as goal
 abbrev pub invariant-loop-at : goal.invariant-loop-at
 invariant-loop-at g l = let R = g.R.Recorder in record {
   way : IsUnderWay (seen R.problem R.limit R.lines R.faults R.broken R.around l.fn.rec) (seen R.problem R.limit R.lines R.faults R.broken R.around l.rec);
+  defines_none : definitions (R.lines l.rec) ≡ definitions (R.lines l.fn.rec);
   done : (k : ℕ) (d : SumOutput) → l.initial.at ≤ k → k < l.at → Always (seen R.problem R.limit R.lines R.faults R.broken R.around l.rec) (Imply (slice_index_or l.parts k d ∷ []) l.target);
 }
