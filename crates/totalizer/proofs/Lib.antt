@@ -1,0 +1,13 @@
+pub mod ReplayIds
+pub mod OwnLines
+pub mod LaterOutputs
+pub mod LawsKept
+pub mod Restricted
+pub mod BoundLines
+pub mod Roots
+pub mod RootChildren
+pub mod DemandedOutputs
+pub mod KnownOutputs
+pub mod AskedRoot
+pub mod AskedTotalizer
+pub mod NewTotalizer

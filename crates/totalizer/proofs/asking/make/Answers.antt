@@ -1,0 +1,129 @@
+-- The nodes below the root are extended, and then it is asked.
+use Rattle.std.proofs.Common.{List, refl, sym, subst}
+use Rattle.std.proofs.lemmas.Result.{err_from_is_err_and}
+use Rattle.sum_outputs.specs.Adding.{seen}
+use Rattle.sum_outputs.specs.declared.made.SumOutput.{SumOutput}
+use Rattle.sum_outputs.proofs.LaterStates.{continues_twice, handed_on, ready_later, recorded_ok}
+use Rattle.totalizer.specs.Totalizing.{Fits}
+use Rattle.totalizer.specs.Demanding.{MakesDemanded}
+use Rattle.totalizer.proofs.AskedRoot.{IsAskedRoot, asked_bound}
+use Rattle.totalizer.proofs.AskedTotalizer.{totalizer_of, AreCalls, fits_asked, makes_demanded}
+use Rattle.totalizer.proofs.asking.make.Goals as goal
+
+pub ask_root-requires-clause-ready : goal.ask_root-requires-clause-ready
+ask_root-requires-clause-ready g c =
+    let R = g.R.Recorder in
+    let a = seen R.problem R.limit R.lines R.faults R.broken R.around c.args.rec.now in
+    let b = seen R.problem R.limit R.lines R.faults R.broken R.around c.extend_all.new.rec in
+    let first = c.in_ok-extend_all.ensures in
+    ready_later a b c.requires.ready first.recorded.continues first.recorded.whole
+
+pub returns-in_err-asked-clause-recorded : goal.returns-in_err-asked-clause-recorded
+returns-in_err-asked-clause-recorded g c =
+    let R = g.R.Recorder in
+    let a = seen R.problem R.limit R.lines R.faults R.broken R.around c.args.rec.now in
+    let b = seen R.problem R.limit R.lines R.faults R.broken R.around c.extend_all.new.rec in
+    let first = c.in_ok-extend_all.ensures in
+    let d = seen R.problem R.limit R.lines R.faults R.broken R.around c.ask_root.new.rec in
+    let out = c.from_residual-in_err-asked in
+    let p = err_from_is_err_and out.result out.ensures.1 in
+    let call = c.in_err-asked.ensures in
+    handed_on a b d c.in_err-asked.field-0.0 p.0 out.result p.1 p.2 first.recorded.continues call.recorded
+
+pub returns-clause-recorded : goal.returns-clause-recorded
+returns-clause-recorded g c =
+    let R = g.R.Recorder in
+    let a = seen R.problem R.limit R.lines R.faults R.broken R.around c.args.rec.now in
+    let b = seen R.problem R.limit R.lines R.faults R.broken R.around c.extend_all.new.rec in
+    let first = c.in_ok-extend_all.ensures in
+    let d = seen R.problem R.limit R.lines R.faults R.broken R.around c.ask_root.new.rec in
+    let second = c.in_ok-asked.ensures in
+    recorded_ok a d _ (continues_twice a b d first.recorded.continues second.recorded.continues) second.recorded.whole
+
+pub returns-clause-bound : goal.returns-clause-bound
+returns-clause-bound g c =
+    let R = g.R.Recorder in
+    let a = seen R.problem R.limit R.lines R.faults R.broken R.around c.args.rec.now in
+    let b = seen R.problem R.limit R.lines R.faults R.broken R.around c.extend_all.new.rec in
+    let first = c.in_ok-extend_all.ensures in
+    let d = seen R.problem R.limit R.lines R.faults R.broken R.around c.ask_root.new.rec in
+    let second = c.in_ok-asked.ensures in
+    let nodes = c.args.nodes.now in
+    let made = c.extend_all.new.made in
+    let o = c.in_ok-asked.asked in
+    let os = c.in_ok-asked.outputs in
+    let last : IsAskedRoot b d nodes made c.args.k o os = record {
+      ready = ready_later a b c.requires.ready first.recorded.continues first.recorded.whole;
+      on = second.recorded.continues;
+      long = c.requires.long;
+      are = first.made;
+      asked = second.asked;
+    } in
+    asked_bound b d nodes made c.args.k o os last c.requires.from_one c.requires.most
+
+pub returns-clause-added : goal.returns-clause-added
+returns-clause-added g c =
+    let R = g.R.Recorder in
+    let a = seen R.problem R.limit R.lines R.faults R.broken R.around c.args.rec.now in
+    let b = seen R.problem R.limit R.lines R.faults R.broken R.around c.extend_all.new.rec in
+    let first = c.in_ok-extend_all.ensures in
+    let d = seen R.problem R.limit R.lines R.faults R.broken R.around c.ask_root.new.rec in
+    let second = c.in_ok-asked.ensures in
+    let nodes = c.args.nodes.now in
+    let made = c.extend_all.new.made in
+    let o = c.in_ok-asked.asked in
+    let os = c.in_ok-asked.outputs in
+    let last : IsAskedRoot b d nodes made c.args.k o os = record {
+      ready = ready_later a b c.requires.ready first.recorded.continues first.recorded.whole;
+      on = second.recorded.continues;
+      long = c.requires.long;
+      are = first.made;
+      asked = second.asked;
+    } in
+    let calls : AreCalls a b d nodes c.args.made.now made c.args.k o os = record {
+      on = first.recorded.continues;
+      fits = c.requires.fits;
+      complete = first.complete;
+      grown = first.grown;
+      defined = first.defined;
+      last = last;
+      last_defined = second.defined;
+    } in
+    let before = totalizer_of nodes c.args.made.now in
+    let makes = makes_demanded a b d nodes c.args.made.now made c.args.k o os calls in (
+      c.args.k,
+      refl,
+      subst (λ (ms : List (List SumOutput)). MakesDemanded a d c.args.k before (totalizer_of nodes ms))
+          (sym c.set.ensures) makes,
+    )
+
+pub returns-clause-fits : goal.returns-clause-fits
+returns-clause-fits g c =
+    let R = g.R.Recorder in
+    let a = seen R.problem R.limit R.lines R.faults R.broken R.around c.args.rec.now in
+    let b = seen R.problem R.limit R.lines R.faults R.broken R.around c.extend_all.new.rec in
+    let first = c.in_ok-extend_all.ensures in
+    let d = seen R.problem R.limit R.lines R.faults R.broken R.around c.ask_root.new.rec in
+    let second = c.in_ok-asked.ensures in
+    let nodes = c.args.nodes.now in
+    let made = c.extend_all.new.made in
+    let o = c.in_ok-asked.asked in
+    let os = c.in_ok-asked.outputs in
+    let last : IsAskedRoot b d nodes made c.args.k o os = record {
+      ready = ready_later a b c.requires.ready first.recorded.continues first.recorded.whole;
+      on = second.recorded.continues;
+      long = c.requires.long;
+      are = first.made;
+      asked = second.asked;
+    } in
+    let calls : AreCalls a b d nodes c.args.made.now made c.args.k o os = record {
+      on = first.recorded.continues;
+      fits = c.requires.fits;
+      complete = first.complete;
+      grown = first.grown;
+      defined = first.defined;
+      last = last;
+      last_defined = second.defined;
+    } in
+    subst (λ (ms : List (List SumOutput)). Fits d (totalizer_of nodes ms)) (sym c.set.ensures)
+    (fits_asked a b d nodes c.args.made.now made c.args.k o os calls)

@@ -1,0 +1,7 @@
+pub use Rattle.sum_outputs.specs.Adding
+pub mod Meaning
+pub mod Totalizing
+pub mod Demanding
+pub mod Keeping
+pub mod Reforming
+pub mod Knowing

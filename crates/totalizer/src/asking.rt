@@ -1,0 +1,83 @@
+// An output of the root that isn't there.
+ghost use Rattle.std.specs.Prelude.{◌≡◌, ◌+◌, ◌-◌, ◌<◌, ◌≤◌, List, length, pos, slice_index_or, IfOk, OnOk};
+ghost use Rattle.pb_lin.specs.Constraint.{total};
+ghost use Rattle.sum_outputs.specs.Adding.{seen, IsReady, IsRecorded};
+ghost use Rattle.sum_outputs.specs.Totals.{definitions};
+ghost use Rattle.sum_outputs.specs.Falling.{IsAsked};
+ghost use Rattle.sum_outputs.specs.MadeOutputs.{AreCompleteTo, AreMadeNow};
+ghost use Rattle.sum_outputs.specs.declared.made.SumOutput.{SumOutput};
+ghost use Rattle.totalizer.specs.Meaning.{IsBound};
+ghost use Rattle.totalizer.specs.Totalizing.{root_terms, Fits, IsRooted};
+ghost use Rattle.totalizer.specs.Demanding.{AddsFor};
+
+use crate::Bound;
+use proof_rules::{RecordFault, Recorder};
+use scut_base::Items;
+use std::alloc::Global;
+use sum_outputs::{Node, SumOutput, ask, child, extend_all};
+
+// Makes the output of the root at the least sum of at least `k`, and before it those below the root that it stands on.
+pub(crate) fn make<R: Recorder>(
+    alloc: Global,
+    rec: &mut R,
+    nodes: &[Node],
+    made: &mut Items<Items<SumOutput>>,
+    k: u64,
+) -> Result<Bound, RecordFault>
+    requires ready { IsReady (seen R.problem R.limit R.lines R.faults R.broken R.around rec.old) }
+    requires fits { Fits (seen R.problem R.limit R.lines R.faults R.broken R.around rec.old)
+        (record { nodes = nodes.now; made = made.old }) }
+    requires from_one { 0 < k }
+    requires most { k ≤ total (root_terms nodes.now) }
+    requires long { 1 < length (root_terms nodes.now) }
+    ensures recorded { IsRecorded (seen R.problem R.limit R.lines R.faults R.broken R.around rec.old)
+        (seen R.problem R.limit R.lines R.faults R.broken R.around rec.new) result }
+    ensures bound { IfOk result (IsBound (R.problem rec.new) (R.lines rec.new) (root_terms nodes.now) (pos k)) }
+    ensures added { IfOk result (AddsFor (seen R.problem R.limit R.lines R.faults R.broken R.around rec.old)
+        (seen R.problem R.limit R.lines R.faults R.broken R.around rec.new)
+        (pos k) (record { nodes = nodes.now; made = made.old }) (record { nodes = nodes.now; made = made.new })) }
+    ensures fits { OnOk result (Fits (seen R.problem R.limit R.lines R.faults R.broken R.around rec.new)
+        (record { nodes = nodes.now; made = made.new })) }
+{
+    extend_all(alloc, rec, nodes, made, k)?;
+    let (asked, outputs) = ask_root(alloc, rec, nodes, made, k)?;
+    made.set(nodes.len() - 1, outputs);
+    Ok(Bound::At {
+        lit: asked.lit,
+        lower_line: asked.lower,
+    })
+}
+
+// The output of the root at the least sum of at least `k`, and all outputs of the root.
+fn ask_root<R: Recorder>(
+    alloc: Global,
+    rec: &mut R,
+    nodes: &[Node],
+    made: &Items<Items<SumOutput>>,
+    k: u64,
+) -> Result<(SumOutput, Items<SumOutput>), RecordFault>
+    requires ready { IsReady (seen R.problem R.limit R.lines R.faults R.broken R.around rec.old) }
+    requires rooted { IsRooted nodes.now }
+    requires made { AreMadeNow (seen R.problem R.limit R.lines R.faults R.broken R.around rec.old) nodes.now made.now }
+    requires complete { AreCompleteTo nodes.now made.now (length nodes.now - 1) k }
+    requires from_one { 0 < k }
+    requires most { k ≤ total (root_terms nodes.now) }
+    requires long { 1 < length (root_terms nodes.now) }
+    ensures recorded { IsRecorded (seen R.problem R.limit R.lines R.faults R.broken R.around rec.old)
+        (seen R.problem R.limit R.lines R.faults R.broken R.around rec.new) result }
+    ensures asked { IfOk result (λ r. (e : List SumOutput)
+        → IsAsked (seen R.problem R.limit R.lines R.faults R.broken R.around rec.old)
+        (seen R.problem R.limit R.lines R.faults R.broken R.around rec.new)
+        (root_terms nodes.now) (slice_index_or made.now (length nodes.now - 1) e) k r.0 r.1) }
+    ensures defined { IfOk result (λ r. (e : List SumOutput)
+        → definitions (R.lines rec.new) + length (slice_index_or made.now (length nodes.now - 1) e)
+        ≡ definitions (R.lines rec.old) + length r.1) }
+{
+    let at = nodes.len() - 1;
+    let root = &nodes[at];
+    let first = child(nodes, made, root.first);
+    let second = child(nodes, made, root.second);
+    let outputs = made.at(at).as_slice();
+    let terms = root.terms.as_slice();
+    ask(alloc, rec, first, second, terms, root.total, outputs, k)
+}

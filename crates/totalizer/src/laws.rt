@@ -1,0 +1,17 @@
+// Laws of what later lines leave as it is.
+ghost use Rattle.totalizer.specs.Keeping.{BoundStays, FittingStays, OwnLinesStay};
+
+/// Law: lines that delete none but learned ones keep all others.
+pub fn own_lines_stay()
+    ensures { OwnLinesStay }
+{}
+
+/// Law: after such lines a totalizer may still be asked.
+pub fn fitting_stays()
+    ensures { FittingStays }
+{}
+
+/// Law: after such lines a bound still means what it did.
+pub fn bounds_stay()
+    ensures { BoundStays }
+{}

@@ -1,0 +1,74 @@
+// The totalizer of one weighted sum.
+ghost use Rattle.std.specs.Prelude.{◌≡◌, IfOk, OnOk};
+ghost use Rattle.sum_outputs.specs.Totals.{AreWeights};
+ghost use Rattle.sum_outputs.specs.Adding.{Snapshot, seen, IsReady, IsRecorded};
+ghost use Rattle.totalizer.specs.Meaning.{IsBound};
+ghost use Rattle.totalizer.specs.Totalizing.{terms_of, Fits, HasVariables, IsBuilt};
+ghost use Rattle.totalizer.specs.Demanding.{AddsFor};
+
+use crate::Bound;
+use crate::answering::bound_at;
+use crate::building::{first_lists, nodes_of};
+use proof_rules::{RecordFault, Recorder};
+use scut_base::{Items, Lit, NoMemory};
+use std::alloc::Global;
+use std::marker::Model;
+use sum_outputs::{Node, SumOutput};
+
+/// The sum of weighted literals, as a tree over its terms whose outputs are made as they are asked for.
+#[derive(Drop)]
+pub struct Totalizer {
+    alloc: Global,
+    nodes: Items<Node>,
+    made: Items<Items<SumOutput>>,
+}
+
+impl Model for Totalizer {
+    ghost use Rattle.totalizer.specs.Totalizing.{TotalizerValue};
+
+    ghost Value = { TotalizerValue };
+
+    ghost view = { λ t. record { nodes = t.nodes; made = t.made } };
+}
+
+impl Totalizer {
+    /// The totalizer of these terms, of which none has an output yet but those of one term. Costs a node for each term
+    /// and each inner node, with a copy of its terms.
+    pub fn build(alloc: Global, terms: &[(Lit, u64)]) -> Result<Totalizer, NoMemory>
+        requires { AreWeights terms.now }
+        ensures built { IfOk result (IsBuilt terms.now) }
+        ensures fits { IfOk result (λ t. (a : Snapshot) → HasVariables a terms.now → Fits a t) }
+    {
+        let nodes = nodes_of(alloc, terms)?;
+        let made = first_lists(alloc, nodes.as_slice())?;
+        Ok(Totalizer { alloc, nodes, made })
+    }
+
+    /// What stands for "the sum is at least `k`". A recorder's refusal is handed on; then the totalizer isn't asked
+    /// again.
+    ///
+    /// Costs a look-up where that output is there. Else it costs, at each node, the outputs that it makes there, and
+    /// for each of them the pairs of its children's outputs whose sums it stands for.
+    pub fn output<R: Recorder>(&mut self, rec: &mut R, k: i64) -> Result<Bound, RecordFault>
+        requires ready { IsReady (seen R.problem R.limit R.lines R.faults R.broken R.around rec.old) }
+        requires fits { Fits (seen R.problem R.limit R.lines R.faults R.broken R.around rec.old) self.old }
+        ensures recorded { IsRecorded (seen R.problem R.limit R.lines R.faults R.broken R.around rec.old)
+            (seen R.problem R.limit R.lines R.faults R.broken R.around rec.new) result }
+        ensures bound { IfOk result (IsBound (R.problem rec.new) (R.lines rec.new) (terms_of self.old) k) }
+        ensures added { IfOk result (AddsFor (seen R.problem R.limit R.lines R.faults R.broken R.around rec.old)
+            (seen R.problem R.limit R.lines R.faults R.broken R.around rec.new) k self.old self.new) }
+        ensures fits { OnOk result (Fits (seen R.problem R.limit R.lines R.faults R.broken R.around rec.new) self.new) }
+        ensures nodes { self.new.nodes ≡ self.old.nodes }
+    {
+        if k <= 0 {
+            return Ok(Bound::Always { lower_line: 0 });
+        }
+        bound_at(
+            self.alloc,
+            rec,
+            self.nodes.as_slice(),
+            &mut self.made,
+            k as u64,
+        )
+    }
+}
