@@ -1,0 +1,214 @@
+-- The line that logs a model is legal.
+use Rattle.std.proofs.Common.{◌≡◌, ◌⊎◌, inl, inr, ℕ, ◌+◌, ◌-◌, ◌<◌, ◌≤◌, ◌^◌, Bool, true, false, not, Option, None, Some, List, [], ◌∷◌, map, sum_by, refl, sym, ap, ◌∙◌, subst, arith}
+use Rattle.std.specs.Prelude.{nat_lt, option_map, MatchOption}
+use Rattle.std.specs.List.{All, AllZip, Contains, find, position_from}
+use Rattle.std.proofs.lemmas.Bool.{cond-false, le-ltb}
+use Rattle.std.proofs.lemmas.List.Elements.{All-head, All-tail, All-map, All-weaker, All-contains_itself, All-nil, All-cons}
+use Rattle.scut_base.specs.Literal.{Literal}
+use Rattle.scut_base.proofs.Lists.{Contains-from_map, Contains-map, Contains-head, Contains-cons}
+use Rattle.pb_lin.specs.Constraint.{ConstraintValue, Holds, IsVariable, opposite, value}
+use Rattle.pb_lin.specs.CostRow.{CostRowValue}
+use Rattle.pb_lin.specs.Problem.{ProblemValue, IsProblem, IsProblemModel}
+use Rattle.pb_lin.specs.Restriction.{met_value}
+use Rattle.proof_laws.specs.State.{StateValue, IsState}
+use Rattle.proof_laws.specs.Legal.{IsLegal, IsRefused}
+use Rattle.proof_laws.specs.Refusal.{FirstOf, IsCutFault, IsRuleFault, IsSolFault, Bounds, assignment_of, broken_row, fault_unless, line_or_none, misplaced, range_fault, written}
+use Rattle.proof_laws.specs.Replay.{IsReplay}
+use Rattle.proof_laws.specs.WellFormed.{IsWellFormed, IsId, IsVariable as IsLogVariable}
+use Rattle.proof_laws.specs.declared.line.Line.{Line}
+use Rattle.proof_laws.specs.declared.line.Line.TheVariants.{Sol}
+use Rattle.proof_laws.specs.declared.why.Why.{Why}
+use Rattle.proof_laws.specs.declared.why.Why.TheVariants.{AfterEnd, CutOpen, LogLong, NoSuchId, SolRow, VarRange}
+use Rattle.proof_rules.proofs.Cuts.{opposites_distinct}
+use Rattle.proof_rules.specs.Recording.{MayBeAdded}
+use Rattle.sum_outputs.proofs.LaterStates.{replay_once}
+use Rattle.totalizer.specs.Meaning.{AreTruthsWith, IsOwnOrNone}
+use Rattle.totalizer.specs.declared.bound.Bound.{Bound}
+use Rattle.totalizer.specs.declared.bound.Bound.TheVariants.{Always, Never, At}
+use Rattle.search_base.specs.Cutting.{IsCutOf, IsModelLine, answered_line, answered_literals, literals_at}
+use Rattle.search_base.proofs.Answered.{IsAnswerAt, row_of}
+use Rattle.search_base.proofs.Cuts.{opposite_twice}
+use Rattle.search_base.proofs.ModelLiterals.{assignment_again, in_place, model_variables}
+
+-- ---- conditions without a fault
+
+no_first : (o : Option Why) (Rest : Option Why → Type 0) (f : Option Why) → o ≡ None → Rest f → FirstOf o Rest f
+no_first o Rest f none rest = subst (λ (first : Option Why). FirstOf first Rest f) (sym none) rest
+
+no_fault : (test : Bool) (why : Why) → test ≡ true → fault_unless test why ≡ None
+no_fault test why passes = ap (λ (b : Bool). fault_unless b why) passes
+
+none_above : (n : ℕ) (vars : List ℕ) → All (λ v. v ≤ n) vars → find (λ v. nat_lt n v) vars ≡ None
+none_above n [] all = refl
+none_above n (v ∷ vars) all =
+    cond-false (nat_lt n v) (Some v) (find (λ u. nat_lt n u) vars) (le-ltb n v (All-head (λ u. u ≤ n) v vars all))
+    ∙ none_above n vars (All-tail (λ u. u ≤ n) v vars all)
+
+-- a line whose rule has no fault may be added
+may_follow : (p : ProblemValue) (s : StateValue) (line : Line) → s.ended ≡ false →
+    range_fault s.vars (written line) ≡ None → IsRuleFault p s line None →
+    IsLegal p s line ⊎ IsRefused p s line LogLong
+may_follow p s line running range rule = by (nat_lt s.lines (2 ^ 61)) refl
+  where
+    started : fault_unless (not s.ended) AfterEnd ≡ None
+    started = no_fault (not s.ended) AfterEnd (ap not running)
+
+    last : Option Why → Type 0
+    last = FirstOf (range_fault s.vars (written line)) (IsRuleFault p s line)
+
+    long : Option Why → Type 0
+    long = FirstOf (fault_unless (nat_lt s.lines (2 ^ 61)) LogLong) last
+
+    by : (b : Bool) → nat_lt s.lines (2 ^ 61) ≡ b → IsLegal p s line ⊎ IsRefused p s line LogLong
+    by true short = inl (no_first (fault_unless (not s.ended) AfterEnd) long None started
+        (no_first (fault_unless (nat_lt s.lines (2 ^ 61)) LogLong) last None
+        (no_fault (nat_lt s.lines (2 ^ 61)) LogLong short)
+        (no_first (range_fault s.vars (written line)) (IsRuleFault p s line) None range rule)))
+    by false full = inr (no_first (fault_unless (not s.ended) AfterEnd) long (Some LogLong) started
+        (subst (λ (b : Bool). FirstOf (fault_unless b LogLong) last (Some LogLong)) (sym full) refl))
+
+-- no row is broken where all hold
+none_broken : (x : List Bool) (i : ℕ) (rows : List ConstraintValue) → All (Holds x) rows →
+    position_from (λ c. nat_lt (value x c.terms) c.degree) i rows ≡ None
+none_broken x i [] all = refl
+none_broken x i (c ∷ rows) all =
+    cond-false (nat_lt (value x c.terms) c.degree) (Some i)
+    (position_from (λ d. nat_lt (value x d.terms) d.degree) (i + 1) rows)
+    (le-ltb (value x c.terms) c.degree (All-head (Holds x) c rows all))
+    ∙ none_broken x (i + 1) rows (All-tail (Holds x) c rows all)
+
+-- ---- the cut
+
+-- "0 >= 0" covers what is nothing
+nothing_bounds : (cut : List Literal) (x : List Bool) (r : CostRowValue) → value x r.terms ≡ 0 →
+    Bounds cut x (record { terms = []; degree = 0 }) r
+nothing_bounds cut x r none a =
+    let degree : value x r.terms - sum_by (met_value (map opposite cut)) r.terms ≡ 0 = omega arith in
+    omega arith
+
+module _ (p : ProblemValue) (lines : List Line) (s : StateValue) (x : List Bool) (cut : List Literal) where
+  -- what is asked of the line of an id for a row, where the rest has no fault
+  abbrev JudgesRow : ℕ → CostRowValue → ℕ → Type 0 → Option ConstraintValue → Type 0
+  JudgesRow i r id Rest found = MatchOption found (None ≡ Some (NoSuchId id))
+      (λ c. (Bounds cut x c r × Rest) ⊎ ((Bounds cut x c r → ⊥) × (None ≡ Some (CutOpen i))))
+
+  -- the lines that the answers name bound the rows at their values
+  no_cut_fault : (i : ℕ) (rows : List CostRowValue) (answers : List Bound) →
+      AllZip (IsAnswerAt p lines s x) rows answers →
+      ((l : Literal) → Contains (answered_literals answers) l → AreTruthsWith l (map opposite cut)) →
+      IsCutFault s.live cut x i rows (map answered_line answers) None
+  no_cut_fault i [] [] zip truths = refl
+  no_cut_fault i [] (b ∷ bs) zip truths = absurd zip
+  no_cut_fault i (r ∷ rows) [] zip truths = absurd zip
+  no_cut_fault i (r ∷ rows) (Always id ∷ bs) zip truths =
+      let here = zip.0 in
+      let found : line_or_none s.live id ≡ Some (record { terms = []; degree = 0 }) = ap (line_or_none s.live) here.1 in
+      subst (JudgesRow i r id (IsCutFault s.live cut x (i + 1) rows (map answered_line bs) None)) (sym found)
+      (inl (nothing_bounds cut x r here.0, no_cut_fault (i + 1) rows bs zip.1 truths))
+  no_cut_fault i (r ∷ rows) (Never ∷ bs) zip truths = absurd zip.0
+  no_cut_fault i (r ∷ rows) (At l id ∷ bs) zip truths =
+      let here = zip.0 in
+      let at = here.1 in
+      let bounds = at.bounds in
+      subst (JudgesRow i r id (IsCutFault s.live cut x (i + 1) rows (map answered_line bs) None)) (sym bounds.1)
+      (inl (
+        bounds.2 (map opposite cut) (truths l (Contains-head l (answered_literals bs))),
+        no_cut_fault (i + 1) rows bs zip.1
+            (λ m there. truths m (Contains-cons l m (answered_literals bs) there)),
+      ))
+
+  -- what the answers name is there
+  ids_small : IsState s → (rows : List CostRowValue) (answers : List Bound) →
+      AllZip (IsAnswerAt p lines s x) rows answers → All IsId (map answered_line answers)
+  ids_small state [] [] zip = All-nil IsId
+  ids_small state [] (b ∷ bs) zip = absurd zip
+  ids_small state (r ∷ rows) [] zip = absurd zip
+  ids_small state (r ∷ rows) (Always id ∷ bs) zip = let here = zip.0 in let none = here.1 in
+      All-cons IsId id (map answered_line bs) (omega arith) (ids_small state rows bs zip.1)
+  ids_small state (r ∷ rows) (Never ∷ bs) zip = absurd zip.0
+  ids_small state (r ∷ rows) (At l id ∷ bs) zip = let here = zip.0 in let at = here.1 in
+      All-cons IsId id (map answered_line bs) (small id at.own) (ids_small state rows bs zip.1)
+    where
+      small : (n : ℕ) → IsOwnOrNone p lines s n → n < 2 ^ 63
+      small n (inl none) = omega arith
+      small n (inr (c, own)) = let live = own.0 in let w = state.ids n c live in let next = state.next_id in
+          let most = state.lines in omega arith
+
+module _ (p : ProblemValue) (lines : List Line) (s : StateValue) (x : List Bool) (answers : List Bound)
+    (cut : List Literal) (zip : AllZip (IsAnswerAt p lines s x) p.costs answers) (exact : IsCutOf answers cut) where
+  pub cut_variable : (l : Literal) → Contains cut l → IsVariable s.vars l.var
+  cut_variable l there =
+      let from = Contains-from_map opposite (answered_literals answers) l ((exact.same l).0 there) in
+      let has = row_of p lines s x p.costs answers from.0 zip from.1 in
+      let same : from.0.var ≡ l.var = ap (λ (m : Literal). m.var) from.2 in
+      subst (λ (v : ℕ). IsVariable s.vars v) same has.bound.variable
+
+  pub cut_variables : All (λ l. IsVariable s.vars l.var) cut
+  cut_variables = All-weaker (Contains cut) (λ (l : Literal). IsVariable s.vars l.var) cut_variable cut
+      (All-contains_itself cut)
+
+  truths_with : (l : Literal) → Contains (answered_literals answers) l → AreTruthsWith l (map opposite cut)
+  truths_with l there = record {
+    apart = opposites_distinct cut exact.rising;
+    there = subst (Contains (map opposite cut)) (opposite_twice l)
+        (Contains-map opposite cut (opposite l)
+        ((exact.same (opposite l)).1 (Contains-map opposite (answered_literals answers) l there)));
+  }
+
+  no_range_fault : range_fault s.vars (map (λ l. l.var) cut) ≡ None
+  no_range_fault = ap (option_map VarRange)
+      (none_above s.vars (map (λ l. l.var) cut)
+      (All-map (λ v. v ≤ s.vars) (λ (l : Literal). l.var) cut
+      (All-weaker (λ (l : Literal). IsVariable s.vars l.var) (λ (l : Literal). l.var ≤ s.vars) (λ l is. is.1) cut
+      cut_variables)))
+
+  no_sol_fault : IsProblemModel p x → IsSolFault p s (literals_at 1 x) cut (map answered_line answers) None
+  no_sol_fault model =
+      let size = model.variables in
+      let again : assignment_of (literals_at 1 x) ≡ x = assignment_again 1 x in
+      no_first (option_map VarRange (misplaced 1 p.vars (literals_at 1 x))) _ None
+      (ap (option_map VarRange) (in_place p.vars 1 x (omega arith)))
+      (no_first (option_map SolRow (broken_row (assignment_of (literals_at 1 x)) p.rows)) _ None
+      (ap (λ (a : List Bool). option_map SolRow (broken_row a p.rows)) again ∙ ap (option_map SolRow)
+      (none_broken x 1 p.rows model.rows))
+      (no_first (range_fault s.vars (map (λ l. l.var) cut)) _ None no_range_fault
+      (subst (λ (a : List Bool). IsCutFault s.live cut a 1 p.costs (map answered_line answers) None) (sym again)
+      (no_cut_fault p lines s x cut 1 p.costs answers zip truths_with))))
+
+  pub sol_may : s.ended ≡ false → IsProblemModel p x →
+      IsLegal p s (Sol (literals_at 1 x) cut (map answered_line answers)) ⊎
+      IsRefused p s (Sol (literals_at 1 x) cut (map answered_line answers)) LogLong
+  sol_may running model =
+      may_follow p s (Sol (literals_at 1 x) cut (map answered_line answers)) running refl (no_sol_fault model)
+
+  pub sol_formed : IsState s → IsProblem p → IsProblemModel p x →
+      IsWellFormed (Sol (literals_at 1 x) cut (map answered_line answers))
+  sol_formed state problem model =
+      let size = model.variables in
+      let most = problem.variables in
+      let vars = state.vars in
+      let count = state.lines in (
+        model_variables 1 x (omega arith) (omega arith),
+        (
+          All-weaker (λ (l : Literal). IsVariable s.vars l.var) (λ (l : Literal). IsLogVariable l.var)
+              (λ l is. (is.0, omega arith)) cut cut_variables,
+          exact.rising,
+        ),
+        ids_small p lines s x cut state p.costs answers zip,
+      )
+
+-- ---- the line
+
+pub line_may : (p : ProblemValue) (lines : List Line) (s : StateValue) (x : List Bool) (answers : List Bound)
+    (line : Line) → IsModelLine x answers line → AllZip (IsAnswerAt p lines s x) p.costs answers →
+    IsReplay p lines s → s.ended ≡ false → IsProblemModel p x → MayBeAdded p lines line
+line_may p lines s x answers line is zip reached running model t other =
+    subst (λ (u : StateValue). IsLegal p u line ⊎ IsRefused p u line LogLong) (replay_once p lines s t reached other)
+    (subst (λ (l : Line). IsLegal p s l ⊎ IsRefused p s l LogLong) (sym is.is)
+    (sol_may p lines s x answers is.cut zip is.exact running model))
+
+pub line_formed : (p : ProblemValue) (lines : List Line) (s : StateValue) (x : List Bool) (answers : List Bound)
+    (line : Line) → IsModelLine x answers line → AllZip (IsAnswerAt p lines s x) p.costs answers → IsState s →
+    IsProblem p → IsProblemModel p x → IsWellFormed line
+line_formed p lines s x answers line is zip state problem model =
+    subst IsWellFormed (sym is.is) (sol_formed p lines s x answers is.cut zip is.exact state problem model)

@@ -1,0 +1,115 @@
+-- A model is taken: what was asked, the line that logs it, and the pair.
+use Rattle.std.proofs.Common.{◌≡◌, ◌≤◌, Bool, false, List, [], ◌∷◌, ◌++◌, length, take, Result, Ok, Err, sym, ap, ◌∙◌, subst, arith, ℤ}
+use Rattle.std.specs.Prelude.{IfOk, OnOk}
+use Rattle.front_set.specs.Vector.{IsBelow}
+use Rattle.instance.specs.Shape.{InstanceValue, IsWithinLimits}
+use Rattle.instance.specs.Meaning.{costs_of}
+use Rattle.instance.specs.ParetoFront.{problem_vector}
+use Rattle.instance_normal.specs.NormalForm.{IsNormalFormOf}
+use Rattle.instance_normal.specs.Tightened.{tightened}
+use Rattle.pb_lin.specs.Problem.{ProblemValue, IsProblem, IsProblemModel, problem_costs}
+use Rattle.proof_laws.specs.State.{StateValue}
+use Rattle.sum_outputs.specs.Adding.{Snapshot, Continues, IsReached}
+use Rattle.totalizer.specs.Keeping.{FittingStays}
+use Rattle.totalizer.specs.declared.bound.Bound.{Bound}
+use Rattle.search_base.specs.Logged.{Logs}
+use Rattle.search_base.specs.CostBounds.{FitBounds}
+use Rattle.search_base.specs.Boards.{BoardValue, IsModelPair}
+use Rattle.search_base.specs.Cutting.{AreAnswers, IsPut, LogsModel}
+use Rattle.search_base.specs.Good.{GoesOn, IsGood}
+use Rattle.search_base.specs.Laws.{BoundingStaysGood}
+use Rattle.search_base.specs.Turns.{IsTakable, IsTaken}
+use Rattle.search_base.specs.declared.bounds.ObjectiveBound.{ObjectiveBound}
+use Rattle.search_base.proofs.Covering.{falls}
+use Rattle.search_base.proofs.LoggedStates.{good_after, logs_model}
+use Rattle.search_base.proofs.LoggedVectors.{totalizer_logs_none}
+use Rattle.search_base.proofs.ModelPairs.{tight_pair}
+use Rattle.search_base.proofs.Takable.{costs_kept, long_enough, uncovered_below}
+
+-- what is so where a call went well is so where its want of memory is handed on
+pub in_memory_ok : {T E F : Type 0} {P Q : Type 0} (r : Result T E) (q : Result T F) → IfOk r (λ x. q ≡ Ok x) →
+    (P → Q) → OnOk q P → OnOk r Q
+in_memory_ok {T} {E} {F} {P} (Ok x) q same so is = so (subst (λ (s : Result T F). OnOk s P) same is)
+in_memory_ok (Err e) q same so is = tt
+
+-- x is the tightened model of y
+pub record IsTightened (i : InstanceValue) (p : ProblemValue) (y x : List Bool) : Type 0 where
+  pub limits : IsWithinLimits i
+  pub problem : IsProblem p
+  pub value : x ≡ tightened i (take i.vars y)
+  pub model : IsProblemModel p x
+  pub costs : problem_costs p x ≡ problem_vector i (costs_of i (take i.vars y))
+  pub below : IsBelow (problem_costs p x) (problem_costs p (take p.vars y))
+
+-- the bounds were asked for its costs, and its line was added
+pub record IsLoggedAfter (a m b : Snapshot) (asked : List ObjectiveBound) (x : List Bool)
+    (answers : List Bound) : Type 0 where
+  pub on : Continues a m
+  pub whole : m.broken ≡ false
+  pub fits : FitBounds m asked
+  pub answered : AreAnswers m.problem m.lines (problem_costs m.problem x) answers
+  pub logs : LogsModel m b x answers
+  pub goes_on : GoesOn m b
+
+pub tightened_of : (i j : InstanceValue) (p q : ProblemValue) (y x : List Bool) → i ≡ j → p ≡ q →
+    IsTightened i p y x → IsTightened j q y x
+tightened_of i j p q y x one other is =
+    subst (λ (k : InstanceValue). IsTightened k q y x) one
+    (subst (λ (r : ProblemValue). IsTightened i r y x) other is)
+
+pub logged_after : (a m b : Snapshot) (asked : List ObjectiveBound) (p : ProblemValue) (costs : List ℤ)
+    (x : List Bool) (answers : List Bound) → p ≡ a.problem → costs ≡ problem_costs p x → Continues a m →
+    m.broken ≡ false → FitBounds m asked → AreAnswers m.problem m.lines costs answers → LogsModel m b x answers →
+    GoesOn m b → IsLoggedAfter a m b asked x answers
+logged_after a m b asked p costs x answers same is on whole fits are logs goes_on = record {
+  on = on;
+  whole = whole;
+  fits = fits;
+  answered = subst (λ (vs : List ℤ). AreAnswers m.problem m.lines vs answers)
+      (is ∙ ap (λ (q : ProblemValue). problem_costs q x) (same ∙ sym on.problem)) are;
+  logs = logs;
+  goes_on = goes_on;
+}
+
+pub good_taken : BoundingStaysGood → FittingStays →
+    (a m b : Snapshot) (s : StateValue) (before asked : List ObjectiveBound) (old new : BoardValue) (y x : List Bool)
+    (answers : List Bound) → IsReached a s → IsTakable a y → IsTightened old.instance a.problem y x →
+    IsGood a before old → IsLoggedAfter a m b asked x answers
+    → IsPut old new (problem_costs a.problem x) x → IsGood b asked new
+good_taken bounding fitting a m b s before asked old new y x answers reached takable tight good log put =
+    let middle : IsGood m asked old = (bounding a m before asked old good log.on log.whole log.fits).0 in
+    let same : m.problem ≡ a.problem = log.on.problem in
+    let normal : IsNormalFormOf old.instance a.problem =
+    subst (λ (q : ProblemValue). IsNormalFormOf old.instance q) good.problem good.board.normal in
+    let long : old.instance.vars ≤ length y = let within = long_enough a s y reached takable in
+    omega (arith, normal.vars) in
+    let pair : IsModelPair old.instance
+    (record { costs = problem_costs a.problem x; model = take old.instance.vars x }) =
+    tight_pair old.instance a.problem y x tight.limits tight.problem normal long tight.value tight.model tight.costs in
+    good_after m b x answers log.logs fitting asked old new middle log.goes_on log.answered
+    (subst (λ (q : ProblemValue). IsPut old new (problem_costs q x) x) (sym same) put)
+    (subst (λ (q : ProblemValue). IsModelPair old.instance
+    (record { costs = problem_costs q x; model = take old.instance.vars x })) (sym same) pair)
+
+-- one vector was logged, and no logged one was below it
+pub is_taken : (a m b : Snapshot) (s : StateValue) (before asked : List ObjectiveBound) (old : BoardValue)
+    (i : InstanceValue) (y x : List Bool) (answers : List Bound) → IsReached a s → IsTakable a y →
+    IsTightened i a.problem y x → IsGood a before old → IsLoggedAfter a m b asked x answers → IsTaken a b y
+is_taken a m b s before asked old i y x answers reached takable tight good log =
+    let p = a.problem in
+    let below : IsBelow (problem_costs p x) (problem_costs p y) =
+    subst (λ (v : List ℤ). IsBelow (problem_costs p x) v) (costs_kept p y tight.problem) tight.below in
+    let last : Logs p m.lines b.lines (problem_costs p x) =
+    subst (λ (q : ProblemValue). Logs q m.lines b.lines (problem_costs q x)) log.on.problem
+    (logs_model m b x answers log.logs) in
+    let logs : Logs p a.lines b.lines (problem_costs p x) = last
+    ∙ ap (λ (vs : List (List ℤ)). vs ++ problem_costs p x ∷ []) (totalizer_logs_none a m log.on) in
+    record {
+      found = record {
+        costs = problem_costs p x;
+        logs = logs;
+        falls = falls p a.lines b.lines x logs
+            (uncovered_below a s y reached takable good.new (problem_costs p x) below);
+      };
+      below = below;
+    }

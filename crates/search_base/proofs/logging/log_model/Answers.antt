@@ -1,0 +1,83 @@
+-- The line is legal, and what was answered has no opposite literals.
+use Rattle.std.proofs.Common.{◌≡◌, false, subst}
+use Rattle.proof_laws.specs.State.{StateValue}
+use Rattle.sum_outputs.specs.Adding.{seen}
+use Rattle.sum_outputs.proofs.LaterStates.{replay_once}
+use Rattle.search_base.proofs.Answered.{answers_alike, answers_at}
+use Rattle.search_base.proofs.SolLines.{line_formed, line_may}
+use Rattle.search_base.proofs.ModelLines.{model_goes_on, same_goes_on}
+use Rattle.search_base.proofs.Turning.{goes_again}
+use Rattle.search_base.proofs.logging.log_model.Goals as goal
+
+pub model_line-requires-clause-alike : goal.model_line-requires-clause-alike
+model_line-requires-clause-alike g c =
+    let R = g.R.Recorder in
+    let p = R.problem c.args.rec.now in
+    let ls = R.lines c.args.rec.now in
+    let s = c.state.result.now in
+    answers_alike p ls s c.args.model.now c.args.answers.now c.requires.problem.cost_variables
+    (answers_at p ls s c.args.model.now c.args.answers.now c.state.ensures c.requires.answers)
+
+pub returns-in_err-line-clause-goes_on : goal.returns-in_err-line-clause-goes_on
+returns-in_err-line-clause-goes_on g c =
+    let R = g.R.Recorder in
+    goes_again (seen R.problem R.limit R.lines R.faults R.broken R.around c.args.rec.now)
+
+pub add_line-requires-clause-formed : goal.add_line-requires-clause-formed
+add_line-requires-clause-formed g c =
+    let R = g.R.Recorder in
+    let p = R.problem c.args.rec.now in
+    let ls = R.lines c.args.rec.now in
+    let s = c.state.result.now in
+    line_formed p ls s c.args.model.now c.args.answers.now c.in_ok-line.line
+    (rw c.in_ok-line.ensures.ok at c.model_line.ensures)
+    (answers_at p ls s c.args.model.now c.args.answers.now c.state.ensures c.requires.answers)
+    c.vars-vars.ensures.state c.requires.problem c.requires.model
+
+pub add_line-requires-clause-legal : goal.add_line-requires-clause-legal
+add_line-requires-clause-legal g c =
+    let R = g.R.Recorder in
+    let p = R.problem c.args.rec.now in
+    let ls = R.lines c.args.rec.now in
+    let s = c.state.result.now in
+    let ready = c.requires.ready in
+    let same : ready.state ≡ s = replay_once p ls ready.state s ready.reached c.state.ensures in
+    let running : s.ended ≡ false = subst (λ (t : StateValue). t.ended ≡ false) same ready.open' in
+    line_may p ls s c.args.model.now c.args.answers.now c.in_ok-line.line
+    (rw c.in_ok-line.ensures.ok at c.model_line.ensures)
+    (answers_at p ls s c.args.model.now c.args.answers.now c.state.ensures c.requires.answers)
+    c.state.ensures running c.requires.model
+
+pub returns-in_err-add_line-clause-goes_on : goal.returns-in_err-add_line-clause-goes_on
+returns-in_err-add_line-clause-goes_on g c =
+    let R = g.R.Recorder in
+    let a = seen R.problem R.limit R.lines R.faults R.broken R.around c.args.rec.now in
+    let b = seen R.problem R.limit R.lines R.faults R.broken R.around c.add_line.new.self in
+    let was = c.in_err-add_line.ensures in
+    same_goes_on a b was.problem was.limit was.later was.around was.kept
+
+pub returns-clause-goes_on : goal.returns-clause-goes_on
+returns-clause-goes_on g c =
+    let R = g.R.Recorder in
+    let a = seen R.problem R.limit R.lines R.faults R.broken R.around c.args.rec.now in
+    let b = seen R.problem R.limit R.lines R.faults R.broken R.around c.add_line.new.self in
+    let was = c.in_ok-add_line.ensures in
+    model_goes_on a b was.problem was.limit was.later was.around c.args.model.now c.args.answers.now c.in_ok-line.line
+    (rw c.in_ok-line.ensures.ok at c.model_line.ensures) was.added
+
+pub returns-clause-logged : goal.returns-clause-logged
+returns-clause-logged g c =
+    let was = c.in_ok-add_line.ensures in
+    record {
+      before = c.state.result.now;
+      known = c.vars-vars.ensures.state;
+      stood = c.state.ensures;
+      line =
+          c.in_ok-line.line;
+      is = rw c.in_ok-line.ensures.ok at c.model_line.ensures;
+      lines = was.added;
+      whole =
+          was.whole;
+      state = c.state-state.result.now;
+      reached = c.state-state.ensures;
+    }

@@ -1,0 +1,11 @@
+pub use Rattle.totalizer.specs.Meaning
+pub use Rattle.oracle.specs.Solving
+pub use Rattle.instance_normal.specs.NormalForm
+pub mod Logged
+pub mod CostBox
+pub mod CostBounds
+pub mod Boards
+pub mod Cutting
+pub mod Good
+pub mod Turns
+pub mod Laws

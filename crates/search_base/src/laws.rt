@@ -1,0 +1,39 @@
+// Laws of good states.
+ghost use Rattle.search_base.specs.Laws.{AskingStaysGood, BeginningIsGood, BoundingStaysGood, LoggedIsReached, TurnLinesJoin, TurnLinesKeepOwn};
+
+use totalizer::{fitting_stays, own_lines_stay};
+
+/// Law: a state has exactly the vectors that its lines have logged.
+pub fn logged_is_reached()
+    ensures { LoggedIsReached }
+{}
+
+/// Law: a new proof is a good state.
+pub fn beginning_is_good()
+    ensures { BeginningIsGood }
+{}
+
+/// Law: an oracle's call keeps a good state good.
+pub fn asking_stays_good()
+    ensures { AskingStaysGood }
+{
+    own_lines_stay();
+    fitting_stays();
+}
+
+/// Law: a bound that is asked for keeps a good state good.
+pub fn bounding_stays_good()
+    ensures { BoundingStaysGood }
+{
+    own_lines_stay();
+}
+
+/// Law: the lines of oracles and totalizers are lines of turns, and may follow each other.
+pub fn turn_lines_join()
+    ensures { TurnLinesJoin }
+{}
+
+/// Law: lines of turns keep what no line has learned.
+pub fn turn_lines_keep_own()
+    ensures { TurnLinesKeepOwn }
+{}

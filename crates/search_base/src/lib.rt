@@ -1,0 +1,29 @@
+//! What searches for a front stand on: bounds of objectives as literals, the board that they share, and what a
+//! search is.
+//!
+//! Its public contract: `Bounds::at_least` answers a literal that stands for "this objective's cost is at least a
+//! value"; `Board::take` logs a model and puts it onto the board; a `Search` takes turns, and `run_search` goes on
+//! until a line says that nothing is left. All keep a good state good: the board has a model for each logged
+//! vector, and whatever is left is new. It knows no order of search.
+#![tactic(auto)]
+
+mod asking;
+mod board;
+mod bounds;
+mod costs;
+mod cut;
+mod laws;
+mod logging;
+mod running;
+mod search;
+mod turn;
+
+pub use board::Board;
+pub use bounds::{Bounds, ObjectiveBound};
+pub use laws::{
+    asking_stays_good, beginning_is_good, bounding_stays_good, logged_is_reached, turn_lines_join,
+    turn_lines_keep_own,
+};
+pub use running::run_search;
+pub use search::Search;
+pub use turn::Turn;

@@ -1,0 +1,80 @@
+// The line that logs a model.
+ghost use Rattle.std.specs.Prelude.{◌≡◌, ◌<◌, ◌^◌, Ok, length, IfOk, IfErr, OnOk};
+ghost use Rattle.pb_lin.specs.Problem.{IsProblem, IsProblemModel, problem_costs};
+ghost use Rattle.sum_outputs.specs.Adding.{seen, IsFaultAt, IsReady};
+ghost use Rattle.search_base.specs.Cutting.{AreAlike, AreAnswers, IsModelLine, LogsModel, answered_literals, literals_at};
+ghost use Rattle.search_base.specs.Good.{GoesOn};
+
+use crate::cut::{cut_of, lines_of};
+use proof_laws::Line;
+use proof_rules::{RecordFault, Recorder};
+use scut_base::{Assignment, Items, Lit, NoMemory};
+use std::alloc::Global;
+use totalizer::Bound;
+
+// Logs the model, with the cut of what stands for its costs. Costs a pass over the model, and a sort of the cut.
+pub(crate) fn log_model<R: Recorder>(
+    alloc: Global,
+    rec: &mut R,
+    model: &Assignment,
+    answers: &[Bound],
+) -> Result<(), RecordFault>
+    requires ready { IsReady (seen R.problem R.limit R.lines R.faults R.broken R.around rec.old) }
+    requires problem { IsProblem (R.problem rec.old) }
+    requires model { IsProblemModel (R.problem rec.old) model.now }
+    requires answers { AreAnswers (R.problem rec.old) (R.lines rec.old)
+        (problem_costs (R.problem rec.old) model.now) answers.now }
+    ensures logged { OnOk result (LogsModel
+        (seen R.problem R.limit R.lines R.faults R.broken R.around rec.old)
+        (seen R.problem R.limit R.lines R.faults R.broken R.around rec.new) model.now answers.now) }
+    ensures fault { IfErr result (IsFaultAt (seen R.problem R.limit R.lines R.faults R.broken R.around rec.old)
+        (seen R.problem R.limit R.lines R.faults R.broken R.around rec.new)) }
+    ensures goes_on { GoesOn (seen R.problem R.limit R.lines R.faults R.broken R.around rec.old)
+        (seen R.problem R.limit R.lines R.faults R.broken R.around rec.new) }
+{
+    // Tells that the lines so far reach a state.
+    let _vars = rec.state().vars();
+    let line = in_memory(model_line(alloc, model, answers))?;
+    rec.add_line(&line)?;
+    // And that they still do.
+    let _state = rec.state();
+    Ok(())
+}
+
+// The line that logs the model.
+fn model_line(alloc: Global, model: &Assignment, answers: &[Bound]) -> Result<Line, NoMemory>
+    requires alike { AreAlike (answered_literals answers.now) }
+    requires long { length model.now < 2 ^ 63 }
+    ensures { IfOk result (IsModelLine model.now answers.now) }
+{
+    Ok(Line::Sol {
+        model: literals_of(alloc, model)?,
+        cut: cut_of(alloc, answers)?,
+        rows: lines_of(alloc, answers)?,
+    })
+}
+
+// The true literals, in order of variables.
+fn literals_of(alloc: Global, a: &Assignment) -> Result<Items<Lit>, NoMemory>
+    requires { length a.now < 2 ^ 63 }
+    ensures { IfOk result (λ lits. lits ≡ literals_at 1 a.now) }
+{
+    let mut lits = Items::new(alloc);
+    let mut var = 0;
+    for value in a.as_slice() {
+        var += 1;
+        lits.push(Lit::new(var, !*value))?;
+    }
+    Ok(lits)
+}
+
+// The same want of memory, as a recorder's fault.
+pub(crate) fn in_memory<T: Drop>(made: Result<T, NoMemory>) -> Result<T, RecordFault>
+    ensures ok { IfOk result (λ x. made ≡ Ok x) }
+    ensures fault { IfErr result (λ f. f ≡ RecordFault.NoMemory) }
+{
+    match made {
+        Ok(made) => Ok(made),
+        Err(NoMemory) => Err(RecordFault::NoMemory),
+    }
+}

@@ -1,0 +1,65 @@
+// A search, turn after turn.
+ghost use Rattle.std.specs.Prelude.{IfOk, IfErr, MatchOption};
+ghost use Rattle.sum_outputs.specs.Adding.{seen};
+ghost use Rattle.search_base.specs.Good.{GoesOn, IsGood, KeepsBoard};
+ghost use Rattle.search_base.specs.Turns.{FindsNew, IsEndLine, IsInOrder, IsSearchFault};
+
+use crate::{Board, Bounds, Search, Turn};
+use oracle::{Oracle, OracleFault};
+
+/// Goes on until nothing is left, and answers the id of a live line `0 >= 1`. It ends: a turn that takes a model lowers
+/// the number of uncovered vectors of the cost box, and any other the search's own number.
+pub fn run_search<O: Oracle, S: Search>(
+    oracle: &mut O,
+    bounds: &mut Bounds,
+    board: &mut Board<'_>,
+    search: &mut S,
+) -> Result<u64, OracleFault>
+    requires good { IsGood (seen O.problem O.limit O.lines O.faults O.broken O.around oracle.old) bounds.old board.old }
+    requires serves { S.serves search.old (O.problem oracle.old) }
+    ensures end { IfOk result (IsEndLine (O.problem oracle.new) (O.lines oracle.new)) }
+    ensures good { IsInOrder result
+        → IsGood (seen O.problem O.limit O.lines O.faults O.broken O.around oracle.new) bounds.new board.new }
+    ensures fault { IfErr result (IsSearchFault (seen O.problem O.limit O.lines O.faults O.broken O.around oracle.old)
+        (seen O.problem O.limit O.lines O.faults O.broken O.around oracle.new)) }
+    ensures goes_on { GoesOn (seen O.problem O.limit O.lines O.faults O.broken O.around oracle.old)
+        (seen O.problem O.limit O.lines O.faults O.broken O.around oracle.new) }
+    ensures board { KeepsBoard board.old board.new }
+{
+    loop {
+        if let Some(id) = next_model(oracle, bounds, board, search)? {
+            return Ok(id);
+        }
+    }
+}
+
+// Goes on until a model was taken, or nothing is left: then the id of a live line `0 >= 1`.
+fn next_model<O: Oracle, S: Search>(
+    oracle: &mut O,
+    bounds: &mut Bounds,
+    board: &mut Board<'_>,
+    search: &mut S,
+) -> Result<Option<u64>, OracleFault>
+    requires good { IsGood (seen O.problem O.limit O.lines O.faults O.broken O.around oracle.old) bounds.old board.old }
+    requires serves { S.serves search.old (O.problem oracle.old) }
+    ensures found { IfOk result (λ found. MatchOption found
+        (FindsNew (seen O.problem O.limit O.lines O.faults O.broken O.around oracle.old)
+        (seen O.problem O.limit O.lines O.faults O.broken O.around oracle.new))
+        (IsEndLine (O.problem oracle.new) (O.lines oracle.new))) }
+    ensures good { IsInOrder result
+        → IsGood (seen O.problem O.limit O.lines O.faults O.broken O.around oracle.new) bounds.new board.new }
+    ensures serves { IsInOrder result → S.serves search.new (O.problem oracle.new) }
+    ensures fault { IfErr result (IsSearchFault (seen O.problem O.limit O.lines O.faults O.broken O.around oracle.old)
+        (seen O.problem O.limit O.lines O.faults O.broken O.around oracle.new)) }
+    ensures goes_on { GoesOn (seen O.problem O.limit O.lines O.faults O.broken O.around oracle.old)
+        (seen O.problem O.limit O.lines O.faults O.broken O.around oracle.new) }
+    ensures board { KeepsBoard board.old board.new }
+{
+    loop {
+        match search.turn(oracle, bounds, board)? {
+            Turn::Found => return Ok(None),
+            Turn::Moved => {}
+            Turn::Finished { id } => return Ok(Some(id)),
+        }
+    }
+}
