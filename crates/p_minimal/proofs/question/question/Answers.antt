@@ -1,0 +1,110 @@
+-- Each bound adds what is asked of its objective, and what was asked of those before it stays asked.
+use mir.Val.{SFits, of_z, to_z}
+use mir.Syntax.{w64}
+use Rattle.std.proofs.Common.{rules, None, Err, ◌<◌, length, get_or, ap, subst, sym, ◌∙◌, arith, pos}
+use Rattle.std.proofs.lemmas.Int.{to_z-of_z}
+use Rattle.std.proofs.lemmas.Result.{err_from_is_err_and}
+use Rattle.sum_outputs.specs.Adding.{seen}
+use Rattle.sum_outputs.proofs.LaterStates.{continues_again, continues_twice, handed_on, ready_later, recorded_err, recorded_ok}
+use Rattle.proof_rules.specs.declared.recorder.RecordFault.{RecordFault}
+use Rattle.proof_rules.specs.declared.recorder.RecordFault.TheVariants.{NoMemory}
+use Rattle.p_minimal.specs.Asking.{Asks}
+use Rattle.p_minimal.proofs.Questions.{asks_nothing}
+use Rattle.p_minimal.proofs.Asking.{one_more, none_remains}
+use Rattle.p_minimal.proofs.question.question.Goals as goal
+
+pub loop-objective-init : goal.loop-objective-init
+loop-objective-init g c =
+    let R = g.R.Recorder in
+    let a = seen R.problem R.limit R.lines R.faults R.broken R.around c.args.rec.now in
+    record {
+      way = record { on = continues_again a; whole = c.requires.ready.whole };
+      fits = c.requires.fits;
+      asks = subst (Asks a.problem a.lines c.args.aim.now 0) (sym c.new-lits.ensures)
+          (asks_nothing a.problem a.lines c.args.aim.now);
+    }
+
+pub excess_of-requires-clause-ready : goal.excess_of-requires-clause-ready
+excess_of-requires-clause-ready g c =
+    let R = g.R.Recorder in
+    let a = seen R.problem R.limit R.lines R.faults R.broken R.around c.args.rec.now in
+    let b = seen R.problem R.limit R.lines R.faults R.broken R.around c.loop-objective.rec in
+    ready_later a b c.requires.ready c.loop-objective.invariant.way.on c.loop-objective.invariant.way.whole
+
+pub returns-in_err-excess-clause-recorded : goal.returns-in_err-excess-clause-recorded
+returns-in_err-excess-clause-recorded g c =
+    let R = g.R.Recorder in
+    let a = seen R.problem R.limit R.lines R.faults R.broken R.around c.args.rec.now in
+    let b = seen R.problem R.limit R.lines R.faults R.broken R.around c.loop-objective.rec in
+    let d = seen R.problem R.limit R.lines R.faults R.broken R.around c.excess_of.new.rec in
+    let is = err_from_is_err_and c.from_residual.result c.from_residual.ensures.1 in
+    handed_on a b d c.in_err-excess.field-0.0 is.0 c.from_residual.result is.1 is.2
+    c.loop-objective.invariant.way.on c.in_err-excess.ensures.recorded
+
+pub returns-in_err-deny-clause-recorded : goal.returns-in_err-deny-clause-recorded
+returns-in_err-deny-clause-recorded g c =
+    let R = g.R.Recorder in
+    let a = seen R.problem R.limit R.lines R.faults R.broken R.around c.args.rec.now in
+    let b = seen R.problem R.limit R.lines R.faults R.broken R.around c.loop-objective.rec in
+    let d = seen R.problem R.limit R.lines R.faults R.broken R.around c.excess_of.new.rec in
+    let is = err_from_is_err_and c.from_residual-in_err-deny.result c.from_residual-in_err-deny.ensures.1 in
+    let on = continues_twice a b d c.loop-objective.invariant.way.on c.in_ok-excess.ensures.recorded.continues in
+    recorded_err a d NoMemory c.from_residual-in_err-deny.result
+    (is.1 ∙ ap (λ (f : RecordFault). Err f) (is.2 ∙ c.in_err-deny.ensures.fault)) on tt
+
+pub returns-then-not-branch-clause-recorded : goal.returns-then-not-branch-clause-recorded
+returns-then-not-branch-clause-recorded g c =
+    let R = g.R.Recorder in
+    let a = seen R.problem R.limit R.lines R.faults R.broken R.around c.args.rec.now in
+    let b = seen R.problem R.limit R.lines R.faults R.broken R.around c.loop-objective.rec in
+    let d = seen R.problem R.limit R.lines R.faults R.broken R.around c.excess_of.new.rec in
+    recorded_ok a d None
+    (continues_twice a b d c.loop-objective.invariant.way.on c.in_ok-excess.ensures.recorded.continues)
+    c.in_ok-excess.ensures.recorded.whole
+
+pub returns-then-not-branch-clause-asked : goal.returns-then-not-branch-clause-asked
+returns-then-not-branch-clause-asked g c =
+    let R = g.R.Recorder in
+    let a = seen R.problem R.limit R.lines R.faults R.broken R.around c.args.rec.now in
+    let b = seen R.problem R.limit R.lines R.faults R.broken R.around c.loop-objective.rec in
+    let d = seen R.problem R.limit R.lines R.faults R.broken R.around c.excess_of.new.rec in
+    let was = c.loop-objective.invariant in
+    let call = c.in_ok-excess.ensures in
+    let aim = c.args.aim.now in
+    let items = c.as_slice-cost-items.result.now in
+    let n = c.loop-objective.objective in
+    let in_range : SFits w64 (get_or items n (pos 0)) = search rules in
+    let short : n < length aim = omega (arith, ap length c.as_slice-cost-items.ensures, c.loop-objective-test.true) in
+    let ready = ready_later a b c.requires.ready was.way.on was.way.whole in
+    none_remains b d aim n c.loop-objective.lits c.in_ok-excess.excess items
+    (to_z w64 (of_z w64 (get_or items n (pos 0))))
+    c.as_slice-cost-items.ensures short (to_z-of_z w64 (get_or items n (pos 0)) in_range)
+    c.bounds_stay.ensures c.turn_lines_join.ensures c.turn_lines_keep_own.ensures
+    ready call.recorded.continues call.bound was.asks
+    (rw c.if-not-branch.true at c.in_ok-deny.ensures.denied)
+
+pub loop-objective-preserved : goal.loop-objective-preserved
+loop-objective-preserved g c =
+    let R = g.R.Recorder in
+    let a = seen R.problem R.limit R.lines R.faults R.broken R.around c.args.rec.now in
+    let b = seen R.problem R.limit R.lines R.faults R.broken R.around c.loop-objective.rec in
+    let d = seen R.problem R.limit R.lines R.faults R.broken R.around c.excess_of.new.rec in
+    let was = c.loop-objective.invariant in
+    let call = c.in_ok-excess.ensures in
+    let aim = c.args.aim.now in
+    let items = c.as_slice-cost-items.result.now in
+    let n = c.loop-objective.objective in
+    let in_range : SFits w64 (get_or items n (pos 0)) = search rules in
+    let short : n < length aim = omega (arith, ap length c.as_slice-cost-items.ensures, c.loop-objective-test.true) in
+    let ready = ready_later a b c.requires.ready was.way.on was.way.whole in
+    record {
+      way = record { on = continues_twice a b d was.way.on call.recorded.continues; whole = call.recorded.whole };
+      fits = call.fits;
+      asks =
+          one_more b d aim n c.loop-objective.lits c.in_ok-excess.excess items
+          (to_z w64 (of_z w64 (get_or items n (pos 0))))
+          c.as_slice-cost-items.ensures short (to_z-of_z w64 (get_or items n (pos 0)) in_range)
+          c.bounds_stay.ensures c.turn_lines_join.ensures c.turn_lines_keep_own.ensures
+          ready call.recorded.continues call.bound was.asks
+          c.deny.new.lits (rw c.if-not-branch.false at c.in_ok-deny.ensures.denied);
+    }

@@ -1,0 +1,3 @@
+pub use Rattle.search_base.specs.Turns
+pub mod Aiming
+pub mod Asking

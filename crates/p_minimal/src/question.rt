@@ -1,0 +1,92 @@
+// The question whether a model has costs below an aim.
+ghost use Rattle.std.specs.Prelude.{◌≡◌, ◌<◌, length, slice_index_or, All, pos, ◌+ℤ◌, IfOk, IfErr, OnOk, MatchBool};
+ghost use Rattle.pb_lin.specs.CostRow.{CostRowValue, IsCostRow};
+ghost use Rattle.sum_outputs.specs.Adding.{seen, IsReady, IsRecorded};
+ghost use Rattle.search_base.specs.CostBounds.{FitBounds, IsCostBound};
+ghost use Rattle.p_minimal.specs.Asking.{AddsDenial, IsQuestion, IsUndeniable};
+
+use front_set::CostVec;
+use proof_rules::{RecordFault, Recorder};
+use scut_base::{Items, Lit};
+use search_base::{Bounds, turn_lines_join, turn_lines_keep_own};
+use std::alloc::Global;
+use totalizer::{Bound, bounds_stay};
+
+/// The literals to be assumed so that no cost exceeds its aim; `None` where no assignment that is left keeps to it.
+/// Costs a bound for each objective, and a walk over the literals for each.
+pub(crate) fn question<R: Recorder>(
+    alloc: Global,
+    rec: &mut R,
+    bounds: &mut Bounds,
+    aim: &CostVec,
+) -> Result<Option<Items<Lit>>, RecordFault>
+    requires ready { IsReady (seen R.problem R.limit R.lines R.faults R.broken R.around rec.old) }
+    requires fits { FitBounds (seen R.problem R.limit R.lines R.faults R.broken R.around rec.old) bounds.old }
+    requires costs { All (λ r. IsCostRow r.terms r.offset) (R.problem rec.old).costs }
+    requires serves { length aim.now ≡ length (R.problem rec.old).costs }
+    ensures recorded { IsRecorded (seen R.problem R.limit R.lines R.faults R.broken R.around rec.old)
+        (seen R.problem R.limit R.lines R.faults R.broken R.around rec.new) result }
+    ensures asked { IfOk result
+        (IsQuestion (seen R.problem R.limit R.lines R.faults R.broken R.around rec.new) aim.now) }
+    ensures fits { OnOk result
+        (FitBounds (seen R.problem R.limit R.lines R.faults R.broken R.around rec.new) bounds.new) }
+{
+    bounds_stay();
+    turn_lines_join();
+    turn_lines_keep_own();
+    let mut lits = Items::new(alloc);
+    for (objective, cost) in aim.as_slice().iter().enumerate() {
+        let excess = excess_of(rec, bounds, objective, *cost)?;
+        if !deny(&mut lits, excess)? {
+            return Ok(None);
+        }
+    }
+    Ok(Some(lits))
+}
+
+// What stands for "the objective's cost exceeds this number".
+fn excess_of<R: Recorder>(
+    rec: &mut R,
+    bounds: &mut Bounds,
+    objective: usize,
+    cost: i64,
+) -> Result<Bound, RecordFault>
+    requires ready { IsReady (seen R.problem R.limit R.lines R.faults R.broken R.around rec.old) }
+    requires fits { FitBounds (seen R.problem R.limit R.lines R.faults R.broken R.around rec.old) bounds.old }
+    requires costs { All (λ r. IsCostRow r.terms r.offset) (R.problem rec.old).costs }
+    requires there { objective < length (R.problem rec.old).costs }
+    ensures recorded { IsRecorded (seen R.problem R.limit R.lines R.faults R.broken R.around rec.old)
+        (seen R.problem R.limit R.lines R.faults R.broken R.around rec.new) result }
+    ensures bound { IfOk result (λ bound. (d : CostRowValue) → IsCostBound (R.problem rec.new)
+        (R.lines rec.new) (slice_index_or (R.problem rec.old).costs objective d) (cost +ℤ pos 1) bound) }
+    ensures fits { OnOk result
+        (FitBounds (seen R.problem R.limit R.lines R.faults R.broken R.around rec.new) bounds.new) }
+{
+    match cost.checked_add(1) {
+        Some(least) => bounds.at_least(rec, objective, least),
+        // Costs are below 2^63.
+        None => Ok(Bound::Never),
+    }
+}
+
+// Adds what must be true where the bound isn't reached; `false` where that can't be beside the literals.
+fn deny(lits: &mut Items<Lit>, bound: Bound) -> Result<bool, RecordFault>
+    ensures fault { IfErr result (λ f. f ≡ RecordFault.NoMemory) }
+    ensures denied { IfOk result
+        (λ able. MatchBool able (AddsDenial lits.old lits.new bound) (IsUndeniable lits.old bound)) }
+{
+    match bound {
+        Bound::Always { .. } => Ok(false),
+        Bound::Never => Ok(true),
+        Bound::At { lit, .. } => {
+            let denial = lit.not();
+            if lits.as_slice().contains(&lit) {
+                return Ok(false);
+            }
+            if !lits.as_slice().contains(&denial) {
+                lits.push(denial).map_err(|_| RecordFault::NoMemory)?;
+            }
+            Ok(true)
+        }
+    }
+}
