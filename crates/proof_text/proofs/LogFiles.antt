@@ -11,9 +11,9 @@ use Rattle.scut_base.proofs.FileLaws.{content-same, told_before, tied_other}
 use Rattle.pb_lin.specs.Problem.{ProblemValue}
 use Rattle.proof_laws.specs.WellFormed.{IsWellFormed}
 use Rattle.proof_laws.specs.State.{StateValue, Fits, start}
-use Rattle.proof_laws.specs.Legal.{IsNext}
+use Rattle.proof_laws.specs.Replay.{IsReplay}
+use Rattle.proof_laws.specs.Legal.{IsLegal, IsNext}
 use Rattle.proof_laws.specs.declared.line.Line.{Line}
-use Rattle.proof_rules.specs.Recording.{MayBeAdded}
 use Rattle.proof_lines.specs.LineText.{printed}
 use Rattle.proof_text.specs.LogText.{header_line, log_text}
 use Rattle.proof_text.specs.LogFile.{IsLogFile}
@@ -68,18 +68,18 @@ log_more old new name p lines line log is = record {
   next = inl refl;
 }
 
-log_partly : (old new : Option Files) (name : List ℕ) (p : ProblemValue) (lines : List Line) (line : Line) → IsLogFile old name p lines false → IsWellFormed line → MayBeAdded p lines line → IsPutPartly old new name (printed line) → IsLogFile new name p lines true
-log_partly old new name p lines line log formed legal (inl same) = subst (λ (f : Option Files). IsLogFile f name p lines true) (sym same) (record {
+log_partly : (old new : Option Files) (name : List ℕ) (p : ProblemValue) (lines : List Line) (line : Line) → IsLogFile old name p lines false → IsWellFormed line → (s : StateValue) → IsReplay p lines s → IsLegal p s line → IsPutPartly old new name (printed line) → IsLogFile new name p lines true
+log_partly old new name p lines line log formed s replay legal (inl same) = subst (λ (f : Option Files). IsLogFile f name p lines true) (sym same) (record {
   part = log.part;
   file = log.file;
   whole = λ bad. cc;
   next = log.next;
 })
-log_partly old new name p lines line log formed legal (inr put) = record {
+log_partly old new name p lines line log formed s replay legal (inr put) = record {
   part = put.0;
   file = λ told. grown old new name put.0 p lines log put.2 told;
   whole = λ bad. cc;
-  next = inr (record { line = line; formed = formed; legal = legal; prefix = put.1 });
+  next = inr (record { line = line; formed = formed; state = s; replay = replay; legal = legal; prefix = put.1 });
 }
 
 -- a log that was just begun
@@ -102,10 +102,10 @@ held_more old new name p lines s line t held formed is next fits = record {
 }
 
 -- a part of a line more
-pub held_partly : (old new : Option Files) (name : List ℕ) (p : ProblemValue) (lines : List Line) (s : StateValue) (line : Line) → IsHeld old name p lines s false → IsWellFormed line → MayBeAdded p lines line → IsPutPartly old new name (printed line) → IsHeld new name p lines s true
+pub held_partly : (old new : Option Files) (name : List ℕ) (p : ProblemValue) (lines : List Line) (s : StateValue) (line : Line) → IsHeld old name p lines s false → IsWellFormed line → IsLegal p s line → IsPutPartly old new name (printed line) → IsHeld new name p lines s true
 held_partly old new name p lines s line held formed legal put = record {
   kept = held.kept;
-  file = log_partly old new name p lines line held.file formed legal put;
+  file = log_partly old new name p lines line held.file formed s held.kept.replay legal put;
 }
 
 -- ---- the last line

@@ -6,15 +6,18 @@ use Rattle.pb_lin.specs.Problem.{ProblemValue}
 use Rattle.proof_laws.specs.WellFormed.{IsWellFormed}
 use Rattle.proof_laws.specs.State.{StateValue}
 use Rattle.proof_laws.specs.declared.line.Line.{Line}
-use Rattle.proof_rules.specs.Recording.{MayBeAdded}
+use Rattle.proof_laws.specs.Replay.{IsReplay}
+use Rattle.proof_laws.specs.Legal.{IsLegal}
 use Rattle.proof_lines.specs.LineText.{printed}
 use Rattle.proof_text.specs.LogText.{log_text, header_line}
 
--- a prefix of the text of a line that may follow these
+-- a prefix of the text of a line that is legal after these
 pub record IsPartOfNext (p : ProblemValue) (lines : List Line) (part : List ℕ) : Type 0 where
   pub line : Line
   pub formed : IsWellFormed line
-  pub legal : MayBeAdded p lines line
+  pub state : StateValue
+  pub replay : IsReplay p lines state
+  pub legal : IsLegal p state line
   pub prefix : IsPrefixOf part (printed line)
 
 -- The file holds the header and the lines, where the files are told; after a fault a prefix of the next one may follow.

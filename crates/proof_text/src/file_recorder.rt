@@ -8,7 +8,7 @@ ghost use Rattle.proof_laws.specs.Legal.{IsLegal, IsNext};
 ghost use Rattle.proof_lines.specs.LineText.{printed};
 ghost use Rattle.proof_text.specs.LogText.{header_line};
 ghost use Rattle.proof_text.specs.LogFile.{IsLogFile, IsNotBegun};
-ghost use Rattle.proof_text.specs.Recorders.{fault_of, without_file, IsPutPartly, IsWrite};
+ghost use Rattle.proof_text.specs.Recorders.{fault_of, without_file, IsKept, IsPutPartly, IsWrite};
 
 use crate::keeping::{advance, is_full, pop_last, push_copy, start};
 use pb_lin::PbProblem;
@@ -133,6 +133,7 @@ impl<'a, H: Shelf> FileRecorder<'a, H> {
         ensures same { result.now ≡ self.entry.shelf.now }
         ensures log { IsLogFile (H.files result.now) self.entry.name self.entry.problem
             self.entry.lines self.entry.broken }
+        ensures kept { IsKept self.entry.problem self.entry.lines self.entry.state }
     {
         let FileRecorder {
             alloc: _,

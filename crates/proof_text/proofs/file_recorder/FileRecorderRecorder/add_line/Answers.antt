@@ -1,4 +1,5 @@
 use Rattle.std.proofs.Common.{◌≡◌, ◌++◌, ◌∷◌, [], false, rules}
+use Rattle.proof_laws.specs.Legal.{IsLegal}
 use Rattle.proof_rules.specs.Recording.{MayBeAdded}
 use Rattle.proof_text.specs.Recorders.{IsHeld}
 use Rattle.proof_text.proofs.Replaying.{legal_here, next_of}
@@ -26,7 +27,8 @@ invariant_of-self-in-Err g c =
     let pushed : c.push_copy.new.lines ≡ s.lines ++ c.args.line.now ∷ [] = search rules in
     let held : IsHeld (g.H.Shelf.files s.shelf.now) s.name.now s.problem s.lines s.state false = rw whole at c.self.invariant in
     let may : MayBeAdded s.problem s.lines c.args.line.now = rw (← c.self.view_is) at c.requires.legal in
-    rw (c.pop_last.ensures s.lines c.args.line.now pushed, c.in-Err.ensures.same) (held_partly _ _ _ _ _ _ _ held c.requires.formed may c.in-Err.ensures.partly)
+    let legal : IsLegal s.problem s.state c.args.line.now = legal_here s.problem s.lines s.state c.args.line.now c.if-is_full.ensures.state c.self.invariant.kept.replay c.if-is_full.ensures.full may in
+    rw (c.pop_last.ensures s.lines c.args.line.now pushed, c.in-Err.ensures.same) (held_partly _ _ _ _ _ _ _ held c.requires.formed legal c.in-Err.ensures.partly)
 
 pub returns-in-Ok-clause-id : goal.returns-in-Ok-clause-id
 returns-in-Ok-clause-id g c =
