@@ -127,10 +127,10 @@ covered_below i p vectors log limits normal within proof a model =
     let by = All-contains (IsCovered vectors) proof.state.sols logged.0 proof.covered logged.1 in
     (by.0, by.1, IsBelow-trans by.0 logged.0 (problem_vector i (costs_of i a)) by.2 logged.2)
 
+-- the entries of an accepted list are the front
+pub entries_are_front : (i : InstanceValue) (list log : List ℕ) → IsWithinLimits i → (accepted : IsAccepted i list log) → IsFront i accepted.entries
+entries_are_front i list log limits accepted = right_list_is_front i accepted.entries accepted.right
+    (covered_below i accepted.problem (problem_vectors i accepted.entries) log limits accepted.normal accepted.within accepted.proof)
+
 pub accepted_front : (i : InstanceValue) (list log : List ℕ) → IsWithinLimits i → IsAccepted i list log → (entries : List Entry) × (list ≡ list_text true entries) × IsFront i entries
-accepted_front i list log limits accepted = (
-  accepted.entries,
-  accepted.spelled.is,
-  right_list_is_front i accepted.entries accepted.right
-      (covered_below i accepted.problem (problem_vectors i accepted.entries) log limits accepted.normal accepted.within accepted.proof),
-)
+accepted_front i list log limits accepted = (accepted.entries, accepted.spelled.is, entries_are_front i list log limits accepted)
