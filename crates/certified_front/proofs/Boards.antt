@@ -1,0 +1,57 @@
+-- The board of a new proof, and what is listed of the board at the end.
+use Rattle.std.proofs.Common.{◌≡◌, ◌≤◌, false, List, [], map, ap, refl, sym, subst, ◌∙◌, arith, ℤ}
+use Rattle.std.specs.List.{All}
+use Rattle.std.specs.List.Sorted.{IsPermutation}
+use Rattle.front_set.specs.declared.entry.Entry.{Entry}
+use Rattle.front_set.specs.Vector.{AreRising}
+use Rattle.front_set.specs.Front.{vectors_of}
+use Rattle.instance.specs.Shape.{InstanceValue}
+use Rattle.instance.specs.ParetoFront.{listed_entry}
+use Rattle.pb_lin.specs.Problem.{ProblemValue, IsProblem}
+use Rattle.proof_laws.specs.State.{StateValue, start}
+use Rattle.proof_laws.specs.Replay.{IsReplay}
+use Rattle.proof_laws.specs.declared.line.Line.{Line}
+use Rattle.log_checker.specs.Accepted.{IsCovered, problem_vectors}
+use Rattle.sum_outputs.specs.Adding.{Snapshot, IsReached}
+use Rattle.search_base.specs.Boards.{BoardValue, IsBoard}
+use Rattle.search_base.specs.CostBounds.{FitBounds}
+use Rattle.search_base.specs.Good.{IsGood}
+use Rattle.search_base.specs.Laws.{BeginningIsGood, LoggedIsReached}
+use Rattle.search_base.specs.Logged.{logged}
+use Rattle.search_base.specs.declared.bounds.ObjectiveBound.{ObjectiveBound}
+use Rattle.certified_front.specs.Certified.{CoversLogged}
+use Rattle.certified_front.proofs.ListedModels.{all_covered, listed_vectors, right_list}
+
+-- bounds that fit wherever the problem's variables are there
+abbrev FitAnywhere : ProblemValue → List ObjectiveBound → Type 0
+FitAnywhere p bounds = (a : Snapshot) → a.problem ≡ p → ((s : StateValue) → IsReached a s → p.vars ≤ s.vars) → FitBounds a bounds
+
+pub begins_good : BeginningIsGood → (a : Snapshot) (p : ProblemValue) (bounds : List ObjectiveBound) (board : BoardValue) → a.problem ≡ p → a.lines ≡ [] → a.broken ≡ false → IsProblem p → FitAnywhere p bounds → board.problem ≡ p → IsBoard board [] → IsGood a bounds board
+begins_good law a p bounds board same none whole problem fit of_board is_board =
+    let from : StateValue = start a.problem in
+    let reached : IsReached a from = subst (λ (ls : List Line). IsReplay a.problem ls from) (sym none) refl in
+    let has : (s : StateValue) → IsReached a s → p.vars ≤ s.vars = λ s there.
+    let is : s ≡ from = subst (λ (ls : List Line). IsReplay a.problem ls s) none there in
+    let vars : s.vars ≡ a.problem.vars = ap (λ (t : StateValue). t.vars) is in
+    let problem_vars : a.problem.vars ≡ p.vars = ap (λ (q : ProblemValue). q.vars) same in
+    omega arith in
+    law a from bounds board (subst IsProblem (sym same) problem) none whole reached (of_board ∙ sym same) is_board (fit a same has)
+
+-- the board's instance and the problem are known
+listed_covers : LoggedIsReached → (p : ProblemValue) (lines : List Line) (board : BoardValue) (listed : List Entry) → IsBoard board (logged p lines) → IsPermutation (map (listed_entry board.instance) board.entries) listed → AreRising (vectors_of listed) → CoversLogged board.instance p lines listed
+listed_covers law p lines board listed is same rising =
+    let i = board.instance in
+    record {
+      right = right_list i board.entries listed is.models same is.apart rising;
+      vectors = listed_vectors i board.entries listed is.models same;
+      covered = λ s replay. subst (λ (vs : List (List ℤ)). All (IsCovered (problem_vectors i listed)) vs) (sym (law p lines s replay))
+          (all_covered i board.entries listed is.models same (logged p lines) is.below);
+    }
+
+pub covers_logged : LoggedIsReached → (i : InstanceValue) (p q : ProblemValue) (lines : List Line) (board : BoardValue) (listed : List Entry) → board.instance ≡ i → q ≡ p → IsBoard board (logged q lines) →
+    IsPermutation (map (listed_entry i) board.entries) listed → AreRising (vectors_of listed) → CoversLogged i p lines listed
+covers_logged law i p q lines board listed of_board problem is same rising =
+    subst (λ (j : InstanceValue). CoversLogged j p lines listed) of_board
+    (listed_covers law p lines board listed
+    (subst (λ (r : ProblemValue). IsBoard board (logged r lines)) problem is)
+    (subst (λ (j : InstanceValue). IsPermutation (map (listed_entry j) board.entries) listed) (sym of_board) same) rising)

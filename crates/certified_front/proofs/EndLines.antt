@@ -1,0 +1,60 @@
+-- The line that ends a proof: it may be added, the proof has ended after it, and it logs nothing.
+use Rattle.std.proofs.Common.{◌≡◌, ◌⊎◌, inl, inr, ℕ, ◌^◌, Bool, true, false, not, Option, None, Some, List, [], ◌∷◌, ◌++◌, ap, refl, sym, subst, ℤ}
+use Rattle.std.specs.Prelude.{nat_lt}
+use Rattle.std.specs.FinMap.{get}
+use Rattle.pb_lin.specs.Constraint.{ConstraintValue}
+use Rattle.pb_lin.specs.Problem.{ProblemValue}
+use Rattle.proof_laws.specs.State.{StateValue}
+use Rattle.proof_laws.specs.Steps.{with_end}
+use Rattle.proof_laws.specs.Refusal.{FirstOf, IsRuleFault, end_fault, fault_unless, range_fault, written}
+use Rattle.proof_laws.specs.Replay.{IsReplay}
+use Rattle.proof_laws.specs.declared.line.Line.{Line}
+use Rattle.proof_laws.specs.declared.line.Line.TheVariants.{End}
+use Rattle.proof_laws.specs.declared.why.Why.{Why}
+use Rattle.proof_laws.specs.declared.why.Why.TheVariants.{AfterEnd, LogLong}
+use Rattle.proof_rules.specs.Recording.{MayBeAdded}
+use Rattle.sum_outputs.specs.Adding.{Snapshot, IsReady, IsReached}
+use Rattle.sum_outputs.proofs.LaterStates.{replay_before, replay_once}
+use Rattle.search_base.specs.Boards.{BoardValue, IsBoard}
+use Rattle.search_base.specs.Logged.{LogsNone, logged}
+use Rattle.search_base.specs.Turns.{IsEndLine}
+use Rattle.certified_front.specs.Certified.{HasEnded}
+
+-- "0 >= 1"
+abbrev contradiction : ConstraintValue
+contradiction = record { terms = []; degree = 1 }
+
+-- ---- before the line
+
+end_rule : (p : ProblemValue) (s : StateValue) (id : ℕ) → get s.live id ≡ Some contradiction → IsRuleFault p s (End id) None
+end_rule p s id live = sym (ap (λ (o : Option ConstraintValue). end_fault o id) live)
+
+-- the conditions of the line, by whether the proof has ended and whether there is room for a line
+abbrev IsEndFault : ProblemValue → StateValue → ℕ → Bool → Bool → Option Why → Type 0
+IsEndFault p s id ended short = FirstOf (fault_unless (not ended) AfterEnd)
+    (FirstOf (fault_unless short LogLong) (FirstOf (range_fault s.vars (written (End id))) (IsRuleFault p s (End id))))
+
+-- only the number of lines may stand against it
+end_follows : (p : ProblemValue) (s : StateValue) (id : ℕ) → get s.live id ≡ Some contradiction → (ended short : Bool) → ended ≡ false → IsEndFault p s id ended short None ⊎ IsEndFault p s id ended short (Some LogLong)
+end_follows p s id live true short running = cc
+end_follows p s id live false true running = inl (end_rule p s id live)
+end_follows p s id live false false running = inr refl
+
+pub may_end : (a : Snapshot) (id : ℕ) → IsReady a → IsEndLine a.problem a.lines id → MayBeAdded a.problem a.lines (End id)
+may_end a id ready line s reached =
+    let running : s.ended ≡ false = subst (λ (t : StateValue). t.ended ≡ false) (replay_once a.problem a.lines ready.state s ready.reached reached) ready.open' in
+    end_follows a.problem s id (line s reached) s.ended (nat_lt s.lines (2 ^ 61)) running
+
+-- ---- after it
+
+pub ended_after : (a b : Snapshot) (id : ℕ) (s t : StateValue) → b.problem ≡ a.problem → b.lines ≡ a.lines ++ End id ∷ [] → IsReached a s → IsReached b t → HasEnded b.problem b.lines
+ended_after a b id s t problem added before after =
+    let there : IsReplay a.problem (a.lines ++ End id ∷ []) t = subst (λ (ls : List Line). IsReplay a.problem ls t) added (subst (λ (p : ProblemValue). IsReplay p b.lines t) problem after) in
+    let next = replay_before a.problem a.lines (End id) s t before there in
+    let is : t ≡ with_end s = next.makes in
+    (t, after, ap (λ (u : StateValue). u.ended) is)
+
+-- what is logged stays on the board
+pub still_board : (p q : ProblemValue) (old new : List Line) (board : BoardValue) → q ≡ p → LogsNone p old new → IsBoard board (logged p old) → IsBoard board (logged q new)
+still_board p q old new board problem none is =
+    subst (λ (r : ProblemValue). IsBoard board (logged r new)) (sym problem) (subst (λ (vs : List (List ℤ)). IsBoard board vs) (sym none) is)

@@ -1,0 +1,3 @@
+pub mod ListedModels
+pub mod EndLines
+pub mod Boards

@@ -1,0 +1,22 @@
+-- A new proof is a good state, and what is on the board at the end covers what is logged.
+use Rattle.std.proofs.Common.{◌∙◌}
+use Rattle.sum_outputs.specs.Adding.{seen}
+use Rattle.certified_front.proofs.Boards.{begins_good, covers_logged}
+use Rattle.certified_front.proofs.certifying.certified_front.Goals as goal
+
+pub search_to_the_end-requires : goal.search_to_the_end-requires
+search_to_the_end-requires g c =
+    let R = g.O.Recorder in
+    let a = seen R.problem R.limit R.lines R.faults R.broken R.around c.args.oracle.now in
+    let board = c.new-board in
+    begins_good c.beginning_is_good.ensures a c.args.problem.now c.in_ok-bounds.bounds board.result c.requires.problem c.requires.begun c.requires.whole
+    c.vars-vars.ensures.problem c.in_ok-bounds.ensures board.ensures.problem board.ensures.board
+
+pub returns-clause-covers : goal.returns-clause-covers
+returns-clause-covers g c =
+    let R = g.O.Recorder in
+    let new = c.search_to_the_end.new in
+    let ended = c.in_ok-ending.ensures in
+    let listed = c.in_ok-entries.ensures in
+    covers_logged c.logged_is_reached.ensures c.args.inst.now c.args.problem.now (R.problem new.oracle) (R.lines new.oracle) new.board c.in_ok-entries.entries.items
+    (ended.board.instance ∙ c.new-board.ensures.instance) (ended.stays.problem ∙ c.requires.problem) ended.entries listed.same listed.rising

@@ -1,0 +1,130 @@
+// A whole search, from no line to the end of the proof.
+ghost use Rattle.std.specs.Prelude.{◌≡◌, ◌≢◌, ◌≤◌, ◌^◌, ℕ, [], false, length, map, All, IfOk, IfErr, OnOk, IsErrOf};
+ghost use Rattle.std.specs.List.Sorted.{IsPermutation};
+ghost use Rattle.scut_base.specs.Faults.{Rose};
+ghost use Rattle.front_set.specs.Vector.{AreRising};
+ghost use Rattle.front_set.specs.Front.{vectors_of};
+ghost use Rattle.instance.specs.ParetoFront.{listed_entry};
+ghost use Rattle.instance_normal.specs.NormalForm.{IsNormalFormOf};
+ghost use Rattle.proof_rules.specs.Recording.{KeepsSurroundings};
+ghost use Rattle.oracle.specs.declared.fault.OracleFault.TheVariants.{Spent};
+ghost use Rattle.sum_outputs.specs.Adding.{seen, IsReady};
+ghost use Rattle.search_base.specs.Boards.{IsBoard, IsModelPair};
+ghost use Rattle.search_base.specs.Good.{IsGood, KeepsBoard};
+ghost use Rattle.search_base.specs.Logged.{LogsNone, logged};
+ghost use Rattle.search_base.specs.Turns.{IsEndLine};
+ghost use Rattle.certified_front.specs.Certified.{CoversLogged, IsEnding};
+ghost use Rattle.certified_front.specs.Stopping.{IsStop, StaysWith};
+
+use crate::{Ending, Found};
+use front_set::Entry;
+use instance::{Instance, listed};
+use oracle::{Oracle, OracleFault};
+use p_minimal::PMinimal;
+use pb_lin::PbProblem;
+use proof_laws::Line;
+use scut_base::NoMemory;
+use search_base::{Board, Bounds, beginning_is_good, logged_is_reached, run_search};
+use search_lines::learned_is_counted;
+use std::alloc::Global;
+
+/// Searches for the front of an instance over an oracle without lines, which it leaves with a proof.
+/// `Complete` where the proof has ended, `Incomplete` where the oracle's limit of learned clauses was
+/// reached. A fault of the oracle is handed on.
+pub fn certified_front<O: Oracle>(
+    alloc: Global,
+    oracle: &mut O,
+    problem: &PbProblem,
+    inst: &Instance,
+) -> Result<Found, OracleFault>
+    requires normal { IsNormalFormOf inst.now problem.now }
+    requires problem { O.problem oracle.old ≡ problem.now }
+    requires begun { O.lines oracle.old ≡ [] }
+    requires whole { O.broken oracle.old ≡ false }
+    ensures covers { IfOk result
+        (λ found. CoversLogged inst.now problem.now (O.lines oracle.new) found.entries.items) }
+    ensures ending { IfOk result
+        (λ found. IsEnding (O.limit oracle.old) problem.now (O.lines oracle.new) found.ending) }
+    ensures whole { OnOk result (O.broken oracle.new ≡ false) }
+    ensures failed { IsErrOf result OracleFault.Failed
+        → Rose (O.faults oracle.old) (O.faults oracle.new) }
+    ensures full { IsErrOf result OracleFault.Full → length (O.lines oracle.new) ≡ 2 ^ 61 }
+    ensures never_spent { IfErr result (λ f. (n : ℕ) → f ≢ Spent n) }
+    ensures problem { O.problem oracle.new ≡ O.problem oracle.old }
+    ensures later { O.faults oracle.old ≤ O.faults oracle.new }
+    ensures around { KeepsSurroundings (O.around oracle.old) (O.around oracle.new) }
+{
+    beginning_is_good();
+    logged_is_reached();
+    // Tells that the problem is within its limits.
+    let _vars = problem.vars();
+    let mut bounds = Bounds::new(alloc, problem)?;
+    let mut board = Board::new(alloc, problem, inst);
+    let ending = search_to_the_end(alloc, oracle, &mut bounds, &mut board)?;
+    let entries = listed_models(alloc, inst, &board)?;
+    Ok(Found { entries, ending })
+}
+
+// The board's models with their costs, as a list shows them.
+fn listed_models(alloc: Global, inst: &Instance, board: &Board<'_>) -> Result<Vec<Entry>, NoMemory>
+    requires { All (IsModelPair inst.now) board.now.entries }
+    ensures same { IfOk result
+        (λ v. IsPermutation (map (listed_entry inst.now) board.now.entries) v.items) }
+    ensures rising { IfOk result (λ v. AreRising (vectors_of v.items)) }
+{
+    listed(alloc, inst, board.front())
+}
+
+// Searches until nothing is left, and then ends the proof; or until all clauses that may be learned
+// are spent.
+fn search_to_the_end<O: Oracle>(
+    alloc: Global,
+    oracle: &mut O,
+    bounds: &mut Bounds,
+    board: &mut Board<'_>,
+) -> Result<Ending, OracleFault>
+    requires { IsGood (seen O.problem O.limit O.lines O.faults O.broken O.around oracle.old) bounds.old board.old }
+    ensures ending { IfOk result
+        (IsEnding (O.limit oracle.old) (O.problem oracle.new) (O.lines oracle.new)) }
+    ensures whole { OnOk result (O.broken oracle.new ≡ false) }
+    ensures entries { OnOk result
+        (IsBoard board.new (logged (O.problem oracle.new) (O.lines oracle.new))) }
+    ensures stop { IfErr result (IsStop (seen O.problem O.limit O.lines O.faults O.broken O.around oracle.old)
+        (seen O.problem O.limit O.lines O.faults O.broken O.around oracle.new)) }
+    ensures stays { StaysWith (seen O.problem O.limit O.lines O.faults O.broken O.around oracle.old)
+        (seen O.problem O.limit O.lines O.faults O.broken O.around oracle.new) }
+    ensures board { KeepsBoard board.old board.new }
+{
+    learned_is_counted();
+    let mut search = PMinimal::new(alloc);
+    match run_search(oracle, bounds, board, &mut search) {
+        Ok(id) => end_proof(oracle, id),
+        Err(OracleFault::Spent { learned }) => Ok(Ending::Incomplete { learned }),
+        Err(fault) => Err(fault),
+    }
+}
+
+// Ends the proof by a live line `0 >= 1`.
+fn end_proof<O: Oracle>(oracle: &mut O, id: u64) -> Result<Ending, OracleFault>
+    requires ready { IsReady (seen O.problem O.limit O.lines O.faults O.broken O.around oracle.old) }
+    requires line { IsEndLine (O.problem oracle.old) (O.lines oracle.old) id }
+    ensures ending { IfOk result
+        (IsEnding (O.limit oracle.old) (O.problem oracle.new) (O.lines oracle.new)) }
+    ensures whole { OnOk result (O.broken oracle.new ≡ false) }
+    ensures logged { LogsNone (O.problem oracle.old) (O.lines oracle.old) (O.lines oracle.new) }
+    ensures stop { IfErr result (IsStop (seen O.problem O.limit O.lines O.faults O.broken O.around oracle.old)
+        (seen O.problem O.limit O.lines O.faults O.broken O.around oracle.new)) }
+    ensures stays { StaysWith (seen O.problem O.limit O.lines O.faults O.broken O.around oracle.old)
+        (seen O.problem O.limit O.lines O.faults O.broken O.around oracle.new) }
+{
+    // Tells that ids are below the next one.
+    let _vars = oracle.state().vars();
+    match oracle.add_line(&Line::End { id }) {
+        Ok(_) => {
+            // Tells that the lines still reach a state.
+            let _state = oracle.state();
+            Ok(Ending::Complete)
+        }
+        Err(fault) => Err(OracleFault::from(fault)),
+    }
+}

@@ -1,0 +1,12 @@
+//! The front of an instance by search, with a proof.
+//!
+//! Its public contract: what `certified_front` calls complete is a list of models with their costs,
+//! and a proof that has ended and whose logged vectors they cover; so the list is the front, by the
+//! checker's law, and whatever order the search had.
+#![tactic(auto)]
+
+mod certifying;
+mod ending;
+
+pub use certifying::certified_front;
+pub use ending::{Ending, Found};
