@@ -25,7 +25,7 @@ use Rattle.scuttle_cli.specs.Statuses.{status_of_shelf}
 use Rattle.scuttle_cli.specs.Stops.{IsListStop, IsLogStop}
 use Rattle.scuttle_cli.specs.declared.instance_file.Format.{Format}
 use Rattle.scuttle_cli.specs.declared.status.Status.{Status}
-use Rattle.scuttle_cli.specs.declared.status.Status.TheVariants.{Complete, Accepted, Refused, Usage, BadInput, TooLarge, NoMemory, ShelfFailed}
+use Rattle.scuttle_cli.specs.declared.status.Status.TheVariants.{Complete, Incomplete, LogFull, Accepted, Refused, Usage, BadInput, TooLarge, NoMemory, ShelfFailed}
 
 -- what is so of the instance that IN spells
 of_instance : (files : Option Files) (format : Format) (input : List ℕ) (i : InstanceValue) (P : InstanceValue → Type 0) → HasText files input (IsTextOf format i) → P i → OfInstance files format input P
@@ -38,6 +38,8 @@ nothing_said before after format input list log files said = record { files = fi
 -- the list isn't read, or isn't right
 pub list_stopped : (status : Status) (before after : World) (format : Format) (input list log : List ℕ) (i : InstanceValue) → HasText before.files input (IsTextOf format i) → IsListStop i list status before.files before.faults after.faults → after.files ≡ before.files → after.said ≡ before.said → CheckAnswers format input list log status before after
 list_stopped (Complete size) before after format input list log i read stop files said = absurd stop
+list_stopped (Incomplete size learned) before after format input list log i read stop files said = absurd stop
+list_stopped (LogFull lines) before after format input list log i read stop files said = absurd stop
 list_stopped Accepted before after format input list log i read stop files said = absurd stop
 list_stopped (Refused (ListRefused k why)) before after format input list log i read stop files said = record { cause = of_instance before.files format input i _ read stop; files = files; said = said }
 list_stopped (Refused fault) before after format input list log i read stop files said = absurd stop
@@ -97,6 +99,8 @@ of_log files format input list log i entries p vectors P known stop =
 -- the log isn't read, or isn't accepted
 pub log_stopped : (status : Status) (before after : World) (format : Format) (input list log : List ℕ) (i : InstanceValue) (entries : List Entry) (p : ProblemValue) (vectors : List (List ℤ)) → IsListed before.files format input list i entries p vectors → IsLogStop p vectors log status before.files before.faults after.faults → after.files ≡ before.files → after.said ≡ before.said → CheckAnswers format input list log status before after
 log_stopped (Complete size) before after format input list log i entries p vectors known stop files said = absurd stop
+log_stopped (Incomplete size learned) before after format input list log i entries p vectors known stop files said = absurd stop
+log_stopped (LogFull lines) before after format input list log i entries p vectors known stop files said = absurd stop
 log_stopped Accepted before after format input list log i entries p vectors known stop files said = absurd stop
 log_stopped (Refused (LineRefused k why)) before after format input list log i entries p vectors known stop files said = record { cause = of_log before.files format input list log i entries p vectors _ known stop; files = files; said = said }
 log_stopped (Refused fault) before after format input list log i entries p vectors known stop files said = absurd stop
@@ -133,6 +137,8 @@ reading_earlier before mid after name later rose = let fell = later Read name in
 
 pub list_stop_earlier : (status : Status) (files now : Option Files) (before mid after : Faults) (i : InstanceValue) (list : List ℕ) → now ≡ files → NoneFell before mid → IsListStop i list status now mid after → IsListStop i list status files before after
 list_stop_earlier (Complete size) files now before mid after i list same later stop = stop
+list_stop_earlier (Incomplete size learned) files now before mid after i list same later stop = stop
+list_stop_earlier (LogFull lines) files now before mid after i list same later stop = stop
 list_stop_earlier Accepted files now before mid after i list same later stop = stop
 list_stop_earlier (Refused (ListRefused k why)) files now before mid after i list same later stop = subst (λ (fs : Option Files). HasText fs list (λ listed. (length listed < 2 ^ 32) × IsListFault i listed k why)) same stop
 list_stop_earlier (Refused fault) files now before mid after i list same later stop = absurd stop
@@ -145,6 +151,8 @@ list_stop_earlier ShelfFailed files now before mid after i list same later stop 
 
 pub log_stop_earlier : (status : Status) (files now : Option Files) (before mid after : Faults) (p : ProblemValue) (vectors : List (List ℤ)) (log : List ℕ) → now ≡ files → NoneFell before mid → IsLogStop p vectors log status now mid after → IsLogStop p vectors log status files before after
 log_stop_earlier (Complete size) files now before mid after p vectors log same later stop = stop
+log_stop_earlier (Incomplete size learned) files now before mid after p vectors log same later stop = stop
+log_stop_earlier (LogFull lines) files now before mid after p vectors log same later stop = stop
 log_stop_earlier Accepted files now before mid after p vectors log same later stop = stop
 log_stop_earlier (Refused (LineRefused k why)) files now before mid after p vectors log same later stop = subst (λ (fs : Option Files). HasText fs log (λ bytes. IsTakenFault bytes k why p vectors)) same stop
 log_stop_earlier (Refused fault) files now before mid after p vectors log same later stop = absurd stop

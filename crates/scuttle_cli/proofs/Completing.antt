@@ -1,4 +1,4 @@
--- Where the front is written.
+-- Where a command completes.
 use Rattle.std.proofs.Common.{◌≡◌, ℕ, zero, ◌<◌, ◌≤◌, ◌^◌, List, length, inl, inr, sym, ◌∙◌, ap, subst, arith}
 use Rattle.std.specs.Prelude.{Option, Some, None}
 use Rattle.std.proofs.lemmas.Option.{none-some}
@@ -10,15 +10,16 @@ use Rattle.instance.specs.declared.fault.InstanceLimit.TheVariants.{Bytes, Vars}
 use Rattle.instance.specs.declared.fault.ReadFault.{ReadFault}
 use Rattle.instance.specs.declared.fault.ReadFault.TheVariants.{Bad, Limit}
 use Rattle.scuttle_cli.specs.World.{World}
-use Rattle.scuttle_cli.specs.Command.{Request, FrontOf, CheckOf}
+use Rattle.scuttle_cli.specs.Command.{Request, FrontOf, SolveOf, CheckOf}
 use Rattle.scuttle_cli.specs.InstanceFile.{IsTextOf, HasFault, HasFewVariables, HasManyVariables}
 use Rattle.scuttle_cli.specs.Answers.{Answers, Completes}
 use Rattle.scuttle_cli.specs.FrontAnswers.{FrontAnswers, FrontCompletes}
+use Rattle.scuttle_cli.specs.SolveAnswers.{SolveAnswers, SolveCompletes}
 use Rattle.scuttle_cli.specs.Causes.{HasText}
 use Rattle.scuttle_cli.specs.CheckAnswers.{CheckAnswers, CheckCompletes, AreCheckable, HasLargeFile}
 use Rattle.scuttle_cli.specs.declared.instance_file.Format.{Format}
 use Rattle.scuttle_cli.specs.declared.status.Status.{Status}
-use Rattle.scuttle_cli.specs.declared.status.Status.TheVariants.{Complete, Accepted, Refused, Usage, BadInput, TooLarge, NoMemory, ShelfFailed}
+use Rattle.scuttle_cli.specs.declared.status.Status.TheVariants.{Complete, Incomplete, LogFull, Accepted, Refused, Usage, BadInput, TooLarge, NoMemory, ShelfFailed}
 use Rattle.scuttle_cli.proofs.InstanceFiles.{no_fault_spelled, one_in}
 
 -- what is said of the file's text, where this is the text
@@ -38,6 +39,8 @@ few_not_many format text few many =
 
 front_completes : (format : Format) (input list : List ℕ) (status : Status) (before after : World) → FrontAnswers format input list status before after → FrontCompletes format input list status before after
 front_completes format input list (Complete size) before after was text there few quiet = tt
+front_completes format input list (Incomplete size learned) before after was text there few quiet = was
+front_completes format input list (LogFull lines) before after was text there few quiet = was
 front_completes format input list Accepted before after was text there few quiet = was
 front_completes format input list (Refused fault) before after was text there few quiet = was
 front_completes format input list Usage before after was text there few quiet = was
@@ -55,8 +58,8 @@ front_completes format input list ShelfFailed before after was text there few qu
 -- ---- `check`
 
 -- a text that spells an instance has no fault
-no_check_fault : (format : Format) (text : List ℕ) (i : InstanceValue) (fault : ReadFault) → IsTextOf format i text → HasFault format fault text → ⊥
-no_check_fault format text i fault spelled has = none-some fault (sym (no_fault_spelled format text i spelled.spelled) ∙ has.first)
+no_fault : (format : Format) (text : List ℕ) (i : InstanceValue) (fault : ReadFault) → IsTextOf format i text → HasFault format fault text → ⊥
+no_fault format text i fault spelled has = none-some fault (sym (no_fault_spelled format text i spelled.spelled) ∙ has.first)
 
 -- a file that is there is no larger than it is
 not_larger : (files : Option Files) (name text : List ℕ) (n : ℕ) → content files name ≡ Some text → length text < n → HasText files name (λ bytes. n ≤ length bytes) → ⊥
@@ -75,18 +78,40 @@ none_is_large files format input list log are (inr (inr of)) =
 
 check_completes : (format : Format) (input list log : List ℕ) (status : Status) (before after : World) → CheckAnswers format input list log status before after → CheckCompletes format input list log status before after
 check_completes format input list log (Complete size) before after was are quiet = was
+check_completes format input list log (Incomplete size learned) before after was are quiet = was
+check_completes format input list log (LogFull lines) before after was are quiet = was
 check_completes format input list log Accepted before after was are quiet = tt
 check_completes format input list log (Refused fault) before after was are quiet = tt
 check_completes format input list log Usage before after was are quiet = was
 check_completes format input list log (BadInput line kind) before after was are quiet =
-    no_check_fault format are.text are.instance _ are.spelled (of_text before.files input are.text (HasFault format (Bad line kind)) are.there was.cause)
+    no_fault format are.text are.instance _ are.spelled (of_text before.files input are.text (HasFault format (Bad line kind)) are.there was.cause)
 check_completes format input list log (TooLarge zero Bytes) before after was are quiet = none_is_large before.files format input list log are was.cause
 check_completes format input list log (TooLarge line which) before after was are quiet =
-    no_check_fault format are.text are.instance _ are.spelled (of_text before.files input are.text (HasFault format (Limit line which)) are.there was.cause)
+    no_fault format are.text are.instance _ are.spelled (of_text before.files input are.text (HasFault format (Limit line which)) are.there was.cause)
 check_completes format input list log NoMemory before after was are quiet = tt
 check_completes format input list log ShelfFailed before after was are quiet = quiet was.1
+
+-- ---- `solve`
+
+solve_completes : (format : Format) (input list log : List ℕ) (limit : Option ℕ) (status : Status) (before after : World) → SolveAnswers format input list log limit status before after → SolveCompletes format input list log limit status before after
+solve_completes format input list log limit (Complete size) before after was text i there spelled quiet = tt
+solve_completes format input list log None (Incomplete size learned) before after was text i there spelled quiet = absurd (none-some learned was.found.ending.limit)
+solve_completes format input list log (Some n) (Incomplete size learned) before after was text i there spelled quiet = tt
+solve_completes format input list log limit (LogFull lines) before after was text i there spelled quiet = tt
+solve_completes format input list log limit Accepted before after was text i there spelled quiet = was
+solve_completes format input list log limit (Refused fault) before after was text i there spelled quiet = was
+solve_completes format input list log limit Usage before after was text i there spelled quiet = was
+solve_completes format input list log limit (BadInput line kind) before after was text i there spelled quiet =
+    no_fault format text i _ spelled (of_text before.files input text (HasFault format (Bad line kind)) there was.cause)
+solve_completes format input list log limit (TooLarge zero Bytes) before after was text i there spelled quiet =
+    not_larger before.files input text (2 ^ 32) there spelled.taken was.cause
+solve_completes format input list log limit (TooLarge line which) before after was text i there spelled quiet =
+    no_fault format text i _ spelled (of_text before.files input text (HasFault format (Limit line which)) there was.cause)
+solve_completes format input list log limit NoMemory before after was text i there spelled quiet = tt
+solve_completes format input list log limit ShelfFailed before after was text i there spelled quiet = quiet was.1
 
 pub completes : (request : Option Request) (status : Status) (before after : World) → Answers request status before after → Completes request status before after
 completes None status before after was = tt
 completes (Some (FrontOf format input list)) status before after was = front_completes format input list status before after was
+completes (Some (SolveOf format input list log limit)) status before after was = solve_completes format input list log limit status before after was
 completes (Some (CheckOf format input list log)) status before after was = check_completes format input list log status before after was

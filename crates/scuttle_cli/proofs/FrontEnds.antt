@@ -26,7 +26,7 @@ no_entries [] none = refl
 no_entries (e ∷ entries) none = absurd cc
 
 -- the list of the front is empty exactly where there is no model
-size_zero : (i : InstanceValue) (entries : List Entry) → IsFront i entries → (length entries ≡ 0) ↔ HasNoModel i
+pub size_zero : (i : InstanceValue) (entries : List Entry) → IsFront i entries → (length entries ≡ 0) ↔ HasNoModel i
 size_zero i entries front =
     let law = empty_exactly i entries front in
     (λ none. law.0 (no_entries entries none), λ none. ap length (law.1 none))

@@ -18,7 +18,7 @@ use Rattle.scuttle_cli.specs.FrontAnswers.{FrontAnswers}
 use Rattle.scuttle_cli.specs.CheckAnswers.{CheckAnswers}
 use Rattle.scuttle_cli.specs.declared.instance_file.Format.{Format}
 use Rattle.scuttle_cli.specs.declared.status.Status.{Status}
-use Rattle.scuttle_cli.specs.declared.status.Status.TheVariants.{Complete, Accepted, Refused, Usage, BadInput, TooLarge, NoMemory, ShelfFailed}
+use Rattle.scuttle_cli.specs.declared.status.Status.TheVariants.{Complete, Incomplete, LogFull, Accepted, Refused, Usage, BadInput, TooLarge, NoMemory, ShelfFailed}
 use Rattle.scuttle_cli.proofs.InstanceFiles.{limit_has_line}
 use Rattle.scuttle_cli.proofs.FrontEnds.{nothing_done}
 
@@ -36,6 +36,8 @@ input_shelf ShelfNoMemory files before after format input rose = tt
 -- what `front` answers
 pub front_stopped : (status : Status) (before after : World) (format : Format) (input list : List ℕ) → IsInputStop format input status before.files before.faults after.faults → after.files ≡ before.files → after.said ≡ before.said → FrontAnswers format input list status before after
 front_stopped (Complete size) before after format input list stop files said = absurd stop
+front_stopped (Incomplete size learned) before after format input list stop files said = absurd stop
+front_stopped (LogFull lines) before after format input list stop files said = absurd stop
 front_stopped Accepted before after format input list stop files said = absurd stop
 front_stopped (Refused fault) before after format input list stop files said = absurd stop
 front_stopped Usage before after format input list stop files said = absurd stop
@@ -49,6 +51,8 @@ front_stopped ShelfFailed before after format input list stop files said = (noth
 -- what `check` answers
 pub check_stopped : (status : Status) (before after : World) (format : Format) (input list log : List ℕ) → IsInputStop format input status before.files before.faults after.faults → after.files ≡ before.files → after.said ≡ before.said → CheckAnswers format input list log status before after
 check_stopped (Complete size) before after format input list log stop files said = absurd stop
+check_stopped (Incomplete size learned) before after format input list log stop files said = absurd stop
+check_stopped (LogFull lines) before after format input list log stop files said = absurd stop
 check_stopped Accepted before after format input list log stop files said = absurd stop
 check_stopped (Refused fault) before after format input list log stop files said = absurd stop
 check_stopped Usage before after format input list log stop files said = absurd stop

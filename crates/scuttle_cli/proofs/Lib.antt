@@ -7,8 +7,11 @@ pub mod InstanceFiles
 pub mod OwnFaults
 pub mod FrontEnds
 pub mod Commands
+pub mod LearnLimits
 pub mod InputStops
 pub mod CheckEnds
 pub mod LogFed
 pub mod Answered
 pub mod Completing
+pub mod SearchedLogs
+pub mod SolveEnds

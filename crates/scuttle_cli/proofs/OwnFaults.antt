@@ -4,8 +4,9 @@ use Rattle.scut_base.specs.Faults.{Faults, Rose, NoneFell}
 use Rattle.scut_base.specs.declared.shelf.ShelfCall.TheVariants.{Read, Begin, Append, Say}
 use Rattle.scuttle_cli.specs.FrontAnswers.{OwnCountRose}
 use Rattle.scuttle_cli.specs.CheckAnswers.{OwnCountRose as CheckCountRose}
+use Rattle.scuttle_cli.specs.SolveAnswers.{OwnCountRose as SolveCountRose}
 
-rose_at_last : (a b c : ℕ) → a ≤ b → Rose b c → Rose a c
+pub rose_at_last : (a b c : ℕ) → a ≤ b → Rose b c → Rose a c
 rose_at_last a b c earlier rose = omega arith
 
 rose_at_first : (a b c : ℕ) → Rose a b → b ≤ c → Rose a c
@@ -34,3 +35,11 @@ check_rose_at_first before mid now input list log (inl reading) later = inl (ros
 check_rose_at_first before mid now input list log (inr (inl reading)) later = inr (inl (rose_at_first _ _ _ reading (later Read list)))
 check_rose_at_first before mid now input list log (inr (inr (inl reading))) later = inr (inr (inl (rose_at_first _ _ _ reading (later Read log))))
 check_rose_at_first before mid now input list log (inr (inr (inr saying))) later = inr (inr (inr (rose_at_first _ _ _ saying (later Say []))))
+
+pub solve_rose_at_first : (before mid now : Faults) (input list log : List ℕ) → SolveCountRose before mid input list log → NoneFell mid now → SolveCountRose before now input list log
+solve_rose_at_first before mid now input list log (inl reading) later = inl (rose_at_first _ _ _ reading (later Read input))
+solve_rose_at_first before mid now input list log (inr (inl (inl beginning))) later = inr (inl (inl (rose_at_first _ _ _ beginning (later Begin log))))
+solve_rose_at_first before mid now input list log (inr (inl (inr appending))) later = inr (inl (inr (rose_at_first _ _ _ appending (later Append log))))
+solve_rose_at_first before mid now input list log (inr (inr (inl (inl beginning)))) later = inr (inr (inl (inl (rose_at_first _ _ _ beginning (later Begin list)))))
+solve_rose_at_first before mid now input list log (inr (inr (inl (inr appending)))) later = inr (inr (inl (inr (rose_at_first _ _ _ appending (later Append list)))))
+solve_rose_at_first before mid now input list log (inr (inr (inr saying))) later = inr (inr (inr (rose_at_first _ _ _ saying (later Say []))))

@@ -2,8 +2,9 @@
 use Rattle.std.specs.Prelude.{Option, Some, None}
 use Rattle.scuttle_cli.specs.World.{World}
 use Rattle.scuttle_cli.specs.Causes.{IsUntouched}
-use Rattle.scuttle_cli.specs.Command.{Request, FrontOf, CheckOf}
+use Rattle.scuttle_cli.specs.Command.{Request, FrontOf, SolveOf, CheckOf}
 use Rattle.scuttle_cli.specs.FrontAnswers.{FrontAnswers, FrontCompletes}
+use Rattle.scuttle_cli.specs.SolveAnswers.{SolveAnswers, SolveCompletes}
 use Rattle.scuttle_cli.specs.CheckAnswers.{CheckAnswers, CheckCompletes}
 use Rattle.scuttle_cli.specs.declared.status.Status.{Status}
 use Rattle.scuttle_cli.specs.declared.status.Status.TheVariants.{Usage, NoMemory}
@@ -19,9 +20,11 @@ UsageAnswers status before after = ⊥
 abbrev pub Answers : Option Request → Status → World → World → Type 0
 Answers None status before after = UsageAnswers status before after
 Answers (Some (FrontOf format input list)) status before after = FrontAnswers format input list status before after
+Answers (Some (SolveOf format input list log limit)) status before after = SolveAnswers format input list log limit status before after
 Answers (Some (CheckOf format input list log)) status before after = CheckAnswers format input list log status before after
 
 abbrev pub Completes : Option Request → Status → World → World → Type 0
 Completes None status before after = Unit {0}
 Completes (Some (FrontOf format input list)) status before after = FrontCompletes format input list status before after
+Completes (Some (SolveOf format input list log limit)) status before after = SolveCompletes format input list log limit status before after
 Completes (Some (CheckOf format input list log)) status before after = CheckCompletes format input list log status before after

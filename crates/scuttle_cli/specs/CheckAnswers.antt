@@ -22,7 +22,7 @@ use Rattle.scuttle_cli.specs.InstanceFile.{IsTextOf, HasFault}
 use Rattle.scuttle_cli.specs.Messages.{accepted_line}
 use Rattle.scuttle_cli.specs.declared.instance_file.Format.{Format}
 use Rattle.scuttle_cli.specs.declared.status.Status.{Status}
-use Rattle.scuttle_cli.specs.declared.status.Status.TheVariants.{Complete, Accepted, Refused, Usage, BadInput, TooLarge, NoMemory, ShelfFailed}
+use Rattle.scuttle_cli.specs.declared.status.Status.TheVariants.{Complete, Incomplete, LogFull, Accepted, Refused, Usage, BadInput, TooLarge, NoMemory, ShelfFailed}
 
 -- ---- what the three files hold
 
@@ -101,9 +101,11 @@ pub record IsCutOff (before after : World) (format : Format) (input list log : L
   pub files : after.files ≡ before.files
   pub said : (after.said ≡ before.said) ⊎ IsPartlyAccepted before after format input list log
 
--- The table. No two causes of a refusal hold of the same files. `check` never answers Complete or Usage.
+-- The table. No two causes of a refusal hold of the same files. `check` never answers what `solve` does, or Usage.
 abbrev pub CheckAnswers : Format → (input list log : List ℕ) → Status → World → World → Type 0
 CheckAnswers format input list log (Complete size) before after = ⊥
+CheckAnswers format input list log (Incomplete size learned) before after = ⊥
+CheckAnswers format input list log (LogFull lines) before after = ⊥
 CheckAnswers format input list log Accepted before after = IsAcceptedSaid before after format input list log
 CheckAnswers format input list log (Refused (LineRefused k why)) before after =
     HasCauseIn before after (OfLog before.files format input list log (λ i listed log. OfRightList i listed (IsTakenFault log k why)))

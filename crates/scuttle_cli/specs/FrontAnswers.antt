@@ -15,7 +15,7 @@ use Rattle.scuttle_cli.specs.InstanceFile.{IsTextOf, HasFault, HasFewVariables, 
 use Rattle.scuttle_cli.specs.Messages.{complete_line}
 use Rattle.scuttle_cli.specs.declared.instance_file.Format.{Format}
 use Rattle.scuttle_cli.specs.declared.status.Status.{Status}
-use Rattle.scuttle_cli.specs.declared.status.Status.TheVariants.{Complete, Accepted, Refused, Usage, BadInput, TooLarge, NoMemory, ShelfFailed}
+use Rattle.scuttle_cli.specs.declared.status.Status.TheVariants.{Complete, Incomplete, LogFull, Accepted, Refused, Usage, BadInput, TooLarge, NoMemory, ShelfFailed}
 
 -- The file holds this instance; it has at most 20 variables.
 pub record IsInstanceOf (files : Option Files) (format : Format) (input : List ℕ) (i : InstanceValue) : Type 0 where
@@ -73,10 +73,11 @@ pub record IsCutShort (before after : World) (format : Format) (input list : Lis
   pub said : (after.said ≡ before.said) ⊎ IsPartlySaid before after format input list
 
 -- The table. No two causes of a refusal hold of one text. Line 0 stands for the whole file, and only for what
--- is counted over all of it. `front` never answers Usage,
--- Accepted or Refused.
+-- is counted over all of it. `front` never answers Incomplete, LogFull, Usage, Accepted or Refused.
 abbrev pub FrontAnswers : Format → List ℕ → List ℕ → Status → World → World → Type 0
 FrontAnswers format input list (Complete size) before after = IsComplete before after format input list size
+FrontAnswers format input list (Incomplete size learned) before after = ⊥
+FrontAnswers format input list (LogFull lines) before after = ⊥
 FrontAnswers format input list Accepted before after = ⊥
 FrontAnswers format input list (Refused fault) before after = ⊥
 FrontAnswers format input list Usage before after = ⊥

@@ -12,14 +12,25 @@ use Rattle.instance.specs.declared.fault.InstanceLimit.{InstanceLimit}
 use Rattle.instance.specs.declared.fault.InstanceLimit.TheVariants.{Bytes, Vars, Weights, Row, Objectives}
 use Rattle.log_checker.specs.declared.fault.CheckFault.{CheckFault}
 use Rattle.log_checker.specs.declared.fault.CheckFault.TheVariants.{Refused as LineRefused, ListRefused, NoMemory as CheckNoMemory}
+use Rattle.certified_front.specs.declared.ending.Ending.{Ending}
+use Rattle.certified_front.specs.declared.ending.Ending.TheVariants.{Complete as EndingComplete, Incomplete as EndingIncomplete}
 use Rattle.scuttle_cli.specs.Refusals.{list_why_name, why_text}
 use Rattle.scuttle_cli.specs.World.{World}
 use Rattle.scuttle_cli.specs.declared.status.Status.{Status}
-use Rattle.scuttle_cli.specs.declared.status.Status.TheVariants.{Complete, Accepted, Refused, Usage, BadInput, TooLarge, NoMemory, ShelfFailed}
+use Rattle.scuttle_cli.specs.declared.status.Status.TheVariants.{Complete, Incomplete, LogFull, Accepted, Refused, Usage, BadInput, TooLarge, NoMemory, ShelfFailed}
 
 -- `complete n`
 abbrev pub complete_line : ℕ → List ℕ
 complete_line size = codes "complete " ++ decimal size ++ newline ∷ []
+
+-- `incomplete n after m`
+abbrev pub incomplete_line : ℕ → ℕ → List ℕ
+incomplete_line size learned = codes "incomplete " ++ decimal size ++ codes " after " ++ decimal learned ++ newline ∷ []
+
+-- what is said of a search that has ended so
+abbrev pub ending_line : ℕ → Ending → List ℕ
+ending_line size EndingComplete = complete_line size
+ending_line size (EndingIncomplete learned) = incomplete_line size learned
 
 -- `accepted`
 abbrev pub accepted_line : List ℕ
@@ -59,14 +70,16 @@ check_warning (LineRefused line why) = place_warning (codes "log line") line (wh
 check_warning (ListRefused entry why) = place_warning (codes "list entry") entry (list_why_name why)
 check_warning CheckNoMemory = codes "scuttle: no memory" ++ newline ∷ []
 
--- the line that is warned of each status; nothing is warned of Complete and Accepted
+-- the line that is warned of each status; nothing is warned of what is said
 abbrev pub warning_text : Status → List ℕ
 warning_text (Complete size) = []
+warning_text (Incomplete size learned) = []
 warning_text Accepted = []
 warning_text (Refused fault) = check_warning fault
 warning_text Usage = codes "scuttle: usage" ++ newline ∷ []
 warning_text (BadInput line kind) = place_warning (codes "line") line (kind_name kind)
 warning_text (TooLarge line which) = place_warning (codes "line") line (codes "too large: " ++ limit_name which)
+warning_text (LogFull lines) = codes "scuttle: log full" ++ newline ∷ []
 warning_text NoMemory = codes "scuttle: no memory" ++ newline ∷ []
 warning_text ShelfFailed = codes "scuttle: file fault" ++ newline ∷ []
 

@@ -16,6 +16,8 @@ mod log_file;
 mod messages;
 mod refusals;
 mod running;
+mod searching;
+mod solve_command;
 mod status;
 mod whole_file;
 

@@ -2,10 +2,11 @@
 ghost use Rattle.std.specs.Prelude.{◌≡◌, ◌++◌, [], codes, IfOk, OnOk, OnErr};
 ghost use Rattle.scut_base.specs.Faults.{HasCause};
 ghost use Rattle.scut_base.specs.Files.{followed, IsPartlyFollowed};
-ghost use Rattle.scuttle_cli.specs.Messages.{accepted_line, check_warning, complete_line, kind_name, limit_name, place_warning, warning_text};
+ghost use Rattle.scuttle_cli.specs.Messages.{accepted_line, check_warning, complete_line, ending_line, incomplete_line, kind_name, limit_name, place_warning, warning_text};
 
 use crate::Status;
 use crate::refusals::{list_why_name, why_text};
+use certified_front::Ending;
 use instance::{BadKind, InstanceLimit};
 use itoa::Buffer;
 use log_checker::CheckFault;
@@ -26,6 +27,30 @@ pub fn say_complete<H: Shelf>(alloc: Global, size: usize, shelf: &mut H) -> Resu
     shelf.say(line.as_slice())
 }
 
+/// Says how a search has ended, and how many models it has.
+pub fn say_ending<H: Shelf>(
+    alloc: Global,
+    size: usize,
+    ending: Ending,
+    shelf: &mut H,
+) -> Result<(), ShelfFault>
+    ensures said { OnOk result
+        (H.said shelf.new ≡ followed (H.said shelf.old) (ending_line size ending)) }
+    ensures cut { OnErr result
+        (IsPartlyFollowed (H.said shelf.old) (H.said shelf.new) (ending_line size ending)) }
+    ensures files { H.files shelf.new ≡ H.files shelf.old }
+    ensures warned { H.warned shelf.new ≡ H.warned shelf.old }
+    ensures cause { HasCause ShelfCall.Say [] (H.faults shelf.old) (H.faults shelf.new) result }
+{
+    match ending {
+        Ending::Complete => say_complete(alloc, size, shelf),
+        Ending::Incomplete { learned } => {
+            let line = incomplete_line(alloc, size, learned)?;
+            shelf.say(line.as_slice())
+        }
+    }
+}
+
 /// Says that list and log are accepted.
 pub fn say_accepted<H: Shelf>(shelf: &mut H) -> Result<(), ShelfFault>
     ensures said { OnOk result
@@ -39,7 +64,7 @@ pub fn say_accepted<H: Shelf>(shelf: &mut H) -> Result<(), ShelfFault>
     shelf.say(b"accepted\n")
 }
 
-/// Warns of a status by its line, and of Complete and Accepted by nothing. The caller decides what a warning that
+/// Warns of a status by its line, and of Complete, Incomplete and Accepted by nothing. The caller decides what a warning that
 /// fails means.
 pub fn warn_of<H: Shelf>(alloc: Global, status: Status, shelf: &mut H) -> Result<(), ShelfFault>
     ensures warned { OnOk result
@@ -67,18 +92,33 @@ fn complete_line(alloc: Global, size: usize) -> Result<Items<u8>, NoMemory>
     Ok(Items::from_vec(line))
 }
 
-// The line that is warned of a status; empty for Complete and Accepted.
+// `incomplete n after m`
+fn incomplete_line(alloc: Global, size: usize, learned: u64) -> Result<Items<u8>, NoMemory>
+    ensures { IfOk result (λ line. line ≡ incomplete_line size learned) }
+{
+    let mut line = Vec::from_slice(alloc, b"incomplete ")?;
+    line.extend_from_slice(Buffer::new().format(size).as_bytes())?;
+    line.extend_from_slice(b" after ")?;
+    line.extend_from_slice(Buffer::new().format(learned).as_bytes())?;
+    line.push(b'\n')?;
+    Ok(Items::from_vec(line))
+}
+
+// The line that is warned of a status; empty where something is said instead.
 fn warning_text(alloc: Global, status: Status) -> Result<Items<u8>, NoMemory>
     ensures { IfOk result (λ line. line ≡ warning_text status) }
 {
     match status {
-        Status::Complete { .. } | Status::Accepted => Ok(Items::new(alloc)),
+        Status::Complete { .. } | Status::Incomplete { .. } | Status::Accepted => {
+            Ok(Items::new(alloc))
+        }
         Status::Refused(fault) => check_warning(alloc, fault),
         Status::Usage => plain_warning(alloc, "scuttle: usage\n"),
         Status::BadInput { line, kind } => {
             place_warning(alloc, "line", line, kind_name(kind).as_bytes())
         }
         Status::TooLarge { line, which } => limit_warning(alloc, line, limit_name(which)),
+        Status::LogFull { .. } => plain_warning(alloc, "scuttle: log full\n"),
         Status::NoMemory => plain_warning(alloc, "scuttle: no memory\n"),
         Status::ShelfFailed => plain_warning(alloc, "scuttle: file fault\n"),
     }

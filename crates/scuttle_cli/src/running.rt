@@ -12,10 +12,11 @@ use crate::check_command::check;
 use crate::command::{Command, read_command};
 use crate::front_command::front;
 use crate::messages::warn_of;
+use crate::solve_command::solve;
 use scut_base::{Shelf, ShelfFault};
 use std::alloc::Global;
 
-/// Runs the command that the words ask for, and warns of a status that is neither Complete nor Accepted; the words are
+/// Runs the command that the words ask for, and warns of a status of which nothing is said; the words are
 /// those of the command line without the program's name. A warning that fails changes no status.
 pub fn run<H: Shelf>(alloc: Global, words: &[String], shelf: &mut H) -> Status
     ensures usage { result ≢ Status.NoMemory
@@ -69,6 +70,13 @@ fn answer<H: Shelf>(alloc: Global, words: &[String], shelf: &mut H) -> Status
             input,
             list,
         } => Status::of(front(alloc, format, input, list, shelf)),
+        Command::Solve {
+            format,
+            input,
+            list,
+            log,
+            limit,
+        } => Status::of_solving(solve(alloc, format, input, list, log, limit, shelf)),
         Command::Check {
             format,
             input,

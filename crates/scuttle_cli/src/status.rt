@@ -1,9 +1,12 @@
 // How a run ends.
 ghost use Rattle.std.specs.Prelude.{◌≡◌};
-ghost use Rattle.scuttle_cli.specs.Statuses.{accepted_or, status_number, status_of};
+ghost use Rattle.scuttle_cli.specs.Statuses.{accepted_or, solved_or, status_number, status_of};
 
+use certified_front::Ending;
 use instance::{BadKind, InstanceLimit, ReadFault};
 use log_checker::CheckFault;
+use oracle::OracleFault;
+use proof_rules::RecordFault;
 use scut_base::{NoMemory, ShelfFault};
 
 /// How a run ends.
@@ -11,6 +14,10 @@ use scut_base::{NoMemory, ShelfFault};
 pub enum Status {
     /// The whole front was written; it has `size` vectors.
     Complete { size: u64 },
+    /// So many clauses were learned as may be; a list of `size` models was written.
+    Incomplete { size: u64, learned: u64 },
+    /// The log has as many lines as it may.
+    LogFull { lines: u64 },
     /// List and log are accepted.
     Accepted,
     /// The list or the log isn't accepted.
@@ -38,6 +45,17 @@ impl Status {
         }
     }
 
+    /// The status of a search that wrote a list of this size and ended so, or that has another end.
+    pub fn of_solving(outcome: Result<(u64, Ending), Status>) -> Status
+        ensures { result ≡ solved_or outcome }
+    {
+        match outcome {
+            Ok((size, Ending::Complete)) => Status::Complete { size },
+            Ok((size, Ending::Incomplete { learned })) => Status::Incomplete { size, learned },
+            Err(status) => status,
+        }
+    }
+
     /// The status of a check that accepts, or that ended so.
     pub fn of_check(outcome: Result<(), Status>) -> Status
         ensures { result ≡ accepted_or outcome }
@@ -54,6 +72,8 @@ impl Status {
     {
         match self {
             Status::Complete { .. } => 0,
+            Status::Incomplete { .. } => 10,
+            Status::LogFull { .. } => 67,
             Status::Accepted => 0,
             Status::Refused(_) => 11,
             Status::Usage => 64,
@@ -101,6 +121,37 @@ impl From<ReadFault> for Status {
             ReadFault::Bad { line, kind } => Status::BadInput { line, kind },
             ReadFault::Limit { line, which } => Status::TooLarge { line, which },
             ReadFault::NoMemory => Status::NoMemory,
+        }
+    }
+}
+
+impl From<OracleFault> for Status {
+    ghost use Rattle.scuttle_cli.specs.Statuses.{status_of_search};
+    ghost use Rattle.std.specs.Prelude.{◌≡◌};
+
+    ghost from_gives = { λ fault s. s ≡ status_of_search fault };
+
+    fn from(fault: OracleFault) -> Status {
+        match fault {
+            OracleFault::Failed => Status::ShelfFailed,
+            OracleFault::NoMemory => Status::NoMemory,
+            // Where clauses are spent there is a list, and so another end.
+            OracleFault::Full | OracleFault::Spent { .. } => Status::LogFull { lines: 1 << 61 },
+        }
+    }
+}
+
+impl From<RecordFault> for Status {
+    ghost use Rattle.scuttle_cli.specs.Statuses.{status_of_recording};
+    ghost use Rattle.std.specs.Prelude.{◌≡◌};
+
+    ghost from_gives = { λ fault s. s ≡ status_of_recording fault };
+
+    fn from(fault: RecordFault) -> Status {
+        match fault {
+            RecordFault::Failed => Status::ShelfFailed,
+            RecordFault::Full => Status::LogFull { lines: 1 << 61 },
+            RecordFault::NoMemory => Status::NoMemory,
         }
     }
 }

@@ -13,6 +13,8 @@ const CUT: &str = "s COMPLETE 2\no 0 1\nv -1 2 0\no 1 0\n";
 
 const FRONT: &str = "front a.mcnf a.list";
 
+const SOLVE: &str = "solve a.mcnf a.list a.log";
+
 const CHECK: &str = "check a.mcnf a.list a.log";
 
 // A log that is accepted with the list.
@@ -23,13 +25,19 @@ const FAULT: &str = "scuttle: file fault\n";
 
 // The words; the call that fails, and the how manyth of its kind; the number; the list, or that there
 // is none; what is warned.
-static FAULTS: [(&str, ShelfCall, u64, u8, &str, &str); 14] = [
+static FAULTS: [(&str, ShelfCall, u64, u8, &str, &str); 20] = [
     (FRONT, ShelfCall::Read, 1, 74, "none", FAULT),
     (FRONT, ShelfCall::Read, 2, 74, "none", FAULT),
     (FRONT, ShelfCall::Begin, 1, 74, "none", FAULT),
     (FRONT, ShelfCall::Append, 1, 74, "", FAULT),
     (FRONT, ShelfCall::Append, 5, 74, CUT, FAULT),
     (FRONT, ShelfCall::Say, 1, 74, LIST, FAULT),
+    (SOLVE, ShelfCall::Read, 2, 74, "none", FAULT),
+    (SOLVE, ShelfCall::Begin, 1, 74, "none", FAULT),
+    (SOLVE, ShelfCall::Append, 4, 74, "none", FAULT),
+    (SOLVE, ShelfCall::Begin, 2, 74, "none", FAULT),
+    (SOLVE, ShelfCall::Append, 1, 74, "none", FAULT),
+    (SOLVE, ShelfCall::Say, 1, 74, LIST, FAULT),
     ("frobnicate", ShelfCall::Warn, 1, 64, "none", ""),
     (CHECK, ShelfCall::Read, 1, 74, LIST, FAULT),
     (CHECK, ShelfCall::Read, 2, 74, LIST, FAULT),
