@@ -4,12 +4,15 @@ pub mod Definitions
 pub mod Falls
 pub mod FirstFaults
 pub mod GoalFaults
+pub mod IndexKept
 pub mod LiveLines
 pub mod LiveWalk
 pub mod Models
 pub mod Replays
 pub mod RequirementLists
+pub mod RowEntries
 pub mod Searches
 pub mod Starts
 pub mod TakingUp
+pub mod TouchedRows
 pub mod Verdicts

@@ -2,7 +2,6 @@
 use Rattle.std.proofs.Common.{◌≡◌, ◌⊎◌, ℕ, ◌<◌, ◌≤◌, ◌&&◌, Bool, true, false, cond, Option, Some, None, List, [], ◌∷◌, ◌++◌, refl, arith, ap, sym, ◌∙◌, ⊎_elim}
 use Rattle.std.proofs.Math.Dec.{T}
 use Rattle.std.specs.Prelude.{IsSome, nat_lt, option_map, option_to_list}
-use Rattle.std.specs.List.{filter}
 use Rattle.std.specs.declared.cmp.Ordering.{Ordering}
 use Rattle.std.specs.declared.cmp.Ordering.TheVariants.{Less, Equal, Greater}
 use Rattle.std.specs.Ordering.{MatchOrdering, nat_cmp, eq_by_cmp, is_lt}
@@ -12,11 +11,7 @@ use Rattle.std.specs.FinMap.Entries.{below_all, find-where_key, is_sorted-where_
 use Rattle.std.proofs.lemmas.Bool.{cases_lt, cases_order, cond-true, cond-false, eq-eqb, ne_eqb, lt-ltb, le-ltb}
 use Rattle.pb_lin.specs.Constraint.{ConstraintValue}
 use Rattle.pb_lin.specs.LineMap.{LineMap, IsNextAbove, NoneAbove}
-use Rattle.proof_rules.specs.Verdict.{line_at}
-
--- the entries of higher ids
-abbrev pub above : ℕ → List (ℕ × ConstraintValue) → List (ℕ × ConstraintValue)
-above id es = filter (λ e. nat_lt id e.0) es
+use Rattle.proof_rules.specs.Verdict.{above, line_at}
 
 both_tests : (x y : Bool) → T x → T y → T (x && y)
 both_tests true y first second = second

@@ -11,11 +11,11 @@ use Rattle.pb_lin.specs.Substitution.{Images, touches}
 use Rattle.proof_laws.specs.State.{numbered}
 use Rattle.proof_laws.specs.Substituted.{Requirement, holds_after, not_risen, none_risen, touched_hold}
 use Rattle.proof_laws.specs.declared.goal.Goal.TheVariants.{Row}
-use Rattle.proof_rules.specs.Verdict.{line_at}
-use Rattle.proof_rules.proofs.LiveWalk.{above, walk_next}
+use Rattle.proof_rules.specs.Verdict.{above, line_at}
+use Rattle.proof_rules.proofs.LiveWalk.{walk_next}
 
 module _ (w : Images) where
-  touched-append : (xs ys : List (ℕ × ConstraintValue)) → touched_hold w (xs ++ ys) ≡ touched_hold w xs ++ touched_hold w ys
+  pub touched-append : (xs ys : List (ℕ × ConstraintValue)) → touched_hold w (xs ++ ys) ≡ touched_hold w xs ++ touched_hold w ys
   touched-append xs ys =
       let after : ℕ × ConstraintValue → Requirement = λ e. holds_after w (Row e.0) e.1 in
       let is_touched : ℕ × ConstraintValue → Bool = λ e. touches w e.1 in

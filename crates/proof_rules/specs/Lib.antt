@@ -8,5 +8,6 @@ pub use Rattle.proof_laws.specs.Replay
 pub use Rattle.proof_laws.specs.Earned
 pub use Rattle.proof_laws.specs.Laws
 pub mod Verdict
+pub mod RowIndex
 pub mod StateCode
 pub mod Recording

@@ -1,5 +1,6 @@
 -- What code answers that judges a line.
 use Rattle.std.specs.Prelude.{◌≡◌, ◌⊎◌, ◌<◌, ◌^◌, nat_lt, not, ℕ, ℤ, All, [], ◌∷◌, ◌++◌, List, Option, None, Some, option_map, option_to_list, Result, Ok, Err}
+use Rattle.std.specs.List.{filter}
 use Rattle.std.specs.FinMap.{get}
 use Rattle.scut_base.specs.Literal.{Literal}
 use Rattle.pb_lin.specs.Constraint.{ConstraintValue, IsVariable}
@@ -56,6 +57,10 @@ LiteralsUpTo n terms = All (λ t. IsVariable n t.1.var) terms
 -- the line of an id with the id, if there is one
 abbrev pub line_at : LineMap → ℕ → List (ℕ × ConstraintValue)
 line_at lines id = option_to_list (option_map (λ c. (id, c)) (get lines id))
+
+-- the entries of higher ids
+abbrev pub above : ℕ → List (ℕ × ConstraintValue) → List (ℕ × ConstraintValue)
+above id es = filter (λ e. nat_lt id e.0) es
 
 -- the fault of a proof that is to derive a conflict from the live lines and two constraints
 abbrev pub IsConflictFault : StateValue → ConstraintValue → ConstraintValue → Goal → GoalProof → Option Why → Type 0

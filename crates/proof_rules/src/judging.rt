@@ -7,6 +7,7 @@ ghost use Rattle.proof_laws.specs.Laws.{StandsBefore};
 ghost use Rattle.proof_laws.specs.Substituted.{redundance, dominance};
 ghost use Rattle.proof_laws.specs.Refusal.{FirstOf, IsRuleFault, IsRupFault, IsSubstitutionFault, deletion_fault, end_fault, fault_unless, is_clause, is_deletable, range_fault, written};
 ghost use Rattle.proof_laws.specs.declared.why.Why.{Why};
+ghost use Rattle.proof_rules.specs.RowIndex.{HaveTouched, IsIndex};
 ghost use Rattle.proof_rules.specs.Verdict.{ImagesUpTo, IsVerdict, IsValueFault, IsValueMade, common_fault};
 
 use crate::StepFault;
@@ -14,12 +15,14 @@ use crate::definition::judge_definition;
 use crate::derivation::{evaluated, judge_rup, negation_of};
 use crate::ranges::written_above;
 use crate::reached::Reached;
+use crate::room::Room;
+use crate::row_index::RowIndex;
 use crate::solution::judge_solution;
 use crate::substitution::{Substitution, judge_dominance, judge_redundance};
 use hint_rup::Hint;
 use pb_lin::{Constraint, PbProblem, Witness};
 use proof_laws::{Goal, GoalProof, Line, Why};
-use scut_base::Partial;
+use scut_base::{NoMemory, Partial};
 use std::alloc::Global;
 
 // How many lines a proof may have.
@@ -66,20 +69,34 @@ pub(crate) fn judge_rule(
     alloc: Global,
     problem: &PbProblem,
     reached: &Reached,
-    scratch: &mut Partial,
+    room: &mut Room,
     line: &Line,
 ) -> Result<(), StepFault>
     requires before { StandsBefore problem.now reached.now line.now }
-    requires variables { reached.now.vars ≤ length scratch.old }
+    requires variables { reached.now.vars ≤ length room.old.scratch }
     requires written { range_fault reached.now.vars (written line.now) ≡ None }
     requires value { IsValueFault reached.now line.now None }
+    requires index { IsIndex room.old.index.count room.old.index.entries reached.now }
     ensures verdict { IsVerdict (IsRuleFault problem.now reached.now line.now) result }
-    ensures length { length scratch.new ≡ length scratch.old }
+    ensures length { length room.new.scratch ≡ length room.old.scratch }
+    ensures index { IsIndex room.new.index.count room.new.index.entries reached.now }
 {
     match line {
         Line::Pol { .. } => Ok(()),
-        Line::Rup { goal, hints } => judge_rup(alloc, reached, scratch, goal, hints.as_slice()),
-        Line::Learn { goal, hints } => judge_learn(alloc, reached, scratch, goal, hints.as_slice()),
+        Line::Rup { goal, hints } => judge_rup(
+            alloc,
+            reached,
+            &mut room.scratch,
+            goal,
+            hints.as_slice(),
+        ),
+        Line::Learn { goal, hints } => judge_learn(
+            alloc,
+            reached,
+            &mut room.scratch,
+            goal,
+            hints.as_slice(),
+        ),
         Line::Def { var, sum } => judge_definition(reached, *var, sum),
         Line::Red {
             goal,
@@ -89,7 +106,7 @@ pub(crate) fn judge_rule(
             alloc,
             problem,
             reached,
-            scratch,
+            room,
             goal,
             witness,
             proofs.as_slice(),
@@ -102,7 +119,7 @@ pub(crate) fn judge_rule(
             alloc,
             problem,
             reached,
-            scratch,
+            room,
             goal,
             witness,
             proofs.as_slice(),
@@ -145,27 +162,31 @@ fn judge_red(
     alloc: Global,
     problem: &PbProblem,
     reached: &Reached,
-    scratch: &mut Partial,
+    room: &mut Room,
     goal: &Constraint,
     witness: &Witness,
     proofs: &[(Goal, GoalProof)],
 ) -> Result<(), StepFault>
-    requires variables { reached.now.vars ≤ length scratch.old }
+    requires variables { reached.now.vars ≤ length room.old.scratch }
     requires goal { UpTo reached.now.vars goal.now }
     requires images { ImagesUpTo reached.now.vars witness.now }
     requires fits { Fits problem.now reached.now }
+    requires index { IsIndex room.old.index.count room.old.index.entries reached.now }
     ensures verdict { IsVerdict (IsSubstitutionFault reached.now goal.now proofs.now
         (redundance problem.now reached.now witness.now goal.now)) result }
-    ensures length { length scratch.new ≡ length scratch.old }
+    ensures length { length room.new.scratch ≡ length room.old.scratch }
+    ensures index { IsIndex room.new.index.count room.new.index.entries reached.now }
 {
     let denied = negation_of(alloc, goal)?;
+    let touched = touched_rows(alloc, problem, reached, &mut room.index, witness)?;
     let line = Substitution {
         goal,
         denied: &denied,
         witness,
         proofs,
+        touched: touched.as_slice(),
     };
-    judge_redundance(alloc, problem, reached, scratch, &line)
+    judge_redundance(alloc, problem, reached, &mut room.scratch, &line)
 }
 
 // What breaks the constraint is a model of the problem after the substitution, and costs less in sum.
@@ -173,27 +194,54 @@ fn judge_dom(
     alloc: Global,
     problem: &PbProblem,
     reached: &Reached,
-    scratch: &mut Partial,
+    room: &mut Room,
     goal: &Constraint,
     witness: &Witness,
     proofs: &[(Goal, GoalProof)],
 ) -> Result<(), StepFault>
-    requires variables { reached.now.vars ≤ length scratch.old }
+    requires variables { reached.now.vars ≤ length room.old.scratch }
     requires goal { UpTo reached.now.vars goal.now }
     requires images { ImagesUpTo reached.now.vars witness.now }
     requires fits { Fits problem.now reached.now }
+    requires index { IsIndex room.old.index.count room.old.index.entries reached.now }
     ensures verdict { IsVerdict (IsSubstitutionFault reached.now goal.now proofs.now
         (dominance problem.now witness.now)) result }
-    ensures length { length scratch.new ≡ length scratch.old }
+    ensures length { length room.new.scratch ≡ length room.old.scratch }
+    ensures index { IsIndex room.new.index.count room.new.index.entries reached.now }
 {
     let denied = negation_of(alloc, goal)?;
+    let touched = touched_rows(alloc, problem, reached, &mut room.index, witness)?;
     let line = Substitution {
         goal,
         denied: &denied,
         witness,
         proofs,
+        touched: touched.as_slice(),
     };
-    judge_dominance(alloc, problem, reached, scratch, &line)
+    judge_dominance(alloc, problem, reached, &mut room.scratch, &line)
+}
+
+// The places of the problem's rows that the witness may touch, by the index, which is made anew where it
+// has fewer rows.
+fn touched_rows(
+    alloc: Global,
+    problem: &PbProblem,
+    reached: &Reached,
+    index: &mut RowIndex,
+    witness: &Witness,
+) -> Result<Vec<usize>, NoMemory>
+    requires fits { Fits problem.now reached.now }
+    requires index { IsIndex index.old.count index.old.entries reached.now }
+    ensures touched { IfOk result (λ v. HaveTouched witness.now problem.now.rows v.items) }
+    ensures index { IsIndex index.new.count index.new.entries reached.now }
+{
+    // Tells that it is a state.
+    let _vars = reached.vars;
+    let rows = problem.rows();
+    if index.count < rows.len() {
+        *index = RowIndex::of_rows(alloc, rows)?;
+    }
+    index.touched(alloc, witness, rows.len())
 }
 
 // Each id is that of a live line that is no row of the problem.

@@ -15,6 +15,8 @@ mod proof_state;
 mod ranges;
 mod reached;
 mod recorder;
+mod room;
+mod row_index;
 mod solution;
 mod substitution;
 mod taking_up;

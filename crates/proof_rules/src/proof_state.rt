@@ -8,6 +8,8 @@ ghost use Rattle.proof_rules.specs.Verdict.{IsReason, IsValueFault, IsValueMade}
 use crate::StepFault;
 use crate::judging::{judge_common, judge_rule, value_made};
 use crate::reached::Reached;
+use crate::room::Room;
+use crate::row_index::RowIndex;
 use crate::taking_up::take_up;
 use front_set::CostVec;
 use pb_lin::{Constraint, Lines, PbProblem};
@@ -17,18 +19,19 @@ use std::alloc::Global;
 use std::marker::Model;
 
 /// What a proof over a problem has reached: the live constraints, the logged vectors and the counts.
-/// Besides it keeps a partial assignment for propagation, which contracts don't see.
+/// Besides it keeps a partial assignment for propagation and an index of the problem's rows, which
+/// contracts don't see.
 #[derive(Debug, Drop)]
 pub struct ProofState {
     alloc: Global,
     reached: Reached,
-    // At least as long as there are variables.
-    scratch: Partial,
+    room: Room,
 }
 
 impl Model for ProofState {
     ghost use Rattle.std.specs.Prelude.{◌≤◌, length};
     ghost use Rattle.proof_laws.specs.State.{StateValue};
+    ghost use Rattle.proof_rules.specs.RowIndex.{IsIndex};
     ghost use Rattle.proof_rules.specs.StateCode.{state_code};
 
     ghost Value = { StateValue };
@@ -37,7 +40,8 @@ impl Model for ProofState {
 
     ghost view = { λ s. s.reached };
 
-    ghost invariant = { λ s. s.reached.vars ≤ length s.scratch };
+    ghost invariant = { λ s. (s.reached.vars ≤ length s.room.scratch)
+        × IsIndex s.room.index.count s.room.index.entries s.reached };
 }
 
 impl ProofState {
@@ -49,7 +53,10 @@ impl ProofState {
         Ok(ProofState {
             alloc,
             reached: Reached::new(alloc, problem)?,
-            scratch: Partial::new(alloc, problem.vars())?,
+            room: Room {
+                scratch: Partial::new(alloc, problem.vars())?,
+                index: RowIndex::new(alloc),
+            },
         })
     }
 
@@ -107,9 +114,12 @@ impl ProofState {
     /// of the rule book, where it isn't; `NoMemory` where memory was refused; after either nothing has
     /// changed.
     ///
-    /// A `rup` or `learn` line costs its hints' lines and its own; `pol` its evaluation; `red` a walk
-    /// over the live lines and the goals of those that its witness touches; `dom` and `sol` the
-    /// problem's rows; `del` its ids.
+    /// A `rup` or `learn` line costs its hints' lines and its own; `pol` its evaluation; `dom` its
+    /// witness and the goals of the problem's rows that this touches; `red` the same, a walk over the
+    /// live lines that are no rows, and the goals of those that its witness touches; `sol` the problem's
+    /// rows; `del` its ids. The first `red` or `dom` also makes an index of the problem's rows, which
+    /// takes 16 bytes for each literal of theirs, and sorts them; so does one that comes with a problem
+    /// of more rows.
     pub fn step(&mut self, problem: &PbProblem, line: &Line) -> Result<(), StepFault>
         requires fits { Fits problem.now self.old }
         requires formed { IsWellFormed line.now }
@@ -122,12 +132,12 @@ impl ProofState {
         let _vars = problem.vars();
         judge_common(&self.reached, line)?;
         let made = value_made(self.alloc, &self.reached, line)?;
-        judge_rule(self.alloc, problem, &self.reached, &mut self.scratch, line)?;
+        judge_rule(self.alloc, problem, &self.reached, &mut self.room, line)?;
         take_up(
             self.alloc,
             problem,
             &mut self.reached,
-            &mut self.scratch,
+            &mut self.room.scratch,
             line,
             made,
         )?;
@@ -152,7 +162,7 @@ impl ProofState {
             self.alloc,
             problem,
             &mut self.reached,
-            &mut self.scratch,
+            &mut self.room.scratch,
             line,
             made,
         )

@@ -6,7 +6,8 @@ ghost use Rattle.proof_laws.specs.State.{Fits, numbered};
 ghost use Rattle.proof_laws.specs.Substituted.{holds_after, none_risen, touched_hold, redundance, dominance};
 ghost use Rattle.proof_laws.specs.WellFormed.{goal_kind, goal_number};
 ghost use Rattle.proof_laws.specs.Refusal.{IsFirstGoalFault, IsGoalFault, proof_of, same_goal};
-ghost use Rattle.proof_rules.specs.Verdict.{ImagesUpTo, IsVerdict, IsClosedOrOpen, IsConflictFault, line_at};
+ghost use Rattle.proof_rules.specs.RowIndex.{HaveTouched};
+ghost use Rattle.proof_rules.specs.Verdict.{ImagesUpTo, IsVerdict, IsClosedOrOpen, IsConflictFault, above, line_at};
 
 use crate::StepFault;
 use crate::derivation::{judge_hints, judge_tokens, negation_of};
@@ -18,17 +19,18 @@ use scut_base::Partial;
 use std::alloc::Global;
 
 // A line that substitutes: the constraint that it adds, with its negation, the witness, and the proofs of
-// the goals.
+// the goals. Besides the places of the problem's rows that the witness may touch.
 #[derive(Drop)]
 pub(crate) struct Substitution<'a> {
     pub(crate) goal: &'a Constraint,
     pub(crate) denied: &'a Constraint,
     pub(crate) witness: &'a Witness,
     pub(crate) proofs: &'a [(Goal, GoalProof)],
+    pub(crate) touched: &'a [usize],
 }
 
 // What breaks the constraint still satisfies all live lines after the substitution, and costs no more.
-// Goes through the live lines once, and builds a goal for each that the witness touches.
+// Builds a goal for each line that the witness touches. Goes once through the live lines that are no rows.
 pub(crate) fn judge_redundance(
     alloc: Global,
     problem: &PbProblem,
@@ -41,12 +43,17 @@ pub(crate) fn judge_redundance(
     requires goal { UpTo reached.now.vars line.now.goal.now }
     requires images { ImagesUpTo reached.now.vars line.now.witness.now }
     requires fits { Fits problem.now reached.now }
+    requires touched { HaveTouched line.now.witness.now problem.now.rows line.now.touched.now }
     ensures verdict { IsVerdict
         (IsFirstGoalFault reached.now line.now.goal.now line.now.proofs.now
         (redundance problem.now reached.now line.now.witness.now line.now.goal.now)) result }
     ensures length { length scratch.new ≡ length scratch.old }
 {
-    judge_live_lines(alloc, reached, scratch, line)?;
+    // Tells that it is a state.
+    let _vars = reached.vars;
+    judge_rows(alloc, problem, reached, scratch, line)?;
+    let rows = problem.rows().len() as u64;
+    judge_lines_above(alloc, reached, scratch, line, rows)?;
     judge_after(alloc, reached, scratch, line, Goal::Itself, line.goal)?;
     judge_objectives(alloc, problem, reached, scratch, line)
 }
@@ -64,6 +71,7 @@ pub(crate) fn judge_dominance(
     requires goal { UpTo reached.now.vars line.now.goal.now }
     requires images { ImagesUpTo reached.now.vars line.now.witness.now }
     requires fits { Fits problem.now reached.now }
+    requires touched { HaveTouched line.now.witness.now problem.now.rows line.now.touched.now }
     ensures verdict { IsVerdict
         (IsFirstGoalFault reached.now line.now.goal.now line.now.proofs.now
         (dominance problem.now line.now.witness.now)) result }
@@ -75,12 +83,13 @@ pub(crate) fn judge_dominance(
     judge_goal(alloc, reached, scratch, line, Goal::Strict, &fallen)
 }
 
-// The live lines that the witness touches, by rising ids.
-fn judge_live_lines(
+// The live lines with ids above `first` that the witness touches, by rising ids.
+fn judge_lines_above(
     alloc: Global,
     reached: &Reached,
     scratch: &mut Partial,
     line: &Substitution<'_>,
+    first: u64,
 ) -> Result<(), StepFault>
     requires variables { reached.now.vars ≤ length scratch.old }
     requires denied { line.now.denied.now ≡ negation line.now.goal.now }
@@ -88,10 +97,10 @@ fn judge_live_lines(
     requires images { ImagesUpTo reached.now.vars line.now.witness.now }
     ensures verdict { IsVerdict
         (IsFirstGoalFault reached.now line.now.goal.now line.now.proofs.now
-        (touched_hold line.now.witness.now (entries reached.now.live))) result }
+        (touched_hold line.now.witness.now (above first (entries reached.now.live)))) result }
     ensures length { length scratch.new ≡ length scratch.old }
 {
-    let mut id = 0;
+    let mut id = first;
     while let Some(next) = reached.live.next_above(id) {
         judge_live(alloc, reached, scratch, line, next)?;
         id = next;
@@ -122,7 +131,7 @@ fn judge_live(
     }
 }
 
-// The problem's rows that the witness touches.
+// The problem's rows that the witness touches, of which the places are given.
 fn judge_rows(
     alloc: Global,
     problem: &PbProblem,
@@ -135,6 +144,7 @@ fn judge_rows(
     requires goal { UpTo reached.now.vars line.now.goal.now }
     requires images { ImagesUpTo reached.now.vars line.now.witness.now }
     requires fits { Fits problem.now reached.now }
+    requires touched { HaveTouched line.now.witness.now problem.now.rows line.now.touched.now }
     ensures verdict { IsVerdict
         (IsFirstGoalFault reached.now line.now.goal.now line.now.proofs.now
         (touched_hold line.now.witness.now (numbered 1 problem.now.rows))) result }
@@ -142,8 +152,15 @@ fn judge_rows(
 {
     let _limits = problem.vars();
     let rows = problem.rows();
-    for (at, row) in rows.iter().enumerate() {
-        judge_touched(alloc, reached, scratch, line, at as u64 + 1, row)?;
+    for place in line.touched {
+        judge_touched(
+            alloc,
+            reached,
+            scratch,
+            line,
+            *place as u64 + 1,
+            &rows[*place],
+        )?;
     }
     Ok(())
 }

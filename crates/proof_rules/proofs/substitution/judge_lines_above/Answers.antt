@@ -1,26 +1,21 @@
-use Rattle.std.proofs.Common.{List, refl, subst, sym, ap, ◌∙◌}
+use Rattle.std.proofs.Common.{List, refl, subst, ap, ◌∙◌}
 use Rattle.std.proofs.lemmas.Result.{err_from_is_err_and}
 use Rattle.std.specs.FinMap.{get, entries}
 use Rattle.pb_lin.specs.LineMap.{LineMap, IsNextAbove, NoneAbove}
-use Rattle.proof_laws.specs.State.{StateValue, IsState}
+use Rattle.proof_laws.specs.State.{StateValue}
 use Rattle.proof_laws.specs.Substituted.{Requirement, touched_hold}
-use Rattle.proof_rules.specs.Verdict.{line_at}
+use Rattle.proof_rules.specs.Verdict.{above, line_at}
 use Rattle.proof_rules.proofs.FirstFaults.{RestDecides, decides_all, decides_more, decided_end, decided_fault}
-use Rattle.proof_rules.proofs.LiveWalk.{above, walk_start, walk_end}
+use Rattle.proof_rules.proofs.LiveWalk.{walk_end}
 use Rattle.proof_rules.proofs.RequirementLists.{lines_more}
-use Rattle.proof_rules.proofs.substitution.judge_live_lines.Goals as goal
+use Rattle.proof_rules.proofs.substitution.judge_lines_above.Goals as goal
 
 pub loop-next-init : goal.loop-next-init
 loop-next-init c =
     let s = c.args.reached.now in
-    let g = c.args.line.now.goal.now in
-    let ps = c.args.line.now.proofs.now in
-    let w = c.args.line.now.witness.now in
-    let all = touched_hold w (entries s.live) in
-    let state : IsState c.args.reached.now = subst IsState c.reached.view_is c.reached.invariant in
     record {
       length = refl;
-      rest = subst (λ (qs : List Requirement). RestDecides s g ps qs all) (sym (ap (touched_hold w) (walk_start s.live (λ id d is. (state.ids id d is).0)))) (decides_all s g ps all);
+      rest = decides_all s c.args.line.now.goal.now c.args.line.now.proofs.now (touched_hold c.args.line.now.witness.now (above c.args.first (entries s.live)));
     }
 
 pub returns-in_err-judge_live-clause-verdict : goal.returns-in_err-judge_live-clause-verdict
@@ -29,7 +24,7 @@ returns-in_err-judge_live-clause-verdict c =
     let g = c.args.line.now.goal.now in
     let ps = c.args.line.now.proofs.now in
     let w = c.args.line.now.witness.now in
-    let all = touched_hold w (entries s.live) in
+    let all = touched_hold w (above c.args.first (entries s.live)) in
     let next = c.in-Some.next in
     let live = ap (λ (t : StateValue). t.live) c.reached.view_is in
     let step = subst (λ (m : LineMap). IsNextAbove (get m) c.loop-next.id c.in-Some.next) live c.in-Some.ensures in
@@ -43,7 +38,7 @@ loop-next-preserved c =
     let g = c.args.line.now.goal.now in
     let ps = c.args.line.now.proofs.now in
     let w = c.args.line.now.witness.now in
-    let all = touched_hold w (entries s.live) in
+    let all = touched_hold w (above c.args.first (entries s.live)) in
     let next = c.in-Some.next in
     let live = ap (λ (t : StateValue). t.live) c.reached.view_is in
     let step = subst (λ (m : LineMap). IsNextAbove (get m) c.loop-next.id c.in-Some.next) live c.in-Some.ensures in
@@ -59,7 +54,7 @@ returns-clause-verdict c =
     let g = c.args.line.now.goal.now in
     let ps = c.args.line.now.proofs.now in
     let w = c.args.line.now.witness.now in
-    let all = touched_hold w (entries s.live) in
+    let all = touched_hold w (above c.args.first (entries s.live)) in
     let live = ap (λ (t : StateValue). t.live) c.reached.view_is in
     let none = subst (λ (m : LineMap). NoneAbove (get m) c.loop-next.id) live c.in_default.ensures in
     decided_end s g ps all (subst (λ (qs : List Requirement). RestDecides s g ps qs all) (ap (touched_hold w) (walk_end s.live c.loop-next.id none)) c.loop-next.invariant.rest)
