@@ -1,24 +1,18 @@
--- What the steps of a trail give together: an assignment, and whether a line is a reason.
-use Rattle.std.proofs.Common.{◌≡◌, ◌≢◌, ℕ, ◌+◌, ◌-◌, ◌<◌, ◌≤◌, Bool, true, false, not, if◌then◌else◌, List, length, get_or, set, take, refl, arith, ap, sym, ◌∙◌, subst, ⊎_elim}
-use Rattle.std.specs.Prelude.{Contains, All, Some, None, Option, slice_get}
+-- The assignment that the steps of a trail give together.
+use Rattle.std.proofs.Common.{◌≡◌, ◌≢◌, ℕ, ◌+◌, ◌-◌, ◌<◌, Bool, true, false, not, if◌then◌else◌, List, length, get_or, set, refl, arith, ap, sym, ◌∙◌, subst, ⊎_elim}
+use Rattle.std.specs.Prelude.{Some, None, Option, slice_get}
 use Rattle.std.specs.Option.{option_map}
-use Rattle.std.specs.FinMap.{get}
-use Rattle.std.proofs.lemmas.Bool.{cases_eq, cases_lt}
+use Rattle.std.proofs.lemmas.Bool.{cases_eq}
 use Rattle.std.proofs.lemmas.Option.{same_Some, none-some, slice_get-get_or}
-use Rattle.std.proofs.lemmas.List.{get_or-set_same, get_or-set_other, take_all}
-use Rattle.std.proofs.lemmas.List.Elements.{All-contains, All-map}
+use Rattle.std.proofs.lemmas.List.{get_or-set_same, get_or-set_other}
 use Rattle.scut_base.specs.Literal.{Literal}
-use Rattle.scut_base.specs.Assignment.{lit_true, partial_truth}
-use Rattle.scut_base.proofs.Lists.{Contains-map}
-use Rattle.pb_lin.specs.Constraint.{ConstraintValue, TermsUpTo, literals}
-use Rattle.pb_lin.specs.LineMap.{LineMap}
-use Rattle.clause_prop.specs.Steps.{TrailValue, AreSteps, partial, IsPlaceOf}
+use Rattle.scut_base.specs.Assignment.{lit_true}
+use Rattle.clause_prop.specs.Steps.{TrailValue, AreSteps, partial}
 use Rattle.clause_prop.specs.declared.step.Step.{Step}
 use Rattle.clause_prop.proofs.Assigned.{assigned-found}
-use Rattle.search_trail.specs.SearchTrail.{IsSearchTrail, IsStepAt, IsOfSteps}
-use Rattle.search_trail.proofs.Places.{all_places, pair_places}
-use Rattle.search_trail.proofs.Truths.{open_apart, var_within, value_at}
-use Rattle.search_state.specs.Searching.{HasOtherReason}
+use Rattle.search_trail.specs.SearchTrail.{IsStepAt, IsOfSteps}
+use Rattle.search_trail.proofs.Places.{pair_places}
+use Rattle.search_trail.proofs.Truths.{var_within, value_at}
 
 -- the assignment makes the literals of the steps before the place true
 pub record AreTrueBefore (t : TrailValue) (place : ℕ) (a : List Bool) : Type 0 where
@@ -78,51 +72,3 @@ true_all t a are all l is_true = by_value (get_or (partial t) (l.var - 1) None) 
         ap (λ (n : Bool). if n then not (get_or a (l.var - 1) false) else get_or a (l.var - 1) false) sign
         ∙ ap (λ (i : ℕ). if s.lit.neg then not (get_or a i false) else get_or a i false) (sym found.2)
         ∙ all.each found.0 s found.1 at
-
--- ---- reasons
-
--- the step at the place of its variable
-pub other_reason : (t : TrailValue) (id k : ℕ) (l : Literal) (s : Step) → AreSteps t.vars t.steps → IsPlaceOf t.steps l.var k → IsStepAt t k s → s.reason ≢ id → HasOtherReason t id l
-other_reason t id k l s are place at other p r at_r is =
-    let there : IsStepAt t k place.step = place.there in
-    let same : p ≡ k = one_place t p k r place.step are at_r there (ap (λ (m : Literal). m.var) is ∙ sym place.is) in
-    let step : s ≡ r = same_Some s r (sym at ∙ ap (slice_get t.steps) (sym same) ∙ at_r) in
-    subst (λ (x : Step). x.reason ≢ id) step other
-  where
-    one_place : (t : TrailValue) (p q : ℕ) (r s : Step) → AreSteps t.vars t.steps → IsStepAt t p r → IsStepAt t q s → r.lit.var ≡ s.lit.var → p ≡ q
-    one_place t p q r s are at_r at_s same = ⊎_elim (λ (e : p ≡ q). e)
-        (λ (apart : p ≢ q). ⊎_elim
-        (λ (less : p < q). absurd (pair_places (λ (x y : Step). x.lit.var ≢ y.lit.var) t.steps p q r s are.apart less at_r at_s same))
-        (λ (more : q ≤ p). absurd (pair_places (λ (x y : Step). x.lit.var ≢ y.lit.var) t.steps q p s r are.apart (omega arith) at_s at_r (sym same)))
-        (cases_lt p q))
-        (cases_eq p q)
-
--- a literal without a step
-pub no_reason : (t : TrailValue) (id : ℕ) (l : Literal) → AreSteps t.vars t.steps → partial_truth (partial t) l ≡ None → HasOtherReason t id l
-no_reason t id l are none p s at is same =
-    open_apart t.vars t.steps l p s are none at (ap (λ (m : Literal). m.var) is)
-
--- a line that forces no step of its literals is no reason
-pub never_reason : (store : LineMap) (t : TrailValue) (id : ℕ) (c : ConstraintValue) → IsSearchTrail store t → 0 < id → get store id ≡ Some c → All (HasOtherReason t id) (literals c.terms) → All (λ s. s.reason ≢ id) t.steps
-never_reason store t id c search positive there others = all_places (λ (s : Step). s.reason ≢ id) t.steps (λ p s at same.
-    let forced = search.forced p s at (λ zero. let e : id ≡ 0 = sym same ∙ zero in omega arith) in
-    let line : c ≡ forced.line = same_Some c forced.line (sym there ∙ ap (get store) (sym same) ∙ forced.there) in
-    let among = Contains-map (λ (u : Literal × ℕ). u.0) forced.line.terms forced.forces.term forced.forces.among in
-    let lit : Contains (literals c.terms) s.lit = subst (λ (d : ConstraintValue). Contains (literals d.terms) s.lit) (sym line) (subst (Contains (literals forced.line.terms)) forced.forces.literal among) in
-    All-contains (HasOtherReason t id) (literals c.terms) s.lit others lit p s at refl same)
-
--- an id without a line is none
-pub absent_reason : (store : LineMap) (t : TrailValue) (id : ℕ) → IsSearchTrail store t → 0 < id → get store id ≡ None → All (λ s. s.reason ≢ id) t.steps
-absent_reason store t id search positive none = all_places (λ (s : Step). s.reason ≢ id) t.steps (λ p s at same.
-    let forced = search.forced p s at (λ zero. let e : id ≡ 0 = sym same ∙ zero in omega arith) in
-    none-some forced.line (sym none ∙ ap (get store) (sym same) ∙ forced.there))
-
--- ---- a line's literals, one after another
-
-pub literal_within : (n : ℕ) (terms : List (Literal × ℕ)) (lits : List Literal) (k : ℕ) (l : Literal) → TermsUpTo n terms → lits ≡ literals terms → k < length lits → l ≡ get_or lits k l → l.var ≤ n
-literal_within n terms lits k l within is short at =
-    let all : All (λ (m : Literal). m.var ≤ n) lits = subst (λ (ms : List Literal). All (λ (m : Literal). m.var ≤ n) ms) (sym is) (All-map (λ (m : Literal). m.var ≤ n) (λ (t : Literal × ℕ). t.0) terms within) in
-    subst (λ (m : Literal). m.var ≤ n) (sym at) (all k l short)
-
-pub all_taken : {X : Type 0} (P : X → Type 0) (xs ys : List X) (k : ℕ) → xs ≡ ys → length xs ≤ k → All P (take k ys) → All P ys
-all_taken {X} P xs ys k is past all = subst (λ (zs : List X). All P zs) (take_all k ys (omega (arith, ap length is, past))) all

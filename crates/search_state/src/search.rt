@@ -13,7 +13,7 @@ ghost use Rattle.search_trail.specs.Learning.{AreHints, asserted};
 ghost use Rattle.conflict_analysis.specs.Analysis.{IsLesson, IsBlame, IsForcedFalse};
 ghost use Rattle.search_state.specs.Searching.{no_lines, IsBackTo, IsLevelOf, IsReadyToLearn};
 
-use crate::steps::{assignment_of, forces_step, push_decision};
+use crate::steps::{assignment_of, push_decision};
 use crate::waiting::{bump_all, put_back};
 use clause_prop::{ClauseStore, Propagator, Step, Trail};
 use conflict_analysis::{Blame, Lesson, Walk};
@@ -304,17 +304,6 @@ impl<P: Propagator + Drop> Search<P> {
     {
         closed_full_trail_is_a_model();
         assignment_of(alloc, &self.trail)
-    }
-
-    /// Whether a step has the line as its reason. Costs the line's literals.
-    pub fn is_reason(&self, id: u64) -> bool
-        requires { 0 < id }
-        ensures { result ≡ false → All (λ s. s.reason ≢ id) self.now.trail.steps }
-    {
-        match self.store.get(id) {
-            Some(line) => forces_step(line, id, &self.trail),
-            None => false,
-        }
     }
 
     // Cuts the trail to its first steps.

@@ -1,13 +1,10 @@
-// The decision of a literal, and what the steps of a trail give together.
-ghost use Rattle.std.specs.Prelude.{◌≡◌, ◌<◌, ◌≤◌, ◌^◌, false, None, length, All, IfOk};
+// The decision of a literal, and the assignment that the steps of a trail give.
+ghost use Rattle.std.specs.Prelude.{◌≡◌, ◌<◌, ◌≤◌, ◌^◌, None, length, IfOk};
 ghost use Rattle.scut_base.specs.Assignment.{partial_truth};
-ghost use Rattle.pb_lin.specs.Constraint.{UpTo, literals};
 ghost use Rattle.clause_prop.specs.Steps.{last_level, partial, with_step};
 ghost use Rattle.search_trail.specs.SearchTrail.{IsOfSteps, decision};
-ghost use Rattle.search_state.specs.Searching.{HasOtherReason};
 
 use clause_prop::{Step, Trail};
-use pb_lin::Constraint;
 use scut_base::{Assignment, Lit, NoMemory};
 use std::alloc::Global;
 
@@ -36,30 +33,4 @@ pub(crate) fn push_decision(trail: &mut Trail, lit: Lit)
         level,
         reason: 0,
     });
-}
-
-/// Whether the line of this id is the reason of a step of one of its literals. Costs these.
-pub(crate) fn forces_step(line: &Constraint, id: u64, trail: &Trail) -> bool
-    requires { UpTo trail.now.vars line.now }
-    ensures { result ≡ false → All (HasOtherReason trail.now id) (literals line.now.terms) }
-{
-    for lit in line.literals() {
-        if is_forced_by(*lit, id, trail) {
-            return true;
-        }
-    }
-    false
-}
-
-// Whether the literal's step has this reason.
-fn is_forced_by(lit: Lit, id: u64, trail: &Trail) -> bool
-    requires { lit.var ≤ trail.now.vars }
-    ensures { result ≡ false → HasOtherReason trail.now id lit }
-{
-    // Tells that no two steps are of one variable.
-    let _steps = trail.len();
-    match trail.place_of(lit) {
-        Some(place) => trail.step_at(place).reason == id,
-        None => false,
-    }
 }
