@@ -18,8 +18,8 @@ use std::alloc::Global;
 use std::marker::Model;
 use totalizer::bounds_stay;
 
-/// Finds a model, and then one whose costs are below the last one's and differ, until none is left: then it starts
-/// afresh.
+/// Finds a model, and then one whose costs are below the last one's and differ, until none is left: then it
+/// starts afresh.
 #[derive(Drop)]
 pub struct PMinimal {
     alloc: Global,
@@ -49,25 +49,31 @@ impl PMinimal {
         self.aim.as_ref()
     }
 
-    /// One turn. With an aim it asks for a model of no greater costs: `Found` where there is one, whose costs are the
-    /// new aim, and else `Moved`, without an aim. Without an aim it asks for any model: `Found`, or `Finished`.
+    /// One turn. With an aim it asks for a model of no greater costs: `Found` where there is one, whose costs
+    /// are the new aim, and else `Moved`, without an aim. Without an aim it asks for any model: `Found`, or
+    /// `Finished`.
     pub fn advance<O: Oracle>(
         &mut self,
         oracle: &mut O,
         bounds: &mut Bounds,
         board: &mut Board<'_>,
     ) -> Result<Turn, OracleFault>
-        requires good { IsGood (seen O.problem O.limit O.lines O.faults O.broken O.around oracle.old)
+        requires good { IsGood
+            (seen O.problem O.limit O.lines O.faults O.broken O.around oracle.old)
             bounds.old board.old }
         requires serves { Serves self.old (O.problem oracle.old) }
-        ensures turn { IfOk result (IsTurn (seen O.problem O.limit O.lines O.faults O.broken O.around oracle.old)
+        ensures turn { IfOk result (IsTurn
+            (seen O.problem O.limit O.lines O.faults O.broken O.around oracle.old)
             (seen O.problem O.limit O.lines O.faults O.broken O.around oracle.new)
             (own_number self.old) (own_number self.new)) }
-        ensures aim { IfOk result (Aims (seen O.problem O.limit O.lines O.faults O.broken O.around oracle.old)
-            (seen O.problem O.limit O.lines O.faults O.broken O.around oracle.new) self.old self.new) }
+        ensures aim { IfOk result (Aims
+            (seen O.problem O.limit O.lines O.faults O.broken O.around oracle.old)
+            (seen O.problem O.limit O.lines O.faults O.broken O.around oracle.new)
+            self.old self.new) }
         ensures same_aim { IfErr result (λ f. self.new ≡ self.old) }
         ensures good { IsInOrder result
-            → IsGood (seen O.problem O.limit O.lines O.faults O.broken O.around oracle.new) bounds.new board.new }
+            → IsGood (seen O.problem O.limit O.lines O.faults O.broken O.around oracle.new)
+            bounds.new board.new }
         ensures serves { Serves self.new (O.problem oracle.new) }
         ensures fault { IfErr result
             (IsSearchFault (seen O.problem O.limit O.lines O.faults O.broken O.around oracle.old)
@@ -90,8 +96,8 @@ impl PMinimal {
         }
     }
 
-    // Whether a model has costs below the aim, or whether there is a model where there is no aim. `None` where the
-    // bounds alone tell that none has.
+    // Whether a model has costs below the aim, or whether there is a model where there is no aim. `None` where
+    // the bounds alone tell that none has.
     fn ask<O: Oracle>(
         &self,
         oracle: &mut O,

@@ -12,8 +12,8 @@ use search_base::{Bounds, turn_lines_join, turn_lines_keep_own};
 use std::alloc::Global;
 use totalizer::{Bound, bounds_stay};
 
-/// The literals to be assumed so that no cost exceeds its aim; `None` where no assignment that is left keeps to it.
-/// Costs a bound for each objective, and a walk over the literals for each.
+/// The literals to be assumed so that no cost exceeds its aim; `None` where no assignment that is left keeps
+/// to it. Costs a bound for each objective, and a walk over the literals for each.
 pub(crate) fn question<R: Recorder>(
     alloc: Global,
     rec: &mut R,

@@ -13,7 +13,6 @@ use Rattle.pb_lin.specs.Constraint.{TermsUpTo, total}
 use Rattle.pb_lin.specs.CostRow.{CostRowValue, IsCostRow}
 use Rattle.pb_lin.specs.Problem.{ProblemValue}
 use Rattle.proof_laws.specs.State.{StateValue}
-use Rattle.sum_outputs.specs.Totals.{AreWeights}
 use Rattle.sum_outputs.specs.Tree.{IsTree}
 use Rattle.proof_laws.specs.declared.line.Line.{Line}
 use Rattle.sum_outputs.specs.Adding.{Snapshot, Continues, IsReached}
@@ -35,9 +34,6 @@ HasProblem p a = (s : StateValue) → IsReached a s → p.vars ≤ s.vars
 -- in every proof of the problem these may be asked for the rows
 abbrev pub FitRows : ProblemValue → List CostRowValue → List ObjectiveBound → Type 0
 FitRows p rows bounds = (a : Snapshot) → a.problem ≡ p → HasProblem p a → AllZip (BoundsRow a) rows bounds
-
-pub are_weights : (r : CostRowValue) → IsCostRow r.terms r.offset → AreWeights r.terms
-are_weights r row = record { positive = row.positive; from_one = row.from_one; apart = row.distinct; small = row.small }
 
 have_variables : (p : ProblemValue) (r : CostRowValue) (a : Snapshot) → IsCostRow r.terms r.offset →
     TermsUpTo p.vars r.terms → HasProblem p a → HasVariables a r.terms

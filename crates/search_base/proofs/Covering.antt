@@ -43,10 +43,6 @@ costs_in x (r ∷ rows) = in_piece (λ y. map (λ v. y ∷ v) (cost_box rows)) (
 
 -- ---- counts
 
-not_false : (b : Bool) → not b ≡ true → b ≡ false
-not_false true e = cc
-not_false false e = refl
-
 fewer : {X : Type 0} (p q : X → Bool) (xs : List X) (x : X) → Contains xs x → ((y : X) → q y ≡ true → p y ≡ true) →
     q x ≡ false → p x ≡ true → count_by q xs < count_by p xs
 fewer {X} p q xs x (k, short, at) within out in' =

@@ -7,7 +7,7 @@ use Rattle.scut_base.specs.Literal.{Literal}
 use Rattle.front_set.specs.Vector.{IsBelow}
 use Rattle.pb_lin.specs.Constraint.{Holds}
 use Rattle.pb_lin.specs.Problem.{ProblemValue, problem_costs}
-use Rattle.proof_laws.specs.State.{StateValue, IsState}
+use Rattle.proof_laws.specs.State.{StateValue}
 use Rattle.proof_laws.specs.Steps.{clause}
 use Rattle.proof_laws.specs.Legal.{IsNext}
 use Rattle.proof_laws.specs.Replay.{IsReplay}
@@ -50,7 +50,7 @@ module _ (p : ProblemValue) (lines : List Line) (s : StateValue) (x : List Bool)
   logs_costs = logged_append p lines (line ∷ [])
       ∙ ap (λ (a : List Bool). logged p lines ++ problem_costs p a ∷ []) (assignment_again 1 x)
 
-  module _ (state : IsState s) (reached : IsReplay p lines s) (zip : AllZip (IsAnswerAt p lines s x) p.costs answers)
+  module _ (reached : IsReplay p lines s) (zip : AllZip (IsAnswerAt p lines s x) p.costs answers)
     where
       made_of : (t : StateValue) → IsReplay p (lines ++ line ∷ []) t → IsNext p s line t
       made_of t after = replay_before p lines line s t reached after
@@ -59,7 +59,7 @@ module _ (p : ProblemValue) (lines : List Line) (s : StateValue) (x : List Bool)
           KeptHold p (lines ++ line ∷ []) t y → KeptHold p lines s y
       kept_before t y after hold id c kept =
           let later : IsLater p lines s (lines ++ line ∷ []) t =
-          own_later p lines line s t state reached (made_of t after) refl in
+          own_later p lines line s t reached (made_of t after) refl in
           let own = later.own id c (kept.0, kept.2) in
           hold id c (own.0, kept.1, own.1)
 
@@ -127,14 +127,14 @@ module _ (a b : Snapshot) (x : List Bool) (answers : List Bound) (logs : LogsMod
             good.bounds;
         earned = subst (λ (q : ProblemValue). AreEarned q b.lines) (sym on.problem)
             (subst (λ (ls : List Line). AreEarned p ls) (sym lines_are)
-            (earned_still p a.lines s x answers logs.is.cut cut_is logs.known logs.stood zip logs.state after'
+            (earned_still p a.lines s x answers logs.is.cut cut_is logs.stood zip logs.state after'
             good.earned));
         within = subst (λ (most : Option ℕ). IsWithin most b.problem b.lines) (sym on.limit)
             (subst (λ (q : ProblemValue). IsWithin a.limit q b.lines) (sym on.problem)
             (subst (λ (ls : List Line). IsWithin a.limit p ls) (sym lines_are)
-            (within_still p a.lines s x answers logs.is.cut cut_is logs.known logs.stood zip a.limit
+            (within_still p a.lines s x answers logs.is.cut cut_is logs.stood zip a.limit
             good.within)));
         new = subst (λ (q : ProblemValue). NewAfter q b.lines) (sym on.problem)
             (subst (λ (ls : List Line). NewAfter p ls) (sym lines_are)
-            (new_still p a.lines s x answers logs.is.cut cut_is logs.known logs.stood zip good.new));
+            (new_still p a.lines s x answers logs.is.cut cut_is logs.stood zip good.new));
       }

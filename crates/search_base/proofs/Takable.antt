@@ -10,41 +10,13 @@ use Rattle.pb_lin.specs.Constraint.{IsVariable, TermsUpTo}
 use Rattle.instance_normal.proofs.Members.{all_both}
 use Rattle.pb_lin.specs.CostRow.{CostRowValue, IsCostRow, row_cost}
 use Rattle.pb_lin.specs.Problem.{ProblemValue, IsProblem, IsProblemModel, problem_costs}
-use Rattle.proof_laws.specs.State.{StateValue, start}
-use Rattle.proof_laws.specs.Legal.{Makes}
-use Rattle.proof_laws.specs.Replay.{IsReplay, Leads}
-use Rattle.proof_laws.specs.declared.line.Line.{Line}
-use Rattle.proof_laws.specs.declared.line.Line.TheVariants.{Pol, Rup, Learn, Def, Red, Dom, Sol, Del, Reduce, End}
+use Rattle.proof_laws.specs.State.{StateValue}
 use Rattle.proof_laws.proofs.Images.{value-take}
 use Rattle.sum_outputs.specs.Adding.{Snapshot, IsReached}
+use Rattle.sum_outputs.proofs.LaterStates.{replay_vars}
 use Rattle.search_base.specs.Logged.{IsCovered}
 use Rattle.search_base.specs.Good.{AllIsNew}
 use Rattle.search_base.specs.Turns.{IsTakable}
-
--- ---- variables
-
-abbrev vars_of : StateValue → ℕ
-vars_of s = s.vars
-
-vars_rise : (p : ProblemValue) (s t : StateValue) (line : Line) → Makes p s line t → s.vars ≤ t.vars
-vars_rise p s t (Pol tokens) made = let same = ap vars_of made.2 in omega arith
-vars_rise p s t (Rup goal hints) made = let same = ap vars_of made in omega arith
-vars_rise p s t (Learn goal hints) made = let same = ap vars_of made in omega arith
-vars_rise p s t (Def var sum) made = let same = ap vars_of made in omega arith
-vars_rise p s t (Red goal w proofs) made = let same = ap vars_of made in omega arith
-vars_rise p s t (Dom goal w proofs) made = let same = ap vars_of made in omega arith
-vars_rise p s t (Sol model cut ids) made = let same = ap vars_of made in omega arith
-vars_rise p s t (Del ids) made = let same = ap vars_of made in omega arith
-vars_rise p s t (Reduce ids) made = let same = ap vars_of made in omega arith
-vars_rise p s t (End id) made = let same = ap vars_of made in omega arith
-
-lines_rise : (p : ProblemValue) (s t : StateValue) (lines : List Line) → Leads p s lines t → s.vars ≤ t.vars
-lines_rise p s t [] leads = let same = ap vars_of leads in omega arith
-lines_rise p s t (line ∷ lines) leads = let one = vars_rise p s leads.0 line leads.1.makes in let rest =
-    lines_rise p leads.0 t lines leads.2 in omega arith
-
-problem_variables : (p : ProblemValue) (lines : List Line) (s : StateValue) → IsReplay p lines s → p.vars ≤ s.vars
-problem_variables p lines s reached = lines_rise p (start p) s lines reached
 
 -- ---- the part that is the problem's
 
@@ -70,8 +42,11 @@ costs_kept p y problem = map_agrees (row_cost (take p.vars y)) (row_cost y) p.co
 
 module _ (a : Snapshot) (s : StateValue) (y : List Bool) (reached : IsReached a s) (takable : IsTakable a y) where
   pub long_enough : a.problem.vars ≤ length y
-  long_enough = let is = takable s reached in let same = is.variables in let within =
-      problem_variables a.problem a.lines s reached in omega arith
+  long_enough =
+      let is = takable s reached in
+      let same = is.variables in
+      let within = replay_vars a.problem a.lines s reached in
+      omega arith
 
   pub problem_part : IsProblem a.problem → IsProblemModel a.problem (take a.problem.vars y)
   problem_part problem =

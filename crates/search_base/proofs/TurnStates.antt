@@ -1,5 +1,5 @@
 -- States after lines of turns.
-use Rattle.std.proofs.Common.{◌≡◌, Bool, true, false, List, [], ◌∷◌, ◌++◌, ap, refl, sym, subst, ◌∙◌}
+use Rattle.std.proofs.Common.{◌≡◌, Bool, true, false, List, [], ◌∷◌, ◌++◌, ap, refl, subst, ◌∙◌}
 use Rattle.std.specs.List.{All}
 use Rattle.std.proofs.lemmas.List.Elements.{All-head, All-tail}
 use Rattle.pb_lin.specs.Problem.{ProblemValue}
@@ -8,25 +8,19 @@ use Rattle.proof_laws.specs.Legal.{Makes}
 use Rattle.proof_laws.specs.Replay.{IsReplay, Leads}
 use Rattle.proof_laws.specs.declared.line.Line.{Line}
 use Rattle.proof_laws.specs.declared.line.Line.TheVariants.{Pol, Rup, Learn, Def, Red, Dom, Sol, Del, Reduce, End}
-use Rattle.proof_laws.proofs.Unique.{judged_once_law}
 use Rattle.sum_outputs.specs.Adding.{Snapshot, IsReached, IsReady}
+use Rattle.sum_outputs.proofs.LaterStates.{leads_from, replay_once}
 use Rattle.search_base.specs.Logged.{AddsTurnLines, IsTurnLine}
 use Rattle.search_base.proofs.Places.{from_places}
 
 -- ---- the lines after others
 
-leads_after : (p : ProblemValue) (s u t : StateValue) (lines more : List Line) → Leads p s lines u →
-    Leads p s (lines ++ more) t → Leads p u more t
-leads_after p s u t [] more one all = subst (λ (v : StateValue). Leads p v more t) (sym one) all
-leads_after p s u t (line ∷ lines) more one all =
-    let same : all.0 ≡ one.0 = (judged_once_law p s line).one_next all.0 one.0 all.1 one.1 in
-    leads_after p one.0 u t lines more one.2 (subst (λ (v : StateValue). Leads p v (lines ++ more) t) same all.2)
-
 -- the new lines lead from the one state to the other
 pub replay_after : (p : ProblemValue) (old new more : List Line) (s t : StateValue) → new ≡ old ++ more →
     IsReplay p old s → IsReplay p new t → Leads p s more t
 replay_after p old new more s t is before after =
-    leads_after p (start p) s t old more before (subst (λ (ls : List Line). IsReplay p ls t) is after)
+    let parts = leads_from p (start p) t old more (subst (λ (ls : List Line). IsReplay p ls t) is after) in
+    subst (λ (u : StateValue). Leads p u more t) (replay_once p old parts.0 s parts.1 before) parts.2
 
 -- ---- no line of a turn ends a proof
 

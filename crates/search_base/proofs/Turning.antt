@@ -1,41 +1,17 @@
 -- A turn after others.
-use Rattle.std.proofs.Common.{◌≡◌, ℕ, ◌<◌, Option, None, Some, List, [], ◌∷◌, ◌++◌, ap, refl, sym, subst, ◌∙◌, arith, ℤ}
+use Rattle.std.proofs.Common.{◌≡◌, ℕ, ◌<◌, List, [], ◌∷◌, ◌++◌, ap, refl, sym, subst, ◌∙◌, arith, ℤ}
 use Rattle.std.specs.Prelude.{not}
 use Rattle.std.specs.List.{count_by}
-use Rattle.scut_base.specs.Faults.{Faults}
 use Rattle.pb_lin.specs.Problem.{ProblemValue}
-use Rattle.proof_rules.specs.Recording.{Surroundings, CountsLater, KeepsSurroundings}
-use Rattle.oracle.specs.declared.fault.OracleFault.{OracleFault}
-use Rattle.oracle.specs.declared.fault.OracleFault.TheVariants.{Spent, Failed, Full, NoMemory}
 use Rattle.sum_outputs.specs.Adding.{Snapshot}
-use Rattle.sum_outputs.proofs.LaterStates.{around_again}
+use Rattle.sum_outputs.proofs.LaterStates.{around_again, around_twice}
 use Rattle.search_base.specs.Logged.{AddsTurnLines, LogsNone, Logs}
 use Rattle.search_base.specs.CostBox.{cost_box, is_covered, uncovered}
 use Rattle.search_base.specs.Boards.{BoardValue}
 use Rattle.search_base.specs.Good.{GoesOn, IsGood, KeepsBoard}
-use Rattle.search_base.specs.Turns.{FindsNew, IsSearchFault}
+use Rattle.search_base.specs.Turns.{FindsNew}
 use Rattle.search_base.specs.declared.bounds.ObjectiveBound.{ObjectiveBound}
 use Rattle.search_base.proofs.TurnLines.{no_line, both_lines}
-
--- ---- what stands around
-
-counts_twice : (a b c : Option Faults) → CountsLater a b → CountsLater b c → CountsLater a c
-counts_twice None None c one two = two
-counts_twice None (Some g) c one two = cc
-counts_twice (Some f) None c one two = absurd one
-counts_twice (Some f) (Some g) None one two = absurd two
-counts_twice (Some f) (Some g) (Some h) one two = λ call name. let x = one call name in let y = two call name in
-    omega arith
-
-around_twice : (a b c : Surroundings) → KeepsSurroundings a b → KeepsSurroundings b c → KeepsSurroundings a c
-around_twice a b c one two = record {
-  shelf = two.shelf ∙ one.shelf;
-  name = two.name ∙ one.name;
-  others = two.others ∙ one.others;
-  said = two.said ∙ one.said;
-  warned = two.warned ∙ one.warned;
-  counts = counts_twice a.counts b.counts c.counts one.counts two.counts;
-}
 
 -- ---- a call after another
 
@@ -63,12 +39,6 @@ board_again b = record { instance = refl; problem = refl }
 
 pub board_twice : (a b c : BoardValue) → KeepsBoard a b → KeepsBoard b c → KeepsBoard a c
 board_twice a b c one other = record { instance = other.instance ∙ one.instance; problem = other.problem ∙ one.problem }
-
-pub fault_after : (a b c : Snapshot) (f : OracleFault) → GoesOn a b → IsSearchFault b c f → IsSearchFault a c f
-fault_after a b c (Spent learned) on is = is
-fault_after a b c Failed on is = let x = on.later in omega arith
-fault_after a b c Full on is = is
-fault_after a b c NoMemory on is = tt
 
 -- turns were taken, and all is still good
 pub record AreTurns (a b : Snapshot) (asked : List ObjectiveBound) (old new : BoardValue) : Type 0 where

@@ -11,7 +11,7 @@ use crate::Bounds;
 use crate::asking::answers_at;
 use crate::costs::costs_at;
 use crate::laws::bounding_stays_good;
-use crate::logging::{in_memory, log_model};
+use crate::logging::log_model;
 use front_set::{CostVec, FrontSet};
 use instance::Instance;
 use instance_normal::tighten;
@@ -20,10 +20,11 @@ use proof_rules::{RecordFault, Recorder};
 use scut_base::{Assignment, Lit, NoMemory};
 use std::alloc::Global;
 use std::marker::Model;
+use sum_outputs::in_memory;
 use totalizer::fitting_stays;
 
-/// The one front of an instance that searches write: pairs of a cost vector, as the problem has it, and a model of the
-/// instance. None weakly dominates another.
+/// The one front of an instance that searches write: pairs of a cost vector, as the problem has it, and a
+/// model of the instance. None weakly dominates another.
 #[derive(Drop)]
 pub struct Board<'a> {
     alloc: Global,
@@ -33,7 +34,6 @@ pub struct Board<'a> {
 }
 
 impl<'a> Model for Board<'a> {
-    ghost use Rattle.front_set.specs.Front.{AreIncomparable};
     ghost use Rattle.search_base.specs.Boards.{BoardValue};
 
     ghost Value = { BoardValue };
@@ -64,21 +64,27 @@ impl<'a> Board<'a> {
         &self.front
     }
 
-    /// Takes a model: tightens it, logs it with its costs, and puts it onto the board. After an `Err` the board
-    /// isn't used again. Costs a walk over the instance, and what the bounds at these costs do.
+    /// Takes a model: tightens it, logs it with its costs, and puts it onto the board. After an `Err` the
+    /// board isn't used again. Costs a walk over the instance, and what the bounds at these costs do.
     pub fn take<R: Recorder>(
         &mut self,
         rec: &mut R,
         bounds: &mut Bounds,
         a: &Assignment,
     ) -> Result<(), RecordFault>
-        requires good { IsGood (seen R.problem R.limit R.lines R.faults R.broken R.around rec.old) bounds.old self.old }
-        requires model { IsTakable (seen R.problem R.limit R.lines R.faults R.broken R.around rec.old) a.now }
-        ensures good { OnOk result (IsGood (seen R.problem R.limit R.lines R.faults R.broken R.around rec.new)
+        requires good { IsGood
+            (seen R.problem R.limit R.lines R.faults R.broken R.around rec.old)
+            bounds.old self.old }
+        requires model { IsTakable
+            (seen R.problem R.limit R.lines R.faults R.broken R.around rec.old) a.now }
+        ensures good { OnOk result (IsGood
+            (seen R.problem R.limit R.lines R.faults R.broken R.around rec.new)
             bounds.new self.new) }
-        ensures taken { OnOk result (IsTaken (seen R.problem R.limit R.lines R.faults R.broken R.around rec.old)
+        ensures taken { OnOk result (IsTaken
+            (seen R.problem R.limit R.lines R.faults R.broken R.around rec.old)
             (seen R.problem R.limit R.lines R.faults R.broken R.around rec.new) a.now) }
-        ensures fault { IfErr result (IsFaultAt (seen R.problem R.limit R.lines R.faults R.broken R.around rec.old)
+        ensures fault { IfErr result (IsFaultAt
+            (seen R.problem R.limit R.lines R.faults R.broken R.around rec.old)
             (seen R.problem R.limit R.lines R.faults R.broken R.around rec.new)) }
         ensures goes_on { GoesOn (seen R.problem R.limit R.lines R.faults R.broken R.around rec.old)
             (seen R.problem R.limit R.lines R.faults R.broken R.around rec.new) }

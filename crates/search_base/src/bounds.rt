@@ -1,7 +1,6 @@
 // Literals that stand for "this objective's cost is at least a value".
-ghost use Rattle.std.specs.Prelude.{◌≡◌, ◌<◌, ◌≤◌, length, slice_index_or, List, IfOk, OnOk, IsTrue, ◌↔◌};
+ghost use Rattle.std.specs.Prelude.{◌≡◌, ◌<◌, ◌≤◌, length, slice_index_or, List, IfOk, OnOk};
 ghost use Rattle.pb_lin.specs.CostRow.{CostRowValue};
-ghost use Rattle.pb_lin.specs.Problem.{ProblemValue};
 ghost use Rattle.proof_laws.specs.State.{StateValue};
 ghost use Rattle.sum_outputs.specs.Adding.{Snapshot, seen, IsReached, IsReady, IsRecorded};
 ghost use Rattle.totalizer.specs.Meaning.{IsBound};
@@ -66,7 +65,8 @@ impl Bounds {
         value: i64,
     ) -> Result<Bound, RecordFault>
         requires ready { IsReady (seen R.problem R.limit R.lines R.faults R.broken R.around rec.old) }
-        requires fits { FitBounds (seen R.problem R.limit R.lines R.faults R.broken R.around rec.old) self.old }
+        requires fits { FitBounds
+            (seen R.problem R.limit R.lines R.faults R.broken R.around rec.old) self.old }
         requires there { objective < length (R.problem rec.old).costs }
         ensures recorded { IsRecorded (seen R.problem R.limit R.lines R.faults R.broken R.around rec.old)
             (seen R.problem R.limit R.lines R.faults R.broken R.around rec.new) result }
@@ -89,10 +89,12 @@ fn bound_of<R: Recorder>(
     k: i128,
 ) -> Result<Bound, RecordFault>
     requires ready { IsReady (seen R.problem R.limit R.lines R.faults R.broken R.around rec.old) }
-    requires fits { Fits (seen R.problem R.limit R.lines R.faults R.broken R.around rec.old) totalizer.old }
+    requires fits { Fits
+        (seen R.problem R.limit R.lines R.faults R.broken R.around rec.old) totalizer.old }
     ensures recorded { IsRecorded (seen R.problem R.limit R.lines R.faults R.broken R.around rec.old)
         (seen R.problem R.limit R.lines R.faults R.broken R.around rec.new) result }
-    ensures bound { IfOk result (IsBound (R.problem rec.new) (R.lines rec.new) (terms_of totalizer.old) k) }
+    ensures bound { IfOk result (IsBound (R.problem rec.new) (R.lines rec.new)
+        (terms_of totalizer.old) k) }
     ensures fits { OnOk result (Fits
         (seen R.problem R.limit R.lines R.faults R.broken R.around rec.new) totalizer.new) }
     ensures terms { terms_of totalizer.new ≡ terms_of totalizer.old }

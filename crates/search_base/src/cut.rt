@@ -59,13 +59,11 @@ fn add_once(distinct: &mut Items<Lit>, lit: Lit) -> Result<(), NoMemory>
 {
     let len = distinct.len();
     if len == 0 {
-        distinct.push(lit)?;
-        return Ok(());
+        return distinct.push(lit);
     }
-    let last = *distinct.at(len - 1);
-    if last.var() < lit.var() {
-        distinct.push(lit)?;
-        return Ok(());
+    // In order of variables, so that only the last can be the same.
+    if distinct.at(len - 1).var() < lit.var() {
+        return distinct.push(lit);
     }
     Ok(())
 }

@@ -1,5 +1,5 @@
 // The line that logs a model.
-ghost use Rattle.std.specs.Prelude.{◌≡◌, ◌<◌, ◌^◌, Ok, length, IfOk, IfErr, OnOk};
+ghost use Rattle.std.specs.Prelude.{◌≡◌, ◌<◌, ◌^◌, length, IfOk, IfErr, OnOk};
 ghost use Rattle.pb_lin.specs.Problem.{IsProblem, IsProblemModel, problem_costs};
 ghost use Rattle.sum_outputs.specs.Adding.{seen, IsFaultAt, IsReady};
 ghost use Rattle.search_base.specs.Cutting.{AreAlike, AreAnswers, IsModelLine, LogsModel, answered_literals, literals_at};
@@ -10,9 +10,11 @@ use proof_laws::Line;
 use proof_rules::{RecordFault, Recorder};
 use scut_base::{Assignment, Items, Lit, NoMemory};
 use std::alloc::Global;
+use sum_outputs::in_memory;
 use totalizer::Bound;
 
-// Logs the model, with the cut of what stands for its costs. Costs a pass over the model, and a sort of the cut.
+// Logs the model, with the cut of what stands for its costs. Costs a pass over the model, and a sort of the
+// cut.
 pub(crate) fn log_model<R: Recorder>(
     alloc: Global,
     rec: &mut R,
@@ -27,7 +29,8 @@ pub(crate) fn log_model<R: Recorder>(
     ensures logged { OnOk result (LogsModel
         (seen R.problem R.limit R.lines R.faults R.broken R.around rec.old)
         (seen R.problem R.limit R.lines R.faults R.broken R.around rec.new) model.now answers.now) }
-    ensures fault { IfErr result (IsFaultAt (seen R.problem R.limit R.lines R.faults R.broken R.around rec.old)
+    ensures fault { IfErr result (IsFaultAt
+        (seen R.problem R.limit R.lines R.faults R.broken R.around rec.old)
         (seen R.problem R.limit R.lines R.faults R.broken R.around rec.new)) }
     ensures goes_on { GoesOn (seen R.problem R.limit R.lines R.faults R.broken R.around rec.old)
         (seen R.problem R.limit R.lines R.faults R.broken R.around rec.new) }
@@ -66,15 +69,4 @@ fn literals_of(alloc: Global, a: &Assignment) -> Result<Items<Lit>, NoMemory>
         lits.push(Lit::new(var, !*value))?;
     }
     Ok(lits)
-}
-
-// The same want of memory, as a recorder's fault.
-pub(crate) fn in_memory<T: Drop>(made: Result<T, NoMemory>) -> Result<T, RecordFault>
-    ensures ok { IfOk result (λ x. made ≡ Ok x) }
-    ensures fault { IfErr result (λ f. f ≡ RecordFault.NoMemory) }
-{
-    match made {
-        Ok(made) => Ok(made),
-        Err(NoMemory) => Err(RecordFault::NoMemory),
-    }
 }

@@ -7,20 +7,24 @@ ghost use Rattle.search_base.specs.Turns.{FindsNew, IsEndLine, IsInOrder, IsSear
 use crate::{Board, Bounds, Search, Turn};
 use oracle::{Oracle, OracleFault};
 
-/// Goes on until nothing is left, and answers the id of a live line `0 >= 1`. It ends: a turn that takes a model lowers
-/// the number of uncovered vectors of the cost box, and any other the search's own number.
+/// Goes on until nothing is left, and answers the id of a live line `0 >= 1`. It ends: a turn that takes a
+/// model lowers the number of uncovered vectors of the cost box, and any other the search's own number.
 pub fn run_search<O: Oracle, S: Search>(
     oracle: &mut O,
     bounds: &mut Bounds,
     board: &mut Board<'_>,
     search: &mut S,
 ) -> Result<u64, OracleFault>
-    requires good { IsGood (seen O.problem O.limit O.lines O.faults O.broken O.around oracle.old) bounds.old board.old }
+    requires good { IsGood
+        (seen O.problem O.limit O.lines O.faults O.broken O.around oracle.old)
+        bounds.old board.old }
     requires serves { S.serves search.old (O.problem oracle.old) }
     ensures end { IfOk result (IsEndLine (O.problem oracle.new) (O.lines oracle.new)) }
     ensures good { IsInOrder result
-        → IsGood (seen O.problem O.limit O.lines O.faults O.broken O.around oracle.new) bounds.new board.new }
-    ensures fault { IfErr result (IsSearchFault (seen O.problem O.limit O.lines O.faults O.broken O.around oracle.old)
+        → IsGood (seen O.problem O.limit O.lines O.faults O.broken O.around oracle.new)
+        bounds.new board.new }
+    ensures fault { IfErr result (IsSearchFault
+        (seen O.problem O.limit O.lines O.faults O.broken O.around oracle.old)
         (seen O.problem O.limit O.lines O.faults O.broken O.around oracle.new)) }
     ensures goes_on { GoesOn (seen O.problem O.limit O.lines O.faults O.broken O.around oracle.old)
         (seen O.problem O.limit O.lines O.faults O.broken O.around oracle.new) }
@@ -40,16 +44,20 @@ fn next_model<O: Oracle, S: Search>(
     board: &mut Board<'_>,
     search: &mut S,
 ) -> Result<Option<u64>, OracleFault>
-    requires good { IsGood (seen O.problem O.limit O.lines O.faults O.broken O.around oracle.old) bounds.old board.old }
+    requires good { IsGood
+        (seen O.problem O.limit O.lines O.faults O.broken O.around oracle.old)
+        bounds.old board.old }
     requires serves { S.serves search.old (O.problem oracle.old) }
     ensures found { IfOk result (λ found. MatchOption found
         (FindsNew (seen O.problem O.limit O.lines O.faults O.broken O.around oracle.old)
         (seen O.problem O.limit O.lines O.faults O.broken O.around oracle.new))
         (IsEndLine (O.problem oracle.new) (O.lines oracle.new))) }
     ensures good { IsInOrder result
-        → IsGood (seen O.problem O.limit O.lines O.faults O.broken O.around oracle.new) bounds.new board.new }
+        → IsGood (seen O.problem O.limit O.lines O.faults O.broken O.around oracle.new)
+        bounds.new board.new }
     ensures serves { IsInOrder result → S.serves search.new (O.problem oracle.new) }
-    ensures fault { IfErr result (IsSearchFault (seen O.problem O.limit O.lines O.faults O.broken O.around oracle.old)
+    ensures fault { IfErr result (IsSearchFault
+        (seen O.problem O.limit O.lines O.faults O.broken O.around oracle.old)
         (seen O.problem O.limit O.lines O.faults O.broken O.around oracle.new)) }
     ensures goes_on { GoesOn (seen O.problem O.limit O.lines O.faults O.broken O.around oracle.old)
         (seen O.problem O.limit O.lines O.faults O.broken O.around oracle.new) }

@@ -164,9 +164,6 @@ module _ (given : Given) (x : List Bool) where
   abbrev HasSum : List PolToken → List ConstraintValue → Type 0
   HasSum tokens cs = (r : ConstraintValue) × (c : ℕ) × SumsTo given tokens cs r c
 
-  abbrev AllButLast : List ConstraintValue → ConstraintValue → Type 0
-  AllButLast cs u = LowAt x cs
-
   pub sum_lines : (ids : List ℕ) (cs : List ConstraintValue) (tokens : List PolToken) (before : List ConstraintValue) (id : ℕ) (u : ConstraintValue) → AreLines given ids cs → LowAt x (before ++ cs) → get given.lines id ≡ Some u → IsNormal u.terms u.degree → sizes ((before ++ cs) ++ u ∷ []) ≤ 2 ^ 100 →
       HasSum tokens before → HasSum (tokens ++ added (ids ++ id ∷ [])) ((before ++ cs) ++ u ∷ [])
   sum_lines [] [] tokens before id u are low live normal fits has =

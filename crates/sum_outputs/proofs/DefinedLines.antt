@@ -17,7 +17,6 @@ use Rattle.pb_lin.proofs.OppositeTerms.{total-opposite}
 use Rattle.cutting_planes.proofs.Terms.{Terms}
 use Rattle.proof_laws.specs.State.{StateValue, IsState}
 use Rattle.proof_laws.specs.Steps.{reached_if, reached_only_if, missed_by, term_of, with_definition}
-use Rattle.proof_laws.specs.WellFormed.{IsWellFormed}
 use Rattle.proof_laws.specs.Refusal.{def_fault, fault_unless, first_fault, range_fault, size_fault, term_variables, FirstOf}
 use Rattle.proof_laws.specs.Legal.{IsLegal, IsRefused}
 use Rattle.proof_laws.specs.Replay.{IsReplay}
@@ -92,18 +91,6 @@ module _ (a : Snapshot) (s : StateValue) (state : IsState s) (reached : IsReache
       let same_ready : ready.state ≡ s = replay_once a.problem a.lines ready.state s ready.reached reached in
       let open' : s.ended ≡ false = subst (λ (u : StateValue). u.ended ≡ false) same_ready ready.open' in
       subst (λ (u : StateValue). IsLegal a.problem u (Def var c) ⊎ IsRefused a.problem u (Def var c) LogLong) same (def_legal a.problem s var c open' no_def_fault)
-
-  pub defined_formed : IsWellFormed (Def var c)
-  defined_formed =
-      let next = is.next in
-      let v = state.vars in
-      let l = state.lines in (
-        (omega arith, omega arith),
-        record {
-          normal = is.normal;
-          variables = λ k d short. let w = is.variables k d short in let z = is.normal.merged.from_one k d short in (omega arith, omega arith);
-        },
-      )
 
   -- what is there after it
   module _ (b : Snapshot) (o : SumOutput) (problem : b.problem ≡ a.problem) (lines : b.lines ≡ a.lines ++ Def var c ∷ []) (o_var : o.lit.var ≡ var) (o_neg : o.lit.neg ≡ false) (o_lower : IsNextId a.problem a.lines o.lower) (o_upper : o.upper ≡ o.lower + 1) where

@@ -14,7 +14,7 @@ use Rattle.sum_outputs.specs.Adding.{Snapshot, IsReady, Continues}
 use Rattle.sum_outputs.specs.Outputs.{IsDefined}
 use Rattle.sum_outputs.specs.Joining.{IsOutputAt, AreOutputsAt, IsCompleteTo, AreChildrenNow, IsNewOutput}
 use Rattle.sum_outputs.specs.Sums.{IsLeastOf, IsRun, IsRunTo}
-use Rattle.sum_outputs.specs.Falling.{AreFalling, AreFallingTo, AreAllBetween, IsHalfWay}
+use Rattle.sum_outputs.specs.Falling.{AreFalling, AreAllBetween}
 use Rattle.sum_outputs.specs.declared.made.SumOutput.{SumOutput}
 use Rattle.sum_outputs.proofs.OutputsLater.{defined_then, now_later}
 use Rattle.sum_outputs.proofs.JoinLines.{output_then}
@@ -27,6 +27,21 @@ complete_less terms os k j le complete m can some = ⊎_elim
     (λ (exact : (o : SumOutput) × Contains os o × (o.sum ≡ m)). inl exact)
     (λ (over : (o : SumOutput) × Contains os o × (k ≤ o.sum) × (o.sum ≤ m)). inr (over.0, over.1, (let large = over.2 in omega arith), over.3))
     (complete m can some)
+
+-- ---- a run
+
+-- some sums of a run are left
+pub record IsHalfWay (a b : Snapshot) (terms : Terms) (firsts seconds : List SumOutput) (greatest last k : ℕ) (sums : List (ℕ × ℕ)) (os : List SumOutput) : Type 0 where
+  pub middle : ℕ
+  pub high : ℕ
+  pub run : IsRun firsts seconds greatest k last sums middle
+  pub are : AreFalling a b terms middle os
+  pub needed : All (λ o. IsUpToLeast terms k o.sum) os
+  pub all : AreAllBetween terms middle high os
+  pub within : All (λ o. o.sum ≤ high) os
+  pub below : middle ≤ high
+  pub top : (high ≡ middle) ⊎ ((o : SumOutput) × Contains os o × (o.sum ≡ high))
+  pub enough : (k ≤ high) ⊎ (total terms ≤ high)
 
 -- nothing is made yet
 pub halfway_starts : (a : Snapshot) (terms : Terms) (firsts seconds : List SumOutput) (last k : ℕ) (sums : List (ℕ × ℕ)) → IsRunTo firsts seconds (total terms) last k sums → IsHalfWay a a terms firsts seconds (total terms) last k sums []
@@ -134,20 +149,6 @@ module _ (a b c : Snapshot) (ready : IsReady a) (ready_b : IsReady b) (before : 
             half.top;
         enough = half.enough;
       }
-
--- all are made
-pub halfway_ends : (a b : Snapshot) (terms : Terms) (firsts seconds : List SumOutput) (greatest last k : ℕ) (sums : List (ℕ × ℕ)) (os : List SumOutput) → sums ≡ [] → IsHalfWay a b terms firsts seconds greatest last k sums os → AreFallingTo a b terms last k os
-halfway_ends a b terms firsts seconds greatest last k sums os none half =
-    let at : half.middle ≡ last = subst (λ (ss : List (ℕ × ℕ)). IsRun firsts seconds greatest k last ss half.middle) none half.run in
-    record {
-      high = half.high;
-      are = subst (λ (n : ℕ). AreFalling a b terms n os) at half.are;
-      needed = half.needed;
-      all = subst (λ (n : ℕ). AreAllBetween terms n half.high os) at half.all;
-      within = half.within;
-      top = ⊎_elim (λ (none : half.high ≡ half.middle). inl (none ∙ at)) (λ (found : (p : SumOutput) × Contains os p × (p.sum ≡ half.high)). inr found) half.top;
-      enough = half.enough;
-    }
 
 -- the last of outputs alone
 pub last_outputs : (b : Snapshot) (terms : Terms) (os : List SumOutput) (t : StateValue) → AreWeights terms → All (IsOutputAt b t terms) os → AreOutputsAt b t terms (drop (length os - 1) os)

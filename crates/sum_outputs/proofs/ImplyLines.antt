@@ -66,10 +66,6 @@ againsts_none x (o ∷ parts) all =
 not_of : (v : ℕ) (ws : Terms) → All (λ t. v ≢ t.0.var) ws → is_of ws v ≡ false
 not_of v ws all = list_any_none (λ w. v == w.0.var) ws (λ k d short. ne_eqb v (get_or ws k d).0.var (all k d short))
 
-false_literal : (b : Bool) → b ≢ true → b ≡ false
-false_literal true ne = absurd (ne refl)
-false_literal false ne = refl
-
 -- ids are small
 pub id_small : (s : StateValue) → IsState s → (id : ℕ) (c : ConstraintValue) → get s.live id ≡ Some c → id < 2 ^ 63
 id_small s state id c is = let w = state.ids id c is in let n = state.next_id in let l = state.lines in omega arith
@@ -223,9 +219,6 @@ tokens_plain s ids id ws degree vars small id_small within fits = All-append (Is
 pol_legal : (p : ProblemValue) (s : StateValue) (tokens : List PolToken) (c : ConstraintValue) → s.ended ≡ false → All (λ t. All (λ v. v ≤ s.vars) (token_variables t)) tokens → IsValueOn (given_in s None None) [] tokens (Ok c) → IsLegal p s (Pol tokens) ⊎ IsRefused p s (Pol tokens) LogLong
 pol_legal p s tokens c open' upto is = by s.ended (nat_lt s.lines (2 ^ 61)) (range_fault s.vars (flat_map token_variables tokens)) open' (none_found s.vars (flat_map token_variables tokens) (written_upto s.vars tokens upto))
   where
-    Rest : Option Why → Type 0
-    Rest f = IsPolFault s tokens f
-
     by : (e long : Bool) (range : Option Why) → e ≡ false → range ≡ None →
         FirstOf (fault_unless (not e) AfterEnd) (FirstOf (fault_unless long LogLong) (FirstOf range (IsPolFault s tokens))) None ⊎ FirstOf (fault_unless (not e) AfterEnd) (FirstOf (fault_unless long LogLong) (FirstOf range (IsPolFault s tokens))) (Some LogLong)
     by true long range e none = cc

@@ -10,15 +10,18 @@ use Rattle.cutting_planes.proofs.Terms.{Terms}
 use Rattle.proof_laws.specs.State.{StateValue}
 use Rattle.proof_laws.proofs.Definitions.{zero_or_more}
 use Rattle.sum_outputs.specs.Totals.{IsLeastSum}
-use Rattle.sum_outputs.specs.Adding.{Snapshot, IsReached, KeptHold, Always}
-use Rattle.sum_outputs.specs.Outputs.{Imply}
-use Rattle.sum_outputs.specs.Joining.{Follows, IsOutputAt, IsCompleteTo, AreChildren, AreImplying}
+use Rattle.sum_outputs.specs.Adding.{Snapshot, IsReached, KeptHold}
+use Rattle.sum_outputs.specs.Joining.{Follows, IsOutputAt, IsCompleteTo, AreChildren, AreImplying, HaveLesser, PairsImply}
 use Rattle.sum_outputs.specs.declared.made.SumOutput.{SumOutput}
 use Rattle.sum_outputs.proofs.Attaining.{attain_first, attain_second}
 
 -- an output of exactly this sum, or one of at least k whose sum is below it
 abbrev pub HasSide : List SumOutput → ℕ → ℕ → Type 0
 HasSide os k m = ((o : SumOutput) × Contains os o × (o.sum ≡ m)) ⊎ ((o : SumOutput) × Contains os o × (k ≤ o.sum) × (o.sum ≤ m))
+
+-- what each of some outputs has, it has of what follows
+pub lesser_map : (os : List SumOutput) (from below : ℕ) (P Q : SumOutput → Type 0) → ((q : SumOutput) → P q → Q q) → HaveLesser os from below P → HaveLesser os from below Q
+lesser_map os from below P Q onward have o in' reach less = let got = have o in' reach less in (got.0, got.1, got.2, onward got.0 got.3)
 
 all_one : (x : List Bool) (o : SumOutput) → lit_true x o.lit ≡ true → All (λ q. lit_true x q.lit ≡ true) (o ∷ [])
 all_one x o is = All-cons (λ q. lit_true x q.lit ≡ true) o [] is (All-nil (λ q. lit_true x q.lit ≡ true))
@@ -28,24 +31,6 @@ all_two x o p is is' = All-cons (λ q. lit_true x q.lit ≡ true) o (p ∷ []) i
 
 module _ (a : Snapshot) (s : StateValue) (reached : IsReached a s) (first second : Terms) (firsts seconds : List SumOutput) (are : AreChildren a s first second firsts seconds) (target : SumOutput) (k below : ℕ)
     (left : IsCompleteTo first firsts k) (right : IsCompleteTo second seconds k) (least : IsLeastSum (first ++ second) k target.sum) (some : 0 < target.sum) (by : AreImplying a firsts seconds target below) where
-  -- a member's clause, by its place
-  first_implies : (f : SumOutput) → Contains firsts f → target.sum ≤ f.sum → f.sum < below → Always a (Imply (f ∷ []) target)
-  first_implies f (i, short, is) reach less =
-      let sums : (get_or firsts i f).sum ≡ f.sum = ap (λ (o : SumOutput). o.sum) is in
-      subst (λ (o : SumOutput). Always a (Imply (o ∷ []) target)) is (by.by_firsts i f short (omega arith) (omega arith))
-
-  second_implies : (g : SumOutput) → Contains seconds g → target.sum ≤ g.sum → g.sum < below → Always a (Imply (g ∷ []) target)
-  second_implies g (j, short, is) reach less =
-      let sums : (get_or seconds j g).sum ≡ g.sum = ap (λ (o : SumOutput). o.sum) is in
-      subst (λ (o : SumOutput). Always a (Imply (o ∷ []) target)) is (by.by_seconds j g short (omega arith) (omega arith))
-
-  pair_implies : (f g : SumOutput) → Contains firsts f → Contains seconds g → target.sum ≤ f.sum + g.sum → f.sum + g.sum < below → Always a (Imply (f ∷ g ∷ []) target)
-  pair_implies f g (i, short, is) (j, short', is') reach less =
-      let sums : (get_or firsts i f).sum ≡ f.sum = ap (λ (o : SumOutput). o.sum) is in
-      let sums' : (get_or seconds j g).sum ≡ g.sum = ap (λ (o : SumOutput). o.sum) is' in
-      subst (λ (o : SumOutput). Always a (Imply (o ∷ g ∷ []) target)) is
-      (subst (λ (p : SumOutput). Always a (Imply (get_or firsts i f ∷ p ∷ []) target)) is' (by.by_pairs i f short j g short' (omega arith) (omega arith)))
-
   module _ (x : List Bool) (hold : KeptHold a.problem a.lines s x) (low : value x (first ++ second) < below) (reach : target.sum ≤ value x (first ++ second)) where
     both : value x (first ++ second) ≡ value x first + value x second
     both = sum_by-append (term_value x) first second
@@ -56,31 +41,57 @@ module _ (a : Snapshot) (s : StateValue) (reached : IsReached a s) (first second
     second_true : (g : SumOutput) → Contains seconds g → g.sum ≤ value x second → lit_true x g.lit ≡ true
     second_true g in' most = (All-contains (IsOutputAt a s second) seconds g are.of_second.each in').follows x hold most
 
-    -- one output alone has a sum that is large enough
+    -- one output alone has a sum that is large enough: the least such one implies the target
+    single_first : (f : SumOutput) → Contains firsts f → target.sum ≤ f.sum → f.sum ≤ value x first → lit_true x target.lit ≡ true
+    single_first f in' large less =
+        let sum = both in
+        let got = by.by_firsts f in' large (omega arith) in
+        let small = got.2 in
+        got.3 s reached x hold (all_one x got.0 (first_true got.0 got.1 (omega arith)))
+
+    single_second : (g : SumOutput) → Contains seconds g → target.sum ≤ g.sum → g.sum ≤ value x second → lit_true x target.lit ≡ true
+    single_second g in' large less =
+        let sum = both in
+        let got = by.by_seconds g in' large (omega arith) in
+        let small = got.2 in
+        got.3 s reached x hold (all_one x got.0 (second_true got.0 got.1 (omega arith)))
+
     by_first : (f : SumOutput) → Contains firsts f → k ≤ f.sum → f.sum ≤ value x first → lit_true x target.lit ≡ true
     by_first f in' most less =
         let is = All-contains (IsOutputAt a s first) firsts f are.of_first.each in' in
-        let large = least.least f.sum (attain_first first second are.weights f.sum is.attainable) most in
-        let sum = both in
-        first_implies f in' large (omega arith) s reached x hold (all_one x f (first_true f in' less))
+        single_first f in' (least.least f.sum (attain_first first second are.weights f.sum is.attainable) most) less
 
     by_second : (g : SumOutput) → Contains seconds g → k ≤ g.sum → g.sum ≤ value x second → lit_true x target.lit ≡ true
     by_second g in' most less =
         let is = All-contains (IsOutputAt a s second) seconds g are.of_second.each in' in
-        let large = least.least g.sum (attain_second first second are.weights g.sum is.attainable) most in
+        single_second g in' (least.least g.sum (attain_second first second are.weights g.sum is.attainable) most) less
+
+    -- with an output below the target the least partner with which it reaches that implies it
+    pair_of : (f : SumOutput) → Contains firsts f → f.sum < target.sum → PairsImply a f seconds target below
+    pair_of f (i, short, is) small =
+        let sums : (get_or firsts i f).sum ≡ f.sum = ap (λ (o : SumOutput). o.sum) is in
+        subst (λ (o : SumOutput). PairsImply a o seconds target below) is (by.by_pairs i f short (omega arith))
+
+    with_partner : (f g : SumOutput) → Contains firsts f → Contains seconds g → f.sum < target.sum → f.sum ≡ value x first → g.sum ≡ value x second → lit_true x target.lit ≡ true
+    with_partner f g in' in'' small is is' =
         let sum = both in
-        second_implies g in' large (omega arith) s reached x hold (all_one x g (second_true g in' less))
+        let got = pair_of f in' small g in'' (omega arith) (omega arith) in
+        let less = got.2 in
+        got.3 s reached x hold (all_two x f got.0 (first_true f in' (omega arith)) (second_true got.0 got.1 (omega arith)))
 
     exact_first : value x second ≡ 0 → HasSide firsts k (value x first) → lit_true x target.lit ≡ true
-    exact_first none (inl (f, in', is)) = let sum = both in first_implies f in' (omega arith) (omega arith) s reached x hold (all_one x f (first_true f in' (omega arith)))
+    exact_first none (inl (f, in', is)) = let sum = both in single_first f in' (omega arith) (omega arith)
     exact_first none (inr (f, in', most, less)) = by_first f in' most less
 
     exact_second : value x first ≡ 0 → HasSide seconds k (value x second) → lit_true x target.lit ≡ true
-    exact_second none (inl (g, in', is)) = let sum = both in second_implies g in' (omega arith) (omega arith) s reached x hold (all_one x g (second_true g in' (omega arith)))
+    exact_second none (inl (g, in', is)) = let sum = both in single_second g in' (omega arith) (omega arith)
     exact_second none (inr (g, in', most, less)) = by_second g in' most less
 
     exact_both : HasSide firsts k (value x first) → HasSide seconds k (value x second) → lit_true x target.lit ≡ true
-    exact_both (inl (f, in', is)) (inl (g, in'', is')) = let sum = both in pair_implies f g in' in'' (omega arith) (omega arith) s reached x hold (all_two x f g (first_true f in' (omega arith)) (second_true g in'' (omega arith)))
+    exact_both (inl (f, in', is)) (inl (g, in'', is')) = ⊎_elim
+        (λ (small : f.sum < target.sum). with_partner f g in' in'' small is is')
+        (λ (large : target.sum ≤ f.sum). single_first f in' large (omega arith))
+        (cases_lt f.sum target.sum)
     exact_both (inl f) (inr (g, in', most, less)) = by_second g in' most less
     exact_both (inr (f, in', most, less)) g = by_first f in' most less
 

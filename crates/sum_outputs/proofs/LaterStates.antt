@@ -13,7 +13,7 @@ use Rattle.pb_lin.specs.Constraint.{ConstraintValue}
 use Rattle.pb_lin.specs.Problem.{ProblemValue}
 use Rattle.pb_lin.specs.LineMap.{LineMap}
 use Rattle.scut_base.specs.Faults.{Rose, Faults}
-use Rattle.proof_laws.specs.State.{StateValue, IsState, start}
+use Rattle.proof_laws.specs.State.{StateValue, start}
 use Rattle.proof_laws.specs.Steps.{with_line, with_learned, with_definition, with_end, without_lines, reached_if, reached_only_if}
 use Rattle.proof_laws.specs.Legal.{IsNext}
 use Rattle.proof_laws.specs.Replay.{Leads, IsReplay}
@@ -26,6 +26,7 @@ use Rattle.proof_rules.specs.declared.recorder.RecordFault.{RecordFault}
 use Rattle.proof_rules.specs.declared.recorder.RecordFault.TheVariants.{Failed, Full, NoMemory}
 use Rattle.sum_outputs.specs.Totals.{IsTotalizerLine}
 use Rattle.sum_outputs.specs.Adding.{Snapshot, IsOwn, IsLater, IsReached, Always, IsReady, HasLater, Continues, IsFaultAt, IsRecorded}
+use Rattle.sum_outputs.proofs.ReplayIds.{HasIds, replay_ids}
 
 -- ---- replays
 
@@ -39,17 +40,20 @@ leads_once p s (line ∷ lines) t u one other =
 pub replay_once : (p : ProblemValue) (lines : List Line) (s t : StateValue) → IsReplay p lines s → IsReplay p lines t → s ≡ t
 replay_once p lines s t one other = leads_once p (start p) lines s t one other
 
-leads_before : (p : ProblemValue) (s : StateValue) (lines : List Line) (line : Line) (t : StateValue) → Leads p s (lines ++ line ∷ []) t → (u : StateValue) × Leads p s lines u × IsNext p u line t
-leads_before p s [] line t leads = (s, refl, subst (λ (v : StateValue). IsNext p s line v) (sym leads.2) leads.1)
-leads_before p s (l ∷ lines) line t leads =
-    let rest = leads_before p leads.0 lines line t leads.2 in
+-- the lines before a place lead to the state that those after it start from
+pub leads_from : (p : ProblemValue) (s t : StateValue) (before after : List Line) → Leads p s (before ++ after) t → (u : StateValue) × Leads p s before u × Leads p u after t
+leads_from p s t [] after leads = (s, refl, leads)
+leads_from p s t (line ∷ before) after leads =
+    let rest = leads_from p leads.0 t before after leads.2 in
     (rest.0, (leads.0, leads.1, rest.1), rest.2)
 
 -- the state before the last line
 pub replay_before : (p : ProblemValue) (lines : List Line) (line : Line) (s t : StateValue) → IsReplay p lines s → IsReplay p (lines ++ line ∷ []) t → IsNext p s line t
 replay_before p lines line s t replay more =
-    let before = leads_before p (start p) lines line t more in
-    subst (λ (u : StateValue). IsNext p u line t) (replay_once p lines before.0 s before.1 replay) before.2
+    let parts = leads_from p (start p) t lines (line ∷ []) more in
+    let last = parts.2 in
+    let same : parts.0 ≡ s = replay_once p lines parts.0 s parts.1 replay in
+    subst (λ (u : StateValue). IsNext p u line t) same (subst (λ (u : StateValue). IsNext p parts.0 line u) (sym last.2) last.1)
 
 -- ---- one line
 
@@ -67,10 +71,10 @@ pub record KeepsLive (s t : StateValue) : Type 0 where
   pub live : (id : ℕ) (c : ConstraintValue) → get s.live id ≡ Some c → get t.live id ≡ Some c
   pub vars : s.vars ≤ t.vars
 
-module _ (s : StateValue) (state : IsState s) where
+module _ (s : StateValue) (has : HasIds s) where
   one_more : (c : ConstraintValue) → KeepsLive s (with_line s c)
   one_more c = record {
-    live = λ id d is. let w = state.ids id d is in get_other s.live s.next_id id c (λ e. omega arith) ∙ is;
+    live = λ id d is. let w = has.ids id d is in get_other s.live s.next_id id c (λ e. omega arith) ∙ is;
     vars = omega arith;
   }
 
@@ -82,7 +86,7 @@ module _ (s : StateValue) (state : IsState s) where
   line_keeps p (Rup goal hints) t none next = kept_by t (with_line s goal) next.makes (one_more goal)
   line_keeps p (Learn goal hints) t none next = kept_by t (with_learned s goal) next.makes (record { live = (one_more goal).live; vars = omega arith })
   line_keeps p (Def var sum) t none next = kept_by t (with_definition s sum) next.makes (record {
-    live = λ id d is. let w = state.ids id d is in
+    live = λ id d is. let w = has.ids id d is in
         get_other (insert s.live s.next_id (reached_if (s.vars + 1) sum)) (s.next_id + 1) id (reached_only_if (s.vars + 1) sum) (λ e. omega arith)
         ∙ get_other s.live s.next_id id (reached_if (s.vars + 1) sum) (λ e. omega arith) ∙ is;
     vars = omega arith;
@@ -149,12 +153,6 @@ leads_rise p s t (line ∷ lines) leads =
 pub replay_vars : (p : ProblemValue) (lines : List Line) (s : StateValue) → IsReplay p lines s → p.vars ≤ s.vars
 replay_vars p lines s replay = (leads_rise p (start p) s lines replay).vars
 
-leads_from : (p : ProblemValue) (s t : StateValue) (before after : List Line) → Leads p s (before ++ after) t → (u : StateValue) × Leads p s before u × Leads p u after t
-leads_from p s t [] after leads = (s, refl, leads)
-leads_from p s t (line ∷ before) after leads =
-    let rest = leads_from p leads.0 t before after leads.2 in
-    (rest.0, (leads.0, leads.1, rest.1), rest.2)
-
 -- an id that was learned is below the next
 learned_below : (p : ProblemValue) (lines : List Line) (s : StateValue) (id : ℕ) → IsReplay p lines s → IsLearnedId p lines id → id < s.next_id
 learned_below p lines s id replay (before, goal, hints, after, u, splits, reached, is) =
@@ -189,11 +187,12 @@ after_not_learned p lines line s id replay above plain (before, goal, hints, aft
     (split_end lines before after line (Learn goal hints) splits)
 
 -- a line that deletes nothing keeps what wasn't learned
-pub own_later : (p : ProblemValue) (lines : List Line) (line : Line) (s t : StateValue) → IsState s → IsReplay p lines s → IsNext p s line t → deletes line ≡ false → IsLater p lines s (lines ++ line ∷ []) t
-own_later p lines line s t state replay next none =
-    let keeps = line_keeps s state p line t none next in
+pub own_later : (p : ProblemValue) (lines : List Line) (line : Line) (s t : StateValue) → IsReplay p lines s → IsNext p s line t → deletes line ≡ false → IsLater p lines s (lines ++ line ∷ []) t
+own_later p lines line s t replay next none =
+    let has = replay_ids p lines s replay in
+    let keeps = line_keeps s has p line t none next in
     record {
-      own = λ id c is. (keeps.live id c is.0, not_learned_later p lines line s id replay (let w = state.ids id c is.0 in w.1) is.1);
+      own = λ id c is. (keeps.live id c is.0, not_learned_later p lines line s id replay (let w = has.ids id c is.0 in w.1) is.1);
       vars = keeps.vars;
     }
 
@@ -205,13 +204,14 @@ still_there (i ∷ ids) live id others =
     ∙ get-remove nat_cmp_total live i id ∙ cond-false (eq_by_cmp nat_cmp id i) None (get live id) (unsigned_tied id i ∙ ne_eqb id i (λ e. other (sym e)))
 
 -- a reduction of learned lines keeps what wasn't learned
-pub reduced_later : (p : ProblemValue) (lines : List Line) (ids : List ℕ) (s t : StateValue) → IsState s → IsReplay p lines s → IsNext p s (Reduce ids) t → All (IsLearnedId p lines) ids → IsLater p lines s (lines ++ Reduce ids ∷ []) t
-reduced_later p lines ids s t state replay next learned =
+pub reduced_later : (p : ProblemValue) (lines : List Line) (ids : List ℕ) (s t : StateValue) → IsReplay p lines s → IsNext p s (Reduce ids) t → All (IsLearnedId p lines) ids → IsLater p lines s (lines ++ Reduce ids ∷ []) t
+reduced_later p lines ids s t replay next learned =
+    let has = replay_ids p lines s replay in
     let is : t ≡ without_lines s ids = next.makes in
     record {
       own = λ id c own. (
         ap (λ (u : StateValue). get u.live id) is ∙ still_there ids s.live id (λ k d short e. own.1 (subst (λ (j : ℕ). IsLearnedId p lines j) e (learned k d short))) ∙ own.0,
-        not_learned_later p lines (Reduce ids) s id replay (let w = state.ids id c own.0 in w.1) own.1,
+        not_learned_later p lines (Reduce ids) s id replay (let w = has.ids id c own.0 in w.1) own.1,
       );
       vars = let same = ap (λ (u : StateValue). u.vars) is in omega arith;
     }
@@ -261,7 +261,7 @@ counts_twice (Some f) (Some g) (Some h) one two = λ call name. let x = one call
 pub around_again : (a : Surroundings) → KeepsSurroundings a a
 around_again a = record { shelf = refl; name = refl; others = refl; said = refl; warned = refl; counts = counts_again a.counts }
 
-around_twice : (a b c : Surroundings) → KeepsSurroundings a b → KeepsSurroundings b c → KeepsSurroundings a c
+pub around_twice : (a b c : Surroundings) → KeepsSurroundings a b → KeepsSurroundings b c → KeepsSurroundings a c
 around_twice a b c one two = record {
   shelf = two.shelf ∙ one.shelf;
   name = two.name ∙ one.name;
@@ -293,12 +293,11 @@ pub continues_again : (a : Snapshot) → Continues a a
 continues_again a = continues_same a a refl refl (omega arith) (around_again a.around) refl
 
 -- one line was added
-pub continues_more : (a b : Snapshot) (line : Line) (s t : StateValue) → b.problem ≡ a.problem → b.limit ≡ a.limit → a.faults ≤ b.faults → KeepsSurroundings a.around b.around → b.lines ≡ a.lines ++ line ∷ [] → IsTotalizerLine line →
-    IsState s → IsReached a s → IsReached b t → Continues a b
-continues_more a b line s t problem limit later around lines kind state reached more =
+pub continues_more : (a b : Snapshot) (line : Line) (s t : StateValue) → b.problem ≡ a.problem → b.limit ≡ a.limit → a.faults ≤ b.faults → KeepsSurroundings a.around b.around → b.lines ≡ a.lines ++ line ∷ [] → IsTotalizerLine line → IsReached a s → IsReached b t → Continues a b
+continues_more a b line s t problem limit later around lines kind reached more =
     let again : IsReplay a.problem (a.lines ++ line ∷ []) t = subst (λ (ls : List Line). IsReplay a.problem ls t) lines (subst (λ (p : ProblemValue). IsReplay p b.lines t) problem more) in
     let next : IsNext a.problem s line t = replay_before a.problem a.lines line s t reached again in
-    let after : IsLater a.problem a.lines s b.lines t = subst (λ (ls : List Line). IsLater a.problem a.lines s ls t) (sym lines) (own_later a.problem a.lines line s t state reached next (plain_line line kind)) in
+    let after : IsLater a.problem a.lines s b.lines t = subst (λ (ls : List Line). IsLater a.problem a.lines s ls t) (sym lines) (own_later a.problem a.lines line s t reached next (plain_line line kind)) in
     record {
       problem = problem;
       limit = limit;
@@ -315,7 +314,7 @@ continues_more a b line s t problem limit later around lines kind state reached 
       });
     }
 
-later_twice : (p : ProblemValue) (l m n : List Line) (s t u : StateValue) → IsLater p l s m t → IsLater p m t n u → IsLater p l s n u
+pub later_twice : (p : ProblemValue) (l m n : List Line) (s t u : StateValue) → IsLater p l s m t → IsLater p m t n u → IsLater p l s n u
 later_twice p l m n s t u one two = record { own = λ id c own. two.own id c (one.own id c own); vars = let x = one.vars in let y = two.vars in omega arith }
 
 -- one after the other

@@ -1,6 +1,7 @@
 pub mod Glue
 pub mod Weakened
 pub mod Chains
+pub mod ReplayIds
 pub mod LaterStates
 pub mod TokenLists
 pub mod PartLines

@@ -15,7 +15,7 @@ use Rattle.sum_outputs.specs.Sums.{last_sum}
 use Rattle.sum_outputs.specs.Falling.{AreAllBetween, AreExtended}
 use Rattle.sum_outputs.specs.Joining.{AreChildren, AreOutputsAt, IsCompleteTo}
 use Rattle.sum_outputs.specs.Tree.{IsInner, IsTree}
-use Rattle.sum_outputs.specs.MadeOutputs.{AreMade, AreMadeNow, AreCompleteTo, AreOutside}
+use Rattle.sum_outputs.specs.MadeOutputs.{AreMade, AreCompleteTo, AreOutside}
 use Rattle.sum_outputs.proofs.OutputsLater.{defined_then, variable_then, now_later}
 use Rattle.sum_outputs.proofs.MakeLines.{outputs_later}
 use Rattle.sum_outputs.specs.declared.node.Node.{Node}
@@ -149,22 +149,6 @@ module _ (a b : Snapshot) (ready : IsReady a) (on : Continues a b) (nodes : List
       (λ l. subst (λ (nd : Node). IsCompleteTo nd.terms os k) (node_same m) ext.complete)
       (λ f d ne l. before_is f m d (⊎_elim (λ (e : f ≡ i). absurd (ne e)) (λ (o : (f < i) ⊎ (i < f)). ⊎_elim (λ (x : f < i). x) (λ (x : i < f). absurd (omega arith)) o) (cases_order f i)))
       j ps less
-
--- what was made is there after more lines
-pub made_later : (a b : Snapshot) → IsReady a → Continues a b → (nodes : List Node) (made : List (List SumOutput)) → AreMadeNow a nodes made → AreMadeNow b nodes made
-made_later a b ready on nodes made old t reached =
-    let was = old ready.state ready.reached in
-    record {
-      size = was.size;
-      variables = λ j m less. now_later a b (λ c s. All (λ u. IsVariable s.vars u.0.var) (get_or nodes j m).terms) ready on (λ s has all h e within. variable_then a b on s has (get_or (get_or nodes j m).terms h e).0.var (all h e within)) (λ s here. (old s here).variables j m less) t reached;
-      outputs = λ j m d less. outputs_later a b ready on (get_or nodes j m).terms (get_or made j d) (λ s here. (old s here).outputs j m d less) t reached;
-      defined = λ j m d less long. now_later a b (λ c s. All (IsDefined c s (get_or nodes j m).terms) (get_or made j d)) ready on (λ s has all h e within. defined_then a b on s has (get_or nodes j m).terms (get_or (get_or made j d) h e) (all h e within)) (λ s here. (old s here).defined j m d less long) t reached;
-      gapless = was.gapless;
-      leaves = was.leaves;
-      apart = was.apart;
-      first_outside = was.first_outside;
-      second_outside = was.second_outside;
-    }
 
 -- a leaf is complete as it is
 pub complete_leaf : (a : Snapshot) (s : StateValue) (nodes : List Node) (made : List (List SumOutput)) (i k : ℕ) (n : Node) → AreMade a s nodes made → i < length nodes → length (get_or nodes i n).terms ≡ 1 → AreCompleteTo nodes made i k → AreCompleteTo nodes made (i + 1) k

@@ -8,7 +8,7 @@ use Rattle.pb_lin.specs.Problem.{ProblemValue}
 use Rattle.cutting_planes.proofs.Terms.{Terms}
 use Rattle.proof_laws.specs.State.{StateValue}
 use Rattle.proof_laws.specs.Steps.{reached_if, reached_only_if}
-use Rattle.sum_outputs.specs.Adding.{Snapshot, IsOwn, IsReached, IsReady, HasLater, Continues, IsUnderWay}
+use Rattle.sum_outputs.specs.Adding.{Snapshot, IsOwn, IsReached, IsReady, HasLater, Continues}
 use Rattle.sum_outputs.specs.Outputs.{IsOfLeaf, IsDefined, IsLiteralOf, AreLiteralsOf, CanImply, CanImplyNow}
 use Rattle.sum_outputs.specs.declared.made.SumOutput.{SumOutput}
 use Rattle.sum_outputs.proofs.LaterStates.{replay_once, continues_again, continues_twice, ready_later}
@@ -78,6 +78,13 @@ now_later a b P ready on goes is t reached =
 
 pub can_later : (a b : Snapshot) (parts : List SumOutput) (weak : Terms) (target : SumOutput) → IsReady a → Continues a b → CanImplyNow a parts weak target → CanImplyNow b parts weak target
 can_later a b parts weak target ready on can = now_later a b (λ c s. CanImply c s parts weak target) ready on (λ s has is. can_then a b on s has parts weak target is) can
+
+-- ---- calls in a row
+
+-- calls have added lines, and none has failed
+pub record IsUnderWay (a b : Snapshot) : Type 0 where
+  pub on : Continues a b
+  pub whole : b.broken ≡ false
 
 pub way_starts : (a : Snapshot) → IsReady a → IsUnderWay a a
 way_starts a ready = record { on = continues_again a; whole = ready.whole }

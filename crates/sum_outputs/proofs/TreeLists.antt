@@ -1,6 +1,7 @@
 -- Trees with nodes put behind them.
-use Rattle.std.proofs.Common.{◌≡◌, inl, inr, ℕ, ◌+◌, ◌-◌, ◌<◌, ◌≤◌, ◌/◌, ◌%◌, List, [], ◌∷◌, ◌++◌, get_or, length, take, drop, refl, ap, sym, subst, ◌∙◌, ⊎_elim, arith, append_assoc}
+use Rattle.std.proofs.Common.{◌≡◌, inl, inr, ℕ, ◌-◌, ◌<◌, ◌≤◌, List, [], ◌∷◌, ◌++◌, get_or, length, take, drop, refl, ap, sym, subst, ◌∙◌, ⊎_elim, arith, append_assoc}
 use Rattle.std.specs.List.{All, Contains}
+use Rattle.std.specs.Int.{div_ceil}
 use Rattle.std.proofs.lemmas.Bool.{cases_lt}
 use Rattle.std.proofs.lemmas.List.{get_or_append_left, length-append, length-drop, take-append-drop, take_all}
 use Rattle.std.proofs.lemmas.List.Elements.{All-nil, All-cons, All-append, All-contains_itself}
@@ -9,7 +10,7 @@ use Rattle.cutting_planes.proofs.Terms.{Terms}
 use Rattle.sum_outputs.specs.Totals.{AreWeights, first_half, first_child, second_child}
 use Rattle.sum_outputs.specs.Tree.{IsInner, IsNode, IsTree, IsGrown}
 use Rattle.sum_outputs.specs.declared.node.Node.{Node}
-use Rattle.sum_outputs.proofs.Attaining.{weights_left, weights_right}
+use Rattle.sum_outputs.proofs.Attaining.{weights_right}
 use Rattle.sum_outputs.proofs.TreeParts.{last_node, parts_among, all_parents, all_apart}
 
 -- a node stays one where others are put behind all
@@ -96,10 +97,7 @@ grown_by_inner nodes one two now terms first second at weights long left right p
       leaves_apart = all_apart nodes one two now n at weights long left right place same;
     }
 
--- the weights of the children
-pub first_weights : (terms : Terms) (h : ℕ) → AreWeights terms → AreWeights (take h terms)
-first_weights terms h weights = weights_left (take h terms) (drop h terms) (subst (λ (ts : Terms). AreWeights ts) (sym (take-append-drop h terms)) weights)
-
+-- the weights of the terms after some
 pub second_weights : (terms : Terms) (h : ℕ) → AreWeights terms → AreWeights (drop h terms)
 second_weights terms h weights = weights_right (take h terms) (drop h terms) (subst (λ (ts : Terms). AreWeights ts) (sym (take-append-drop h terms)) weights)
 
@@ -108,8 +106,8 @@ pub rest_is : (terms : Terms) (h : ℕ) → take (length terms - h) (drop h term
 rest_is terms h = take_all (length terms - h) (drop h terms) (let size = length-drop h terms in omega arith)
 
 -- half of the terms, rounded up
-pub half_is : (terms : Terms) → length terms / 2 + length terms % 2 ≡ first_half (length terms)
-half_is terms = omega arith
+pub half_is : (n half : ℕ) → half ≡ div_ceil n 2 → half ≡ first_half n
+half_is n half is = omega arith
 
 pub rest_size : (terms : Terms) (h : ℕ) → length (take (length terms - h) (drop h terms)) ≡ length terms - h
 rest_size terms h = ap length (rest_is terms h) ∙ length-drop h terms

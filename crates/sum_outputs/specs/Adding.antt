@@ -87,8 +87,3 @@ pub record IsRecorded {T : Type 0} (a b : Snapshot) (result : Result T RecordFau
   pub continues : Continues a b
   pub whole : OnOk result (b.broken ≡ false)
   pub fault : IfErr result (IsFaultAt a b)
-
--- calls have added lines, and none has failed
-pub record IsUnderWay (a b : Snapshot) : Type 0 where
-  pub on : Continues a b
-  pub whole : b.broken ≡ false

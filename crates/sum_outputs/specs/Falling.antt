@@ -7,7 +7,7 @@ use Rattle.sum_outputs.specs.Totals.{IsAttainable, IsLeastSum, IsUpToLeast}
 use Rattle.sum_outputs.specs.Adding.{Snapshot, IsReached}
 use Rattle.sum_outputs.specs.Outputs.{IsDefined}
 use Rattle.sum_outputs.specs.Joining.{IsOutputAt, AreOutputsAt, IsCompleteTo}
-use Rattle.sum_outputs.specs.Sums.{IsRun, last_sum}
+use Rattle.sum_outputs.specs.Sums.{last_sum}
 use Rattle.sum_outputs.specs.declared.made.SumOutput.{SumOutput}
 
 -- outputs of new variables, of which the last has the least sum, above a number
@@ -31,19 +31,6 @@ pub record AreFallingTo (a b : Snapshot) (terms : List (Literal × ℕ)) (low k 
   pub all : AreAllBetween terms low high os
   pub within : All (λ o. o.sum ≤ high) os
   pub top : (high ≡ low) ⊎ ((o : SumOutput) × Contains os o × (o.sum ≡ high))
-  pub enough : (k ≤ high) ⊎ (total terms ≤ high)
-
--- some sums of a run are left
-pub record IsHalfWay (a b : Snapshot) (terms : List (Literal × ℕ)) (firsts seconds : List SumOutput) (greatest last k : ℕ) (sums : List (ℕ × ℕ)) (os : List SumOutput) : Type 0 where
-  pub middle : ℕ
-  pub high : ℕ
-  pub run : IsRun firsts seconds greatest k last sums middle
-  pub are : AreFalling a b terms middle os
-  pub needed : All (λ o. IsUpToLeast terms k o.sum) os
-  pub all : AreAllBetween terms middle high os
-  pub within : All (λ o. o.sum ≤ high) os
-  pub below : middle ≤ high
-  pub top : (high ≡ middle) ⊎ ((o : SumOutput) × Contains os o × (o.sum ≡ high))
   pub enough : (k ≤ high) ⊎ (total terms ≤ high)
 
 -- Outputs of new variables after those that were there, each at a sum up to the least of at least k, so that all these have one.

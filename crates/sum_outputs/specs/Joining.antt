@@ -1,5 +1,5 @@
 -- A node and the outputs of its two children.
-use Rattle.std.specs.Prelude.{◌≡◌, ◌≢◌, ◌⊎◌, ℕ, ◌+◌, ◌<◌, ◌≤◌, Bool, true, List, [], ◌∷◌, ◌++◌, length, slice_index_or, All, Contains}
+use Rattle.std.specs.Prelude.{◌≡◌, ◌≢◌, ◌⊎◌, ℕ, ◌+◌, ◌-◌, ◌<◌, ◌≤◌, Bool, true, Option, None, Some, List, [], ◌∷◌, ◌++◌, length, slice_index_or, All, Contains}
 use Rattle.scut_base.specs.Literal.{Literal}
 use Rattle.scut_base.specs.Assignment.{lit_true}
 use Rattle.pb_lin.specs.Constraint.{IsVariable, total, value}
@@ -55,19 +55,28 @@ pub record IsTarget (a : Snapshot) (s : StateValue) (terms : List (Literal × �
 abbrev pub IsTargetNow : Snapshot → List (Literal × ℕ) → List SumOutput → List SumOutput → SumOutput → Type 0
 IsTargetNow a terms firsts seconds target = (s : StateValue) → IsReached a s → IsTarget a s terms firsts seconds target
 
--- the pairs of an output with others, whose sums reach the target's and are below a number, imply it
-abbrev pub PairsImply : Snapshot → SumOutput → List SumOutput → SumOutput → ℕ → Type 0
-PairsImply a part others target below = (k : ℕ) (d : SumOutput) → k < length others
-    → target.sum ≤ part.sum + (slice_index_or others k d).sum → part.sum + (slice_index_or others k d).sum < below
-    → Always a (Imply (part ∷ slice_index_or others k d ∷ []) target)
+-- the least output whose sum is at least one number and below another, where there is one
+abbrev pub IsLeastBetween : List SumOutput → ℕ → ℕ → Option SumOutput → Type 0
+IsLeastBetween os from below None = All (λ o. from ≤ o.sum → below ≤ o.sum) os
+IsLeastBetween os from below (Some q) = Contains os q × (from ≤ q.sum) × (q.sum < below) × All (λ o. from ≤ o.sum → q.sum ≤ o.sum) os
 
--- the outputs whose sums, alone or in pairs, reach the target's and are below a number imply it
+-- for each output whose sum is at least one number and below another there is one of no greater sum with a property
+abbrev pub HaveLesser : List SumOutput → ℕ → ℕ → (SumOutput → Type 0) → Type 0
+HaveLesser os from below P = (o : SumOutput) → Contains os o → from ≤ o.sum → o.sum < below → (q : SumOutput) × Contains os q × (q.sum ≤ o.sum) × P q
+
+-- for each output whose sum is at least the target's and below a number there is one of no greater sum that implies the target
+abbrev pub SinglesImply : Snapshot → List SumOutput → SumOutput → ℕ → Type 0
+SinglesImply a parts target below = HaveLesser parts target.sum below (λ q. Always a (Imply (q ∷ []) target))
+
+-- for each partner with which an output reaches the target's sum, both below a number, there is one of no greater sum with which it implies the target
+abbrev pub PairsImply : Snapshot → SumOutput → List SumOutput → SumOutput → ℕ → Type 0
+PairsImply a part others target below = HaveLesser others (target.sum - part.sum) (below - part.sum) (λ q. Always a (Imply (part ∷ q ∷ []) target))
+
+-- the outputs, alone or in pairs, whose sums are at least the target's and below a number imply it, by ones of no greater sums
 pub record AreImplying (a : Snapshot) (firsts seconds : List SumOutput) (target : SumOutput) (below : ℕ) : Type 0 where
-  pub by_firsts : (i : ℕ) (d : SumOutput) → i < length firsts → target.sum ≤ (slice_index_or firsts i d).sum → (slice_index_or firsts i d).sum < below
-      → Always a (Imply (slice_index_or firsts i d ∷ []) target)
-  pub by_seconds : (j : ℕ) (e : SumOutput) → j < length seconds → target.sum ≤ (slice_index_or seconds j e).sum → (slice_index_or seconds j e).sum < below
-      → Always a (Imply (slice_index_or seconds j e ∷ []) target)
-  pub by_pairs : (i : ℕ) (d : SumOutput) → i < length firsts → PairsImply a (slice_index_or firsts i d) seconds target below
+  pub by_firsts : SinglesImply a firsts target below
+  pub by_seconds : SinglesImply a seconds target below
+  pub by_pairs : (i : ℕ) (d : SumOutput) → i < length firsts → (slice_index_or firsts i d).sum < target.sum → PairsImply a (slice_index_or firsts i d) seconds target below
 
 -- ---- one output more
 

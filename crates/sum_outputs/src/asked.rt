@@ -21,8 +21,10 @@ use proof_rules::{RecordFault, Recorder};
 use scut_base::{Items, Lit, NoMemory};
 use std::alloc::Global;
 
-/// The output of the root at the least sum of at least `k`, which is made where it isn't there, and all outputs.
-/// Costs a binary search for each output of the first child, and a copy of the outputs.
+/// The output of the root at the least sum of at least `k`, which is made where it isn't there, and all
+/// outputs of the root. Costs a binary search for each output of the first child, and a copy of the
+/// outputs; and where the output is made, its lines. A recorder's refusal is handed on, as is a want of
+/// memory.
 pub fn ask<R: Recorder>(
     alloc: Global,
     rec: &mut R,
@@ -34,19 +36,28 @@ pub fn ask<R: Recorder>(
     k: u64,
 ) -> Result<(SumOutput, Items<SumOutput>), RecordFault>
     requires ready { IsReady (seen R.problem R.limit R.lines R.faults R.broken R.around rec.old) }
-    requires children { AreChildrenNow (seen R.problem R.limit R.lines R.faults R.broken R.around rec.old)
+    requires children { AreChildrenNow
+        (seen R.problem R.limit R.lines R.faults R.broken R.around rec.old)
         first.terms.now second.terms.now first.outputs.now second.outputs.now }
     requires terms { terms.now ≡ first.terms.now ++ second.terms.now }
     requires greatest { greatest ≡ total terms.now }
-    requires outputs { AreOutputsNow (seen R.problem R.limit R.lines R.faults R.broken R.around rec.old) terms.now outputs.now }
-    requires defined { (s : StateValue) → IsReached (seen R.problem R.limit R.lines R.faults R.broken R.around rec.old) s
-        → All (IsDefined (seen R.problem R.limit R.lines R.faults R.broken R.around rec.old) s terms.now) outputs.now }
+    requires outputs { AreOutputsNow
+        (seen R.problem R.limit R.lines R.faults R.broken R.around rec.old)
+        terms.now outputs.now }
+    requires defined { (s : StateValue)
+        → IsReached (seen R.problem R.limit R.lines R.faults R.broken R.around rec.old) s
+        → All (IsDefined (seen R.problem R.limit R.lines R.faults R.broken R.around rec.old) s terms.now)
+        outputs.now }
     requires from_one { 0 < k }
     requires most { k ≤ greatest }
     requires first_complete { IsCompleteTo first.terms.now first.outputs.now k }
     requires second_complete { IsCompleteTo second.terms.now second.outputs.now k }
-    ensures recorded { IsRecorded (seen R.problem R.limit R.lines R.faults R.broken R.around rec.old) (seen R.problem R.limit R.lines R.faults R.broken R.around rec.new) result }
-    ensures asked { IfOk result (λ r. IsAsked (seen R.problem R.limit R.lines R.faults R.broken R.around rec.old) (seen R.problem R.limit R.lines R.faults R.broken R.around rec.new)
+    ensures recorded { IsRecorded
+        (seen R.problem R.limit R.lines R.faults R.broken R.around rec.old)
+        (seen R.problem R.limit R.lines R.faults R.broken R.around rec.new) result }
+    ensures asked { IfOk result (λ r. IsAsked
+        (seen R.problem R.limit R.lines R.faults R.broken R.around rec.old)
+        (seen R.problem R.limit R.lines R.faults R.broken R.around rec.new)
         terms.now outputs.now k r.0 r.1) }
     ensures defined { IfOk result (λ r. definitions (R.lines rec.new) + length outputs.now
         ≡ definitions (R.lines rec.old) + length r.1) }
@@ -118,8 +129,8 @@ fn replaced(
     Ok(all)
 }
 
-// Makes the output of the root at a sum that has none, the least of at least `k`, and answers it and all outputs.
-// Its neighbours are tied to it by clauses. Costs what the output does, and a copy of the others.
+// Makes the output of the root at a sum that has none, the least of at least `k`, and answers it and all
+// outputs. Its neighbours are tied to it by clauses. Costs what the output does, and a copy of the others.
 fn ask_anew<R: Recorder>(
     alloc: Global,
     rec: &mut R,
@@ -133,21 +144,30 @@ fn ask_anew<R: Recorder>(
     sum: u64,
 ) -> Result<(SumOutput, Items<SumOutput>), RecordFault>
     requires ready { IsReady (seen R.problem R.limit R.lines R.faults R.broken R.around rec.old) }
-    requires children { AreChildrenNow (seen R.problem R.limit R.lines R.faults R.broken R.around rec.old)
+    requires children { AreChildrenNow
+        (seen R.problem R.limit R.lines R.faults R.broken R.around rec.old)
         first.terms.now second.terms.now first.outputs.now second.outputs.now }
     requires terms { terms.now ≡ first.terms.now ++ second.terms.now }
     requires greatest { greatest ≡ total terms.now }
-    requires outputs { AreOutputsNow (seen R.problem R.limit R.lines R.faults R.broken R.around rec.old) terms.now outputs.now }
-    requires defined { (s : StateValue) → IsReached (seen R.problem R.limit R.lines R.faults R.broken R.around rec.old) s
-        → All (IsDefined (seen R.problem R.limit R.lines R.faults R.broken R.around rec.old) s terms.now) outputs.now }
+    requires outputs { AreOutputsNow
+        (seen R.problem R.limit R.lines R.faults R.broken R.around rec.old)
+        terms.now outputs.now }
+    requires defined { (s : StateValue)
+        → IsReached (seen R.problem R.limit R.lines R.faults R.broken R.around rec.old) s
+        → All (IsDefined (seen R.problem R.limit R.lines R.faults R.broken R.around rec.old) s terms.now)
+        outputs.now }
     requires place { IsPlace (λ o. o.sum) outputs.now sum place }
     requires absent { All (λ o. o.sum ≢ sum) outputs.now }
     requires from_one { 0 < k }
     requires least { IsLeastSum terms.now k sum }
     requires first_complete { IsCompleteTo first.terms.now first.outputs.now k }
     requires second_complete { IsCompleteTo second.terms.now second.outputs.now k }
-    ensures recorded { IsRecorded (seen R.problem R.limit R.lines R.faults R.broken R.around rec.old) (seen R.problem R.limit R.lines R.faults R.broken R.around rec.new) result }
-    ensures asked { IfOk result (λ r. IsAsked (seen R.problem R.limit R.lines R.faults R.broken R.around rec.old) (seen R.problem R.limit R.lines R.faults R.broken R.around rec.new)
+    ensures recorded { IsRecorded
+        (seen R.problem R.limit R.lines R.faults R.broken R.around rec.old)
+        (seen R.problem R.limit R.lines R.faults R.broken R.around rec.new) result }
+    ensures asked { IfOk result (λ r. IsAsked
+        (seen R.problem R.limit R.lines R.faults R.broken R.around rec.old)
+        (seen R.problem R.limit R.lines R.faults R.broken R.around rec.new)
         terms.now outputs.now k r.0 r.1) }
     ensures defined { IfOk result (λ r. definitions (R.lines rec.new) + length outputs.now
         ≡ definitions (R.lines rec.old) + length r.1) }
@@ -168,9 +188,12 @@ fn tie_one<R: Recorder>(
 ) -> Result<(), RecordFault>
     requires ready { IsReady (seen R.problem R.limit R.lines R.faults R.broken R.around rec.old) }
     requires small { greater.now.sum < 2 ^ 63 }
-    requires can { (i : ℕ) (d : SumOutput) → i < length smaller.now → CanImplyNow (seen R.problem R.limit R.lines R.faults R.broken R.around rec.old)
+    requires can { (i : ℕ) (d : SumOutput) → i < length smaller.now
+        → CanImplyNow (seen R.problem R.limit R.lines R.faults R.broken R.around rec.old)
         (greater.now ∷ []) [] (slice_index_or smaller.now i d) }
-    ensures recorded { IsRecorded (seen R.problem R.limit R.lines R.faults R.broken R.around rec.old) (seen R.problem R.limit R.lines R.faults R.broken R.around rec.new) result }
+    ensures recorded { IsRecorded
+        (seen R.problem R.limit R.lines R.faults R.broken R.around rec.old)
+        (seen R.problem R.limit R.lines R.faults R.broken R.around rec.new) result }
     ensures defines_none { OnOk result
         (definitions (R.lines rec.new) ≡ definitions (R.lines rec.old)) }
 {
@@ -195,8 +218,8 @@ fn inserted(
     Ok(all)
 }
 
-// Makes the output of the root at a sum that has none: the least of at least `k`. The outputs of other sums are
-// there in any number; the next greater one implies it.
+// Makes the output of the root at a sum that has none: the least of at least `k`. The outputs of other sums
+// are there in any number; the next greater one implies it.
 fn make_between<R: Recorder>(
     alloc: Global,
     rec: &mut R,
@@ -209,19 +232,26 @@ fn make_between<R: Recorder>(
     sum: u64,
 ) -> Result<SumOutput, RecordFault>
     requires ready { IsReady (seen R.problem R.limit R.lines R.faults R.broken R.around rec.old) }
-    requires children { AreChildrenNow (seen R.problem R.limit R.lines R.faults R.broken R.around rec.old)
+    requires children { AreChildrenNow
+        (seen R.problem R.limit R.lines R.faults R.broken R.around rec.old)
         first.terms.now second.terms.now first.outputs.now second.outputs.now }
     requires terms { terms.now ≡ first.terms.now ++ second.terms.now }
     requires greatest { greatest ≡ total terms.now }
-    requires outputs { AreOutputsNow (seen R.problem R.limit R.lines R.faults R.broken R.around rec.old) terms.now greater.now }
+    requires outputs { AreOutputsNow
+        (seen R.problem R.limit R.lines R.faults R.broken R.around rec.old)
+        terms.now greater.now }
     requires greater { All (λ o. sum < o.sum) greater.now }
     requires from_one { 0 < k }
     requires least { IsLeastSum terms.now k sum }
     requires first_complete { IsCompleteTo first.terms.now first.outputs.now k }
     requires second_complete { IsCompleteTo second.terms.now second.outputs.now k }
-    ensures recorded { IsRecorded (seen R.problem R.limit R.lines R.faults R.broken R.around rec.old) (seen R.problem R.limit R.lines R.faults R.broken R.around rec.new) result }
+    ensures recorded { IsRecorded
+        (seen R.problem R.limit R.lines R.faults R.broken R.around rec.old)
+        (seen R.problem R.limit R.lines R.faults R.broken R.around rec.new) result }
     ensures sum { IfOk result (λ o. (o.sum ≡ sum) × (o.from ≡ k)) }
-    ensures made { IfOk result (IsNewOutput (seen R.problem R.limit R.lines R.faults R.broken R.around rec.old) (seen R.problem R.limit R.lines R.faults R.broken R.around rec.new) terms.now) }
+    ensures made { IfOk result (IsNewOutput
+        (seen R.problem R.limit R.lines R.faults R.broken R.around rec.old)
+        (seen R.problem R.limit R.lines R.faults R.broken R.around rec.new) terms.now) }
     ensures defines_one { OnOk result
         (definitions (R.lines rec.new) ≡ definitions (R.lines rec.old) + 1) }
 {

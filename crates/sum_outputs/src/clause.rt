@@ -1,5 +1,5 @@
 // Clauses between outputs.
-ghost use Rattle.std.specs.Prelude.{◌≡◌, ℕ, ◌<◌, ◌≤◌, ◌^◌, OnOk};
+ghost use Rattle.std.specs.Prelude.{◌≡◌, ◌<◌, ◌^◌, OnOk};
 ghost use Rattle.sum_outputs.specs.Adding.{seen, Always, IsReady, IsRecorded};
 ghost use Rattle.sum_outputs.specs.Outputs.{CanImplyNow, Imply, sums};
 ghost use Rattle.sum_outputs.specs.Totals.{definitions};
@@ -36,6 +36,7 @@ pub(crate) fn add_clause<R: Recorder>(
 {
     // Tells that the lines so far reach a state.
     let _vars = rec.state().vars();
+    // The parts' terms and the target's cancel where their lines are summed; this much is left to be reached.
     let degree = sum_of(parts) + 1 - target.sum;
     let tokens = in_memory(clause_tokens(alloc, parts, weakened, target.upper, degree))?;
     let _id = record(rec, &Line::Pol { tokens })?;

@@ -1,7 +1,6 @@
 // A new variable that is true exactly where a sum reaches a number.
-ghost use Rattle.std.specs.Prelude.{◌≡◌, ℕ, ◌+◌, ◌<◌, ◌≤◌, ◌^◌, ◌++◌, ◌∷◌, [], IfOk, All};
-ghost use Rattle.std.specs.List.Sorted.{IsPermutation};
-ghost use Rattle.pb_lin.specs.Constraint.{ConstraintValue, IsNormal, total};
+ghost use Rattle.std.specs.Prelude.{◌≡◌, ◌+◌, ◌<◌, ◌≤◌, IfOk, All};
+ghost use Rattle.pb_lin.specs.Constraint.{total};
 ghost use Rattle.proof_laws.specs.State.{StateValue};
 ghost use Rattle.sum_outputs.specs.Adding.{seen, IsReached, IsReady, IsRecorded};
 ghost use Rattle.sum_outputs.specs.Outputs.{IsDefinedBy, IsDefinedNext, IsInOrder, IsSumOf};

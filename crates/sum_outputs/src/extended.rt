@@ -1,5 +1,5 @@
 // The outputs of a node, and those that it gets.
-ghost use Rattle.std.specs.Prelude.{◌≡◌, ℕ, ◌+◌, ◌<◌, ◌≤◌, ◌++◌, [], ◌∷◌, length, reverse, slice_index_or, All, IfOk, OnOk};
+ghost use Rattle.std.specs.Prelude.{◌≡◌, ℕ, ◌+◌, ◌<◌, ◌++◌, [], ◌∷◌, length, reverse, slice_index_or, All, IfOk, OnOk};
 ghost use Rattle.pb_lin.specs.Constraint.{total};
 ghost use Rattle.proof_laws.specs.State.{StateValue};
 ghost use Rattle.sum_outputs.specs.Totals.{definitions};
@@ -31,19 +31,28 @@ pub(crate) fn extended<R: Recorder>(
     k: u64,
 ) -> Result<Items<SumOutput>, RecordFault>
     requires ready { IsReady (seen R.problem R.limit R.lines R.faults R.broken R.around rec.old) }
-    requires children { AreChildrenNow (seen R.problem R.limit R.lines R.faults R.broken R.around rec.old)
+    requires children { AreChildrenNow
+        (seen R.problem R.limit R.lines R.faults R.broken R.around rec.old)
         first.terms.now second.terms.now first.outputs.now second.outputs.now }
     requires terms { terms.now ≡ first.terms.now ++ second.terms.now }
     requires greatest { greatest ≡ total terms.now }
-    requires outputs { AreOutputsNow (seen R.problem R.limit R.lines R.faults R.broken R.around rec.old) terms.now outputs.now }
-    requires defined { (s : StateValue) → IsReached (seen R.problem R.limit R.lines R.faults R.broken R.around rec.old) s
-        → All (IsDefined (seen R.problem R.limit R.lines R.faults R.broken R.around rec.old) s terms.now) outputs.now }
+    requires outputs { AreOutputsNow
+        (seen R.problem R.limit R.lines R.faults R.broken R.around rec.old)
+        terms.now outputs.now }
+    requires defined { (s : StateValue)
+        → IsReached (seen R.problem R.limit R.lines R.faults R.broken R.around rec.old) s
+        → All (IsDefined (seen R.problem R.limit R.lines R.faults R.broken R.around rec.old) s terms.now)
+        outputs.now }
     requires gapless { AreAllBetween terms.now 0 (last_sum outputs.now) outputs.now }
     requires from_one { 0 < k }
     requires first_complete { IsCompleteTo first.terms.now first.outputs.now k }
     requires second_complete { IsCompleteTo second.terms.now second.outputs.now k }
-    ensures recorded { IsRecorded (seen R.problem R.limit R.lines R.faults R.broken R.around rec.old) (seen R.problem R.limit R.lines R.faults R.broken R.around rec.new) result }
-    ensures extended { IfOk result (AreExtended (seen R.problem R.limit R.lines R.faults R.broken R.around rec.old) (seen R.problem R.limit R.lines R.faults R.broken R.around rec.new)
+    ensures recorded { IsRecorded
+        (seen R.problem R.limit R.lines R.faults R.broken R.around rec.old)
+        (seen R.problem R.limit R.lines R.faults R.broken R.around rec.new) result }
+    ensures extended { IfOk result (AreExtended
+        (seen R.problem R.limit R.lines R.faults R.broken R.around rec.old)
+        (seen R.problem R.limit R.lines R.faults R.broken R.around rec.new)
         terms.now outputs.now k) }
     ensures defined { IfOk result (λ all. definitions (R.lines rec.new) + length outputs.now
         ≡ definitions (R.lines rec.old) + length all) }
@@ -67,7 +76,9 @@ pub(crate) fn tie<R: Recorder>(
         → i < length smaller.now → k < length greater.now
         → CanImplyNow (seen R.problem R.limit R.lines R.faults R.broken R.around rec.old)
         (slice_index_or greater.now k e ∷ []) [] (slice_index_or smaller.now i d) }
-    ensures recorded { IsRecorded (seen R.problem R.limit R.lines R.faults R.broken R.around rec.old) (seen R.problem R.limit R.lines R.faults R.broken R.around rec.new) result }
+    ensures recorded { IsRecorded
+        (seen R.problem R.limit R.lines R.faults R.broken R.around rec.old)
+        (seen R.problem R.limit R.lines R.faults R.broken R.around rec.new) result }
     ensures defines_none { OnOk result
         (definitions (R.lines rec.new) ≡ definitions (R.lines rec.old)) }
 {

@@ -1,5 +1,5 @@
 // Further outputs of a node, in rising order of sums without a gap.
-ghost use Rattle.std.specs.Prelude.{◌≡◌, ℕ, ◌+◌, ◌-◌, ◌<◌, ◌≤◌, ◌^◌, ◌++◌, length, drop, slice_index_or, All, IfOk, OnOk};
+ghost use Rattle.std.specs.Prelude.{◌≡◌, ◌+◌, ◌-◌, ◌<◌, ◌≤◌, ◌^◌, ◌++◌, length, drop, slice_index_or, All, IfOk, OnOk};
 ghost use Rattle.pb_lin.specs.Constraint.{total};
 ghost use Rattle.sum_outputs.specs.Totals.{IsLeastSum, definitions};
 ghost use Rattle.sum_outputs.specs.Adding.{seen, IsReady, IsRecorded};
@@ -18,9 +18,9 @@ use proof_rules::{RecordFault, Recorder};
 use scut_base::{Items, Lit, NoMemory};
 use std::alloc::Global;
 
-// Makes the outputs of a node at the sums after its last one's, up to the least of at least `k` or the greatest.
-// They come in falling order, so that each has the next greater one beside it when it is made. One call of
-// `least_sum` and of `make_output` for each.
+// Makes the outputs of a node at the sums after its last one's, up to the least of at least `k` or the
+// greatest. They come in falling order, so that each has the next greater one beside it when it is made. One
+// call of `least_sum` and of `make_output` for each.
 pub(crate) fn make_falling<R: Recorder>(
     alloc: Global,
     rec: &mut R,
@@ -32,15 +32,20 @@ pub(crate) fn make_falling<R: Recorder>(
     k: u64,
 ) -> Result<Items<SumOutput>, RecordFault>
     requires ready { IsReady (seen R.problem R.limit R.lines R.faults R.broken R.around rec.old) }
-    requires children { AreChildrenNow (seen R.problem R.limit R.lines R.faults R.broken R.around rec.old)
+    requires children { AreChildrenNow
+        (seen R.problem R.limit R.lines R.faults R.broken R.around rec.old)
         first.terms.now second.terms.now first.outputs.now second.outputs.now }
     requires terms { terms.now ≡ first.terms.now ++ second.terms.now }
     requires greatest { greatest ≡ total terms.now }
     requires last { last ≤ greatest }
     requires first_complete { IsCompleteTo first.terms.now first.outputs.now k }
     requires second_complete { IsCompleteTo second.terms.now second.outputs.now k }
-    ensures recorded { IsRecorded (seen R.problem R.limit R.lines R.faults R.broken R.around rec.old) (seen R.problem R.limit R.lines R.faults R.broken R.around rec.new) result }
-    ensures falling { IfOk result (AreFallingTo (seen R.problem R.limit R.lines R.faults R.broken R.around rec.old) (seen R.problem R.limit R.lines R.faults R.broken R.around rec.new)
+    ensures recorded { IsRecorded
+        (seen R.problem R.limit R.lines R.faults R.broken R.around rec.old)
+        (seen R.problem R.limit R.lines R.faults R.broken R.around rec.new) result }
+    ensures falling { IfOk result (AreFallingTo
+        (seen R.problem R.limit R.lines R.faults R.broken R.around rec.old)
+        (seen R.problem R.limit R.lines R.faults R.broken R.around rec.new)
         terms.now last k) }
     ensures defined { IfOk result (λ os. definitions (R.lines rec.new)
         ≡ definitions (R.lines rec.old) + length os) }
@@ -75,20 +80,27 @@ fn make_next<R: Recorder>(
     run: (u64, u64),
 ) -> Result<SumOutput, RecordFault>
     requires ready { IsReady (seen R.problem R.limit R.lines R.faults R.broken R.around rec.old) }
-    requires children { AreChildrenNow (seen R.problem R.limit R.lines R.faults R.broken R.around rec.old)
+    requires children { AreChildrenNow
+        (seen R.problem R.limit R.lines R.faults R.broken R.around rec.old)
         first.terms.now second.terms.now first.outputs.now second.outputs.now }
     requires terms { terms.now ≡ first.terms.now ++ second.terms.now }
     requires greatest { greatest ≡ total terms.now }
-    requires falling { AreOutputsNow (seen R.problem R.limit R.lines R.faults R.broken R.around rec.old) terms.now
+    requires falling { AreOutputsNow
+        (seen R.problem R.limit R.lines R.faults R.broken R.around rec.old)
+        terms.now
         (drop (length falling.now - 1) falling.now) }
     requires greater { All (λ o. run.1 < o.sum) falling.now }
     requires from_one { 0 < run.0 }
     requires least { IsLeastSum terms.now run.0 run.1 }
     requires first_complete { IsCompleteTo first.terms.now first.outputs.now run.0 }
     requires second_complete { IsCompleteTo second.terms.now second.outputs.now run.0 }
-    ensures recorded { IsRecorded (seen R.problem R.limit R.lines R.faults R.broken R.around rec.old) (seen R.problem R.limit R.lines R.faults R.broken R.around rec.new) result }
+    ensures recorded { IsRecorded
+        (seen R.problem R.limit R.lines R.faults R.broken R.around rec.old)
+        (seen R.problem R.limit R.lines R.faults R.broken R.around rec.new) result }
     ensures sum { IfOk result (λ o. (o.sum ≡ run.1) × (o.from ≡ run.0)) }
-    ensures made { IfOk result (IsNewOutput (seen R.problem R.limit R.lines R.faults R.broken R.around rec.old) (seen R.problem R.limit R.lines R.faults R.broken R.around rec.new) terms.now) }
+    ensures made { IfOk result (IsNewOutput
+        (seen R.problem R.limit R.lines R.faults R.broken R.around rec.old)
+        (seen R.problem R.limit R.lines R.faults R.broken R.around rec.new) terms.now) }
     ensures defines_one { OnOk result
         (definitions (R.lines rec.new) ≡ definitions (R.lines rec.old) + 1) }
 {

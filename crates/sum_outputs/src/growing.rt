@@ -15,8 +15,9 @@ use proof_rules::{RecordFault, Recorder};
 use scut_base::Items;
 use std::alloc::Global;
 
-/// Makes the outputs of all nodes before the last, each up to its least sum of at least `k`, or all. Costs a look
-/// at each node, and what the new outputs do.
+/// Makes the outputs of all nodes before the last, each up to its least sum of at least `k`, or all. Costs a
+/// look at each node, and the lines of the new outputs. A recorder's refusal is handed on, as is a want of
+/// memory, and nothing is said of the outputs then.
 pub fn extend_all<R: Recorder>(
     alloc: Global,
     rec: &mut R,
@@ -27,10 +28,14 @@ pub fn extend_all<R: Recorder>(
     requires ready { IsReady (seen R.problem R.limit R.lines R.faults R.broken R.around rec.old) }
     requires tree { IsTree nodes.now }
     requires some { 0 < length nodes.now }
-    requires made { AreMadeNow (seen R.problem R.limit R.lines R.faults R.broken R.around rec.old) nodes.now made.old }
+    requires made { AreMadeNow
+        (seen R.problem R.limit R.lines R.faults R.broken R.around rec.old) nodes.now made.old }
     requires from_one { 0 < k }
-    ensures recorded { IsRecorded (seen R.problem R.limit R.lines R.faults R.broken R.around rec.old) (seen R.problem R.limit R.lines R.faults R.broken R.around rec.new) result }
-    ensures made { OnOk result (AreMadeNow (seen R.problem R.limit R.lines R.faults R.broken R.around rec.new) nodes.now made.new) }
+    ensures recorded { IsRecorded
+        (seen R.problem R.limit R.lines R.faults R.broken R.around rec.old)
+        (seen R.problem R.limit R.lines R.faults R.broken R.around rec.new) result }
+    ensures made { OnOk result (AreMadeNow
+        (seen R.problem R.limit R.lines R.faults R.broken R.around rec.new) nodes.now made.new) }
     ensures complete { OnOk result (AreCompleteTo nodes.now made.new (length nodes.now - 1) k) }
     ensures grown { OnOk result (AreGrownTo
         (seen R.problem R.limit R.lines R.faults R.broken R.around rec.old)
@@ -56,11 +61,15 @@ fn extend_node<R: Recorder>(
     requires ready { IsReady (seen R.problem R.limit R.lines R.faults R.broken R.around rec.old) }
     requires tree { IsTree nodes.now }
     requires at { at + 1 < length nodes.now }
-    requires made { AreMadeNow (seen R.problem R.limit R.lines R.faults R.broken R.around rec.old) nodes.now made.old }
+    requires made { AreMadeNow
+        (seen R.problem R.limit R.lines R.faults R.broken R.around rec.old) nodes.now made.old }
     requires complete { AreCompleteTo nodes.now made.old at k }
     requires from_one { 0 < k }
-    ensures recorded { IsRecorded (seen R.problem R.limit R.lines R.faults R.broken R.around rec.old) (seen R.problem R.limit R.lines R.faults R.broken R.around rec.new) result }
-    ensures made { OnOk result (AreMadeNow (seen R.problem R.limit R.lines R.faults R.broken R.around rec.new) nodes.now made.new) }
+    ensures recorded { IsRecorded
+        (seen R.problem R.limit R.lines R.faults R.broken R.around rec.old)
+        (seen R.problem R.limit R.lines R.faults R.broken R.around rec.new) result }
+    ensures made { OnOk result (AreMadeNow
+        (seen R.problem R.limit R.lines R.faults R.broken R.around rec.new) nodes.now made.new) }
     ensures complete { OnOk result (AreCompleteTo nodes.now made.new (at + 1) k) }
     ensures grown { OnOk result (AreGrownTo
         (seen R.problem R.limit R.lines R.faults R.broken R.around rec.old)
@@ -87,11 +96,15 @@ fn extend_inner<R: Recorder>(
     requires tree { IsTree nodes.now }
     requires at { at + 1 < length nodes.now }
     requires long { (d : Node) → 1 < length (slice_index_or nodes.now at d).terms }
-    requires made { AreMadeNow (seen R.problem R.limit R.lines R.faults R.broken R.around rec.old) nodes.now made.old }
+    requires made { AreMadeNow
+        (seen R.problem R.limit R.lines R.faults R.broken R.around rec.old) nodes.now made.old }
     requires complete { AreCompleteTo nodes.now made.old at k }
     requires from_one { 0 < k }
-    ensures recorded { IsRecorded (seen R.problem R.limit R.lines R.faults R.broken R.around rec.old) (seen R.problem R.limit R.lines R.faults R.broken R.around rec.new) result }
-    ensures made { OnOk result (AreMadeNow (seen R.problem R.limit R.lines R.faults R.broken R.around rec.new) nodes.now made.new) }
+    ensures recorded { IsRecorded
+        (seen R.problem R.limit R.lines R.faults R.broken R.around rec.old)
+        (seen R.problem R.limit R.lines R.faults R.broken R.around rec.new) result }
+    ensures made { OnOk result (AreMadeNow
+        (seen R.problem R.limit R.lines R.faults R.broken R.around rec.new) nodes.now made.new) }
     ensures complete { OnOk result (AreCompleteTo nodes.now made.new (at + 1) k) }
     ensures grown { OnOk result (AreGrownTo
         (seen R.problem R.limit R.lines R.faults R.broken R.around rec.old)

@@ -5,7 +5,7 @@ ghost use Rattle.sum_outputs.specs.Leaves.{leaf_output};
 use crate::SumOutput;
 use scut_base::Lit;
 
-// The term's literal, which stands for its weight. It has no line.
+/// The term's literal, which stands for its weight. It has no line.
 pub fn leaf_output(term: (Lit, u64)) -> SumOutput
     ensures { result ≡ leaf_output term }
 {

@@ -1,10 +1,11 @@
-//! Outputs of weighted sums: literals that stand for "this sum is at least k", made where they are asked for, with the
-//! lines that prove what they mean, for the nodes of a generalised totalizer (Joshi, Martins and Manquinho 2015).
+//! Outputs of weighted sums: literals that stand for "this sum is at least k", made where they are asked for,
+//! with the lines that prove what they mean, for the nodes of a generalised totalizer (Joshi, Martins and
+//! Manquinho 2015): a binary tree over the terms, where each node has an output for sums of its terms' weights.
 //!
-//! Its public contract: `push_nodes` makes the tree of a list of terms; `extend_all` makes the outputs of all nodes
-//! below the root up to a bound, and no more; `ask` makes one output of the root, where it isn't there. Each output's
-//! literal is true where the rows and the clauses that stay hold and the sum is reached. They only add definitions, one
-//! for each new output, and lines by cutting planes.
+//! Its public contract: `push_nodes` makes the tree of a list of terms; `extend_all` makes the outputs of
+//! all nodes below the root up to a bound, and no more; `ask` makes one output of the root, where it isn't
+//! there. Each output's literal is true where the rows and the clauses that stay hold and the sum is
+//! reached. They only add definitions, one for each new output, and lines by cutting planes.
 #![tactic(auto)]
 
 mod asked;

@@ -8,9 +8,10 @@ pub struct SumOutput {
     pub sum: u64,
     /// No such sum is from this number on and below `sum`.
     pub from: u64,
+    /// What stands for the sum: of a node of one term its own literal, else a new variable.
     pub lit: Lit,
-    /// The line "where the literal is true, the sum is reached", and "where it is false, it isn't". Both are
-    /// 0 where the node has one term, whose literal it is.
+    /// The id of the line "where the literal is true, the sum is reached"; 0 where the node has one term.
     pub lower: u64,
+    /// The id of the line "where the literal is false, the sum isn't reached"; 0 where the node has one term.
     pub upper: u64,
 }

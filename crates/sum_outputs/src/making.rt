@@ -1,6 +1,5 @@
 // One output of a node.
-ghost use Rattle.std.specs.Prelude.{◌≡◌, ℕ, ◌+◌, ◌<◌, ◌≤◌, ◌^◌, ◌⊎◌, [], ◌∷◌, ◌++◌, length, slice_index_or, IfOk, OnOk};
-ghost use Rattle.pb_lin.specs.Constraint.{total};
+ghost use Rattle.std.specs.Prelude.{◌≡◌, ℕ, ◌+◌, ◌<◌, [], ◌++◌, length, slice_index_or, IfOk, OnOk};
 ghost use Rattle.sum_outputs.specs.Totals.{IsLeastSum, definitions};
 ghost use Rattle.sum_outputs.specs.Adding.{seen, IsReady, IsRecorded};
 ghost use Rattle.sum_outputs.specs.Joining.{AreChildrenNow, AreOutputsNow, IsAboveAll, IsCompleteTo, IsNewOutput};
@@ -27,10 +26,13 @@ pub(crate) fn make_output<R: Recorder>(
     below: u64,
 ) -> Result<SumOutput, RecordFault>
     requires ready { IsReady (seen R.problem R.limit R.lines R.faults R.broken R.around rec.old) }
-    requires children { AreChildrenNow (seen R.problem R.limit R.lines R.faults R.broken R.around rec.old)
+    requires children { AreChildrenNow
+        (seen R.problem R.limit R.lines R.faults R.broken R.around rec.old)
         first.terms.now second.terms.now first.outputs.now second.outputs.now }
     requires terms { terms.now ≡ first.terms.now ++ second.terms.now }
-    requires next { AreOutputsNow (seen R.problem R.limit R.lines R.faults R.broken R.around rec.old) terms.now next.now }
+    requires next { AreOutputsNow
+        (seen R.problem R.limit R.lines R.faults R.broken R.around rec.old)
+        terms.now next.now }
     requires above { IsAboveAll terms.now next.now below }
     requires greater { (k : ℕ) (d : SumOutput) → k < length next.now
         → sum < (slice_index_or next.now k d).sum }
@@ -38,9 +40,13 @@ pub(crate) fn make_output<R: Recorder>(
     requires least { IsLeastSum terms.now from sum }
     requires first_complete { IsCompleteTo first.terms.now first.outputs.now from }
     requires second_complete { IsCompleteTo second.terms.now second.outputs.now from }
-    ensures recorded { IsRecorded (seen R.problem R.limit R.lines R.faults R.broken R.around rec.old) (seen R.problem R.limit R.lines R.faults R.broken R.around rec.new) result }
+    ensures recorded { IsRecorded
+        (seen R.problem R.limit R.lines R.faults R.broken R.around rec.old)
+        (seen R.problem R.limit R.lines R.faults R.broken R.around rec.new) result }
     ensures sum { IfOk result (λ o. (o.sum ≡ sum) × (o.from ≡ from)) }
-    ensures made { IfOk result (IsNewOutput (seen R.problem R.limit R.lines R.faults R.broken R.around rec.old) (seen R.problem R.limit R.lines R.faults R.broken R.around rec.new) terms.now) }
+    ensures made { IfOk result (IsNewOutput
+        (seen R.problem R.limit R.lines R.faults R.broken R.around rec.old)
+        (seen R.problem R.limit R.lines R.faults R.broken R.around rec.new) terms.now) }
     ensures defines_one { OnOk result
         (definitions (R.lines rec.new) ≡ definitions (R.lines rec.old) + 1) }
 {

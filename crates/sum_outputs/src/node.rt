@@ -1,5 +1,5 @@
 // The nodes of a totalizer's tree, each after its children.
-ghost use Rattle.std.specs.Prelude.{◌≡◌, ℕ, ◌+◌, ◌<◌, ◌^◌, ◌++◌, [], ◌∷◌, length, IfOk};
+ghost use Rattle.std.specs.Prelude.{◌≡◌, ◌+◌, ◌<◌, ◌^◌, ◌++◌, [], ◌∷◌, length, IfOk};
 ghost use Rattle.pb_lin.specs.Constraint.{total};
 ghost use Rattle.sum_outputs.specs.Totals.{AreWeights};
 ghost use Rattle.sum_outputs.specs.Tree.{IsGrown, IsTree};
@@ -7,7 +7,7 @@ ghost use Rattle.sum_outputs.specs.Tree.{IsGrown, IsTree};
 use scut_base::{Items, Lit, NoMemory};
 use std::alloc::Global;
 
-/// A node: its terms, the sum of their weights, and where its children stand; a node of one term has none.
+/// A node: its terms, the sum of their weights, and the places of its children; a node of one term has none.
 #[derive(Debug, Drop)]
 pub struct Node {
     pub terms: Items<(Lit, u64)>,
@@ -30,7 +30,7 @@ pub fn push_nodes(
     if terms.len() == 1 {
         return push_node(alloc, nodes, terms, 0, 0);
     }
-    let half = terms.len() / 2 + terms.len() % 2;
+    let half = terms.len().div_ceil(2);
     let first = push_nodes(alloc, nodes, &terms[..half])?;
     let second = push_nodes(alloc, nodes, &terms[half..])?;
     push_node(alloc, nodes, terms, first, second)

@@ -1,7 +1,7 @@
 // Sums of a node's terms, by the outputs of its children.
-ghost use Rattle.std.specs.Prelude.{◌≡◌, ℕ, ◌+◌, ◌<◌, ◌≤◌, ◌^◌, MatchOption};
+ghost use Rattle.std.specs.Prelude.{◌+◌, ◌<◌, ◌≤◌, ◌^◌, MatchOption};
 ghost use Rattle.sum_outputs.specs.Outputs.{AreRising};
-ghost use Rattle.sum_outputs.specs.Sums.{HasSum, IsLeastOf, IsLeastWith, IsLessOf, NoneWith};
+ghost use Rattle.sum_outputs.specs.Sums.{IsLeastOf, IsLeastWith, IsLessOf, NoneWith};
 
 use crate::SumOutput;
 use crate::windows::place_of;

@@ -4,7 +4,7 @@ ghost use Rattle.pb_lin.specs.Place.{IsPlace};
 ghost use Rattle.sum_outputs.specs.Totals.{definitions};
 ghost use Rattle.sum_outputs.specs.Adding.{seen, Always, IsReady, IsRecorded};
 ghost use Rattle.sum_outputs.specs.Outputs.{AreRising, CanImplyNow, Imply};
-ghost use Rattle.sum_outputs.specs.Joining.{AreChildrenNow, AreImplying, IsTargetNow, PairsImply};
+ghost use Rattle.sum_outputs.specs.Joining.{AreChildrenNow, AreImplying, IsLeastBetween, IsTargetNow, PairsImply, SinglesImply};
 ghost use Rattle.sum_outputs.specs.declared.made.SumOutput.{SumOutput};
 
 use crate::SumOutput;
@@ -13,7 +13,14 @@ use proof_rules::{RecordFault, Recorder};
 use scut_base::Lit;
 use std::alloc::Global;
 
-/// The first place whose sum isn't below a number.
+/// A child of a node: its terms and outputs.
+#[derive(Clone, Copy, Debug)]
+pub struct Child<'a> {
+    pub(crate) terms: &'a [(Lit, u64)],
+    pub(crate) outputs: &'a [SumOutput],
+}
+
+/// The place of the first output whose sum isn't below a number; where there is none, their count.
 pub fn place_of(outputs: &[SumOutput], number: u64) -> usize
     requires { AllPairs (λ o q. o.sum < q.sum) outputs.now }
     ensures { IsPlace (λ o. o.sum) outputs.now number result }
@@ -36,11 +43,14 @@ pub(crate) fn add_singles<R: Recorder>(
         → target.now.sum ≤ (slice_index_or parts.now k d).sum
         → CanImplyNow (seen R.problem R.limit R.lines R.faults R.broken R.around rec.old)
         (slice_index_or parts.now k d ∷ []) weakened.now target.now }
-    ensures recorded { IsRecorded (seen R.problem R.limit R.lines R.faults R.broken R.around rec.old) (seen R.problem R.limit R.lines R.faults R.broken R.around rec.new) result }
+    ensures recorded { IsRecorded
+        (seen R.problem R.limit R.lines R.faults R.broken R.around rec.old)
+        (seen R.problem R.limit R.lines R.faults R.broken R.around rec.new) result }
     ensures says { OnOk result ((k : ℕ) (d : SumOutput) → k < length parts.now
         → target.now.sum ≤ (slice_index_or parts.now k d).sum
         → (slice_index_or parts.now k d).sum < below
-        → Always (seen R.problem R.limit R.lines R.faults R.broken R.around rec.new) (Imply (slice_index_or parts.now k d ∷ []) target.now)) }
+        → Always (seen R.problem R.limit R.lines R.faults R.broken R.around rec.new)
+        (Imply (slice_index_or parts.now k d ∷ []) target.now)) }
     ensures defines_none { OnOk result
         (definitions (R.lines rec.new) ≡ definitions (R.lines rec.old)) }
 {
@@ -50,9 +60,53 @@ pub(crate) fn add_singles<R: Recorder>(
     Ok(())
 }
 
-// Adds the clause of each pair of this output and one of the others whose sums reach the target's together,
-// and are below a number.
-pub(crate) fn add_pairs<R: Recorder>(
+// The least of these outputs whose sum is at least one number, where it is below another.
+fn least_between(outputs: &[SumOutput], from: u64, below: u64) -> Option<SumOutput>
+    requires { AllPairs (λ o q. o.sum < q.sum) outputs.now }
+    ensures { IsLeastBetween outputs.now from below result }
+{
+    let least = outputs.get(place_of(outputs, from))?;
+    if least.sum < below {
+        Some(*least)
+    } else {
+        None
+    }
+}
+
+// Adds the clause of the least of these outputs whose sum is at least the target's, where it is below a
+// number. Each greater one implies that one.
+pub(crate) fn add_single<R: Recorder>(
+    alloc: Global,
+    rec: &mut R,
+    parts: &[SumOutput],
+    weakened: &[(Lit, u64)],
+    target: &SumOutput,
+    below: u64,
+) -> Result<(), RecordFault>
+    requires ready { IsReady (seen R.problem R.limit R.lines R.faults R.broken R.around rec.old) }
+    requires rising { AreRising parts.now }
+    requires can { (k : ℕ) (d : SumOutput) → k < length parts.now
+        → target.now.sum ≤ (slice_index_or parts.now k d).sum
+        → CanImplyNow (seen R.problem R.limit R.lines R.faults R.broken R.around rec.old)
+        (slice_index_or parts.now k d ∷ []) weakened.now target.now }
+    ensures recorded { IsRecorded
+        (seen R.problem R.limit R.lines R.faults R.broken R.around rec.old)
+        (seen R.problem R.limit R.lines R.faults R.broken R.around rec.new) result }
+    ensures says { OnOk result (SinglesImply
+        (seen R.problem R.limit R.lines R.faults R.broken R.around rec.new)
+        parts.now target.now below) }
+    ensures defines_none { OnOk result
+        (definitions (R.lines rec.new) ≡ definitions (R.lines rec.old)) }
+{
+    match least_between(parts, target.sum, below) {
+        Some(least) => imply_by_one(alloc, rec, &least, weakened, target),
+        None => Ok(()),
+    }
+}
+
+// Adds the clause of this output and the least of the others with which it reaches the target's sum, where
+// both together are below a number. With each greater one it implies that too.
+fn add_pair<R: Recorder>(
     alloc: Global,
     rec: &mut R,
     part: &SumOutput,
@@ -62,23 +116,24 @@ pub(crate) fn add_pairs<R: Recorder>(
 ) -> Result<(), RecordFault>
     requires ready { IsReady (seen R.problem R.limit R.lines R.faults R.broken R.around rec.old) }
     requires rising { AreRising others.now }
-    requires small { part.now.sum < 2 ^ 63 }
     requires can { (k : ℕ) (d : SumOutput) → k < length others.now
         → target.now.sum ≤ part.now.sum + (slice_index_or others.now k d).sum
         → CanImplyNow (seen R.problem R.limit R.lines R.faults R.broken R.around rec.old)
         (part.now ∷ slice_index_or others.now k d ∷ []) [] target.now }
-    ensures recorded { IsRecorded (seen R.problem R.limit R.lines R.faults R.broken R.around rec.old) (seen R.problem R.limit R.lines R.faults R.broken R.around rec.new) result }
+    ensures recorded { IsRecorded
+        (seen R.problem R.limit R.lines R.faults R.broken R.around rec.old)
+        (seen R.problem R.limit R.lines R.faults R.broken R.around rec.new) result }
     ensures says { OnOk result (PairsImply
         (seen R.problem R.limit R.lines R.faults R.broken R.around rec.new)
         part.now others.now target.now below) }
     ensures defines_none { OnOk result
         (definitions (R.lines rec.new) ≡ definitions (R.lines rec.old)) }
 {
-    let from = place_of(others, target.sum.saturating_sub(part.sum));
-    for at in from..place_of(others, below.saturating_sub(part.sum)) {
-        imply_by_two(alloc, rec, part, &others[at], target)?;
+    let rest = target.sum.saturating_sub(part.sum);
+    match least_between(others, rest, below.saturating_sub(part.sum)) {
+        Some(least) => imply_by_two(alloc, rec, part, &least, target),
+        None => Ok(()),
     }
-    Ok(())
 }
 
 // The clause of one output.
@@ -90,9 +145,15 @@ fn imply_by_one<R: Recorder>(
     target: &SumOutput,
 ) -> Result<(), RecordFault>
     requires ready { IsReady (seen R.problem R.limit R.lines R.faults R.broken R.around rec.old) }
-    requires can { CanImplyNow (seen R.problem R.limit R.lines R.faults R.broken R.around rec.old) (part.now ∷ []) weakened.now target.now }
-    ensures recorded { IsRecorded (seen R.problem R.limit R.lines R.faults R.broken R.around rec.old) (seen R.problem R.limit R.lines R.faults R.broken R.around rec.new) result }
-    ensures says { OnOk result (Always (seen R.problem R.limit R.lines R.faults R.broken R.around rec.new) (Imply (part.now ∷ []) target.now)) }
+    requires can { CanImplyNow
+        (seen R.problem R.limit R.lines R.faults R.broken R.around rec.old)
+        (part.now ∷ []) weakened.now target.now }
+    ensures recorded { IsRecorded
+        (seen R.problem R.limit R.lines R.faults R.broken R.around rec.old)
+        (seen R.problem R.limit R.lines R.faults R.broken R.around rec.new) result }
+    ensures says { OnOk result (Always
+        (seen R.problem R.limit R.lines R.faults R.broken R.around rec.new)
+        (Imply (part.now ∷ []) target.now)) }
     ensures defines_none { OnOk result
         (definitions (R.lines rec.new) ≡ definitions (R.lines rec.old)) }
 {
@@ -108,24 +169,24 @@ fn imply_by_two<R: Recorder>(
     target: &SumOutput,
 ) -> Result<(), RecordFault>
     requires ready { IsReady (seen R.problem R.limit R.lines R.faults R.broken R.around rec.old) }
-    requires can { CanImplyNow (seen R.problem R.limit R.lines R.faults R.broken R.around rec.old) (first.now ∷ second.now ∷ []) [] target.now }
-    ensures recorded { IsRecorded (seen R.problem R.limit R.lines R.faults R.broken R.around rec.old) (seen R.problem R.limit R.lines R.faults R.broken R.around rec.new) result }
-    ensures says { OnOk result (Always (seen R.problem R.limit R.lines R.faults R.broken R.around rec.new) (Imply (first.now ∷ second.now ∷ []) target.now)) }
+    requires can { CanImplyNow
+        (seen R.problem R.limit R.lines R.faults R.broken R.around rec.old)
+        (first.now ∷ second.now ∷ []) [] target.now }
+    ensures recorded { IsRecorded
+        (seen R.problem R.limit R.lines R.faults R.broken R.around rec.old)
+        (seen R.problem R.limit R.lines R.faults R.broken R.around rec.new) result }
+    ensures says { OnOk result (Always
+        (seen R.problem R.limit R.lines R.faults R.broken R.around rec.new)
+        (Imply (first.now ∷ second.now ∷ []) target.now)) }
     ensures defines_none { OnOk result
         (definitions (R.lines rec.new) ≡ definitions (R.lines rec.old)) }
 {
     add_clause(alloc, rec, &[*first, *second], &[], *target)
 }
 
-// A child of a node: its terms and outputs.
-#[derive(Clone, Copy, Debug)]
-pub struct Child<'a> {
-    pub(crate) terms: &'a [(Lit, u64)],
-    pub(crate) outputs: &'a [SumOutput],
-}
-
-// Adds the clauses of all outputs and pairs of outputs of a node's children whose sums are at least the
-// target's, and below a number.
+// Adds clauses from the outputs of a node's children to the target, by which each output, and each pair of
+// outputs, implies it whose sum is at least the target's and below a number: a clause for the least of each
+// child, and for each of the first child's below the target a clause with its least partner.
 pub(crate) fn add_window<R: Recorder>(
     alloc: Global,
     rec: &mut R,
@@ -138,7 +199,8 @@ pub(crate) fn add_window<R: Recorder>(
     requires children { AreChildrenNow
         (seen R.problem R.limit R.lines R.faults R.broken R.around rec.old)
         first.terms.now second.terms.now first.outputs.now second.outputs.now }
-    requires target { IsTargetNow (seen R.problem R.limit R.lines R.faults R.broken R.around rec.old)
+    requires target { IsTargetNow
+        (seen R.problem R.limit R.lines R.faults R.broken R.around rec.old)
         (first.terms.now ++ second.terms.now) first.outputs.now second.outputs.now target.now }
     ensures recorded { IsRecorded
         (seen R.problem R.limit R.lines R.faults R.broken R.around rec.old)
@@ -149,13 +211,13 @@ pub(crate) fn add_window<R: Recorder>(
     ensures defines_none { OnOk result
         (definitions (R.lines rec.new) ≡ definitions (R.lines rec.old)) }
 {
-    add_singles(alloc, rec, first.outputs, second.terms, target, below)?;
-    add_singles(alloc, rec, second.outputs, first.terms, target, below)?;
-    add_all_pairs(alloc, rec, first.outputs, second.outputs, target, below)
+    add_single(alloc, rec, first.outputs, second.terms, target, below)?;
+    add_single(alloc, rec, second.outputs, first.terms, target, below)?;
+    add_pairs(alloc, rec, first.outputs, second.outputs, target, below)
 }
 
-// Adds the clauses of all pairs.
-fn add_all_pairs<R: Recorder>(
+// Adds for each of the first outputs whose sum is below the target's the clause with its least partner.
+fn add_pairs<R: Recorder>(
     alloc: Global,
     rec: &mut R,
     firsts: &[SumOutput],
@@ -171,14 +233,18 @@ fn add_all_pairs<R: Recorder>(
         → target.now.sum ≤ (slice_index_or firsts.now i d).sum + (slice_index_or seconds.now j e).sum
         → CanImplyNow (seen R.problem R.limit R.lines R.faults R.broken R.around rec.old)
         (slice_index_or firsts.now i d ∷ slice_index_or seconds.now j e ∷ []) [] target.now }
-    ensures recorded { IsRecorded (seen R.problem R.limit R.lines R.faults R.broken R.around rec.old) (seen R.problem R.limit R.lines R.faults R.broken R.around rec.new) result }
+    ensures recorded { IsRecorded
+        (seen R.problem R.limit R.lines R.faults R.broken R.around rec.old)
+        (seen R.problem R.limit R.lines R.faults R.broken R.around rec.new) result }
     ensures says { OnOk result ((i : ℕ) (d : SumOutput) → i < length firsts.now
-        → PairsImply (seen R.problem R.limit R.lines R.faults R.broken R.around rec.new) (slice_index_or firsts.now i d) seconds.now target.now below) }
+        → (slice_index_or firsts.now i d).sum < target.now.sum
+        → PairsImply (seen R.problem R.limit R.lines R.faults R.broken R.around rec.new)
+        (slice_index_or firsts.now i d) seconds.now target.now below) }
     ensures defines_none { OnOk result
         (definitions (R.lines rec.new) ≡ definitions (R.lines rec.old)) }
 {
-    for at in 0..firsts.len() {
-        add_pairs(alloc, rec, &firsts[at], seconds, target, below)?;
+    for at in 0..place_of(firsts, target.sum) {
+        add_pair(alloc, rec, &firsts[at], seconds, target, below)?;
     }
     Ok(())
 }

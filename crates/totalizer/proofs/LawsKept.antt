@@ -15,8 +15,8 @@ use Rattle.totalizer.specs.declared.bound.Bound.TheVariants.{Always, Never, At}
 use Rattle.totalizer.specs.Meaning.{IsDefinedFor, IsOutput, IsOwnOrNone, IsBoundAt}
 use Rattle.totalizer.specs.Keeping.{BoundStays, FittingStays}
 use Rattle.totalizer.proofs.LaterOutputs.{made_then}
+use Rattle.sum_outputs.proofs.ReplayIds.{replay_ids}
 use Rattle.totalizer.proofs.OwnLines.{own_lines_stay_law}
-use Rattle.totalizer.proofs.ReplayIds.{replay_ids}
 
 pub fitting_stays_law : FittingStays
 fitting_stays_law a b s t problem keeps reached fits = record {

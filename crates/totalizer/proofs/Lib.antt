@@ -1,4 +1,3 @@
-pub mod ReplayIds
 pub mod OwnLines
 pub mod LaterOutputs
 pub mod LawsKept

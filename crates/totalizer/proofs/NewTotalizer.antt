@@ -24,20 +24,12 @@ use Rattle.sum_outputs.specs.declared.made.SumOutput.{SumOutput}
 use Rattle.sum_outputs.proofs.Attaining.{apart_across}
 use Rattle.sum_outputs.proofs.LeafLists.{leaf_outputs, leaf_complete}
 use Rattle.sum_outputs.proofs.MadeLists.{terms_divide}
-use Rattle.totalizer.specs.Totalizing.{first_outputs, Fits, HasVariables, IsBuilt}
+use Rattle.totalizer.specs.Totalizing.{first_outputs, Fits, HasVariables}
 use Rattle.totalizer.specs.Knowing.{AreNodesOf}
 use Rattle.totalizer.proofs.AskedTotalizer.{totalizer_of}
 use Rattle.totalizer.proofs.Roots.{any_node, root_is, alone}
 
 -- ---- nodes
-
-pub no_nodes : AreNodesOf [] []
-no_nodes = record {
-  root = refl;
-  rooted = record { tree = λ i d short. absurd (omega arith); parents = λ i below. absurd (omega arith) };
-  among = All-nil (λ n. All (Contains []) n.terms);
-  leaves_apart = λ i j less short. absurd (omega arith);
-}
 
 pub nodes_grown : (nodes : List Node) (terms : Terms) (at : ℕ) → IsGrown [] nodes terms at → AreNodesOf terms nodes
 nodes_grown nodes terms at is =
@@ -226,6 +218,3 @@ module _ (terms : Terms) (nodes : List Node) (are : AreNodesOf terms nodes) wher
 
     pub new_fits : Fits a (totalizer_of nodes made)
     new_fits = record { rooted = are.rooted; made = new_made; asked = new_asked }
-
-  pub new_built : IsBuilt terms (totalizer_of nodes made)
-  new_built = record { terms = are.root; rooted = are.rooted; made = refl }

@@ -29,11 +29,15 @@ pub(crate) fn bound_at<R: Recorder>(
     requires from_one { 0 < k }
     ensures recorded { IsRecorded (seen R.problem R.limit R.lines R.faults R.broken R.around rec.old)
         (seen R.problem R.limit R.lines R.faults R.broken R.around rec.new) result }
-    ensures bound { IfOk result (IsBound (R.problem rec.new) (R.lines rec.new) (root_terms nodes.now) (pos k)) }
-    ensures added { IfOk result (AddsFor (seen R.problem R.limit R.lines R.faults R.broken R.around rec.old)
+    ensures bound { IfOk result (IsBound (R.problem rec.new) (R.lines rec.new)
+        (root_terms nodes.now) (pos k)) }
+    ensures added { IfOk result (AddsFor
+        (seen R.problem R.limit R.lines R.faults R.broken R.around rec.old)
         (seen R.problem R.limit R.lines R.faults R.broken R.around rec.new)
-        (pos k) (record { nodes = nodes.now; made = made.old }) (record { nodes = nodes.now; made = made.new })) }
-    ensures fits { OnOk result (Fits (seen R.problem R.limit R.lines R.faults R.broken R.around rec.new)
+        (pos k) (record { nodes = nodes.now; made = made.old })
+        (record { nodes = nodes.now; made = made.new })) }
+    ensures fits { OnOk result (Fits
+        (seen R.problem R.limit R.lines R.faults R.broken R.around rec.new)
         (record { nodes = nodes.now; made = made.new })) }
 {
     if total_of(nodes) < k {
@@ -57,8 +61,8 @@ fn total_of(nodes: &[Node]) -> u64
     }
 }
 
-// What the root has for "the sum is at least `k`": the literal of its only term, or an output that stands for it. Costs
-// a binary search.
+// What the root has for "the sum is at least `k`": the literal of its only term, or an output that stands for
+// it. Costs a binary search.
 fn known(terms: &[(Lit, u64)], outputs: &[SumOutput], k: u64) -> Option<Bound>
     requires some { 0 < length terms.now }
     requires rising { AllPairs (λ o q. o.sum < q.sum) outputs.now }

@@ -16,7 +16,8 @@ use scut_base::Items;
 use std::alloc::Global;
 use sum_outputs::{Node, SumOutput, ask, child, extend_all};
 
-// Makes the output of the root at the least sum of at least `k`, and before it those below the root that it stands on.
+// Makes the output of the root at the least sum of at least `k`, and before it those below the root that it
+// stands on.
 pub(crate) fn make<R: Recorder>(
     alloc: Global,
     rec: &mut R,
@@ -32,11 +33,15 @@ pub(crate) fn make<R: Recorder>(
     requires long { 1 < length (root_terms nodes.now) }
     ensures recorded { IsRecorded (seen R.problem R.limit R.lines R.faults R.broken R.around rec.old)
         (seen R.problem R.limit R.lines R.faults R.broken R.around rec.new) result }
-    ensures bound { IfOk result (IsBound (R.problem rec.new) (R.lines rec.new) (root_terms nodes.now) (pos k)) }
-    ensures added { IfOk result (AddsFor (seen R.problem R.limit R.lines R.faults R.broken R.around rec.old)
+    ensures bound { IfOk result (IsBound (R.problem rec.new) (R.lines rec.new)
+        (root_terms nodes.now) (pos k)) }
+    ensures added { IfOk result (AddsFor
+        (seen R.problem R.limit R.lines R.faults R.broken R.around rec.old)
         (seen R.problem R.limit R.lines R.faults R.broken R.around rec.new)
-        (pos k) (record { nodes = nodes.now; made = made.old }) (record { nodes = nodes.now; made = made.new })) }
-    ensures fits { OnOk result (Fits (seen R.problem R.limit R.lines R.faults R.broken R.around rec.new)
+        (pos k) (record { nodes = nodes.now; made = made.old })
+        (record { nodes = nodes.now; made = made.new })) }
+    ensures fits { OnOk result (Fits
+        (seen R.problem R.limit R.lines R.faults R.broken R.around rec.new)
         (record { nodes = nodes.now; made = made.new })) }
 {
     extend_all(alloc, rec, nodes, made, k)?;
@@ -58,7 +63,8 @@ fn ask_root<R: Recorder>(
 ) -> Result<(SumOutput, Items<SumOutput>), RecordFault>
     requires ready { IsReady (seen R.problem R.limit R.lines R.faults R.broken R.around rec.old) }
     requires rooted { IsRooted nodes.now }
-    requires made { AreMadeNow (seen R.problem R.limit R.lines R.faults R.broken R.around rec.old) nodes.now made.now }
+    requires made { AreMadeNow
+        (seen R.problem R.limit R.lines R.faults R.broken R.around rec.old) nodes.now made.now }
     requires complete { AreCompleteTo nodes.now made.now (length nodes.now - 1) k }
     requires from_one { 0 < k }
     requires most { k ≤ total (root_terms nodes.now) }

@@ -8,7 +8,7 @@ pub enum Bound {
     Always { lower_line: u64 },
     /// It is so at none.
     Never,
-    /// It is so only where the literal is true, by the line of this id, and wherever it is so the rows and kept clauses
-    /// make the literal true.
+    /// It is so only where the literal is true, by the line of this id, and wherever it is so the rows and
+    /// kept clauses make the literal true.
     At { lit: Lit, lower_line: u64 },
 }

@@ -1,8 +1,8 @@
-//! The generalised totalizer (Joshi, Martins and Manquinho 2015): literals that stand for "this weighted sum is at
-//! least k", made where they are asked for, with the lines that prove what they mean.
+//! The generalised totalizer (Joshi, Martins and Manquinho 2015): literals that stand for "this weighted sum
+//! is at least k", made where they are asked for, with the lines that prove what they mean.
 //!
-//! Its public contract: `Totalizer::build` takes the terms; `Totalizer::output` answers what stands for "the sum is at
-//! least k". Only the outputs that it stands on are made, and stay for later calls.
+//! Its public contract: `Totalizer::build` takes the terms; `Totalizer::output` answers what stands for
+//! "the sum is at least k". Only the outputs that it stands on are made, and stay for later calls.
 #![tactic(auto)]
 
 mod answering;

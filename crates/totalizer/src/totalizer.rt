@@ -32,8 +32,8 @@ impl Model for Totalizer {
 }
 
 impl Totalizer {
-    /// The totalizer of these terms, of which none has an output yet but those of one term. Costs a node for each term
-    /// and each inner node, with a copy of its terms.
+    /// The totalizer of these terms, of whose nodes only those of one term have an output yet. Costs a node
+    /// for each term and each inner node, with a copy of its terms.
     pub fn build(alloc: Global, terms: &[(Lit, u64)]) -> Result<Totalizer, NoMemory>
         requires { AreWeights terms.now }
         ensures built { IfOk result (IsBuilt terms.now) }
@@ -44,20 +44,24 @@ impl Totalizer {
         Ok(Totalizer { alloc, nodes, made })
     }
 
-    /// What stands for "the sum is at least `k`". A recorder's refusal is handed on; then the totalizer isn't asked
-    /// again.
+    /// What stands for "the sum is at least `k`". A recorder's refusal is handed on; then the totalizer isn't
+    /// asked again.
     ///
-    /// Costs a look-up where that output is there. Else it costs, at each node, the outputs that it makes there, and
-    /// for each of them the pairs of its children's outputs whose sums it stands for.
+    /// Costs a look-up where that output is there. Else it costs the outputs that it makes at each node:
+    /// for each a definition, at most a line for each output of the node's first child, and five more.
     pub fn output<R: Recorder>(&mut self, rec: &mut R, k: i64) -> Result<Bound, RecordFault>
         requires ready { IsReady (seen R.problem R.limit R.lines R.faults R.broken R.around rec.old) }
-        requires fits { Fits (seen R.problem R.limit R.lines R.faults R.broken R.around rec.old) self.old }
-        ensures recorded { IsRecorded (seen R.problem R.limit R.lines R.faults R.broken R.around rec.old)
+        requires fits { Fits
+            (seen R.problem R.limit R.lines R.faults R.broken R.around rec.old) self.old }
+        ensures recorded { IsRecorded
+            (seen R.problem R.limit R.lines R.faults R.broken R.around rec.old)
             (seen R.problem R.limit R.lines R.faults R.broken R.around rec.new) result }
         ensures bound { IfOk result (IsBound (R.problem rec.new) (R.lines rec.new) (terms_of self.old) k) }
-        ensures added { IfOk result (AddsFor (seen R.problem R.limit R.lines R.faults R.broken R.around rec.old)
+        ensures added { IfOk result (AddsFor
+            (seen R.problem R.limit R.lines R.faults R.broken R.around rec.old)
             (seen R.problem R.limit R.lines R.faults R.broken R.around rec.new) k self.old self.new) }
-        ensures fits { OnOk result (Fits (seen R.problem R.limit R.lines R.faults R.broken R.around rec.new) self.new) }
+        ensures fits { OnOk result (Fits
+            (seen R.problem R.limit R.lines R.faults R.broken R.around rec.new) self.new) }
         ensures nodes { self.new.nodes ≡ self.old.nodes }
     {
         if k <= 0 {

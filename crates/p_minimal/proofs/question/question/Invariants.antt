@@ -1,6 +1,7 @@
-use Rattle.sum_outputs.specs.Adding.{seen, IsUnderWay}
+use Rattle.sum_outputs.specs.Adding.{seen}
 use Rattle.search_base.specs.CostBounds.{FitBounds}
 use Rattle.p_minimal.specs.Asking.{Asks}
+use Rattle.sum_outputs.proofs.OutputsLater.{IsUnderWay}
 use Rattle.p_minimal.proofs.question.question.Given as goal
 
 abbrev pub invariant-loop-objective : goal.invariant-loop-objective

@@ -1,7 +1,8 @@
 use Rattle.std.proofs.Common.{take}
-use Rattle.sum_outputs.specs.Adding.{seen, IsUnderWay}
+use Rattle.sum_outputs.specs.Adding.{seen}
 use Rattle.search_base.specs.CostBounds.{FitBounds}
 use Rattle.search_base.specs.Cutting.{AreAnswers}
+use Rattle.sum_outputs.proofs.OutputsLater.{IsUnderWay}
 use Rattle.search_base.proofs.asking.answers_at.Given as goal
 
 abbrev pub invariant-loop-objective : goal.invariant-loop-objective

@@ -2,6 +2,7 @@
 use Rattle.std.proofs.Common.{◌≡◌, ◌<◌, ◌-◌, ◌≤◌, All, AllPairs, sym, subst, arith}
 use Rattle.std.specs.Prelude.{Contains}
 use Rattle.std.proofs.lemmas.List.Elements.{All-contains}
+use Rattle.std.proofs.lemmas.Result.{on_ok_weaker}
 use Rattle.scut_base.specs.Literal.{Literal}
 use Rattle.instance_normal.proofs.Distinct.{member_at, rising_push, upto_last, put_again}
 use Rattle.search_base.proofs.cut.add_once.Goals as goal
@@ -23,5 +24,7 @@ returns-then-var-clause-rising c =
     let below : All (λ (m : Literal). m.var < c.args.lit.var) c.args.distinct.now =
     upto_last c.args.distinct.now c.args.lit.var (c.len-len.result - 1) c.at.result.now c.requires.rising
     (omega arith) c.at.ensures less in
-    subst (AllPairs (λ (x y : Literal). x.var < y.var)) (sym c.in_ok-push-2.ensures.ok)
-    (rising_push c.args.distinct.now c.args.lit c.requires.rising below)
+    on_ok_weaker c.push-then-var.result
+    (λ is. subst (AllPairs (λ (x y : Literal). x.var < y.var)) (sym is)
+    (rising_push c.args.distinct.now c.args.lit c.requires.rising below))
+    c.push-then-var.ensures.ok

@@ -1,7 +1,8 @@
 -- Clauses were added.
 use Rattle.std.proofs.Common.{◌≡◌}
 use Rattle.sum_outputs.specs.Totals.{definitions}
-use Rattle.sum_outputs.specs.Adding.{seen, IsUnderWay}
+use Rattle.sum_outputs.specs.Adding.{seen}
+use Rattle.sum_outputs.proofs.OutputsLater.{IsUnderWay}
 use Rattle.sum_outputs.proofs.extended.tie.Given as goal
 
 abbrev pub invariant-loop-at : goal.invariant-loop-at

@@ -11,13 +11,12 @@ use Rattle.sum_outputs.specs.Adding.{seen}
 use Rattle.sum_outputs.specs.Totals.{AreWeights}
 use Rattle.sum_outputs.specs.Joining.{AreOutputsAt}
 use Rattle.sum_outputs.specs.Sums.{IsLeastOf, IsRunTo}
-use Rattle.sum_outputs.specs.Falling.{IsHalfWay}
 use Rattle.sum_outputs.specs.declared.made.SumOutput.{SumOutput}
 use Rattle.sum_outputs.proofs.LaterStates.{continues_again, recorded_err, handed_on}
 use Rattle.sum_outputs.proofs.OutputsLater.{way_starts, way_ready, way_on}
 use Rattle.sum_outputs.proofs.MakeLines.{children_later}
 use Rattle.sum_outputs.proofs.Runs.{run_pop}
-use Rattle.sum_outputs.proofs.FallingLines.{complete_less, halfway_starts, least_of_run, halfway_more, last_outputs}
+use Rattle.sum_outputs.proofs.FallingLines.{IsHalfWay, complete_less, halfway_starts, least_of_run, halfway_more, last_outputs}
 use Rattle.sum_outputs.proofs.extending.make_falling.Goals as goal
 
 pub returns-in_err-sums-clause-recorded : goal.returns-in_err-sums-clause-recorded

@@ -1,5 +1,5 @@
 -- The nodes of the children come first.
-use Rattle.std.proofs.Common.{ℕ, ◌+◌, ◌/◌, ◌%◌, List, length, take, drop, sym, subst, arith}
+use Rattle.std.proofs.Common.{ℕ, List, length, take, drop, sym, subst, arith}
 use Rattle.std.proofs.lemmas.Result.{IfOk-weaker}
 use Rattle.scut_base.specs.Literal.{Literal}
 use Rattle.sum_outputs.specs.Totals.{AreWeights}
@@ -13,17 +13,18 @@ returns-then-terms-eq1 t c = IfOk-weaker c.push_node.result _ (IsGrown c.args.no
 
 pub push_nodes-requires-2 : goal.push_nodes-requires-2
 push_nodes-requires-2 t c =
-    let h = length c.args.terms.now / 2 + length c.args.terms.now % 2 in
+    let h = c.div_ceil-half.result in
+    let half = half_is (length c.args.terms.now) h c.div_ceil-half.ensures in
     let some = c.requires.some in
     let more = c.if-terms-eq1.false in
     let size = rest_size c.args.terms.now h in
     let whole = c.decreases in
-    (omega (arith, whole, size), (c.in_ok-first.ensures.tree, (subst (λ (ts : List (Literal × ℕ)). AreWeights ts) (sym (rest_is c.args.terms.now h)) (second_weights c.args.terms.now h c.requires.weights), omega (arith, size))))
+    (omega (arith, whole, size, half), (c.in_ok-first.ensures.tree, (subst (λ (ts : List (Literal × ℕ)). AreWeights ts) (sym (rest_is c.args.terms.now h)) (second_weights c.args.terms.now h c.requires.weights), omega (arith, size, half))))
 
 pub returns : goal.returns
 returns t c = IfOk-weaker c.push_node-2.result _ (IsGrown c.args.nodes.now c.push_node-2.new.nodes c.args.terms.now)
     (λ at is. grown_by_inner c.args.nodes.now c.push_nodes.new.nodes c.push_nodes-2.new.nodes c.push_node-2.new.nodes c.args.terms.now c.in_ok-first.first c.in_ok-second.second at c.requires.weights (let some = c.requires.some in let more = c.if-terms-eq1.false in omega arith)
-    (subst (λ (n : ℕ). IsGrown c.args.nodes.now c.push_nodes.new.nodes (take n c.args.terms.now) c.in_ok-first.first) (half_is c.args.terms.now) c.in_ok-first.ensures)
-    (subst (λ (n : ℕ). IsGrown c.push_nodes.new.nodes c.push_nodes-2.new.nodes (drop n c.args.terms.now) c.in_ok-second.second) (half_is c.args.terms.now)
-    (subst (λ (ts : List (Literal × ℕ)). IsGrown c.push_nodes.new.nodes c.push_nodes-2.new.nodes ts c.in_ok-second.second) (rest_is c.args.terms.now (length c.args.terms.now / 2 + length c.args.terms.now % 2)) c.in_ok-second.ensures))
+    (subst (λ (n : ℕ). IsGrown c.args.nodes.now c.push_nodes.new.nodes (take n c.args.terms.now) c.in_ok-first.first) (half_is (length c.args.terms.now) c.div_ceil-half.result c.div_ceil-half.ensures) c.in_ok-first.ensures)
+    (subst (λ (n : ℕ). IsGrown c.push_nodes.new.nodes c.push_nodes-2.new.nodes (drop n c.args.terms.now) c.in_ok-second.second) (half_is (length c.args.terms.now) c.div_ceil-half.result c.div_ceil-half.ensures)
+    (subst (λ (ts : List (Literal × ℕ)). IsGrown c.push_nodes.new.nodes c.push_nodes-2.new.nodes ts c.in_ok-second.second) (rest_is c.args.terms.now c.div_ceil-half.result) c.in_ok-second.ensures))
     is.0 is.1) c.push_node-2.ensures

@@ -22,5 +22,5 @@ returns-clause-recorded g c =
     let b = seen R.problem R.limit R.lines R.faults R.broken R.around c.add_line.new.self in
     let was = c.in_ok-id.ensures in
     recorded_ok a b c.in_ok-id.id
-    (continues_more a b c.args.line.now c.state.result.now c.state-state.result.now was.problem was.limit was.later was.around was.added c.requires.kind c.vars-vars.ensures.state c.state.ensures c.state-state.ensures)
+    (continues_more a b c.args.line.now c.state.result.now c.state-state.result.now was.problem was.limit was.later was.around was.added c.requires.kind c.state.ensures c.state-state.ensures)
     was.whole

@@ -1,14 +1,15 @@
--- The clauses of the pairs so far are there.
-use Rattle.std.proofs.Common.{◌≡◌, ℕ, ◌<◌, ◌≤◌, [], ◌∷◌, slice_index_or}
+-- The clauses so far are there.
+use Rattle.std.proofs.Common.{◌≡◌, ℕ, ◌<◌, ◌≤◌, slice_index_or}
 use Rattle.sum_outputs.specs.Totals.{definitions}
-use Rattle.sum_outputs.specs.Adding.{seen, Always, IsUnderWay}
-use Rattle.sum_outputs.specs.Outputs.{Imply}
+use Rattle.sum_outputs.specs.Adding.{seen}
+use Rattle.sum_outputs.specs.Joining.{PairsImply}
 use Rattle.sum_outputs.specs.declared.made.SumOutput.{SumOutput}
+use Rattle.sum_outputs.proofs.OutputsLater.{IsUnderWay}
 use Rattle.sum_outputs.proofs.windows.add_pairs.Given as goal
 
 abbrev pub invariant-loop-at : goal.invariant-loop-at
 invariant-loop-at g l = let R = g.R.Recorder in record {
   way : IsUnderWay (seen R.problem R.limit R.lines R.faults R.broken R.around l.fn.rec) (seen R.problem R.limit R.lines R.faults R.broken R.around l.rec);
   defines_none : definitions (R.lines l.rec) ≡ definitions (R.lines l.fn.rec);
-  done : (k : ℕ) (d : SumOutput) → l.from ≤ k → k < l.at → Always (seen R.problem R.limit R.lines R.faults R.broken R.around l.rec) (Imply (l.part ∷ slice_index_or l.others k d ∷ []) l.target);
+  done : (k : ℕ) (d : SumOutput) → 0 ≤ k → k < l.at → PairsImply (seen R.problem R.limit R.lines R.faults R.broken R.around l.rec) (slice_index_or l.firsts k d) l.seconds l.target l.below;
 }

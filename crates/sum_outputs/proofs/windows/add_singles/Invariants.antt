@@ -1,9 +1,10 @@
 -- The clauses of the outputs so far are there.
 use Rattle.std.proofs.Common.{◌≡◌, ℕ, ◌<◌, ◌≤◌, [], ◌∷◌, slice_index_or}
 use Rattle.sum_outputs.specs.Totals.{definitions}
-use Rattle.sum_outputs.specs.Adding.{seen, Always, IsUnderWay}
+use Rattle.sum_outputs.specs.Adding.{seen, Always}
 use Rattle.sum_outputs.specs.Outputs.{Imply}
 use Rattle.sum_outputs.specs.declared.made.SumOutput.{SumOutput}
+use Rattle.sum_outputs.proofs.OutputsLater.{IsUnderWay}
 use Rattle.sum_outputs.proofs.windows.add_singles.Given as goal
 
 abbrev pub invariant-loop-at : goal.invariant-loop-at
