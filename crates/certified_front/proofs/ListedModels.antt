@@ -24,7 +24,7 @@ module _ (i : InstanceValue) where
   right_model : (e : Entry) → IsModelPair i e → IsRightModel i (listed_entry i e)
   right_model e pair = record { model = pair.model; costs = sym (twice (costs_of i e.model)) ∙ ap (problem_vector i) (sym pair.costs) }
 
-  right_models : (entries : List Entry) → All (IsModelPair i) entries → All (IsRightModel i) (map (listed_entry i) entries)
+  pub right_models : (entries : List Entry) → All (IsModelPair i) entries → All (IsRightModel i) (map (listed_entry i) entries)
   right_models entries pairs = All-map (IsRightModel i) (listed_entry i) entries
       (All-weaker (IsModelPair i) (λ (e : Entry). IsRightModel i (listed_entry i e)) right_model entries pairs)
 

@@ -2,8 +2,8 @@
 use Rattle.std.specs.Prelude.{◌≡◌, ◌≤◌, ◌^◌, length}
 use Rattle.scut_base.specs.Faults.{Rose}
 use Rattle.proof_rules.specs.Recording.{KeepsSurroundings}
-use Rattle.oracle.specs.declared.fault.OracleFault.{OracleFault}
-use Rattle.oracle.specs.declared.fault.OracleFault.TheVariants.{Spent, Failed, Full, NoMemory}
+use Rattle.proof_rules.specs.declared.recorder.RecordFault.{RecordFault}
+use Rattle.proof_rules.specs.declared.recorder.RecordFault.TheVariants.{Failed, Full, NoMemory}
 use Rattle.sum_outputs.specs.Adding.{Snapshot}
 
 -- what no call changes, whatever lines it adds
@@ -13,9 +13,8 @@ pub record StaysWith (a b : Snapshot) : Type 0 where
   pub later : a.faults ≤ b.faults
   pub around : KeepsSurroundings a.around b.around
 
--- why there is no front; clauses that are spent are no reason
-abbrev pub IsStop : Snapshot → Snapshot → OracleFault → Type 0
-IsStop a b (Spent learned) = ⊥
+-- why there is no front
+abbrev pub IsStop : Snapshot → Snapshot → RecordFault → Type 0
 IsStop a b Failed = Rose a.faults b.faults
 IsStop a b Full = length b.lines ≡ 2 ^ 61
 IsStop a b NoMemory = Unit {0}

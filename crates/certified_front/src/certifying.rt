@@ -1,5 +1,5 @@
 // A whole search, from no line to the end of the proof.
-ghost use Rattle.std.specs.Prelude.{◌≡◌, ◌≢◌, ◌≤◌, ◌^◌, ℕ, [], false, length, map, All, IfOk, IfErr, OnOk, IsErrOf};
+ghost use Rattle.std.specs.Prelude.{◌≡◌, ◌≤◌, ◌^◌, [], false, length, map, All, IfOk, IfErr, OnOk, IsErrOf};
 ghost use Rattle.std.specs.List.Sorted.{IsPermutation};
 ghost use Rattle.scut_base.specs.Faults.{Rose};
 ghost use Rattle.front_set.specs.Vector.{AreRising};
@@ -7,7 +7,6 @@ ghost use Rattle.front_set.specs.Front.{vectors_of};
 ghost use Rattle.instance.specs.ParetoFront.{listed_entry};
 ghost use Rattle.instance_normal.specs.NormalForm.{IsNormalFormOf};
 ghost use Rattle.proof_rules.specs.Recording.{KeepsSurroundings};
-ghost use Rattle.oracle.specs.declared.fault.OracleFault.TheVariants.{Spent};
 ghost use Rattle.sum_outputs.specs.Adding.{seen, IsReady};
 ghost use Rattle.search_base.specs.Boards.{IsBoard, IsModelPair};
 ghost use Rattle.search_base.specs.Good.{IsGood, KeepsBoard};
@@ -23,20 +22,22 @@ use oracle::{Oracle, OracleFault};
 use p_minimal::PMinimal;
 use pb_lin::PbProblem;
 use proof_laws::Line;
+use proof_rules::RecordFault;
 use scut_base::NoMemory;
 use search_base::{Board, Bounds, beginning_is_good, logged_is_reached, run_search};
 use search_lines::learned_is_counted;
 use std::alloc::Global;
+use sum_outputs::in_memory;
 
 /// Searches for the front of an instance over an oracle without lines, which it leaves with a proof.
 /// `Complete` where the proof has ended, `Incomplete` where the oracle's limit of learned clauses was
-/// reached. A fault of the oracle is handed on.
+/// reached. Any other fault of the oracle is handed on.
 pub fn certified_front<O: Oracle>(
     alloc: Global,
     oracle: &mut O,
     problem: &PbProblem,
     inst: &Instance,
-) -> Result<Found, OracleFault>
+) -> Result<Found, RecordFault>
     requires normal { IsNormalFormOf inst.now problem.now }
     requires problem { O.problem oracle.old ≡ problem.now }
     requires begun { O.lines oracle.old ≡ [] }
@@ -46,10 +47,9 @@ pub fn certified_front<O: Oracle>(
     ensures ending { IfOk result
         (λ found. IsEnding (O.limit oracle.old) problem.now (O.lines oracle.new) found.ending) }
     ensures whole { OnOk result (O.broken oracle.new ≡ false) }
-    ensures failed { IsErrOf result OracleFault.Failed
+    ensures failed { IsErrOf result RecordFault.Failed
         → Rose (O.faults oracle.old) (O.faults oracle.new) }
-    ensures full { IsErrOf result OracleFault.Full → length (O.lines oracle.new) ≡ 2 ^ 61 }
-    ensures never_spent { IfErr result (λ f. (n : ℕ) → f ≢ Spent n) }
+    ensures full { IsErrOf result RecordFault.Full → length (O.lines oracle.new) ≡ 2 ^ 61 }
     ensures problem { O.problem oracle.new ≡ O.problem oracle.old }
     ensures later { O.faults oracle.old ≤ O.faults oracle.new }
     ensures around { KeepsSurroundings (O.around oracle.old) (O.around oracle.new) }
@@ -58,10 +58,10 @@ pub fn certified_front<O: Oracle>(
     logged_is_reached();
     // Tells that the problem is within its limits.
     let _vars = problem.vars();
-    let mut bounds = Bounds::new(alloc, problem)?;
+    let mut bounds = in_memory(Bounds::new(alloc, problem))?;
     let mut board = Board::new(alloc, problem, inst);
     let ending = search_to_the_end(alloc, oracle, &mut bounds, &mut board)?;
-    let entries = listed_models(alloc, inst, &board)?;
+    let entries = in_memory(listed_models(alloc, inst, &board))?;
     Ok(Found { entries, ending })
 }
 
@@ -82,14 +82,16 @@ fn search_to_the_end<O: Oracle>(
     oracle: &mut O,
     bounds: &mut Bounds,
     board: &mut Board<'_>,
-) -> Result<Ending, OracleFault>
-    requires { IsGood (seen O.problem O.limit O.lines O.faults O.broken O.around oracle.old) bounds.old board.old }
+) -> Result<Ending, RecordFault>
+    requires { IsGood (seen O.problem O.limit O.lines O.faults O.broken O.around oracle.old)
+        bounds.old board.old }
     ensures ending { IfOk result
         (IsEnding (O.limit oracle.old) (O.problem oracle.new) (O.lines oracle.new)) }
     ensures whole { OnOk result (O.broken oracle.new ≡ false) }
     ensures entries { OnOk result
         (IsBoard board.new (logged (O.problem oracle.new) (O.lines oracle.new))) }
-    ensures stop { IfErr result (IsStop (seen O.problem O.limit O.lines O.faults O.broken O.around oracle.old)
+    ensures stop { IfErr result (IsStop
+        (seen O.problem O.limit O.lines O.faults O.broken O.around oracle.old)
         (seen O.problem O.limit O.lines O.faults O.broken O.around oracle.new)) }
     ensures stays { StaysWith (seen O.problem O.limit O.lines O.faults O.broken O.around oracle.old)
         (seen O.problem O.limit O.lines O.faults O.broken O.around oracle.new) }
@@ -100,31 +102,30 @@ fn search_to_the_end<O: Oracle>(
     match run_search(oracle, bounds, board, &mut search) {
         Ok(id) => end_proof(oracle, id),
         Err(OracleFault::Spent { learned }) => Ok(Ending::Incomplete { learned }),
-        Err(fault) => Err(fault),
+        Err(OracleFault::Failed) => Err(RecordFault::Failed),
+        Err(OracleFault::Full) => Err(RecordFault::Full),
+        Err(OracleFault::NoMemory) => Err(RecordFault::NoMemory),
     }
 }
 
 // Ends the proof by a live line `0 >= 1`.
-fn end_proof<O: Oracle>(oracle: &mut O, id: u64) -> Result<Ending, OracleFault>
+fn end_proof<O: Oracle>(oracle: &mut O, id: u64) -> Result<Ending, RecordFault>
     requires ready { IsReady (seen O.problem O.limit O.lines O.faults O.broken O.around oracle.old) }
     requires line { IsEndLine (O.problem oracle.old) (O.lines oracle.old) id }
     ensures ending { IfOk result
         (IsEnding (O.limit oracle.old) (O.problem oracle.new) (O.lines oracle.new)) }
     ensures whole { OnOk result (O.broken oracle.new ≡ false) }
     ensures logged { LogsNone (O.problem oracle.old) (O.lines oracle.old) (O.lines oracle.new) }
-    ensures stop { IfErr result (IsStop (seen O.problem O.limit O.lines O.faults O.broken O.around oracle.old)
+    ensures stop { IfErr result (IsStop
+        (seen O.problem O.limit O.lines O.faults O.broken O.around oracle.old)
         (seen O.problem O.limit O.lines O.faults O.broken O.around oracle.new)) }
     ensures stays { StaysWith (seen O.problem O.limit O.lines O.faults O.broken O.around oracle.old)
         (seen O.problem O.limit O.lines O.faults O.broken O.around oracle.new) }
 {
     // Tells that ids are below the next one.
     let _vars = oracle.state().vars();
-    match oracle.add_line(&Line::End { id }) {
-        Ok(_) => {
-            // Tells that the lines still reach a state.
-            let _state = oracle.state();
-            Ok(Ending::Complete)
-        }
-        Err(fault) => Err(OracleFault::from(fault)),
-    }
+    oracle.add_line(&Line::End { id })?;
+    // Tells that the lines still reach a state.
+    let _state = oracle.state();
+    Ok(Ending::Complete)
 }

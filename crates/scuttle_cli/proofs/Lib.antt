@@ -1,17 +1,3 @@
-pub mod Numbered
-pub mod Enumerated
-pub mod ListedFront
-pub mod ReadSoFar
-pub mod Written
-pub mod InstanceFiles
-pub mod OwnFaults
-pub mod FrontEnds
 pub mod Commands
 pub mod LearnLimits
-pub mod InputStops
-pub mod CheckEnds
-pub mod LogFed
 pub mod Answered
-pub mod Completing
-pub mod SearchedLogs
-pub mod SolveEnds

@@ -1,13 +1,13 @@
 -- What a run answers, by what the words ask for: for each command a table from its statuses to what they say of the world before and after.
 use Rattle.std.specs.Prelude.{Option, Some, None}
-use Rattle.scuttle_cli.specs.World.{World}
-use Rattle.scuttle_cli.specs.Causes.{IsUntouched}
+use Rattle.scuttle_commands.specs.World.{World}
+use Rattle.scuttle_commands.specs.Causes.{IsUntouched}
 use Rattle.scuttle_cli.specs.Command.{Request, FrontOf, SolveOf, CheckOf}
-use Rattle.scuttle_cli.specs.FrontAnswers.{FrontAnswers, FrontCompletes}
-use Rattle.scuttle_cli.specs.SolveAnswers.{SolveAnswers, SolveCompletes}
-use Rattle.scuttle_cli.specs.CheckAnswers.{CheckAnswers, CheckCompletes}
-use Rattle.scuttle_cli.specs.declared.status.Status.{Status}
-use Rattle.scuttle_cli.specs.declared.status.Status.TheVariants.{Usage, NoMemory}
+use Rattle.scuttle_commands.specs.FrontAnswers.{FrontAnswers, FrontCompletes}
+use Rattle.scuttle_commands.specs.SolveAnswers.{SolveAnswers, SolveCompletes}
+use Rattle.scuttle_commands.specs.CheckAnswers.{CheckAnswers, CheckCompletes}
+use Rattle.scuttle_commands.specs.declared.status.Status.{Status}
+use Rattle.scuttle_commands.specs.declared.status.Status.TheVariants.{Usage, NoMemory}
 
 -- the answers to words that are none of a command
 abbrev pub UsageAnswers : Status → World → World → Type 0

@@ -4,10 +4,10 @@ use Rattle.std.specs.Str.{bytes_eq}
 use Rattle.std.specs.Option.{option_map, option_and_then}
 use Rattle.scut_base.specs.Number.{natural_value}
 use Rattle.mcnf_reader.specs.FirstFault.{is_natural}
-use Rattle.scuttle_cli.specs.InstanceFile.{format_of}
+use Rattle.scuttle_commands.specs.InstanceFile.{format_of}
 use Rattle.scuttle_cli.specs.declared.command.Command.{Command}
 use Rattle.scuttle_cli.specs.declared.command.Command.TheVariants.{Front, Check, Solve}
-use Rattle.scuttle_cli.specs.declared.instance_file.Format.{Format}
+use Rattle.scuttle_commands.specs.declared.instance_file.Format.{Format}
 
 -- a command with its files
 pub data Request : Type 0 where

@@ -2,8 +2,8 @@
 ghost use Rattle.std.specs.Prelude.{◌≡◌, length, map, string_bytes};
 ghost use Rattle.scuttle_cli.specs.Command.{IsCommandOf, IsSolveOf, format_of_three, limit_of};
 
-use crate::instance_file::{Format, format_of};
 use scut_base::read_u64;
+use scuttle_commands::{Format, format_of};
 
 /// A command with its files.
 #[derive(Clone, Copy, Debug)]
@@ -14,8 +14,8 @@ pub enum Command<'a> {
         input: &'a str,
         list: &'a str,
     },
-    /// The front of the instance file by search, to the list file, with a log; with so many learned clauses at most as the
-    /// limit says.
+    /// The front of the instance file by search, to the list file, with a log; with so many learned
+    /// clauses at most as the limit says.
     Solve {
         format: Format,
         input: &'a str,

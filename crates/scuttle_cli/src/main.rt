@@ -1,30 +1,17 @@
 //! The program: every best compromise of an instance, written as a list; and a list and its log, checked.
 //!
-//! Its public contract is that of `run`: after Complete the list file holds exactly the front of the
-//! instance, after Accepted list and log are accepted for it, and every other answer has its stated
-//! cause. `main` runs it over the real files.
+//! Its public contract is that of `run`, by what the words ask for: after Complete the list file holds
+//! exactly the front of the instance, after Accepted list and log are accepted for it, and every other
+//! answer has its stated cause. The commands are those of `scuttle_commands`; here stand the words, and
+//! `main`, which runs them over the real files.
 #![tactic(auto)]
 
-mod check_command;
 mod command;
-mod enumeration;
-mod front_command;
-mod input;
-mod instance_file;
-mod list_file;
-mod log_file;
-mod messages;
-mod refusals;
 mod running;
-mod searching;
-mod solve_command;
-mod status;
-mod whole_file;
 
-use messages::warn_of;
 use running::run;
 use scut_base::{HostShelf, Shelf};
-use status::Status;
+use scuttle_commands::{Status, warn_of};
 use std::alloc::Global;
 use std::io::ErrorKind;
 use std::process::ExitCode;

@@ -2,18 +2,14 @@
 ghost use Rattle.std.specs.Prelude.{◌≡◌, ◌≢◌, ◌↔◌, None, map, string_bytes};
 ghost use Rattle.scut_base.specs.Faults.{NoneFell};
 ghost use Rattle.scut_base.specs.Files.{IsPartlyFollowed};
-ghost use Rattle.scuttle_cli.specs.World.{world};
+ghost use Rattle.scuttle_commands.specs.World.{world};
+ghost use Rattle.scuttle_commands.specs.Messages.{warning_text, IsWarned};
 ghost use Rattle.scuttle_cli.specs.Command.{request_of};
-ghost use Rattle.scuttle_cli.specs.Messages.{warning_text, IsWarned};
 ghost use Rattle.scuttle_cli.specs.Answers.{Answers, Completes};
 
-use crate::Status;
-use crate::check_command::check;
 use crate::command::{Command, read_command};
-use crate::front_command::front;
-use crate::messages::warn_of;
-use crate::solve_command::solve;
 use scut_base::{Shelf, ShelfFault};
+use scuttle_commands::{Status, check, front, solve, warn_of};
 use std::alloc::Global;
 
 /// Runs the command that the words ask for, and warns of a status of which nothing is said; the words are

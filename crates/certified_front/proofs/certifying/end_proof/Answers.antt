@@ -9,11 +9,11 @@ add_line-requires-clause-legal g c =
     let a = seen R.problem R.limit R.lines R.faults R.broken R.around c.args.oracle.now in
     may_end a c.args.id c.requires.ready c.requires.line
 
-pub returns-in-Ok-clause-ending : goal.returns-in-Ok-clause-ending
-returns-in-Ok-clause-ending g c =
+pub returns-clause-ending : goal.returns-clause-ending
+returns-clause-ending g c =
     let R = g.O.Recorder in
     let a = seen R.problem R.limit R.lines R.faults R.broken R.around c.args.oracle.now in
     let b = seen R.problem R.limit R.lines R.faults R.broken R.around c.add_line.new.self in
     let ready = c.requires.ready in
-    let call = c.in-Ok.ensures in
+    let call = c.in_ok-add_line.ensures in
     ended_after a b c.args.id ready.state c.state-state.result.now call.problem call.added ready.reached c.state-state.ensures

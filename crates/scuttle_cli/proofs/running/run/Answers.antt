@@ -1,5 +1,4 @@
-use Rattle.scuttle_cli.proofs.Answered.{usage_exactly, warned_partly}
-use Rattle.scuttle_cli.proofs.Completing.{completes}
+use Rattle.scuttle_cli.proofs.Answered.{completes, usage_exactly, warned_partly}
 use Rattle.scuttle_cli.proofs.running.run.Goals as goal
 
 pub returns-clause-usage : goal.returns-clause-usage

@@ -1,0 +1,15 @@
+pub mod Numbered
+pub mod Enumerated
+pub mod ListedFront
+pub mod ReadSoFar
+pub mod Written
+pub mod InstanceFiles
+pub mod OwnFaults
+pub mod FrontEnds
+pub mod InputStops
+pub mod CheckEnds
+pub mod LogFed
+pub mod SearchedLogs
+pub mod SolveEnds
+pub mod Kept
+pub mod Completing

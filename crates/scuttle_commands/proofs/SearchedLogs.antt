@@ -1,0 +1,152 @@
+-- What a search leaves in its log.
+use Rattle.std.proofs.Common.{◌≡◌, ◌≢◌, inr, ⊎_elim, ℕ, ◌<◌, ◌^◌, Bool, true, false, None, Some, List, [], ◌++◌, length, refl, sym, ap, subst, ◌∙◌, arith, append-nil}
+use Rattle.std.specs.Prelude.{Option, nat_lt}
+use Rattle.std.specs.Ordering.{nat_cmp, eq_by_cmp}
+use Rattle.std.specs.Cmp.Lexicographic.{slice_cmp}
+use Rattle.std.specs.FinMap.{insert, same_map, slice_cmp-IsAntisymmetric, nat_cmp-IsAntisymmetric}
+use Rattle.std.proofs.lemmas.Bool.{ltb-true}
+use Rattle.std.proofs.lemmas.Cmp.{nat_list_cmp_total}
+use Rattle.std.proofs.lemmas.Option.{none-some}
+use Rattle.std.proofs.Math.Bool.{true≢false}
+use Rattle.scut_base.specs.Files.{Files, content, with_file, IsTold, IsTouched}
+use Rattle.scut_base.specs.Faults.{Faults, NoneFell, Rose, WritingFailed, count}
+use Rattle.scut_base.specs.declared.shelf.ShelfCall.TheVariants.{Append}
+use Rattle.scut_base.proofs.FileLaws.{content-same, content-other, tied_is, tied_same, with_file-untold}
+use Rattle.instance.specs.Shape.{InstanceValue}
+use Rattle.pb_lin.specs.Problem.{ProblemValue}
+use Rattle.proof_laws.specs.State.{StateValue}
+use Rattle.proof_laws.specs.declared.line.Line.{Line}
+use Rattle.proof_laws.specs.declared.why.Why.TheVariants.{LogLong}
+use Rattle.proof_laws.proofs.Derivations.{unless_none}
+use Rattle.proof_laws.proofs.NextCovers.{legal_parts}
+use Rattle.proof_rules.specs.declared.recorder.RecordFault.{RecordFault}
+use Rattle.proof_rules.specs.declared.recorder.RecordFault.TheVariants.{Failed, Full, NoMemory}
+use Rattle.proof_text.specs.LogFile.{Held, IsLogFile, IsPartOfNext}
+use Rattle.proof_text.specs.LogText.{header_line, log_text}
+use Rattle.proof_text.specs.Recorders.{IsKept, without_file}
+use Rattle.proof_text.proofs.LogFiles.{others_same}
+use Rattle.log_checker.proofs.Stepping.{replay_count}
+use Rattle.certified_front.specs.Certified.{CoversLogged, IsEnding}
+use Rattle.certified_front.specs.declared.ending.Found.{Found}
+use Rattle.scuttle_commands.specs.SolveAnswers.{IsPartOfLog}
+use Rattle.scuttle_commands.specs.Searches.{IsFull, IsLogged, IsLogStopped}
+use Rattle.scuttle_commands.specs.Statuses.{status_of_recording}
+use Rattle.scuttle_commands.proofs.OwnFaults.{rose_at_last}
+
+-- ---- one file alone has changed
+
+module _ (name header bytes : List ℕ) where
+  by_tie : (m n : Files) → without_file (Some n) name ≡ without_file (with_file (Some m) name header) name → content (Some n) name ≡ Some bytes
+      → (q : List ℕ) (b : Bool) → eq_by_cmp (slice_cmp nat_cmp) q name ≡ b → content (Some n) q ≡ content (with_file (Some m) name bytes) q
+  by_tie m n others there q true tied =
+      let is : q ≡ name = tied_is q name tied in
+      ap (content (Some n)) is ∙ there ∙ sym (content-same (Some m) name bytes tt) ∙ sym (ap (content (with_file (Some m) name bytes)) is)
+  by_tie m n others there q false tied =
+      let other : q ≢ name = λ e. true≢false (sym (tied_same name) ∙ ap (λ (r : List ℕ). eq_by_cmp (slice_cmp nat_cmp) r name) (sym e) ∙ tied) in
+      others_same (Some n) (with_file (Some m) name header) name q others other ∙ content-other (Some m) name header q other ∙ sym (content-other (Some m) name bytes q other)
+
+  same_files : (m n : Files) → ((q : List ℕ) → content (Some n) q ≡ content (with_file (Some m) name bytes) q) → Some n ≡ with_file (Some m) name bytes
+  unfolding content with_file
+  same_files m n same = ap Some (same_map nat_list_cmp_total (slice_cmp-IsAntisymmetric nat_cmp-IsAntisymmetric) n (insert m name bytes) same)
+
+  none_from_none : (n : Files) → without_file (Some n) name ≡ without_file (with_file None name header) name → ⊥
+  unfolding with_file without_file
+  none_from_none n e = none-some _ (sym e)
+
+  some_from_some : (m : Files) → without_file None name ≡ without_file (with_file (Some m) name header) name → ⊥
+  unfolding with_file without_file
+  some_from_some m e = none-some _ e
+
+  only_this : (old new : Option Files) → without_file new name ≡ without_file (with_file old name header) name → (IsTold new → content new name ≡ Some bytes) → new ≡ with_file old name bytes
+  only_this None None others there = sym (with_file-untold name bytes)
+  only_this None (Some n) others there = absurd (none_from_none n others)
+  only_this (Some m) None others there = absurd (some_from_some m others)
+  only_this (Some m) (Some n) others there = same_files m n (λ q. by_tie m n others (there tt) q (eq_by_cmp (slice_cmp nat_cmp) q name) refl)
+
+-- ---- the log
+
+-- no line is legal after 2^61
+none_follows : (p : ProblemValue) (lines : List Line) (part : List ℕ) → length lines ≡ 2 ^ 61 → IsPartOfNext p lines part → ⊥
+none_follows p lines part full next =
+    let parts = legal_parts p next.state next.line next.legal in
+    let short : next.state.lines < 2 ^ 61 = ltb-true next.state.lines (2 ^ 61) (unless_none (nat_lt next.state.lines (2 ^ 61)) LogLong parts.short) in
+    let count = replay_count p lines next.state next.replay in
+    omega (arith, full, short, count)
+
+-- a log that was begun anew, over other files that stayed
+module _ (old begun new : Option Files) (name : List ℕ) (p : ProblemValue) (lines : List Line) (s : StateValue) (broken : Bool)
+    (is : begun ≡ with_file old name header_line) (others : without_file new name ≡ without_file begun name) (log : IsLogFile new name p lines broken) (kept : IsKept p lines s) where
+  written : new ≡ with_file old name (log_text lines ++ log.part)
+  written = only_this name header_line (log_text lines ++ log.part) old new (others ∙ ap (λ (f : Option Files). without_file f name) is) log.file
+
+  whole : log.part ≡ [] → new ≡ with_file old name (log_text lines)
+  whole none = written ∙ ap (λ (part : List ℕ). with_file old name (log_text lines ++ part)) none ∙ ap (with_file old name) (append-nil (log_text lines))
+
+  pub part_left : IsTouched old new name (IsPartOfLog p)
+  part_left = inr (log_text lines ++ log.part, inr (lines, log.part, (s, kept.replay), refl, log.next), written)
+
+  none_left : length lines ≡ 2 ^ 61 → log.part ≡ []
+  none_left full = ⊎_elim (λ none. none) (λ next. absurd (none_follows p lines log.part full next)) log.next
+
+  pub full_left : length lines ≡ 2 ^ 61 → IsFull old new p name
+  full_left full = record { lines = lines; full = full; replay = (s, kept.replay); files = whole (none_left full) }
+
+  pub logged : (i : InstanceValue) (limit : Option ℕ) (found : Found) → broken ≡ false → CoversLogged i p lines found.entries.items → IsEnding limit p lines found.ending → IsLogged old new i p name limit found
+  logged i limit found unbroken covers ending = record {
+    proof = log_text lines;
+    lines = lines;
+    spelled = record { formed = kept.formed; is = sym (append-nil (log_text lines)) };
+    covers = covers;
+    ending = ending;
+    files = whole (log.whole unbroken);
+  }
+
+-- ---- the recorder, as it was begun and as it was handed back
+
+module _ {H : Type 0} (files : H → Option Files) (old : Option Files) (name : List ℕ) (p : ProblemValue) (first last : Held H) (end : H)
+    (named : first.name ≡ name) (same_name : last.name ≡ first.name)
+    (of_problem : first.problem ≡ p) (same_problem : last.problem ≡ first.problem)
+    (begun : files first.shelf.now ≡ with_file old name header_line)
+    (others : without_file (files last.shelf.now) last.name ≡ without_file (files first.shelf.now) first.name)
+    (same : end ≡ last.shelf.now)
+    (log : IsLogFile (files end) last.name last.problem last.lines last.broken) (kept : IsKept last.problem last.lines last.state) where
+  names : last.name ≡ name
+  names = same_name ∙ named
+
+  problems : last.problem ≡ p
+  problems = same_problem ∙ of_problem
+
+  log_here : IsLogFile (files end) name p last.lines last.broken
+  log_here = subst (λ (n : List ℕ). IsLogFile (files end) n p last.lines last.broken) names
+      (subst (λ (q : ProblemValue). IsLogFile (files end) last.name q last.lines last.broken) problems log)
+
+  kept_here : IsKept p last.lines last.state
+  kept_here = subst (λ (q : ProblemValue). IsKept q last.lines last.state) problems kept
+
+  others_here : without_file (files end) name ≡ without_file (files first.shelf.now) name
+  others_here = ap (λ (h : H). without_file (files h) name) same
+      ∙ sym (ap (without_file (files last.shelf.now)) names)
+      ∙ others
+      ∙ ap (without_file (files first.shelf.now)) named
+
+  pub part_handed : IsTouched old (files end) name (IsPartOfLog p)
+  part_handed = part_left old (files first.shelf.now) (files end) name p last.lines last.state last.broken begun others_here log_here kept_here
+
+  pub full_handed : length last.lines ≡ 2 ^ 61 → IsFull old (files end) p name
+  full_handed full = full_left old (files first.shelf.now) (files end) name p last.lines last.state last.broken begun others_here log_here kept_here full
+
+  pub logged_handed : (i : InstanceValue) (limit : Option ℕ) (found : Found) → last.broken ≡ false → CoversLogged i p last.lines found.entries.items → IsEnding limit p last.lines found.ending → IsLogged old (files end) i p name limit found
+  logged_handed i limit found unbroken covers ending = logged old (files first.shelf.now) (files end) name p last.lines last.state last.broken begun others_here log_here kept_here i limit found unbroken covers ending
+
+  rose_here : (faults : H → Faults) (began : Faults) → NoneFell began (faults first.shelf.now) → Rose (count (faults first.shelf.now) Append first.name) (count (faults last.shelf.now) Append last.name) → WritingFailed began (faults end) name
+  rose_here faults began later rose = inr (rose_at_last _ _ _ (later Append name)
+      (subst (λ (h : H). Rose (count (faults first.shelf.now) Append name) (count (faults h) Append name)) (sym same)
+      (subst (λ (n : List ℕ). Rose (count (faults first.shelf.now) Append name) (count (faults last.shelf.now) Append n)) names
+      (subst (λ (n : List ℕ). Rose (count (faults first.shelf.now) Append n) (count (faults last.shelf.now) Append last.name)) named rose))))
+
+  pub stopped_handed : (faults : H → Faults) (began : Faults) → NoneFell began (faults first.shelf.now) → (f : RecordFault)
+      → (f ≡ Failed → Rose (count (faults first.shelf.now) Append first.name) (count (faults last.shelf.now) Append last.name))
+      → (f ≡ Full → length last.lines ≡ 2 ^ 61) → IsLogStopped (status_of_recording f) old (files end) p name began (faults end)
+  stopped_handed faults began later Failed rose full = (part_handed, rose_here faults began later (rose refl))
+  stopped_handed faults began later Full rose full = (refl, full_handed (full refl))
+  stopped_handed faults began later NoMemory rose full = part_handed

@@ -1,0 +1,203 @@
+// What a run says and warns.
+ghost use Rattle.std.specs.Prelude.{◌≡◌, ◌++◌, [], codes, IfOk, OnOk, OnErr};
+ghost use Rattle.scut_base.specs.Faults.{HasCause};
+ghost use Rattle.scut_base.specs.Files.{followed, IsPartlyFollowed};
+ghost use Rattle.scuttle_commands.specs.Messages.{accepted_line, complete_line, ending_line, incomplete_line};
+ghost use Rattle.scuttle_commands.specs.Messages.{check_warning, kind_name, limit_name, place_warning, warning_text};
+
+use crate::Status;
+use crate::refusals::{list_why_name, why_text};
+use certified_front::Ending;
+use instance::{BadKind, InstanceLimit};
+use itoa::Buffer;
+use log_checker::CheckFault;
+use scut_base::{Items, NoMemory, Shelf, ShelfCall, ShelfFault};
+use std::alloc::Global;
+
+/// Says that the front is complete, and how many vectors it has.
+pub fn say_complete<H: Shelf>(alloc: Global, size: usize, shelf: &mut H) -> Result<(), ShelfFault>
+    ensures said { OnOk result
+        (H.said shelf.new ≡ followed (H.said shelf.old) (complete_line size)) }
+    ensures cut { OnErr result
+        (IsPartlyFollowed (H.said shelf.old) (H.said shelf.new) (complete_line size)) }
+    ensures files { H.files shelf.new ≡ H.files shelf.old }
+    ensures warned { H.warned shelf.new ≡ H.warned shelf.old }
+    ensures cause { HasCause ShelfCall.Say [] (H.faults shelf.old) (H.faults shelf.new) result }
+{
+    let line = complete_line(alloc, size)?;
+    shelf.say(line.as_slice())
+}
+
+/// Says how a search has ended, and how many models it has.
+pub fn say_ending<H: Shelf>(
+    alloc: Global,
+    size: usize,
+    ending: Ending,
+    shelf: &mut H,
+) -> Result<(), ShelfFault>
+    ensures said { OnOk result
+        (H.said shelf.new ≡ followed (H.said shelf.old) (ending_line size ending)) }
+    ensures cut { OnErr result
+        (IsPartlyFollowed (H.said shelf.old) (H.said shelf.new) (ending_line size ending)) }
+    ensures files { H.files shelf.new ≡ H.files shelf.old }
+    ensures warned { H.warned shelf.new ≡ H.warned shelf.old }
+    ensures cause { HasCause ShelfCall.Say [] (H.faults shelf.old) (H.faults shelf.new) result }
+{
+    match ending {
+        Ending::Complete => say_complete(alloc, size, shelf),
+        Ending::Incomplete { learned } => {
+            let line = incomplete_line(alloc, size, learned)?;
+            shelf.say(line.as_slice())
+        }
+    }
+}
+
+/// Says that list and log are accepted.
+pub fn say_accepted<H: Shelf>(shelf: &mut H) -> Result<(), ShelfFault>
+    ensures said { OnOk result
+        (H.said shelf.new ≡ followed (H.said shelf.old) accepted_line) }
+    ensures cut { OnErr result
+        (IsPartlyFollowed (H.said shelf.old) (H.said shelf.new) accepted_line) }
+    ensures files { H.files shelf.new ≡ H.files shelf.old }
+    ensures warned { H.warned shelf.new ≡ H.warned shelf.old }
+    ensures cause { HasCause ShelfCall.Say [] (H.faults shelf.old) (H.faults shelf.new) result }
+{
+    shelf.say(b"accepted\n")
+}
+
+/// Warns of a status by its line, and of Complete, Incomplete and Accepted by nothing. The caller decides
+/// what a warning that fails means.
+pub fn warn_of<H: Shelf>(alloc: Global, status: Status, shelf: &mut H) -> Result<(), ShelfFault>
+    ensures warned { OnOk result
+        (H.warned shelf.new ≡ followed (H.warned shelf.old) (warning_text status)) }
+    ensures cut { OnErr result
+        (IsPartlyFollowed (H.warned shelf.old) (H.warned shelf.new) (warning_text status)) }
+    ensures files { H.files shelf.new ≡ H.files shelf.old }
+    ensures said { H.said shelf.new ≡ H.said shelf.old }
+    ensures cause { HasCause ShelfCall.Warn [] (H.faults shelf.old) (H.faults shelf.new) result }
+{
+    let line = warning_text(alloc, status)?;
+    if line.is_empty() {
+        return Ok(());
+    }
+    shelf.warn(line.as_slice())
+}
+
+// `complete n`
+fn complete_line(alloc: Global, size: usize) -> Result<Items<u8>, NoMemory>
+    ensures { IfOk result (λ line. line ≡ complete_line size) }
+{
+    let mut line = Vec::from_slice(alloc, b"complete ")?;
+    line.extend_from_slice(Buffer::new().format(size).as_bytes())?;
+    line.push(b'\n')?;
+    Ok(Items::from_vec(line))
+}
+
+// `incomplete n after m`
+fn incomplete_line(alloc: Global, size: usize, learned: u64) -> Result<Items<u8>, NoMemory>
+    ensures { IfOk result (λ line. line ≡ incomplete_line size learned) }
+{
+    let mut line = Vec::from_slice(alloc, b"incomplete ")?;
+    line.extend_from_slice(Buffer::new().format(size).as_bytes())?;
+    line.extend_from_slice(b" after ")?;
+    line.extend_from_slice(Buffer::new().format(learned).as_bytes())?;
+    line.push(b'\n')?;
+    Ok(Items::from_vec(line))
+}
+
+// The line that is warned of a status; empty where something is said instead.
+fn warning_text(alloc: Global, status: Status) -> Result<Items<u8>, NoMemory>
+    ensures { IfOk result (λ line. line ≡ warning_text status) }
+{
+    match status {
+        Status::Complete { .. } | Status::Incomplete { .. } | Status::Accepted => {
+            Ok(Items::new(alloc))
+        }
+        Status::Refused(fault) => check_warning(alloc, fault),
+        Status::Usage => plain_warning(alloc, "scuttle: usage\n"),
+        Status::BadInput { line, kind } => {
+            place_warning(alloc, "line", line, kind_name(kind).as_bytes())
+        }
+        Status::TooLarge { line, which } => limit_warning(alloc, line, limit_name(which)),
+        Status::LogFull { .. } => plain_warning(alloc, "scuttle: log full\n"),
+        Status::NoMemory => plain_warning(alloc, "scuttle: no memory\n"),
+        Status::ShelfFailed => plain_warning(alloc, "scuttle: file fault\n"),
+    }
+}
+
+fn plain_warning(alloc: Global, line: &str) -> Result<Items<u8>, NoMemory>
+    ensures { IfOk result (λ bytes. bytes ≡ line.now) }
+{
+    Ok(Items::from_vec(Vec::from_slice(alloc, line.as_bytes())?))
+}
+
+// The line of a fault of list or log.
+fn check_warning(alloc: Global, fault: CheckFault) -> Result<Items<u8>, NoMemory>
+    ensures { IfOk result (λ line. line ≡ check_warning fault) }
+{
+    match fault {
+        CheckFault::Refused { line, why } => {
+            place_warning(alloc, "log line", line, &why_text(alloc, why)?)
+        }
+        CheckFault::ListRefused { entry, why } => {
+            place_warning(alloc, "list entry", entry, list_why_name(why).as_bytes())
+        }
+        CheckFault::NoMemory => plain_warning(alloc, "scuttle: no memory\n"),
+    }
+}
+
+// The line of a limit.
+fn limit_warning(alloc: Global, line: u64, limit: &str) -> Result<Items<u8>, NoMemory>
+    ensures { IfOk result (λ bytes.
+        bytes ≡ place_warning (codes "line") line (codes "too large: " ++ limit.now)) }
+{
+    let mut what = Vec::from_slice(alloc, b"too large: ")?;
+    what.extend_from_slice(limit.as_bytes())?;
+    place_warning(alloc, "line", line, &what)
+}
+
+// `scuttle: place n: what`
+fn place_warning(alloc: Global, place: &str, n: u64, what: &[u8]) -> Result<Items<u8>, NoMemory>
+    ensures { IfOk result (λ bytes. bytes ≡ place_warning place.now n what.now) }
+{
+    let mut all = Vec::from_slice(alloc, b"scuttle: ")?;
+    all.extend_from_slice(place.as_bytes())?;
+    all.push(b' ')?;
+    all.extend_from_slice(Buffer::new().format(n).as_bytes())?;
+    all.extend_from_slice(b": ")?;
+    all.extend_from_slice(what)?;
+    all.push(b'\n')?;
+    Ok(Items::from_vec(all))
+}
+
+fn kind_name(kind: BadKind) -> &'static str
+    ensures { result.now ≡ kind_name kind }
+{
+    match kind {
+        BadKind::UnknownLine => "UnknownLine",
+        BadKind::ObjectiveIndex => "ObjectiveIndex",
+        BadKind::WeightExpected => "WeightExpected",
+        BadKind::LiteralExpected => "LiteralExpected",
+        BadKind::ZeroMissing => "ZeroMissing",
+        BadKind::TextAfterZero => "TextAfterZero",
+        BadKind::NumberTooWide => "NumberTooWide",
+        BadKind::TermExpected => "TermExpected",
+        BadKind::RelationExpected => "RelationExpected",
+        BadKind::BoundExpected => "BoundExpected",
+        BadKind::SemicolonMissing => "SemicolonMissing",
+        BadKind::Product => "Product",
+        BadKind::ObjectiveAfterConstraint => "ObjectiveAfterConstraint",
+    }
+}
+
+fn limit_name(which: InstanceLimit) -> &'static str
+    ensures { result.now ≡ limit_name which }
+{
+    match which {
+        InstanceLimit::Bytes => "Bytes",
+        InstanceLimit::Vars => "Vars",
+        InstanceLimit::Weights => "Weights",
+        InstanceLimit::Row => "Row",
+        InstanceLimit::Objectives => "Objectives",
+    }
+}
