@@ -15,7 +15,7 @@ fn write_literal(text: &mut String, lit: Lit) -> Result<(), Fail> {
 }
 
 // Puts a row after a text.
-fn write_row(alloc: Global, text: &mut String, row: &Constraint) -> Result<(), Fail> {
+pub fn write_row(alloc: Global, text: &mut String, row: &Constraint) -> Result<(), Fail> {
     let terms = row.to_terms(alloc)?;
     for term in terms.as_slice() {
         write!(text, " {}", term.1)?;

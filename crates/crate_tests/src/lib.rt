@@ -10,6 +10,8 @@ mod constraints_under_assignments;
 #[cfg(test)]
 mod cost_vectors;
 #[cfg(test)]
+mod failing_appends;
+#[cfg(test)]
 mod hinted_conflicts;
 #[cfg(test)]
 mod instances_in_normal_form;
@@ -31,6 +33,8 @@ mod shelves_in_memory;
 mod stacks_of_tokens;
 #[cfg(test)]
 mod statements;
+#[cfg(test)]
+mod states_after_lines;
 #[cfg(test)]
 mod sums;
 #[cfg(test)]

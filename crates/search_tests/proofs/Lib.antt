@@ -1,1 +1,4 @@
 pub mod StoredLines
+pub mod Asking
+pub mod Beginnings
+pub mod Rising

@@ -1,0 +1,8 @@
+use Rattle.sum_outputs.specs.Adding.{seen}
+use Rattle.search_tests.specs.Asked.{IsAskable}
+use Rattle.search_tests.proofs.totals.answers.Given as goal
+
+abbrev pub invariant-loop-k : goal.invariant-loop-k
+invariant-loop-k g l =
+    let R = g.R.Recorder in
+    IsAskable (seen R.problem R.limit R.lines R.faults R.broken R.around l.rec) l.sum
