@@ -5,10 +5,9 @@
 # Wants python3, which measures; nothing here is part of the gate.
 set -eu
 root=$(cd "$(dirname "$(readlink -f "$0")")/.." && pwd)
-program=$root/crates/scuttle_cli/out/scuttle_cli
+program=$("$root/release/program")
 work=$(mktemp -d)
 trap 'rm -rf "$work"' EXIT
-"$root/scuttle" front "$root/examples/first.mcnf" "$work/first.list" >/dev/null
 cd "$work"
 echo 's COMPLETE 0' >a.list
 

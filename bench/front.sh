@@ -4,10 +4,9 @@
 # with 1 where a run fails. Wants python3, which measures; nothing here is part of the gate.
 set -eu
 root=$(cd "$(dirname "$(readlink -f "$0")")/.." && pwd)
-program=$root/crates/scuttle_cli/out/scuttle_cli
+program=$("$root/release/program")
 work=$(mktemp -d)
 trap 'rm -rf "$work"' EXIT
-"$root/scuttle" front "$root/examples/first.mcnf" "$work/first.list" >/dev/null
 
 make_instance() { # variables
     awk -v n="$1" 'function draw(k) { state = (1664525 * state + 1013904223) % 4294967296; return int(state / 65536) % k }

@@ -1,6 +1,7 @@
 #!/usr/bin/env python3
 """Runs a program some times and prints the least seconds, its peak of memory in megabytes, and what it said.
-Where a run doesn't end with the wanted number, it prints that instead, as a warning, and ends with 1.
+Where a run doesn't end with the wanted number, it prints that instead, as a warning, and ends with 1. Any number is
+right where the wanted one is `any`.
 
 usage: bench/measure.py RUNS NUMBER PROGRAM WORDS..
 """
@@ -24,7 +25,7 @@ def main(arguments):
     times = []
     for _ in range(int(arguments[0])):
         seconds, number, said, warned = run(arguments[2:])
-        if number != int(arguments[1]):
+        if arguments[1] != 'any' and number != int(arguments[1]):
             print('ends with %d: %s' % (number, warned or said), file=sys.stderr)
             return 1
         times.append(seconds)

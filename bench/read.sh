@@ -6,37 +6,12 @@
 # Wants python3, which measures; nothing here is part of the gate.
 set -eu
 root=$(cd "$(dirname "$(readlink -f "$0")")/.." && pwd)
-program=$root/crates/scuttle_cli/out/scuttle_cli
+program=$("$root/release/program")
 work=$(mktemp -d)
 trap 'rm -rf "$work"' EXIT
-"$root/scuttle" front "$root/examples/first.mcnf" "$work/first.list" >/dev/null
 
-make_clauses() { # bytes
-    awk -v bytes="$1" 'function draw(k) { state = (1664525 * state + 1013904223) % 4294967296; return int(state / 4096) % k }
-        function lit() { return (draw(2) ? "" : "-") (1 + draw(2000000)) }
-        BEGIN {
-            state = 7
-            while (size < bytes) {
-                line = draw(5) ? "h " lit() " " lit() " " lit() " 0" : "o" (1 + draw(3)) " " (1 + draw(99)) " " lit() " 0"
-                print line
-                size += length(line) + 1
-            }
-        }'
-}
-
-make_statements() { # bytes
-    awk -v bytes="$1" 'function draw(k) { state = (1664525 * state + 1013904223) % 4294967296; return int(state / 4096) % k }
-        function term() { return (draw(2) ? "+" : "-") (1 + draw(99)) " " (draw(2) ? "" : "~") "x" (1 + draw(2000000)) }
-        BEGIN {
-            state = 7
-            for (o = 0; o < 3; o++) print "min: " term() " " term() " ;"
-            while (size < bytes) {
-                line = term() " " term() " " term() " " (draw(2) ? ">=" : "<=") " " draw(50) " ;"
-                print line
-                size += length(line) + 1
-            }
-        }'
-}
+# shellcheck source=bench/large_files.sh
+. "$root/bench/large_files.sh"
 
 time_reading() { # file
     local size row seconds megabytes

@@ -4,33 +4,37 @@
 # nothing here is part of the gate.
 set -eu
 root=$(cd "$(dirname "$(readlink -f "$0")")/.." && pwd)
-program=$root/crates/scuttle_cli/out/scuttle_cli
+program=$("$root/release/program")
 limit=${1:-300}
 work=$(mktemp -d)
 trap 'rm -rf "$work"' EXIT
-"$root/scuttle" front "$root/examples/first.mcnf" "$work/first.list" >/dev/null
 cd "$work"
 
-seconds() { # words..; those that a run takes, or that it was given up
-    local from to
-    from=$(date +%s.%N)
-    if timeout "$limit" "$@" >said 2>warned; then :; else
-        local status=$?
-        if [ "$status" = 124 ]; then echo 'given up'; return; fi
-    fi
-    to=$(date +%s.%N)
-    awk -v a="$from" -v b="$to" 'BEGIN { printf "%.3f", b - a }'
+# The seconds and the megabytes of a run, and what it says; or that it was given up.
+measured() { # words..
+    local status=0
+    "$root/bench/measure.py" 1 any timeout "$limit" "$@" >measured || status=$?
+    read -r seconds megabytes said <measured
+    if awk -v s="$seconds" -v l="$limit" 'BEGIN { exit s < l }'; then seconds='given up'; fi
+    return "$status"
 }
 
-printf '%-28s %10s %12s %10s %10s %s\n' '' 'solve (s)' 'log (bytes)' 'check (s)' 'other (s)' 'said'
-measure() { # name, other program or -, its words..
-    local name=$1 solved said checked other=-
+printf '%-20s %9s %8s %12s %9s %8s %9s %8s  %s\n' '' 'solve (s)' MB 'log (bytes)' 'check (s)' MB 'other (s)' MB said
+measure() { # name, other program's words..
+    local name=$1 row answer
     shift
-    solved=$(seconds "$program" solve a.mcnf a.list a.log)
-    said=$(cat said)
-    checked=$(seconds "$program" check a.mcnf a.list a.log)
-    if command -v "$1" >/dev/null; then other=$(seconds "$@"); fi
-    printf '%-28s %10s %12d %10s %10s %s\n' "$name" "$solved" "$(stat -c %s a.log)" "$checked" "$other" "$said"
+    measured "$program" solve a.mcnf a.list a.log
+    answer=$said
+    row=$(printf '%9s %8s %12d' "$seconds" "$megabytes" "$(stat -c %s a.log)")
+    measured "$program" check a.mcnf a.list a.log
+    row+=$(printf ' %9s %8s' "$seconds" "$megabytes")
+    if command -v "$1" >/dev/null; then
+        measured "$@"
+        row+=$(printf ' %9s %8s' "$seconds" "$megabytes")
+    else
+        row+=$(printf ' %9s %8s' - -)
+    fi
+    printf '%-20s %s  %s\n' "$name" "$row" "$answer"
 }
 
 for seed in 1 2 3; do
