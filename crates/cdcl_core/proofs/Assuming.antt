@@ -12,6 +12,7 @@ use Rattle.pb_lin.specs.LineMap.{LineMap}
 use Rattle.pb_lin.specs.Problem.{ProblemValue}
 use Rattle.proof_laws.specs.State.{StateValue, IsState, Fits}
 use Rattle.proof_laws.specs.declared.line.Line.{Line}
+use Rattle.proof_laws.proofs.Replays.{replay_once}
 use Rattle.clause_prop.specs.Steps.{TrailValue, cut, partial, with_step}
 use Rattle.clause_prop.specs.declared.step.Step.{Step}
 use Rattle.oracle.specs.Solving.{AreAssumptions, IsCore, IsSolution, Reaches}
@@ -25,7 +26,6 @@ use Rattle.search_trail.proofs.Truths.{false_before, open_before}
 use Rattle.conflict_analysis.specs.Analysis.{IsDecided, IsForcedFalse}
 use Rattle.conflict_analysis.proofs.TrailSteps.{IsBefore, false_before as found_false, whole_cut}
 use Rattle.search_lines.specs.StoredLines.{IsStored}
-use Rattle.search_lines.proofs.Replays.{one_law}
 use Rattle.search_lines.proofs.SearchLines.{none_law}
 use Rattle.search_state.specs.Searching.{SearchValue}
 use Rattle.cdcl_core.specs.Ledgers.{LedgerValue, left}
@@ -162,6 +162,6 @@ pub solution_found : (p : ProblemValue) (limit : Option ℕ) (lines : List Line)
 solution_found p limit lines search next rows ledger assumptions a work long steps holds met law t replay =
     let taken = work.taken in
     let held = taken.held in
-    subst (IsSolution p assumptions a) (one_law p lines held.state t held.replay replay)
+    subst (IsSolution p assumptions a) (replay_once p lines held.state t held.replay replay)
     (law p held.state search.store a assumptions held.fits held.is (subst (λ (n : ℕ). IsStored p held.state n search.store) taken.all held.stored) (long ∙ taken.vars) holds
     (All-weaker (λ (l : Literal). partial_truth (partial search.trail) l ≡ Some true) (λ (l : Literal). lit_true a l ≡ true) steps assumptions met))

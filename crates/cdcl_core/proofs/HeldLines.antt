@@ -15,9 +15,9 @@ use Rattle.proof_laws.specs.Refusal.{is_clause}
 use Rattle.proof_laws.specs.Replay.{IsReplay}
 use Rattle.proof_laws.specs.declared.line.Line.{Line}
 use Rattle.proof_laws.specs.declared.line.Line.TheVariants.{Pol, Rup, Learn, Def, Red, Dom, Sol, Del, Reduce, End}
+use Rattle.proof_laws.proofs.Replays.{replay_before}
 use Rattle.search_lines.specs.StoredLines.{IsStored, deleted}
 use Rattle.search_lines.proofs.Stored.{deleting_law}
-use Rattle.search_lines.proofs.Replays.{last_law}
 use Rattle.search_state.specs.Searching.{SearchValue}
 use Rattle.cdcl_core.specs.Ledgers.{LedgerValue, IsLedger, ledger_after}
 use Rattle.cdcl_core.specs.Work.{IsHeld}
@@ -65,7 +65,7 @@ pub held_added : (p : ProblemValue) (lines new : List Line) (line : Line) (t : S
     → IsHeld p lines search next rows ledger → new ≡ lines ++ line ∷ [] → IsReplay p new t → Fits p t → IsState t
     → now.store ≡ fold remove search.store (deleted line) → now.trail.vars ≡ search.trail.vars → IsHeld p new now next rows (ledger_after ledger line)
 held_added p lines new line t search now next rows ledger held added replay fits is store vars =
-    let step = last_law p lines line held.state t held.replay (subst (λ (ls : List Line). IsReplay p ls t) added replay) in
+    let step = replay_before p lines line held.state t held.replay (subst (λ (ls : List Line). IsReplay p ls t) added replay) in
     let rise = vars_rise p held.state t line step in
     record {
       state = t;

@@ -9,6 +9,7 @@ use Rattle.proof_laws.specs.Steps.{clause}
 use Rattle.proof_laws.specs.Replay.{IsReplay}
 use Rattle.proof_laws.specs.declared.line.Line.{Line}
 use Rattle.proof_laws.specs.declared.line.Line.TheVariants.{Learn}
+use Rattle.proof_laws.proofs.Replays.{replay_once}
 use Rattle.oracle.specs.declared.fault.OracleFault.{OracleFault}
 use Rattle.oracle.specs.declared.fault.OracleFault.TheVariants.{Spent, Failed, Full, NoMemory}
 use Rattle.clause_prop.specs.Steps.{TrailValue}
@@ -16,7 +17,6 @@ use Rattle.search_trail.specs.SearchTrail.{IsSearchTrail}
 use Rattle.search_trail.specs.Learning.{AreHints}
 use Rattle.conflict_analysis.specs.Analysis.{IsLesson}
 use Rattle.conflict_analysis.specs.declared.lesson.Lesson.{Lesson}
-use Rattle.search_lines.proofs.Replays.{one_law}
 use Rattle.search_state.specs.Searching.{SearchValue, IsBackTo}
 use Rattle.cdcl_core.specs.Ledgers.{LedgerValue}
 use Rattle.cdcl_core.specs.Work.{SolverValue, IsAtWork, HasCause, GoesOn}
@@ -49,11 +49,11 @@ pub spent_cause : (p : ProblemValue) (limit : Option ℕ) (lines : List Line) (s
     → IsAtWork p limit lines search next rows ledger → IsLearnable search level l line → (s : StateValue) (f : OracleFault) (learned : ℕ) (Rose : Type 0)
     → IsReplay p lines s → (2 ^ 61 ≤ s.lines → f ≡ Full) → (s.lines < 2 ^ 61 → f ≡ Spent learned) → limit ≡ Some learned → learned ≡ s.learned → HasCause f limit p lines Rose
 spent_cause p limit lines search next rows ledger level l line work can s f learned Rose replay full spent reached count =
-    let same : work.taken.held.state ≡ s = one_law p lines work.taken.held.state s work.taken.held.replay replay in
+    let same : work.taken.held.state ≡ s = replay_once p lines work.taken.held.state s work.taken.held.replay replay in
     ⊎_elim
     (λ (room : s.lines < 2 ^ 61). subst (λ (f : OracleFault). HasCause f limit p lines Rose) (sym (spent room)) (record {
       limit = reached;
-      reached = λ t other. ap (λ (u : StateValue). u.learned) (one_law p lines t s other replay) ∙ sym count;
+      reached = λ t other. ap (λ (u : StateValue). u.learned) (replay_once p lines t s other replay) ∙ sym count;
       more = has_more p limit lines search next rows ledger level l line work can s replay room;
     }))
     (λ (none : 2 ^ 61 ≤ s.lines). subst (λ (f : OracleFault). HasCause f limit p lines Rose) (sym (full none))
@@ -68,7 +68,7 @@ goes_on_with NoMemory P p = tt
 
 pub may_learn : (p : ProblemValue) (limit : Option ℕ) (lines : List Line) (s : StateValue) (learned : ℕ) → IsReplay p lines s → learned ≡ s.learned → limit ≢ Some learned → MayLearn limit p lines
 may_learn p limit lines s learned replay count other t reached same =
-    other (same ∙ ap (λ (u : StateValue). Some u.learned) (one_law p lines t s reached replay) ∙ ap Some (sym count))
+    other (same ∙ ap (λ (u : StateValue). Some u.learned) (replay_once p lines t s reached replay) ∙ ap Some (sym count))
 
 -- ---- the solver's two views
 

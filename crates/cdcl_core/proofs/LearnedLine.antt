@@ -12,6 +12,7 @@ use Rattle.proof_laws.specs.Replay.{IsReplay}
 use Rattle.proof_laws.specs.WellFormed.{IsWellFormed}
 use Rattle.proof_laws.specs.declared.line.Line.{Line}
 use Rattle.proof_laws.specs.declared.line.Line.TheVariants.{Learn}
+use Rattle.proof_laws.proofs.Replays.{replay_before, replay_once}
 use Rattle.proof_rules.specs.Recording.{MayBeAdded}
 use Rattle.oracle.specs.Solving.{IsWithin}
 use Rattle.clause_prop.specs.Steps.{TrailValue, AreSteps, partial, last_level, with_step}
@@ -25,7 +26,6 @@ use Rattle.search_lines.specs.SearchLines.{AddsLearned}
 use Rattle.search_lines.proofs.Earned.{new_law, learned_law as earned_law}
 use Rattle.search_lines.proofs.Hinted.{formed_law, learned_law as legal_law}
 use Rattle.search_lines.proofs.NeverLong.{short_law}
-use Rattle.search_lines.proofs.Replays.{one_law, last_law}
 use Rattle.search_lines.proofs.SearchLines.{learned_law as adds_law}
 use Rattle.search_lines.proofs.Stored.{learned_law as stored_law}
 use Rattle.search_lines.proofs.Fitting.{fits_law}
@@ -98,7 +98,7 @@ module _ (p : ProblemValue) (limit : Option ℕ) (lines : List Line) (search : S
   -- where there is room for a line, one more clause could be learned
   pub has_more : (s : StateValue) → IsReplay p lines s → s.lines < 2 ^ 61 → HasMore p lines
   has_more s replay room =
-      let same = one_law p lines s state replay work.taken.held.replay in
+      let same = replay_once p lines s state replay work.taken.held.replay in
       let room_here : state.lines < 2 ^ 61 = subst (λ (u : StateValue). u.lines < 2 ^ 61) same room in
       let legal_here = short_law p lines state (Learn (clause can.lits) can.hints) work.taken.held.replay may_add room_here in (
         work.earned.0,
@@ -114,7 +114,7 @@ module _ (p : ProblemValue) (limit : Option ℕ) (lines : List Line) (search : S
     same_lines = added ∙ ap (λ (x : Line). lines ++ x ∷ []) can.learns
 
     step_to : (t : StateValue) → IsReplay p new t → IsNext p state (Learn (clause can.lits) can.hints) t
-    step_to t replay = last_law p lines (Learn (clause can.lits) can.hints) state t work.taken.held.replay (subst (λ (ls : List Line). IsReplay p ls t) same_lines replay)
+    step_to t replay = replay_before p lines (Learn (clause can.lits) can.hints) state t work.taken.held.replay (subst (λ (ls : List Line). IsReplay p ls t) same_lines replay)
 
     pub adds : AddsLearned p lines new
     adds = subst (λ (ls : List Line). AddsLearned p lines ls) (sym same_lines) (adds_law p lines (clause can.lits) can.hints)

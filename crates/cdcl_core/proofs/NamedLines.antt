@@ -15,13 +15,13 @@ use Rattle.proof_laws.specs.Earned.{IsEarned}
 use Rattle.proof_laws.specs.declared.line.Line.{Line}
 use Rattle.proof_laws.specs.declared.line.Line.TheVariants.{Rup}
 use Rattle.proof_laws.proofs.EarnedLines.{line_keeps_earned}
+use Rattle.proof_laws.proofs.Replays.{replay_before, replay_once}
 use Rattle.proof_rules.specs.Recording.{IsNextId, MayBeAdded}
 use Rattle.oracle.specs.Solving.{AddsSearchLines, AreEarned, IsWithin, Reaches}
 use Rattle.clause_prop.specs.Steps.{TrailValue}
 use Rattle.search_trail.specs.Learning.{AreHints}
 use Rattle.search_trail.proofs.Stores.{get_new}
 use Rattle.search_lines.proofs.Hinted.{formed_law, implied_law as legal_law}
-use Rattle.search_lines.proofs.Replays.{last_law, one_law}
 use Rattle.search_lines.proofs.SearchLines.{none_law, implied_law}
 use Rattle.search_state.specs.Searching.{SearchValue}
 use Rattle.cdcl_core.specs.Ledgers.{LedgerValue}
@@ -48,14 +48,11 @@ trail_inside {R} P v w same holds = subst (λ (u : SolverValue R). P u.search.tr
 -- a stored line is live
 pub stored_reached : (p : ProblemValue) (lines : List Line) (search : SearchValue) (next rows : ℕ) (ledger : LedgerValue) (id : ℕ) (c : ConstraintValue) → IsHeld p lines search next rows ledger → get search.store id ≡ Some c → Reaches p lines (λ s. get s.live id ≡ Some c)
 stored_reached p lines search next rows ledger id c held there t replay =
-    subst (λ (u : StateValue). get u.live id ≡ Some c) (one_law p lines held.state t held.replay replay) (held.stored.live id c there).1
+    subst (λ (u : StateValue). get u.live id ≡ Some c) (replay_once p lines held.state t held.replay replay) (held.stored.live id c there).1
 
 -- nothing is added
 pub adds_none : (p : ProblemValue) (lines new : List Line) → new ≡ lines → AddsSearchLines p lines new
 adds_none p lines new same = subst (AddsSearchLines p lines) (sym same) (none_law p lines).adds
-
-pub within_moved : (limit : Option ℕ) (p : ProblemValue) (lines new : List Line) → new ≡ lines → IsWithin limit p lines → IsWithin limit p new
-within_moved limit p lines new same within = subst (IsWithin limit p) (sym same) within
 
 pub done_moved : (p q : ProblemValue) (limit : Option ℕ) (broken : Bool) (lines : List Line) (search : SearchValue) (next rows : ℕ) (ledger : LedgerValue) → IsAtWork p limit lines search next rows ledger → q ≡ p → broken ≡ false → IsDone q broken lines search next rows ledger
 done_moved p q limit broken lines search next rows ledger work same whole = record {
@@ -98,7 +95,7 @@ module _ (p q : ProblemValue) (lines new : List Line) (lits : List Literal) (hin
   -- what is so of the state with the clause
   with_clause : (s : StateValue) (P : StateValue → Type 0) → IsReplay p lines s → P (with_line s (clause lits)) → Reaches p new P
   with_clause s P before holds t replay =
-      subst P (sym (last_law p lines (Rup (clause lits) hints) s t before (subst (λ (ls : List Line). IsReplay p ls t) added replay)).makes) holds
+      subst P (sym (replay_before p lines (Rup (clause lits) hints) s t before (subst (λ (ls : List Line). IsReplay p ls t) added replay)).makes) holds
 
   pub named_implied : (s : StateValue) (id : ℕ) → IsReplay p lines s → IsNextId p lines id → Reaches q new (λ t. get t.live id ≡ Some (clause lits))
   named_implied s id before next_id = over_same (λ (r : ProblemValue). Reaches r new (λ t. get t.live id ≡ Some (clause lits))) p q same
@@ -119,7 +116,7 @@ module _ (p q : ProblemValue) (lines new : List Line) (lits : List Literal) (hin
           work.earned.0,
           subst (λ (ls : List Line). IsEarned p ls work.earned.0) (sym added)
               (line_keeps_earned p lines work.earned.0 held.state t (Rup (clause lits) hints) work.earned.1 held.replay
-              (last_law p lines (Rup (clause lits) hints) held.state t held.replay replay_here) refl),
+              (replay_before p lines (Rup (clause lits) hints) held.state t held.replay replay_here) refl),
         )
 
     pub done_implied : (broken : Bool) → broken ≡ false → Fits q t → IsState t → IsDone q broken new search next rows ledger

@@ -1,5 +1,5 @@
 -- Some of a list's ids, in their order.
-use Rattle.std.proofs.Common.{◌≡◌, ℕ, ◌+◌, ◌<◌, List, [], ◌∷◌, ◌++◌, false, length, get_or, map, take, All, AllPairs, arith, sym, ap, ◌∙◌, subst}
+use Rattle.std.proofs.Common.{◌≡◌, ℕ, ◌+◌, ◌<◌, List, [], ◌∷◌, ◌++◌, false, length, get_or, map, take, All, AllPairs, sym, ap, ◌∙◌, subst}
 use Rattle.std.specs.Prelude.{Contains}
 use Rattle.std.proofs.lemmas.List.{map-append, take_more}
 use Rattle.std.proofs.lemmas.List.Elements.{All-contains, All-push, All-weaker, Contains-append_left, Contains-push}
@@ -16,12 +16,6 @@ below_last whole x y rising among = All-contains (λ (i : ℕ). i < x) whole y (
 
 among_more : (part whole : List ℕ) (x : ℕ) → All (Contains whole) part → All (Contains (whole ++ x ∷ [])) part
 among_more part whole x all = All-weaker (Contains whole) (Contains (whole ++ x ∷ [])) (Contains-append_left whole (x ∷ [])) part all
-
-pub part_none : IsPart [] []
-part_none = record {
-  among = λ k d less. absurd (let below : k < 0 = less in omega arith);
-  rising = λ rising. rising;
-}
 
 pub part_skip : (part whole : List ℕ) (x : ℕ) → IsPart part whole → IsPart part (whole ++ x ∷ [])
 part_skip part whole x is = record {

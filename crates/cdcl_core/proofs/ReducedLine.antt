@@ -18,12 +18,13 @@ use Rattle.proof_laws.specs.declared.line.Line.{Line}
 use Rattle.proof_laws.specs.declared.line.Line.TheVariants.{Reduce}
 use Rattle.proof_laws.specs.declared.why.Why.{Why}
 use Rattle.proof_laws.specs.declared.why.Why.TheVariants.{AfterEnd, LogLong, NoSuchId}
+use Rattle.proof_laws.proofs.Replays.{replay_before, replay_once}
 use Rattle.proof_rules.specs.Recording.{MayBeAdded}
 use Rattle.oracle.specs.Solving.{IsWithin, Reaches}
 use Rattle.search_lines.specs.SearchLines.{AddsLearned}
 use Rattle.search_lines.proofs.Earned.{reduction_law}
 use Rattle.search_lines.proofs.Fitting.{fits_law}
-use Rattle.search_lines.proofs.Replays.{counted_law, last_law, one_law}
+use Rattle.search_lines.proofs.Counts.{counted_law}
 use Rattle.search_lines.proofs.SearchLines.{joined_law, reduced_law}
 use Rattle.search_state.specs.Searching.{SearchValue}
 use Rattle.cdcl_core.specs.Ledgers.{LedgerValue, EndsLearned, IsDue, IsPart, ledger_after}
@@ -93,7 +94,7 @@ module _ (p : ProblemValue) (limit : Option ℕ) (lines : List Line) (search : S
   all_deletable = λ k d less. deletable _ (between k d less) (live k d less)
 
   pub legal : MayBeAdded p lines (Reduce named)
-  legal s replay = subst (λ (u : StateValue). IsLegal p u (Reduce named) ⊎ IsRefused p u (Reduce named) LogLong) (one_law p lines state s work.taken.held.replay replay)
+  legal s replay = subst (λ (u : StateValue). IsLegal p u (Reduce named) ⊎ IsRefused p u (Reduce named) LogLong) (replay_once p lines state s work.taken.held.replay replay)
       (may_follow p state named work.taken.unended (sym (ap (option_map NoSuchId) (none_found (is_deletable p state) named all_deletable))))
 
   pub is_reduction : EndsLearned lines → Reaches p lines (λ s. IsDue ledger.reductions s.learned) → IsReduction p lines named
@@ -121,7 +122,7 @@ module _ (p : ProblemValue) (limit : Option ℕ) (lines : List Line) (search : S
     adds = subst (λ (ls : List Line). AddsLearned p lines ls) (sym added) (reduced_law p lines named (part_all (IsLearnedId p lines) named ledger.ids part work.taken.held.listed.learned))
 
     step_to : (t : StateValue) → IsReplay p new t → IsNext p state (Reduce named) t
-    step_to t replay = last_law p lines (Reduce named) state t work.taken.held.replay (subst (λ (ls : List Line). IsReplay p ls t) added replay)
+    step_to t replay = replay_before p lines (Reduce named) state t work.taken.held.replay (subst (λ (ls : List Line). IsReplay p ls t) added replay)
 
     pub still_within : IsWithin limit p new
     still_within = within_after limit work.within
@@ -138,7 +139,7 @@ module _ (p : ProblemValue) (limit : Option ℕ) (lines : List Line) (search : S
     at_work last due t now replay is store vars =
         let step = step_to t replay in
         let held = held_added p lines new (Reduce named) t search now next rows ledger work.taken.held added replay (fits_law p new t replay) is store vars in
-        let same : held.state ≡ t = one_law p new held.state t held.replay replay in
+        let same : held.state ≡ t = replay_once p new held.state t held.replay replay in
         let makes : held.state ≡ without_lines state named = same ∙ step.makes in
         let next_is : held.state.next_id ≡ state.next_id + 0 = ap (λ (u : StateValue). u.next_id) makes in
         let vars_are : held.state.vars ≡ state.vars = ap (λ (u : StateValue). u.vars) makes in

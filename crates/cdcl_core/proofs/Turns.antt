@@ -21,9 +21,9 @@ use Rattle.search_trail.proofs.Stores.{never_decided}
 use Rattle.search_trail.proofs.Places.{all_places, at_front}
 use Rattle.search_trail.proofs.Pushes.{last_top}
 use Rattle.search_lines.proofs.Stored.{normal_law}
-use Rattle.search_lines.proofs.Replays.{one_law}
 use Rattle.proof_laws.specs.State.{StateValue, IsState, Fits}
 use Rattle.proof_laws.specs.Replay.{IsReplay}
+use Rattle.proof_laws.proofs.Replays.{replay_once}
 use Rattle.oracle.specs.Solving.{Reaches, IsOrderly}
 use Rattle.search_lines.specs.StoredLines.{IsStored}
 use Rattle.search_state.specs.Searching.{SearchValue, IsBackTo}
@@ -229,7 +229,7 @@ pub taken_up : (p : ProblemValue) (lines : List Line) (old mid new : SearchValue
     → IsHeld p lines old next rows ledger → Reaches p lines (λ t. t.ended ≡ false) → IsReplay p lines s → mid.store ≡ old.store → new.trail ≡ mid.trail → mid.trail.vars ≡ s.vars
     → ((q : ProblemValue) → rows ≡ length q.rows → IsStored q s next mid.store → IsStored q s s.next_id new.store) → IsTakenUp p lines new s.next_id rows ledger
 taken_up p lines old mid new s next rows ledger held unended replay store trail vars takes =
-    let same : held.state ≡ s = one_law p lines held.state s held.replay replay in
+    let same : held.state ≡ s = replay_once p lines held.state s held.replay replay in
     let all : new.trail.vars ≡ s.vars = ap (λ (t : TrailValue). t.vars) trail ∙ vars in
     record {
       held = record {
@@ -251,7 +251,7 @@ taken_up p lines old mid new s next rows ledger held unended replay store trail 
 -- the state that is held is the one that is told
 pub held_state : (p : ProblemValue) (lines : List Line) (search : SearchValue) (s : StateValue) (next rows : ℕ) (ledger : LedgerValue) → IsHeld p lines search next rows ledger → IsReplay p lines s → (next ≤ s.next_id) × (search.trail.vars ≤ s.vars)
 held_state p lines search s next rows ledger held replay =
-    let same : held.state ≡ s = one_law p lines held.state s held.replay replay in
+    let same : held.state ≡ s = replay_once p lines held.state s held.replay replay in
     (subst (λ (t : StateValue). next ≤ t.next_id) same held.stored.within, subst (λ (t : StateValue). search.trail.vars ≤ t.vars) same held.vars)
 
 -- an orderly result leaves what it should

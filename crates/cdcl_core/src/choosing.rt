@@ -55,10 +55,7 @@ fn middle(alloc: Global, clauses: &[LearnedClause]) -> Result<Option<Merit>, NoM
 fn is_stored<P: Propagator + Drop>(search: &Search<P>, id: u64) -> bool
     ensures { IsTrue result ↔ IsSome (get search.now.store id) }
 {
-    match search.line(id) {
-        Some(_) => true,
-        None => false,
-    }
+    search.line(id).is_some()
 }
 
 /// Names the half of the clauses that is worth less, and keeps the others. What is no longer stored

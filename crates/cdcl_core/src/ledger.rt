@@ -90,9 +90,8 @@ impl Ledger {
             self.clauses.set(
                 place,
                 LearnedClause {
-                    id: clause.id,
-                    distance: clause.distance,
                     used: true,
+                    ..clause
                 },
             );
         }

@@ -12,7 +12,7 @@ use proof_rules::{ProofState, RecordFault, Recorder};
 use scut_base::NoMemory;
 use search_lines::{
     deleting_line_keeps_stored, first_line_is_no_reduction, line_is_passed, nothing_is_stored,
-    reached_state_fits, replays_go_on,
+    reached_state_fits,
 };
 use search_state::Search;
 use std::alloc::Global;
@@ -147,7 +147,6 @@ impl<R: Recorder + Drop, P: Propagator + Drop> Recorder for Solver<R, P> {
             Ok(id) => {
                 deleting_line_keeps_stored();
                 reached_state_fits();
-                replays_go_on();
                 drop_deleted(&mut self.search, line);
                 self.ledger.note(line);
                 // Tells that the lines reach a state.

@@ -10,6 +10,7 @@ use Rattle.proof_laws.specs.Legal.{IsNext}
 use Rattle.proof_laws.specs.declared.line.Line.{Line}
 use Rattle.proof_laws.specs.declared.why.Why.{Why}
 use Rattle.proof_laws.specs.declared.why.Why.TheVariants.{Syntax, NoEnd}
+use Rattle.proof_laws.proofs.Replays.{leads_further, replay_lines}
 use Rattle.proof_rules.specs.declared.fault.StepFault.{StepFault}
 use Rattle.proof_rules.specs.declared.fault.StepFault.TheVariants.{Refused as Illegal}
 use Rattle.proof_lines.specs.LineText.{line_text, printed}
@@ -21,7 +22,7 @@ use Rattle.log_checker.specs.Checking.{CheckerValue, HasTaken, IsFaultBy, HasJud
 use Rattle.log_checker.specs.Judging.{IsUnderway, IsLineReason, IsLogReason, HasEnded, JudgesLines, JudgesEnd, left, left_by, earlier, noted}
 use Rattle.log_checker.specs.declared.fault.CheckFault.{CheckFault}
 use Rattle.log_checker.specs.declared.fault.CheckFault.TheVariants.{Refused, ListRefused, NoMemory}
-use Rattle.log_checker.proofs.Stepping.{AreCovered, leads_more, replay_count}
+use Rattle.log_checker.proofs.Stepping.{AreCovered}
 use Rattle.log_checker.proofs.Texts.{LineTexts, spelled_whole}
 use Rattle.log_checker.proofs.Faults.{no_whole_fault, no_syntax, syntax_fault, line_refused, whole_fault_more}
 
@@ -120,10 +121,10 @@ module _ (texts : LineTexts) (p : ProblemValue) (vectors : List (List ℤ)) wher
   pub line_is_refused : (old new : ReaderValue) (s : StateValue) (bytes : List ℕ) (lines : List Line) (line : Line) (k : ℕ) (why : Why) → IsUnderway p vectors old s bytes lines → ReaderStandsFor new bytes (lines ++ line ∷ []) → IsLineFault p vectors s line why → k ≡ s.lines + 2 → IsWholeFault p vectors bytes k why
   line_is_refused old new s bytes lines line k why underway after fault number =
       let b = begins new bytes lines line after in
-      line_refused texts p vectors bytes lines line b.0 s k why (before_last bytes lines line b.0 b.1) (line_formed new bytes lines line after) underway.replay underway.covered fault (omega (arith, number, replay_count p lines s underway.replay))
+      line_refused texts p vectors bytes lines line b.0 s k why (before_last bytes lines line b.0 b.1) (line_formed new bytes lines line after) underway.replay underway.covered fault (omega (arith, number, replay_lines p lines s underway.replay))
 
   pub line_taken : (old new : ReaderValue) (s t : StateValue) (bytes : List ℕ) (lines : List Line) (line : Line) → IsUnderway p vectors old s bytes lines → ReaderStandsFor new bytes (lines ++ line ∷ []) → IsNext p s line t → (AreCovered vectors s → AreCovered vectors t) → IsUnderway p vectors new t bytes (lines ++ line ∷ [])
-  line_taken old new s t bytes lines line underway after next covered = record { read = after; replay = leads_more p (start p) lines s line t underway.replay next; covered = covered underway.covered }
+  line_taken old new s t bytes lines line underway after next covered = record { read = after; replay = leads_further p lines (start p) s t line underway.replay next; covered = covered underway.covered }
 
   -- ---- the end
 
@@ -139,7 +140,7 @@ module _ (texts : LineTexts) (p : ProblemValue) (vectors : List (List ℤ)) wher
     state = s;
     reached = record { begins = spelled_whole bytes lines held whole; replay = underway.replay; covered = underway.covered };
     unended = unended;
-    number = omega (arith, number, replay_count p lines s underway.replay);
+    number = omega (arith, number, replay_lines p lines s underway.replay);
   })
 
   pub end_reached : (r : ReaderValue) (s : StateValue) (bytes : List ℕ) (lines : List Line) → IsUnderway p vectors r s bytes lines → HoldsNoFurtherLine bytes lines → IsWhole bytes → s.ended ≡ true → IsEndedProof p vectors bytes
@@ -195,15 +196,6 @@ again_whole (Some fault) failed c bytes k why is open' stands =
 fault_of_log : (finished : Bool) (p : ProblemValue) (vectors : List (List ℤ)) (bytes : List ℕ) (k : ℕ) (why : Why) → IsFaultBy finished p vectors bytes k why → IsLogFault p vectors bytes k why
 fault_of_log false p vectors bytes k why h = inl h
 fault_of_log true p vectors bytes k why h = h
-
-pub again_fault : (o : Option (ℕ × Why)) (failed : Bool) (c : CheckerValue) (bytes : List ℕ) (k : ℕ) (why : Why) → earlier o failed ≡ Err (Refused k why) → HasJudged o c bytes → IsLogFault c.problem c.vectors bytes k why
-again_fault None true c bytes k why is stands = cc
-again_fault None false c bytes k why is stands = cc
-again_fault (Some fault) failed c bytes k why is stands =
-    let log = fault_of_log c.finished c.problem c.vectors bytes fault.0 fault.1 stands in
-    let number : fault.0 ≡ k = cc in
-    let reason : fault.1 ≡ why = cc in
-    subst (λ (n : ℕ). IsLogFault c.problem c.vectors bytes n why) number (subst (IsLogFault c.problem c.vectors bytes fault.0) reason log)
 
 -- the checker with its log finished
 pub finished_stands : (o : Option (ℕ × Why)) (c : CheckerValue) (bytes : List ℕ) → HasJudged o c bytes → HasJudged o (record c { finished = true }) bytes

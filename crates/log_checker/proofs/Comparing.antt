@@ -46,13 +46,6 @@ unequal_lengths (o ∷ os) [] (y ∷ v) apart = refl
 unequal_lengths (o ∷ os) (x ∷ u) [] apart = refl
 unequal_lengths (o ∷ os) (x ∷ u) (y ∷ v) apart = and_false (is_as_good o.sense x y) (weakly_dominates os u v) (unequal_lengths os u v (λ same. apart (omega (arith, same.0), omega (arith, same.1))))
 
-pub dominates_more : (os : List Objective) (u v : List ℤ) (i : ℕ) (o : Objective) (x y : ℤ) → i < length os → i < length u → i < length v →
-    weakly_dominates (drop i os) (drop i u) (drop i v) ≡ (is_as_good (get_or os i o).sense (get_or u i x) (get_or v i y) && weakly_dominates (drop (i + 1) os) (drop (i + 1) u) (drop (i + 1) v))
-dominates_more os u v i o x y in_os in_u in_v =
-    ap (λ (a : List Objective). weakly_dominates a (drop i u) (drop i v)) (drop_more os i o in_os)
-    ∙ ap (λ (a : List ℤ). weakly_dominates (get_or os i o ∷ drop (i + 1) os) a (drop i v)) (drop_more u i x in_u)
-    ∙ ap (λ (a : List ℤ). weakly_dominates (get_or os i o ∷ drop (i + 1) os) (get_or u i x ∷ drop (i + 1) u) a) (drop_more v i y in_v)
-
 -- ---- the order
 
 pub is_lt_less : (o : Ordering) → IsTrue (is_lt o) ↔ (o ≡ Less)

@@ -12,12 +12,13 @@ use Rattle.proof_laws.specs.declared.line.Line.{Line}
 use Rattle.proof_laws.specs.declared.why.Why.{Why}
 use Rattle.proof_laws.specs.declared.why.Why.TheVariants.{Syntax, NoEnd, Uncovered}
 use Rattle.proof_laws.proofs.Unique.{judged_once_law}
+use Rattle.proof_laws.proofs.Replays.{leads_split, replay_once}
 use Rattle.proof_lines.specs.LineText.{line_text, printed}
 use Rattle.proof_text.specs.LogText.{log_text, BeginsWith, SpellsLog, IsOneLine, HasWrongHeader, GoesWrongAfter, IsSyntaxAt, IsUnfinishedAt, HoldsNoFurtherLine}
 use Rattle.log_checker.specs.Accepted.{IsEndedProof}
 use Rattle.log_checker.specs.LogFaults.{Reaches, HasNoLine, LogsUncovered, HasRefusedLine, IsLineFault, IsNextFault, IsRefusedAfter, IsWholeFault, HasNoWholeFault, HasNoEnd, IsEndFault, IsLogFault}
 use Rattle.log_checker.proofs.Reasons.{not_syntax}
-use Rattle.log_checker.proofs.Stepping.{AreCovered, leads_once, leads_split, leads_covered}
+use Rattle.log_checker.proofs.Stepping.{AreCovered, leads_covered}
 use Rattle.log_checker.proofs.Texts.{LineTexts, GoesOn, whole_once, whole_has_newline, printed_is, printed_has_newline, printed_once, right_header, begins_has_newline, begins_align, one_empty, spelled_finished, unfinished_once}
 
 module _ (texts : LineTexts) (p : ProblemValue) (vectors : List (List ℤ)) where
@@ -92,13 +93,13 @@ module _ (texts : LineTexts) (p : ProblemValue) (vectors : List (List ℤ)) wher
     -- no reading goes on after a fault
     no_further : (why : Why) → IsNextFault p vectors t q why → GoesOn ls ms r q → ⊥
     no_further why fault on =
-        let split = leads_split p (start p) ms (on.next ∷ on.more) s (subst (λ (xs : List Line). IsReplay p xs s) on.is one.replay) in
-        let same : split.0 ≡ t = leads_once p (start p) ms split.0 t split.1 two.replay in
+        let split = leads_split p ms (on.next ∷ on.more) (start p) s (subst (λ (xs : List Line). IsReplay p xs s) on.is one.replay) in
+        let same : split.0 ≡ t = replay_once p ms split.0 t split.1 two.replay in
         let next : IsNext p t on.next split.2.0 = subst (λ (u : StateValue). IsNext p u on.next split.2.0) same split.2.1 in
         stops t q why on.next (flat_map printed on.more ++ r) split.2.0 fault on.formed on.text next (leads_covered vectors p split.2.0 on.more s split.2.2 one.covered)
 
     states_same : ls ≡ ms → s ≡ t
-    states_same same = leads_once p (start p) ms s t (subst (λ (xs : List Line). IsReplay p xs s) same one.replay) two.replay
+    states_same same = replay_once p ms s t (subst (λ (xs : List Line). IsReplay p xs s) same one.replay) two.replay
 
     fault_excluded : (why : Why) → IsOneLine r → IsNextFault p vectors t q why → ⊥
     fault_excluded why last fault = ⊎_elim

@@ -1,20 +1,16 @@
 -- What lines make of the logged vectors and of the count of lines.
-use Rattle.std.proofs.Common.{◌≡◌, ◌⊎◌, inl, inr, ℕ, ◌+◌, ◌<◌, ◌≤◌, List, [], ◌∷◌, ◌++◌, length, get_or, refl, sym, subst, ap, ◌∙◌, ⊎_elim, ℤ, arith, length-append}
-use Rattle.std.specs.Prelude.{All, ◌↔◌, IsTrue}
-use Rattle.std.specs.List.{list_any}
+use Rattle.std.proofs.Common.{◌≡◌, ◌⊎◌, inl, inr, ℕ, ◌+◌, ◌<◌, ◌≤◌, List, [], ◌∷◌, ◌++◌, length, get_or, sym, subst, ap, ◌∙◌, ⊎_elim, ℤ, arith, length-append}
+use Rattle.std.specs.Prelude.{All}
 use Rattle.std.proofs.lemmas.List.{get_or_append_left, get_or-append-add}
 use Rattle.std.proofs.lemmas.List.Elements.{All-push}
-use Rattle.std.proofs.lemmas.List.Folds.{Any-from_list_any, list_any-from_Any}
-use Rattle.front_set.specs.Vector.{is_below}
 use Rattle.pb_lin.specs.Problem.{ProblemValue}
-use Rattle.proof_laws.specs.State.{StateValue, start}
+use Rattle.proof_laws.specs.State.{StateValue}
 use Rattle.proof_laws.specs.Legal.{Makes, IsNext, IsRefused}
-use Rattle.proof_laws.specs.Replay.{Leads, IsReplay}
+use Rattle.proof_laws.specs.Replay.{Leads}
 use Rattle.proof_laws.specs.declared.line.Line.{Line}
 use Rattle.proof_laws.specs.declared.line.Line.TheVariants.{Pol, Rup, Learn, Def, Red, Dom, Sol, Del, Reduce, End}
 use Rattle.proof_laws.specs.declared.why.Why.{Why}
 use Rattle.proof_laws.specs.declared.why.Why.TheVariants.{Uncovered}
-use Rattle.proof_laws.proofs.Unique.{judged_once_law}
 use Rattle.log_checker.specs.Accepted.{IsCovered}
 use Rattle.log_checker.specs.LogFaults.{IsLineFault, LogsUncovered}
 use Rattle.proof_rules.specs.Verdict.{IsReason}
@@ -39,18 +35,6 @@ sols_after p s (Sol model cut ids) t m = inr (_, ap (λ (u : StateValue). u.sols
 sols_after p s (Del ids) t m = inl (ap (λ (u : StateValue). u.sols) m)
 sols_after p s (Reduce ids) t m = inl (ap (λ (u : StateValue). u.sols) m)
 sols_after p s (End id) t m = inl (ap (λ (u : StateValue). u.sols) m)
-
-lines_after : (p : ProblemValue) (s : StateValue) (line : Line) (t : StateValue) → Makes p s line t → t.lines ≡ s.lines + 1
-lines_after p s (Pol tokens) t m = ap (λ (u : StateValue). u.lines) m.2
-lines_after p s (Rup goal hints) t m = ap (λ (u : StateValue). u.lines) m
-lines_after p s (Learn goal hints) t m = ap (λ (u : StateValue). u.lines) m
-lines_after p s (Def var sum) t m = ap (λ (u : StateValue). u.lines) m
-lines_after p s (Red goal w proofs) t m = ap (λ (u : StateValue). u.lines) m
-lines_after p s (Dom goal w proofs) t m = ap (λ (u : StateValue). u.lines) m
-lines_after p s (Sol model cut ids) t m = ap (λ (u : StateValue). u.lines) m
-lines_after p s (Del ids) t m = ap (λ (u : StateValue). u.lines) m
-lines_after p s (Reduce ids) t m = ap (λ (u : StateValue). u.lines) m
-lines_after p s (End id) t m = ap (λ (u : StateValue). u.lines) m
 
 all_front : {A : Type 0} (P : A → Type 0) (xs ys : List A) → All P (xs ++ ys) → All P xs
 all_front P xs ys all k d low = subst P (get_or_append_left xs ys d k low) (all k d (omega (arith, length-append xs ys)))
@@ -110,36 +94,6 @@ read_sols before after s t sol same next more is =
 
 -- ---- many lines
 
-pub leads_more : (p : ProblemValue) (s : StateValue) (lines : List Line) (t : StateValue) (line : Line) (u : StateValue) → Leads p s lines t → IsNext p t line u → Leads p s (lines ++ line ∷ []) u
-leads_more p s [] t line u same next = (u, subst (λ (v : StateValue). IsNext p v line u) same next, refl)
-leads_more p s (l ∷ lines) t line u leads next = (leads.0, leads.1, leads_more p leads.0 lines t line u leads.2 next)
-
--- the lines lead to one state alone
-pub leads_once : (p : ProblemValue) (s : StateValue) (lines : List Line) (t u : StateValue) → Leads p s lines t → Leads p s lines u → t ≡ u
-leads_once p s [] t u a b = a ∙ sym b
-leads_once p s (l ∷ lines) t u a b =
-    let same : b.0 ≡ a.0 = (judged_once_law p s l).one_next b.0 a.0 b.1 a.1 in
-    leads_once p a.0 lines t u a.2 (subst (λ (v : StateValue). Leads p v lines u) same b.2)
-
-pub leads_split : (p : ProblemValue) (s : StateValue) (lines more : List Line) (t : StateValue) → Leads p s (lines ++ more) t → (u : StateValue) × Leads p s lines u × Leads p u more t
-leads_split p s [] more t leads = (s, refl, leads)
-leads_split p s (l ∷ lines) more t leads = let rest = leads_split p leads.0 lines more t leads.2 in (rest.0, (leads.0, leads.1, rest.1), rest.2)
-
 pub leads_covered : (vectors : List (List ℤ)) (p : ProblemValue) (s : StateValue) (lines : List Line) (t : StateValue) → Leads p s lines t → AreCovered vectors t → AreCovered vectors s
 leads_covered vectors p s [] t same covered = subst (AreCovered vectors) same covered
 leads_covered vectors p s (l ∷ lines) t leads covered = covered_back vectors p s l leads.0 leads.1 (leads_covered vectors p leads.0 lines t leads.2 covered)
-
-leads_count : (p : ProblemValue) (s : StateValue) (lines : List Line) (t : StateValue) → Leads p s lines t → t.lines ≡ s.lines + length lines
-leads_count p s [] t same = omega (arith, ap (λ (u : StateValue). u.lines) same)
-leads_count p s (l ∷ lines) t leads = omega (arith, lines_after p s l leads.0 leads.1.makes, leads_count p leads.0 lines t leads.2)
-
-pub replay_count : (p : ProblemValue) (lines : List Line) (s : StateValue) → IsReplay p lines s → s.lines ≡ length lines
-replay_count p lines s replay = omega (arith, leads_count p (start p) lines s replay)
-
--- ---- vectors
-
-pub any_is_covered : (vectors : List (List ℤ)) (v : List ℤ) → IsTrue (list_any (λ u. is_below u v) vectors) ↔ IsCovered vectors v
-any_is_covered vectors v = (
-  λ found. let w = Any-from_list_any (λ (u : List ℤ). is_below u v) vectors found in (w.1, (w.0, w.2, w.3), w.4),
-  λ by. list_any-from_Any (λ (u : List ℤ). is_below u v) vectors (by.1.0, by.0, by.1.1, by.1.2, by.2),
-)

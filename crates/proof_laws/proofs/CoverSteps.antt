@@ -13,12 +13,12 @@ use Rattle.pb_lin.specs.LineMap.{LineMap}
 use Rattle.front_set.specs.Vector.{IsBelow}
 use Rattle.front_set.proofs.FrontLaws.{IsBelow-refl, IsBelow-trans}
 use Rattle.proof_laws.proofs.Costs.{below_by_values, weight_by_below}
-use Rattle.proof_laws.proofs.Live.{live_insert, live_remove, live_numbered}
+use Rattle.proof_laws.proofs.Live.{live_insert, live_numbered}
 use Rattle.proof_laws.proofs.Images.{value-take, value-push}
 use Rattle.proof_laws.proofs.Definitions.{clause_cases, definition_holds}
 use Rattle.proof_laws.specs.State.{StateValue, Satisfies, IsLogged, IsReached, CoversAll, start}
 use Rattle.proof_laws.specs.Steps.{with_live, clause, reached_if, reached_only_if}
-use Rattle.proof_laws.proofs.Semantics.{weight, IsCovered, AreWithin, IsWithin, with_defined, with_logged, without_line}
+use Rattle.proof_laws.proofs.Semantics.{weight, IsCovered, AreWithin, IsWithin, with_defined, with_logged}
 
 -- at the start a model satisfies the state
 pub start_is_covered : (p : ProblemValue) → CoversAll p (start p)
@@ -150,20 +150,11 @@ pub fewer_keep : (p : ProblemValue) (s : StateValue) (lines : LineMap) → ((id 
 fewer_keep p s lines fewer = covers_step p s (record s { live = lines }) (λ u there. there) (λ x sat.
     inr (x, record { variables = sat.variables; rows = sat.rows; live = λ id c is. sat.live id c (fewer id c is) }, IsBelow-refl (problem_costs p x)))
 
-pub without_keeps : (p : ProblemValue) (s : StateValue) (id : ℕ) → CoversAll p s → CoversAll p (without_line s id)
-without_keeps p s id = fewer_keep p s _ (λ i c is. live_remove s.live id i c is)
-
 pub nothing_satisfies : (p : ProblemValue) (s : StateValue) (id : ℕ) (c : ConstraintValue) → get s.live id ≡ Some c → c.terms ≡ [] → 0 < c.degree → (x : List Bool) → Satisfies p s x → ⊥
 nothing_satisfies p s id c is none positive x sat =
     let holds = sat.live id c is in
     let zero' = ap (value x) none in
     omega arith
-
-pub contradiction_logs : (p : ProblemValue) (s : StateValue) (id : ℕ) (c : ConstraintValue) → get s.live id ≡ Some c → c.terms ≡ [] → 0 < c.degree → CoversAll p s → (b : List Bool) → IsProblemModel p b → IsLogged s (problem_costs p b)
-contradiction_logs p s id c is none positive covers b model = ⊎_elim
-    (λ (l : IsLogged s (problem_costs p b)). l)
-    (λ (r : IsReached p s (problem_costs p b)). absurd (nothing_satisfies p s id c is none positive r.0 r.1))
-    (covers b model)
 
 -- ---- the lines that a checker makes
 

@@ -1,5 +1,5 @@
 -- A line that neither learns nor deletes keeps what a proof has earned.
-use Rattle.std.proofs.Common.{◌≡◌, ◌⊎◌, ℕ, ◌+◌, true, false, cond, List, [], ◌∷◌, ◌++◌, length, refl, arith, add-zero, sym, subst, ap, ◌∙◌, inl, inr, ⊎_elim}
+use Rattle.std.proofs.Common.{◌≡◌, ◌⊎◌, ℕ, ◌+◌, true, false, cond, List, [], ◌∷◌, ◌++◌, length, refl, arith, add-zero, sym, ap, ◌∙◌, inl, inr, ⊎_elim}
 use Rattle.std.specs.List.{count_by}
 use Rattle.std.proofs.lemmas.List.{length-append}
 use Rattle.std.proofs.lemmas.Bool.{cond-false}
@@ -8,15 +8,11 @@ use Rattle.scut_base.proofs.Lists.{head_same, tail_same}
 use Rattle.pb_lin.specs.Problem.{ProblemValue}
 use Rattle.proof_laws.specs.State.{StateValue, start}
 use Rattle.proof_laws.specs.Legal.{IsNext}
-use Rattle.proof_laws.specs.Replay.{Leads, IsReplay}
+use Rattle.proof_laws.specs.Replay.{IsReplay}
 use Rattle.proof_laws.specs.Earned.{is_learn, changes_learned, Splits, IsEarned}
 use Rattle.proof_laws.specs.declared.line.Line.{Line}
 use Rattle.proof_laws.specs.declared.line.Line.TheVariants.{Pol, Rup, Learn, Def, Red, Dom, Sol, Del, Reduce, End}
-
--- a line after lines
-pub leads_further : (p : ProblemValue) (lines : List Line) (s u t : StateValue) (line : Line) → Leads p s lines u → IsNext p u line t → Leads p s (lines ++ line ∷ []) t
-leads_further p [] s u t line is next = (t, subst (λ (v : StateValue). IsNext p v line t) is next, refl)
-leads_further p (l ∷ lines) s u t line leads next = (leads.0, leads.1, leads_further p lines leads.0 u t line leads.2 next)
+use Rattle.proof_laws.proofs.Replays.{leads_further}
 
 -- a place among lines with one more is the last, or a place before
 pub split_last : (lines before after : List Line) (x y : Line) → lines ++ x ∷ [] ≡ before ++ (y ∷ after) → (x ≡ y) ⊎ ((rest : List Line) × (lines ≡ before ++ (y ∷ rest)))

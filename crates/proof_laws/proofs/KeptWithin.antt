@@ -1,31 +1,18 @@
 -- What a state keeps from step to step: its variables, and the live rows.
-use Rattle.std.proofs.Common.{◌≡◌, ◌≢◌, ℕ, zero, suc, ◌+◌, ◌<◌, ◌≤◌, true, false, Some, None, List, [], ◌∷◌, length, get_or, arith, ap, ◌∙◌}
+use Rattle.std.proofs.Common.{◌≡◌, ◌≢◌, ℕ, zero, suc, ◌+◌, ◌<◌, true, false, Some, None, List, [], ◌∷◌, length, get_or, arith, ap, ◌∙◌}
 use Rattle.std.specs.List.{All}
 use Rattle.std.specs.Ordering.{nat_cmp, eq_by_cmp}
 use Rattle.std.specs.Cmp.{nat_cmp_total, unsigned_tied}
 use Rattle.std.specs.FinMap.{get, insert, get-insert, get-remove}
 use Rattle.std.proofs.lemmas.Bool.{eq-eqb, ne_eqb, cond-true, cond-false}
-use Rattle.scut_base.specs.Literal.{Literal}
 use Rattle.pb_lin.specs.Constraint.{ConstraintValue}
 use Rattle.pb_lin.specs.Problem.{ProblemValue}
 use Rattle.pb_lin.specs.Substitution.{Images}
 use Rattle.pb_lin.specs.LineMap.{LineMap, lines_of}
-use Rattle.proof_laws.proofs.Live.{live_insert, live_remove, live_numbered}
-use Rattle.std.proofs.lemmas.List.Elements.{All-contains}
+use Rattle.proof_laws.proofs.Live.{live_insert}
 use Rattle.proof_laws.specs.State.{StateValue, RowsLive, numbered, start}
 use Rattle.proof_laws.specs.Steps.{with_live}
-use Rattle.proof_laws.proofs.Semantics.{AreWithin, IsWithin, with_defined, without_line, StaysTrue}
-
-within_later : (m n : ℕ) (terms : List (Literal × ℕ)) → m ≤ n → AreWithin m terms → AreWithin n terms
-within_later m n terms le within k d short = let w = within k d short in (w.0, omega arith)
-
-pub start_within : (p : ProblemValue) → All (λ c. AreWithin p.vars c.terms) p.rows → All (λ r. AreWithin p.vars r.terms) p.costs → IsWithin p (start p)
-start_within p rows costs = record {
-  vars = omega arith;
-  rows = rows;
-  costs = costs;
-  live = λ id c is. All-contains (λ d. AreWithin p.vars d.terms) p.rows c rows (live_numbered 1 p.rows id c is);
-}
+use Rattle.proof_laws.proofs.Semantics.{AreWithin, IsWithin, without_line, StaysTrue}
 
 pub line_within : (p : ProblemValue) (s : StateValue) (id : ℕ) (c : ConstraintValue) → IsWithin p s → AreWithin s.vars c.terms → IsWithin p (with_live s id c)
 line_within p s id c within new = record {
@@ -33,22 +20,6 @@ line_within p s id c within new = record {
   rows = within.rows;
   costs = within.costs;
   live = live_insert (λ d. AreWithin s.vars d.terms) s.live id c new within.live;
-}
-
-pub definition_within : (p : ProblemValue) (s : StateValue) (id : ℕ) (c d : ConstraintValue) → IsWithin p s → AreWithin (s.vars + 1) c.terms → AreWithin (s.vars + 1) d.terms → IsWithin p (with_defined s id c d)
-definition_within p s id c d within first second = record {
-  vars = let v = within.vars in omega arith;
-  rows = within.rows;
-  costs = within.costs;
-  live = live_insert (λ e. AreWithin (s.vars + 1) e.terms) _ (id + 1) d second (live_insert (λ e. AreWithin (s.vars + 1) e.terms) s.live id c first (λ i e is. within_later s.vars (s.vars + 1) e.terms (omega arith) (within.live i e is)));
-}
-
-pub deletion_within : (p : ProblemValue) (s : StateValue) (id : ℕ) → IsWithin p s → IsWithin p (without_line s id)
-deletion_within p s id within = record {
-  vars = within.vars;
-  rows = within.rows;
-  costs = within.costs;
-  live = λ i c is. within.live i c (live_remove s.live id i c is);
 }
 
 -- ---- the live rows

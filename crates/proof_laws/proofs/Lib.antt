@@ -16,6 +16,7 @@ pub mod NextStates
 pub mod NextKept
 pub mod EarnedLines
 pub mod Unique
+pub mod Replays
 pub mod NormalForms
 pub mod GoalForms
 pub mod Values

@@ -1,5 +1,5 @@
 -- The laws of the rule book, each as one statement.
-use Rattle.std.specs.Prelude.{◌≡◌, ◌⊎◌, ℕ, Bool, true, false, List, [], ◌∷◌, ◌++◌, All}
+use Rattle.std.specs.Prelude.{◌≡◌, ◌⊎◌, ℕ, Bool, true, false, List, [], ◌∷◌, ◌++◌, length, All}
 use Rattle.pb_lin.specs.Problem.{ProblemValue, IsProblem}
 use Rattle.proof_laws.specs.WellFormed.{IsWellFormed}
 use Rattle.proof_laws.specs.State.{StateValue, IsState, Fits, Satisfies, CoversAll, start}
@@ -60,3 +60,10 @@ LinesAreJudgedOnce = (p : ProblemValue) (s : StateValue) (line : Line) → Judge
 -- a line is refused, or has a next state
 abbrev pub LinesAreJudged : Type 0
 LinesAreJudged = (p : ProblemValue) (s : StateValue) (line : Line) → StandsBefore p s line → ((why : Why) × IsRefused p s line why) ⊎ ((t : StateValue) × IsNext p s line t)
+
+-- lines reach one state at most, and with a line more the next one; the state counts them
+pub record ReplaysGoOn : Type 0 where
+  pub one : (p : ProblemValue) (lines : List Line) (s t : StateValue) → IsReplay p lines s → IsReplay p lines t → s ≡ t
+  pub last : (p : ProblemValue) (lines : List Line) (line : Line) (s t : StateValue) → IsReplay p lines s → IsReplay p (lines ++ line ∷ []) t → IsNext p s line t
+  pub next : (p : ProblemValue) (lines : List Line) (line : Line) (s t : StateValue) → IsReplay p lines s → IsNext p s line t → IsReplay p (lines ++ line ∷ []) t
+  pub counted : (p : ProblemValue) (lines : List Line) (s : StateValue) → IsReplay p lines s → s.lines ≡ length lines

@@ -68,8 +68,6 @@ abbrev IsOneFault : List Literal → List Bool → ℕ → CostRowValue → ℕ 
 IsOneFault cut a i r id fault named = MatchOption named (fault ≡ Some (NoSuchId id)) (λ c. (Bounds cut a c r × (fault ≡ None)) ⊎ ((Bounds cut a c r → ⊥) × (fault ≡ Some (CutOpen i))))
 
 module _ (live : LineMap) (cut truths : List Literal) (a : List Bool) (i : ℕ) (r : CostRowValue) (id : ℕ) (same : truths ≡ map opposite cut) where
-  pub no_such_line : None ≡ option_map (λ c. restriction c truths) (line_or_none live id) → IsCutFault live cut a i (r ∷ []) (id ∷ []) (Some (NoSuchId id))
-  no_such_line none = subst (IsOneFault cut a i r id (Some (NoSuchId id))) (sym (named_none (λ c. restriction c truths) (line_or_none live id) none)) refl
 
   module _ (line g bound : ConstraintValue) (named : Some line ≡ option_map (λ c. restriction c truths) (line_or_none live id)) (order : IsPermutation r.terms g.terms) (degree : g.degree ≡ value a r.terms) (left : bound ≡ restriction g truths) where
     is_named : (c : ConstraintValue) × (line_or_none live id ≡ Some c) × (line ≡ restriction c truths)
@@ -120,12 +118,6 @@ module _ (live : LineMap) (cut : List Literal) (a : List Bool) where
     module _ (r d : CostRowValue) (within : i < length costs) (at : r ≡ get_or costs i d) where
       here : drop i costs ≡ r ∷ drop (i + 1) costs
       here = drop_more costs i d within ∙ ap (λ (s : CostRowValue). s ∷ drop (i + 1) costs) (sym at)
-
-      -- no id is left
-      pub cut_short : length ids ≤ i → IsFaultFrom costs ids i (Some (CutOpen (i + 1)))
-      cut_short past =
-          subst (λ (rs : List CostRowValue). IsCutFault live cut a (i + 1) rs (drop i ids) (Some (CutOpen (i + 1)))) (sym here)
-          (subst (λ (js : List ℕ). IsCutFault live cut a (i + 1) (r ∷ drop (i + 1) costs) js (Some (CutOpen (i + 1)))) (sym (drop_of_length-le ids past)) refl)
 
       module _ (id e : ℕ) (inside : i < length ids) (id_at : id ≡ get_or ids i e) where
         id_here : drop i ids ≡ id ∷ drop (i + 1) ids

@@ -41,9 +41,6 @@ misplaced_end n model i past = ap (misplaced (i + 1) n) (drop_of_length-le model
 pub misplaced_short : (n : ℕ) (model : List Literal) (i : ℕ) → length model ≤ i → i + 1 ≤ n → misplaced (i + 1) n (drop i model) ≡ Some (i + 1)
 misplaced_short n model i past inside = misplaced_end n model i past ∙ ap (λ (b : Bool). if b then None else Some (i + 1)) (le-ltb n (i + 1) inside)
 
-pub misplaced_none : (n : ℕ) (model : List Literal) (i : ℕ) → length model ≤ i → n < i + 1 → misplaced (i + 1) n (drop i model) ≡ None
-misplaced_none n model i past beyond = misplaced_end n model i past ∙ ap (λ (b : Bool). if b then None else Some (i + 1)) (lt-ltb n (i + 1) beyond)
-
 -- ---- where no place is wrong
 
 none_wrong : (n k v : ℕ) (later : Option ℕ) → by_tests (nat_lt n k) (v == k) (Some k) later ≡ None → (k ≤ n) × (v ≡ k) × (later ≡ None)

@@ -1,5 +1,5 @@
 -- Verdicts, condition by condition.
-use Rattle.std.proofs.Common.{◌≡◌, ℕ, Option, Some, None, List, map, sym, subst, refl}
+use Rattle.std.proofs.Common.{◌≡◌, ℕ, Option, Some, None, List, map, sym, subst}
 use Rattle.std.specs.Prelude.{option_map, nat_lt, Err}
 use Rattle.std.specs.List.{find}
 use Rattle.scut_base.specs.Literal.{Literal}
@@ -16,10 +16,6 @@ use Rattle.proof_rules.specs.declared.fault.StepFault.TheVariants.{Refused, NoMe
 pub stopped : (T U : Type 0) (J K : Option Why → Type 0) → ((why : Why) → J (Some why) → K (Some why)) → (fault : StepFault) → IsVerdict {T = T} J (Err fault) → IsVerdict {T = U} K (Err fault)
 stopped T U J K each (Refused why) is = each why is
 stopped T U J K each NoMemory is = tt
-
--- the first condition, of a place that was looked for
-pub found_fault : {X : Type 0} (why : X → Why) (o : Option X) (x : X) (Rest : Option Why → Type 0) → o ≡ Some x → FirstOf (option_map why o) Rest (Some (why x))
-found_fault {X} why o x Rest is = subst (λ (p : Option X). FirstOf (option_map why p) Rest (Some (why x))) (sym is) refl
 
 pub no_fault : {X : Type 0} (why : X → Why) (o : Option X) (Rest : Option Why → Type 0) (fault : Option Why) → o ≡ None → Rest fault → FirstOf (option_map why o) Rest fault
 no_fault {X} why o Rest fault is rest = subst (λ (p : Option X). FirstOf (option_map why p) Rest fault) (sym is) rest

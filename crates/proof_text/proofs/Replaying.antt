@@ -1,5 +1,5 @@
 -- Proofs that grow by a line.
-use Rattle.std.proofs.Common.{◌≡◌, ◌≢◌, ◌⊎◌, ⊎_elim, ℕ, ◌+◌, ◌*◌, ◌^◌, ◌<◌, ◌≤◌, ◌==◌, Bool, true, false, not, Option, None, Some, List, [], ◌∷◌, ◌++◌, map, length, refl, sym, ap, subst, ◌∙◌, arith, Result, Ok, Err}
+use Rattle.std.proofs.Common.{◌≡◌, ◌≢◌, ◌⊎◌, ⊎_elim, ℕ, ◌+◌, ◌*◌, ◌^◌, ◌<◌, ◌≤◌, ◌==◌, Bool, true, false, not, Option, None, Some, List, [], ◌∷◌, ◌++◌, map, length, sym, ap, subst, ◌∙◌, arith, Result, Ok, Err}
 use Rattle.std.specs.Prelude.{MatchOption, option_map, nat_lt}
 use Rattle.std.specs.List.{find}
 use Rattle.std.specs.FinMap.{get}
@@ -21,8 +21,8 @@ use Rattle.proof_laws.specs.State.{StateValue, IsState, Fits, start}
 use Rattle.proof_laws.specs.Steps.{reached_if, reached_only_if}
 use Rattle.proof_laws.specs.Substituted.{Requirement, redundance, dominance}
 use Rattle.proof_laws.specs.Refusal.{FirstOf, fault_unless, first_fault, range_fault, size_fault, written, term_variables, pol_why, pol_fault, contradiction_fault, rup_fault, IsHintsFault, IsRupFault, IsProofFault, IsGoalFault, IsFirstGoalFault, IsSubstitutionFault, proof_of, is_clause, def_fault, assignment_of, misplaced, broken_row, line_or_none, Bounds, IsCutFault, end_fault, IsRuleFault}
-use Rattle.proof_laws.specs.Legal.{IsLegal, IsRefused, IsNext, Makes}
-use Rattle.proof_laws.specs.Replay.{Leads, IsReplay}
+use Rattle.proof_laws.specs.Legal.{IsLegal, IsRefused, IsNext}
+use Rattle.proof_laws.specs.Replay.{IsReplay}
 use Rattle.proof_laws.specs.declared.goal.Goal.{Goal}
 use Rattle.proof_laws.specs.declared.goal.GoalProof.{GoalProof}
 use Rattle.proof_laws.specs.declared.goal.GoalProof.TheVariants.{Rup as ByRup, Pol as ByPol}
@@ -30,44 +30,9 @@ use Rattle.proof_laws.specs.declared.line.Line.{Line}
 use Rattle.proof_laws.specs.declared.line.Line.TheVariants.{Pol, Rup, Learn, Def, Red, Dom, Sol, Del, Reduce, End}
 use Rattle.proof_laws.specs.declared.why.Why.{Why}
 use Rattle.proof_laws.specs.declared.why.Why.TheVariants.{NoSuchId, VarRange, NotFresh, Overflow, RupOpen, GoalOpen, GoalMissing, SolRow, CutOpen, NotClause, NotContradiction, AfterEnd, LogLong}
-use Rattle.proof_laws.proofs.Unique.{judged_once_law}
+use Rattle.proof_laws.proofs.Replays.{leads_further, replay_lines, replay_once}
 use Rattle.proof_rules.specs.Recording.{MayBeAdded, IsNextId}
 use Rattle.proof_text.specs.Recorders.{IsKept}
-
--- ---- one line more
-
-next_lines : (p : ProblemValue) (s : StateValue) (line : Line) (t : StateValue) → Makes p s line t → t.lines ≡ s.lines + 1
-next_lines p s (Pol tokens) t made = ap (λ (u : StateValue). u.lines) made.2
-next_lines p s (Rup goal hints) t made = ap (λ (u : StateValue). u.lines) made
-next_lines p s (Learn goal hints) t made = ap (λ (u : StateValue). u.lines) made
-next_lines p s (Def var sum) t made = ap (λ (u : StateValue). u.lines) made
-next_lines p s (Red goal w proofs) t made = ap (λ (u : StateValue). u.lines) made
-next_lines p s (Dom goal w proofs) t made = ap (λ (u : StateValue). u.lines) made
-next_lines p s (Sol model cut ids) t made = ap (λ (u : StateValue). u.lines) made
-next_lines p s (Del ids) t made = ap (λ (u : StateValue). u.lines) made
-next_lines p s (Reduce ids) t made = ap (λ (u : StateValue). u.lines) made
-next_lines p s (End id) t made = ap (λ (u : StateValue). u.lines) made
-
-leads_lines : (p : ProblemValue) (s : StateValue) (lines : List Line) (t : StateValue) → Leads p s lines t → t.lines ≡ s.lines + length lines
-leads_lines p s [] t leads = let same : t.lines ≡ s.lines = ap (λ (u : StateValue). u.lines) leads in omega arith
-leads_lines p s (line ∷ lines) t leads =
-    let first : leads.0.lines ≡ s.lines + 1 = next_lines p s line leads.0 leads.1.makes in
-    let rest : t.lines ≡ leads.0.lines + length lines = leads_lines p leads.0 lines t leads.2 in
-    omega arith
-
--- a state has as many lines as lead to it
-replay_lines : (p : ProblemValue) (lines : List Line) (s : StateValue) → IsReplay p lines s → s.lines ≡ length lines
-replay_lines p lines s replay = let all : s.lines ≡ 0 + length lines = leads_lines p (start p) lines s replay in omega arith
-
-leads_once : (p : ProblemValue) (s : StateValue) (lines : List Line) (t u : StateValue) → Leads p s lines t → Leads p s lines u → t ≡ u
-leads_once p s [] t u leads other = leads ∙ sym other
-leads_once p s (line ∷ lines) t u leads other =
-    let same : other.0 ≡ leads.0 = (judged_once_law p s line).one_next other.0 leads.0 other.1 leads.1 in
-    leads_once p leads.0 lines t u leads.2 (subst (λ (v : StateValue). Leads p v lines u) same other.2)
-
-leads_more : (p : ProblemValue) (s : StateValue) (lines : List Line) (line : Line) (t u : StateValue) → Leads p s lines t → IsNext p t line u → Leads p s (lines ++ line ∷ []) u
-leads_more p s [] line t u leads next = (u, subst (λ (v : StateValue). IsNext p v line u) leads next, refl)
-leads_more p s (first ∷ lines) line t u leads next = (leads.0, leads.1, leads_more p leads.0 lines line t u leads.2 next)
 
 -- ---- refused for the number of lines alone
 
@@ -205,7 +170,7 @@ legal_here p lines s line state replay room may =
 
 -- the id that the state gives next
 pub next_of : (p : ProblemValue) (lines : List Line) (s : StateValue) (id : ℕ) → IsReplay p lines s → id ≡ s.next_id → IsNextId p lines id
-next_of p lines s id replay is t other = is ∙ ap (λ (u : StateValue). u.next_id) (leads_once p (start p) lines s t replay other)
+next_of p lines s id replay is t other = is ∙ ap (λ (u : StateValue). u.next_id) (replay_once p lines s t replay other)
 
 pub kept_none : (p : ProblemValue) (s : StateValue) → s ≡ start p → Fits p s → IsKept p [] s
 kept_none p s is fits = record { formed = All-nil IsWellFormed; replay = is; fits = fits }
@@ -213,6 +178,6 @@ kept_none p s is fits = record { formed = All-nil IsWellFormed; replay = is; fit
 pub kept_more : (p : ProblemValue) (lines : List Line) (s : StateValue) (line : Line) (t : StateValue) → IsKept p lines s → IsWellFormed line → IsNext p s line t → Fits p t → IsKept p (lines ++ line ∷ []) t
 kept_more p lines s line t kept formed next fits = record {
   formed = All-push IsWellFormed lines line kept.formed formed;
-  replay = leads_more p (start p) lines line s t kept.replay next;
+  replay = leads_further p lines (start p) s t line kept.replay next;
   fits = fits;
 }

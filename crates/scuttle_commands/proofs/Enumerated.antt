@@ -2,7 +2,7 @@
 use Rattle.std.proofs.Common.{◌≡◌, ℕ, ◌+◌, ◌<◌, Bool, List, [], ◌∷◌, ◌++◌, ℤ, ap, ap₂, ◌∙◌, subst, inl, inr, ◌⊎◌, arith}
 use Rattle.std.specs.Prelude.{All, Contains}
 use Rattle.std.proofs.lemmas.Bool.{cases_lt}
-use Rattle.std.proofs.lemmas.List.Elements.{All-nil, All-push, All-contains, All-weaker, Contains-append_left, Contains-push}
+use Rattle.std.proofs.lemmas.List.Elements.{All-push, All-contains, All-weaker, Contains-append_left, Contains-push}
 use Rattle.front_set.specs.declared.entry.Entry.{Entry}
 use Rattle.front_set.specs.Front.{StandsFor}
 use Rattle.instance.specs.Shape.{InstanceValue}
@@ -10,14 +10,6 @@ use Rattle.instance.specs.Meaning.{IsModel, costs_of}
 use Rattle.instance.specs.ParetoFront.{problem_vector, IsProblemVector, AreProblemVectors}
 use Rattle.search_base.specs.Boards.{IsModelPair}
 use Rattle.scuttle_commands.specs.Enumeration.{assignment_of, pair_of, StandsForModels}
-
-pub stands_for_no_models : (i : InstanceValue) → StandsFor [] [] → StandsForModels i [] 0
-stands_for_no_models i stands = record {
-  pairs = [];
-  stands = stands;
-  sound = All-nil _;
-  complete = λ k less model. absurd (omega arith);
-}
 
 -- an assignment that is a model was inserted
 pub one_model_more : (i : InstanceValue) (old new : List Entry) (p : Entry) (k : ℕ) → StandsForModels i old k → ((pairs : List Entry) → StandsFor old pairs → StandsFor new (pairs ++ p ∷ [])) → p.model ≡ assignment_of i.vars k → IsModelPair i p → StandsForModels i new (k + 1)
@@ -39,18 +31,6 @@ one_model_more i old new p k so_far inserted numbered pair = record {
       where
         whole : (e f : Entry) → e.costs ≡ f.costs → e.model ≡ f.model → e ≡ f
         whole e f same_costs same_model = ap₂ (λ (v : List ℤ) (a : List Bool). let r : Entry = record { costs = v; model = a } in r) same_costs same_model
-
--- an assignment that is no model was passed over
-pub no_model_more : (i : InstanceValue) (entries : List Entry) (k : ℕ) → StandsForModels i entries k → (IsModel i (assignment_of i.vars k) → ⊥) → StandsForModels i entries (k + 1)
-no_model_more i entries k so_far none = record {
-  pairs = so_far.pairs;
-  stands = so_far.stands;
-  sound = so_far.sound;
-  complete = λ j less model. elim (cases_lt j k) [
-    | inl small ↦ so_far.complete j small model
-    | inr large ↦ absurd (none (let same : j ≡ k = omega arith in subst (λ (n : ℕ). IsModel i (assignment_of i.vars n)) same model))
-  ];
-}
 
 -- each entry is a model with the problem's vector of its costs
 pub entries_are_models : (i : InstanceValue) (entries : List Entry) (k : ℕ) → StandsForModels i entries k → All (IsModelPair i) entries

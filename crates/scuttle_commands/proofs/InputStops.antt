@@ -1,10 +1,8 @@
 -- Why an instance file isn't read, and what each command answers then.
-use Rattle.std.proofs.Common.{◌≡◌, ℕ, zero, ◌<◌, ◌^◌, List, length, refl, inl}
+use Rattle.std.proofs.Common.{◌≡◌, ℕ, zero, ◌<◌, ◌^◌, List, length, inl}
 use Rattle.std.specs.Prelude.{Option}
 use Rattle.scut_base.specs.Files.{Files}
-use Rattle.scut_base.specs.Faults.{Faults, ReadingFailed}
-use Rattle.scut_base.specs.declared.shelf.ShelfFault.{ShelfFault}
-use Rattle.scut_base.specs.declared.shelf.ShelfFault.TheVariants.{Failed, NoMemory as ShelfNoMemory}
+use Rattle.scut_base.specs.Faults.{Faults}
 use Rattle.instance.specs.Reading.{IsFaultOf}
 use Rattle.instance.specs.declared.fault.InstanceLimit.TheVariants.{Bytes, Vars}
 use Rattle.instance.specs.declared.fault.ReadFault.{ReadFault}
@@ -12,10 +10,9 @@ use Rattle.instance.specs.declared.fault.ReadFault.TheVariants.{Bad, Limit, NoMe
 use Rattle.scuttle_commands.specs.World.{World}
 use Rattle.scuttle_commands.specs.InstanceFile.{fault_in}
 use Rattle.scuttle_commands.specs.WholeFile.{IsWhole}
-use Rattle.scuttle_commands.specs.Statuses.{status_of_shelf, status_of_reading}
+use Rattle.scuttle_commands.specs.Statuses.{status_of_reading}
 use Rattle.scuttle_commands.specs.Stops.{IsInputStop}
 use Rattle.scuttle_commands.specs.FrontAnswers.{FrontAnswers}
-use Rattle.scuttle_commands.specs.CheckAnswers.{CheckAnswers}
 use Rattle.scuttle_commands.specs.declared.instance_file.Format.{Format}
 use Rattle.scuttle_commands.specs.declared.status.Status.{Status}
 use Rattle.scuttle_commands.specs.declared.status.Status.TheVariants.{Complete, Incomplete, LogFull, Accepted, Refused, Usage, BadInput, TooLarge, NoMemory, ShelfFailed}
@@ -28,10 +25,6 @@ input_fault (Bad line kind) files before after format input bytes read small fir
 input_fault (Limit zero Bytes) files before after format input bytes read small first = absurd (limit_has_line format bytes Bytes first)
 input_fault (Limit line which) files before after format input bytes read small first = λ told. (bytes, read told, record { taken = small; first = first })
 input_fault ReadNoMemory files before after format input bytes read small first = tt
-
-pub input_shelf : (fault : ShelfFault) (files : Option Files) (before after : Faults) (format : Format) (input : List ℕ) → (fault ≡ Failed → ReadingFailed before after input) → IsInputStop format input (status_of_shelf fault) files before after
-input_shelf Failed files before after format input rose = rose refl
-input_shelf ShelfNoMemory files before after format input rose = tt
 
 -- what `front` answers
 pub front_stopped : (status : Status) (before after : World) (format : Format) (input list : List ℕ) → IsInputStop format input status before.files before.faults after.faults → after.files ≡ before.files → after.said ≡ before.said → FrontAnswers format input list status before after
@@ -47,17 +40,3 @@ front_stopped (TooLarge zero Vars) before after format input list stop files sai
 front_stopped (TooLarge line which) before after format input list stop files said = record { cause = stop; files = files; said = said }
 front_stopped NoMemory before after format input list stop files said = nothing_done before after format input list files said
 front_stopped ShelfFailed before after format input list stop files said = (nothing_done before after format input list files said, inl stop)
-
--- what `check` answers
-pub check_stopped : (status : Status) (before after : World) (format : Format) (input list log : List ℕ) → IsInputStop format input status before.files before.faults after.faults → after.files ≡ before.files → after.said ≡ before.said → CheckAnswers format input list log status before after
-check_stopped (Complete size) before after format input list log stop files said = absurd stop
-check_stopped (Incomplete size learned) before after format input list log stop files said = absurd stop
-check_stopped (LogFull lines) before after format input list log stop files said = absurd stop
-check_stopped Accepted before after format input list log stop files said = absurd stop
-check_stopped (Refused fault) before after format input list log stop files said = absurd stop
-check_stopped Usage before after format input list log stop files said = absurd stop
-check_stopped (BadInput line kind) before after format input list log stop files said = record { cause = stop; files = files; said = said }
-check_stopped (TooLarge zero Bytes) before after format input list log stop files said = record { cause = inl stop; files = files; said = said }
-check_stopped (TooLarge line which) before after format input list log stop files said = record { cause = stop; files = files; said = said }
-check_stopped NoMemory before after format input list log stop files said = record { files = files; said = inl said }
-check_stopped ShelfFailed before after format input list log stop files said = (record { files = files; said = inl said }, inl stop)

@@ -24,12 +24,6 @@ own_rose_at_first before mid now input list (inr (inl (inl beginning))) later = 
 own_rose_at_first before mid now input list (inr (inl (inr appending))) later = inr (inl (inr (rose_at_first _ _ _ appending (later Append list))))
 own_rose_at_first before mid now input list (inr (inr saying)) later = inr (inr (rose_at_first _ _ _ saying (later Say [])))
 
-pub check_rose_at_last : (before mid now : Faults) (input list log : List ℕ) → NoneFell before mid → CheckCountRose mid now input list log → CheckCountRose before now input list log
-check_rose_at_last before mid now input list log later (inl reading) = inl (rose_at_last _ _ _ (later Read input) reading)
-check_rose_at_last before mid now input list log later (inr (inl reading)) = inr (inl (rose_at_last _ _ _ (later Read list) reading))
-check_rose_at_last before mid now input list log later (inr (inr (inl reading))) = inr (inr (inl (rose_at_last _ _ _ (later Read log) reading)))
-check_rose_at_last before mid now input list log later (inr (inr (inr saying))) = inr (inr (inr (rose_at_last _ _ _ (later Say []) saying)))
-
 pub check_rose_at_first : (before mid now : Faults) (input list log : List ℕ) → CheckCountRose before mid input list log → NoneFell mid now → CheckCountRose before now input list log
 check_rose_at_first before mid now input list log (inl reading) later = inl (rose_at_first _ _ _ reading (later Read input))
 check_rose_at_first before mid now input list log (inr (inl reading)) later = inr (inl (rose_at_first _ _ _ reading (later Read list)))

@@ -19,13 +19,13 @@ use Rattle.proof_laws.specs.declared.line.Line.{Line}
 use Rattle.proof_laws.specs.declared.why.Why.TheVariants.{LogLong}
 use Rattle.proof_laws.proofs.Derivations.{unless_none}
 use Rattle.proof_laws.proofs.NextCovers.{legal_parts}
+use Rattle.proof_laws.proofs.Replays.{replay_lines}
 use Rattle.proof_rules.specs.declared.recorder.RecordFault.{RecordFault}
 use Rattle.proof_rules.specs.declared.recorder.RecordFault.TheVariants.{Failed, Full, NoMemory}
 use Rattle.proof_text.specs.LogFile.{Held, IsLogFile, IsPartOfNext}
 use Rattle.proof_text.specs.LogText.{header_line, log_text}
 use Rattle.proof_text.specs.Recorders.{IsKept, without_file}
 use Rattle.proof_text.proofs.LogFiles.{others_same}
-use Rattle.log_checker.proofs.Stepping.{replay_count}
 use Rattle.certified_front.specs.Certified.{CoversLogged, IsEnding}
 use Rattle.certified_front.specs.declared.ending.Found.{Found}
 use Rattle.scuttle_commands.specs.SolveAnswers.{IsPartOfLog}
@@ -70,7 +70,7 @@ none_follows : (p : ProblemValue) (lines : List Line) (part : List ℕ) → leng
 none_follows p lines part full next =
     let parts = legal_parts p next.state next.line next.legal in
     let short : next.state.lines < 2 ^ 61 = ltb-true next.state.lines (2 ^ 61) (unless_none (nat_lt next.state.lines (2 ^ 61)) LogLong parts.short) in
-    let count = replay_count p lines next.state next.replay in
+    let count = replay_lines p lines next.state next.replay in
     omega (arith, full, short, count)
 
 -- a log that was begun anew, over other files that stayed

@@ -1,5 +1,5 @@
 -- How each end of the command `solve` is answered.
-use Rattle.std.proofs.Common.{◌≡◌, ◌↔◌, ℕ, zero, true, List, [], length, Ok, refl, sym, ap, subst, ◌∙◌, inl, inr}
+use Rattle.std.proofs.Common.{◌≡◌, ◌↔◌, ℕ, true, List, [], length, Ok, refl, sym, ap, subst, ◌∙◌, inl, inr}
 use Rattle.std.specs.Prelude.{Option, All}
 use Rattle.std.specs.List.{concat}
 use Rattle.std.proofs.lemmas.List.Elements.{All-weaker}
@@ -13,7 +13,6 @@ use Rattle.front_set.specs.ListText.{list_text}
 use Rattle.front_text.specs.Lines.{list_lines}
 use Rattle.front_text.specs.Spelling.{HasCosts}
 use Rattle.front_text.proofs.Lines.{concat-list_lines}
-use Rattle.instance.specs.declared.fault.InstanceLimit.TheVariants.{Bytes}
 use Rattle.instance.specs.Shape.{InstanceValue, IsWithinLimits}
 use Rattle.instance.specs.ParetoFront.{AreProblemVectors, IsFront, IsProblemVector}
 use Rattle.pb_lin.specs.Problem.{ProblemValue, IsProblem}
@@ -26,7 +25,6 @@ use Rattle.certified_front.specs.declared.ending.Ending.TheVariants.{Complete as
 use Rattle.certified_front.specs.declared.ending.Found.{Found}
 use Rattle.scuttle_commands.specs.World.{World}
 use Rattle.scuttle_commands.specs.Messages.{ending_line}
-use Rattle.scuttle_commands.specs.Stops.{IsInputStop}
 use Rattle.scuttle_commands.specs.Searches.{IsLogged, IsLogStopped}
 use Rattle.scuttle_commands.specs.SolveAnswers.{AreWritten, IsCertified, IsFound, IsLogTouched, IsPartOfLog, IsProblemOf, IsSolvedPartly, OwnCountRose, SolveAnswers, is_complete}
 use Rattle.scuttle_commands.specs.FrontAnswers.{HasNoModel}
@@ -52,23 +50,6 @@ small_costs : (i : InstanceValue) (entries : List Entry) → AreProblemVectors i
 small_costs i entries vectors = All-weaker (λ (e : Entry). IsProblemVector i e.costs) HasCosts (λ e vector. vector.small) entries vectors
 
 module _ (format : Format) (input list log : List ℕ) (limit : Option ℕ) (before after : World) where
-  -- nothing was begun
-  pub nothing_begun : after.files ≡ before.files → after.said ≡ before.said → IsSolvedPartly before after format input list log limit
-  nothing_begun files said = inl (said, inl (inl files))
-
-  -- the instance isn't read
-  pub solve_stopped : (status : Status) → IsInputStop format input status before.files before.faults after.faults → after.files ≡ before.files → after.said ≡ before.said → SolveAnswers format input list log limit status before after
-  solve_stopped (Complete size) stop files said = absurd stop
-  solve_stopped (Incomplete size learned) stop files said = absurd stop
-  solve_stopped (LogFull lines) stop files said = absurd stop
-  solve_stopped Accepted stop files said = absurd stop
-  solve_stopped (Refused fault) stop files said = absurd stop
-  solve_stopped Usage stop files said = absurd stop
-  solve_stopped (BadInput line kind) stop files said = record { cause = stop; files = files; said = said }
-  solve_stopped (TooLarge zero Bytes) stop files said = record { cause = stop; files = files; said = said }
-  solve_stopped (TooLarge line which) stop files said = record { cause = stop; files = files; said = said }
-  solve_stopped NoMemory stop files said = nothing_begun files said
-  solve_stopped ShelfFailed stop files said = (nothing_begun files said, inl stop)
 
   -- a fault of the shelf, after the search
   pub solve_shelf_fault : (fault : ShelfFault) → IsSolvedPartly before after format input list log limit → (fault ≡ Failed → OwnCountRose before.faults after.faults input list log) → SolveAnswers format input list log limit (status_of_shelf fault) before after

@@ -11,7 +11,8 @@ use Rattle.proof_laws.specs.Replay.{IsReplay, Leads}
 use Rattle.proof_laws.specs.Earned.{IsEarned, changes_learned}
 use Rattle.proof_laws.specs.declared.line.Line.{Line}
 use Rattle.proof_laws.specs.declared.line.Line.TheVariants.{Pol, Rup, Learn, Def, Red, Dom, Sol, Del, Reduce, End}
-use Rattle.proof_laws.proofs.EarnedLines.{leads_further, line_keeps_earned}
+use Rattle.proof_laws.proofs.EarnedLines.{line_keeps_earned}
+use Rattle.proof_laws.proofs.Replays.{leads_further}
 use Rattle.oracle.specs.Solving.{AreEarned, IsWithin}
 use Rattle.sum_outputs.specs.Totals.{IsTotalizerLine}
 use Rattle.sum_outputs.specs.Adding.{Snapshot, Continues, IsLater, IsReached, KeptHold}

@@ -14,9 +14,10 @@ use Rattle.proof_laws.specs.Replay.{IsReplay}
 use Rattle.proof_laws.specs.declared.line.Line.{Line}
 use Rattle.proof_laws.specs.declared.line.Line.TheVariants.{Sol}
 use Rattle.proof_laws.proofs.EarnedLines.{line_keeps_earned}
+use Rattle.proof_laws.proofs.Replays.{replay_before}
 use Rattle.oracle.specs.Solving.{AreEarned, IsWithin}
 use Rattle.sum_outputs.specs.Adding.{Snapshot, IsLater, KeptHold}
-use Rattle.sum_outputs.proofs.LaterStates.{new_not_learned, own_later, replay_before}
+use Rattle.sum_outputs.proofs.LaterStates.{new_not_learned, own_later}
 use Rattle.totalizer.specs.Keeping.{FittingStays}
 use Rattle.totalizer.specs.declared.bound.Bound.{Bound}
 use Rattle.search_base.specs.Logged.{IsCovered, Logs, logged}

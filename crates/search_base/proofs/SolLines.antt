@@ -19,9 +19,9 @@ use Rattle.proof_laws.specs.declared.line.Line.{Line}
 use Rattle.proof_laws.specs.declared.line.Line.TheVariants.{Sol}
 use Rattle.proof_laws.specs.declared.why.Why.{Why}
 use Rattle.proof_laws.specs.declared.why.Why.TheVariants.{AfterEnd, CutOpen, LogLong, NoSuchId, SolRow, VarRange}
+use Rattle.proof_laws.proofs.Replays.{replay_once}
 use Rattle.proof_rules.proofs.Cuts.{opposites_distinct}
 use Rattle.proof_rules.specs.Recording.{MayBeAdded}
-use Rattle.sum_outputs.proofs.LaterStates.{replay_once}
 use Rattle.totalizer.specs.Meaning.{AreTruthsWith, IsOwnOrNone}
 use Rattle.totalizer.specs.declared.bound.Bound.{Bound}
 use Rattle.totalizer.specs.declared.bound.Bound.TheVariants.{Always, Never, At}

@@ -8,8 +8,8 @@ use Rattle.proof_laws.specs.Legal.{Makes}
 use Rattle.proof_laws.specs.Replay.{IsReplay, Leads}
 use Rattle.proof_laws.specs.declared.line.Line.{Line}
 use Rattle.proof_laws.specs.declared.line.Line.TheVariants.{Pol, Rup, Learn, Def, Red, Dom, Sol, Del, Reduce, End}
+use Rattle.proof_laws.proofs.Replays.{leads_split, replay_once}
 use Rattle.sum_outputs.specs.Adding.{Snapshot, IsReached, IsReady}
-use Rattle.sum_outputs.proofs.LaterStates.{leads_from, replay_once}
 use Rattle.search_base.specs.Logged.{AddsTurnLines, IsTurnLine}
 use Rattle.search_base.proofs.Places.{from_places}
 
@@ -19,7 +19,7 @@ use Rattle.search_base.proofs.Places.{from_places}
 pub replay_after : (p : ProblemValue) (old new more : List Line) (s t : StateValue) → new ≡ old ++ more →
     IsReplay p old s → IsReplay p new t → Leads p s more t
 replay_after p old new more s t is before after =
-    let parts = leads_from p (start p) t old more (subst (λ (ls : List Line). IsReplay p ls t) is after) in
+    let parts = leads_split p old more (start p) t (subst (λ (ls : List Line). IsReplay p ls t) is after) in
     subst (λ (u : StateValue). Leads p u more t) (replay_once p old parts.0 s parts.1 before) parts.2
 
 -- ---- no line of a turn ends a proof

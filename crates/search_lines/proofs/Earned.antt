@@ -19,13 +19,14 @@ use Rattle.proof_laws.specs.Replay.{IsReplay}
 use Rattle.proof_laws.specs.Earned.{IsEarned, IsNewClause, IsReduction, IsRowOrClause, IsUnitUnder, IsLearnedId, Splits}
 use Rattle.proof_laws.specs.declared.line.Line.{Line}
 use Rattle.proof_laws.specs.declared.line.Line.TheVariants.{Learn, Del, Reduce}
+use Rattle.proof_laws.proofs.Replays.{leads_further, replay_once}
 use Rattle.clause_prop.specs.Steps.{TrailValue, partial}
 use Rattle.clause_prop.specs.Propagating.{IsClosedFor}
 use Rattle.clause_prop.proofs.Assigned.{length-assigned}
 use Rattle.search_trail.specs.Learning.{AreHints}
 use Rattle.search_lines.specs.StoredLines.{IsStored}
 use Rattle.search_lines.proofs.Places.{at_end}
-use Rattle.search_lines.proofs.Replays.{learns, one_law, next_law}
+use Rattle.search_lines.proofs.Counts.{learns}
 
 -- what a learned line, a deletion and a reduction have to be, after these lines
 abbrev IsNewAt : ProblemValue → List Line → Line → Type 0
@@ -44,7 +45,7 @@ module _ (p : ProblemValue) (lines : List Line) (n : ℕ) (s t : StateValue) (li
 
   line_earns : IsEarned p (lines ++ line ∷ []) (n + learns line)
   line_earns = record {
-    replays = (t, next_law p lines line s t replay step);
+    replays = (t, leads_further p lines (start p) s t line replay step);
     learned = sum_by_push learns lines line ∙ ap (λ (k : ℕ). k + learns line) earned.learned;
     new = λ before goal hints after u splits replayed. ⊎_elim
         (λ (last : IsNewAt p before (Learn goal hints)). last u replayed)
@@ -62,7 +63,7 @@ module _ (p : ProblemValue) (lines : List Line) (n : ℕ) (s t : StateValue) (li
 
 pub learned_law : (p : ProblemValue) (lines : List Line) (n : ℕ) (s t : StateValue) (goal : ConstraintValue) (hints : List Hint) → IsEarned p lines n → IsReplay p lines s → IsNewClause p s goal hints → IsNext p s (Learn goal hints) t → IsEarned p (lines ++ Learn goal hints ∷ []) (n + 1)
 learned_law p lines n s t goal hints earned replay new step =
-    line_earns p lines n s t (Learn goal hints) earned replay step (λ u replayed. subst (λ (v : StateValue). IsNewClause p v goal hints) (one_law p lines s u replay replayed) new)
+    line_earns p lines n s t (Learn goal hints) earned replay step (λ u replayed. subst (λ (v : StateValue). IsNewClause p v goal hints) (replay_once p lines s u replay replayed) new)
 
 pub reduction_law : (p : ProblemValue) (lines : List Line) (n : ℕ) (s t : StateValue) (ids : List ℕ) → IsEarned p lines n → IsReplay p lines s → IsReduction p lines ids → IsNext p s (Reduce ids) t → IsEarned p (lines ++ Reduce ids ∷ []) n
 reduction_law p lines n s t ids earned replay new step =

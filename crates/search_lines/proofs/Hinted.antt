@@ -28,11 +28,11 @@ use Rattle.proof_laws.specs.declared.line.Line.TheVariants.{Learn, Rup}
 use Rattle.proof_laws.specs.declared.why.Why.{Why}
 use Rattle.proof_laws.specs.declared.why.Why.TheVariants.{AfterEnd, LogLong, NotClause, Overflow, RupOpen, VarRange}
 use Rattle.proof_laws.proofs.NextStates.{clause_is_normal}
+use Rattle.proof_laws.proofs.Replays.{replay_once}
 use Rattle.proof_rules.specs.Recording.{MayBeAdded}
 use Rattle.search_trail.specs.Learning.{AreHints, stored}
 use Rattle.search_lines.specs.StoredLines.{IsStored}
 use Rattle.search_lines.proofs.Earned.{value_of_some}
-use Rattle.search_lines.proofs.Replays.{one_law}
 
 -- a hint that names a stored line
 abbrev IsStoredId : LineMap → Hint → Type 0
@@ -168,7 +168,7 @@ module _ (p : ProblemValue) (s : StateValue) (next : ℕ) (store : LineMap) (lit
 
 -- what may follow in the one state that lines reach may be added to them
 may_be_added : (p : ProblemValue) (lines : List Line) (s : StateValue) (line : Line) → IsReplay p lines s → IsLegal p s line ⊎ IsRefused p s line LogLong → MayBeAdded p lines line
-may_be_added p lines s line replay may t replayed = subst (λ (u : StateValue). IsLegal p u line ⊎ IsRefused p u line LogLong) (one_law p lines s t replay replayed) may
+may_be_added p lines s line replay may t replayed = subst (λ (u : StateValue). IsLegal p u line ⊎ IsRefused p u line LogLong) (replay_once p lines s t replay replayed) may
 
 pub formed_law : (p : ProblemValue) (s : StateValue) (next : ℕ) (store : LineMap) (lits : List Literal) (hints : List Hint) → IsState s → IsStored p s next store → AllPairs (λ l m. l.var < m.var) lits → All (λ l. (0 < l.var) × (l.var ≤ s.vars)) lits → AreHints store s.vars lits hints → IsWellFormed (Learn (clause lits) hints)
 formed_law p s next store lits hints state held rising within given = formed p s next store lits hints state held rising within given

@@ -1,5 +1,5 @@
 pub mod Stored
-pub mod Replays
+pub mod Counts
 pub mod Places
 pub mod SearchLines
 pub mod Earned

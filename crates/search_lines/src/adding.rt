@@ -40,16 +40,6 @@ pub fn hints_make_legal()
         → IsReplay p lines s → MayBeAdded p lines line → s.lines < 2 ^ 61 → IsLegal p s line }
 {}
 
-/// Law: lines reach one state, and with a line more the next one.
-pub fn replays_go_on()
-    ensures one { (p : ProblemValue) (lines : List Line) (s t : StateValue)
-        → IsReplay p lines s → IsReplay p lines t → s ≡ t }
-    ensures last { (p : ProblemValue) (lines : List Line) (line : Line) (s t : StateValue)
-        → IsReplay p lines s → IsReplay p (lines ++ line ∷ []) t → IsNext p s line t }
-    ensures next { (p : ProblemValue) (lines : List Line) (line : Line) (s t : StateValue)
-        → IsReplay p lines s → IsNext p s line t → IsReplay p (lines ++ line ∷ []) t }
-{}
-
 /// Law: search lines that follow learned ones and reductions are search lines after the old ones.
 pub fn search_lines_join()
     ensures none { (p : ProblemValue) (a : List Line) → AddsLearned p a a }

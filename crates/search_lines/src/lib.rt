@@ -10,7 +10,7 @@ mod adding;
 mod earning;
 mod storing;
 
-pub use adding::{hints_make_legal, replays_go_on, search_lines_join};
+pub use adding::{hints_make_legal, search_lines_join};
 pub use earning::{
     first_line_is_no_reduction, learned_is_counted, learned_line_is_earned, reduction_is_earned,
     stored_unit_is_new,

@@ -1,9 +1,9 @@
 -- The variables that wait while a trail is cut.
-use Rattle.std.proofs.Common.{◌≡◌, ◌≢◌, ℕ, ◌+◌, ◌-◌, ◌<◌, ◌≤◌, Bool, false, not, if◌then◌else◌, length, get_or, refl, arith, ap, sym, ◌∙◌, subst, ⊎_elim}
+use Rattle.std.proofs.Common.{◌≡◌, ℕ, ◌-◌, ◌<◌, ◌≤◌, Bool, false, not, if◌then◌else◌, length, get_or, refl, arith, ap, ◌∙◌, subst, ⊎_elim}
 use Rattle.std.specs.Prelude.{Contains, Some, None, Option, slice_get}
 use Rattle.std.specs.Option.{option_map}
-use Rattle.std.proofs.lemmas.Bool.{cases_eq, cases_lt}
-use Rattle.std.proofs.lemmas.Option.{same_Some, slice_get-get_or}
+use Rattle.std.proofs.lemmas.Bool.{cases_lt}
+use Rattle.std.proofs.lemmas.Option.{slice_get-get_or}
 use Rattle.scut_base.specs.Literal.{Literal}
 use Rattle.clause_prop.specs.Steps.{TrailValue, AreSteps, partial, cut}
 use Rattle.clause_prop.specs.declared.step.Step.{Step}
@@ -11,33 +11,13 @@ use Rattle.clause_prop.proofs.Assigned.{assigned-found}
 use Rattle.search_trail.specs.SearchTrail.{IsStepAt}
 use Rattle.search_trail.proofs.Places.{slice_get-take}
 use Rattle.search_trail.proofs.Truths.{var_within, open_apart, steps_front}
-use Rattle.decision_order.specs.Order.{OrderValue, SameWait, WaitsToo, IsOpenVar}
+use Rattle.decision_order.specs.Order.{OrderValue, IsOpenVar}
 use Rattle.search_state.specs.Searching.{IsOrderFor}
 
 -- the variables of the steps from `keep` on, up to the place, wait too
 pub record IsPutBack (o : OrderValue) (t : TrailValue) (keep place : ℕ) : Type 0 where
   pub order : IsOrderFor o t
   pub back : (q : ℕ) (s : Step) → keep ≤ q → q < place → IsStepAt t q s → Contains o.waiting s.lit.var
-
--- the same variables wait, of as many
-pub order_same : (o p : OrderValue) (t : TrailValue) → SameWait o p → length p.activities ≡ length o.activities → IsOrderFor o t → IsOrderFor p t
-order_same o p t same long is = record {
-  known = is.known ∙ sym long;
-  open_wait = λ v positive within open_v. same.kept v (is.open_wait v positive within open_v);
-}
-
--- the variable of a step waits too
-pub put_back_step : (o p : OrderValue) (t : TrailValue) (keep k : ℕ) (s : Step) → IsStepAt t k s → WaitsToo o p s.lit.var → length p.activities ≡ length o.activities → IsPutBack o t keep k → IsPutBack p t keep (k + 1)
-put_back_step o p t keep k s at waits long is = record {
-  order = record {
-    known = is.order.known ∙ sym long;
-    open_wait = λ v positive within open_v. waits.kept v (is.order.open_wait v positive within open_v);
-  };
-  back = λ q r from less at_r. ⊎_elim
-      (λ (here : q ≡ k). subst (λ (x : Step). Contains p.waiting x.lit.var) (same_Some s r (sym at ∙ ap (slice_get t.steps) (sym here) ∙ at_r)) waits.here)
-      (λ (other : q ≢ k). waits.kept r.lit.var (is.back q r from (omega arith) at_r))
-      (cases_eq q k);
-}
 
 positive_literal : ℕ → Literal
 positive_literal v = record { var = v; neg = false }

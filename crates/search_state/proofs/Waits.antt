@@ -14,7 +14,7 @@ use Rattle.clause_prop.specs.Propagating.{Extends}
 use Rattle.clause_prop.specs.declared.step.Step.{Step}
 use Rattle.clause_prop.proofs.Assigned.{Values, assigned-push, length-assigned}
 use Rattle.search_trail.proofs.Wider.{assigned-wider, truth_wider}
-use Rattle.decision_order.specs.Order.{IsGrown, IsOpenVar, NoneOpen, OrderValue, OtherOpenWait, SameOrder}
+use Rattle.decision_order.specs.Order.{IsGrown, IsOpenVar, OrderValue, OtherOpenWait, SameOrder}
 use Rattle.search_state.specs.Searching.{IsOrderFor}
 
 -- a variable is open where the table has nothing for it
@@ -57,10 +57,6 @@ order_decided o t s known from_one inside waiting = record {
       waiting var positive within (opens t var (open_before (partial t) s (var - 1) none))
       (λ (e : var ≡ s.lit.var). not_own (partial t) s (omega (arith, length-assigned t.vars t.steps)) (subst (λ (v : ℕ). get_or (with_true (partial t) s) (v - 1) None ≡ None) e none));
 }
-
--- no variable has to wait where none is open
-pub order_none : (o : OrderValue) (t : TrailValue) → t.vars ≡ length o.activities → NoneOpen t → IsOrderFor o t
-order_none o t known none = record { known = known; open_wait = λ var positive within open'. absurd (none var positive within open') }
 
 wider_sum : (n m : ℕ) → max n m ≡ m + (n - m)
 wider_sum n m = omega arith

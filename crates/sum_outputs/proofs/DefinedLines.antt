@@ -25,12 +25,13 @@ use Rattle.proof_laws.specs.declared.line.Line.{Line}
 use Rattle.proof_laws.specs.declared.line.Line.TheVariants.{Def}
 use Rattle.proof_laws.specs.declared.why.Why.{Why}
 use Rattle.proof_laws.specs.declared.why.Why.TheVariants.{AfterEnd, LogLong, NotFresh, Overflow}
+use Rattle.proof_laws.proofs.Replays.{replay_before, replay_once}
 use Rattle.proof_rules.specs.Recording.{MayBeAdded, IsNextId}
 use Rattle.sum_outputs.specs.Adding.{Snapshot, IsReached, IsReady}
 use Rattle.sum_outputs.specs.Outputs.{IsDefinedBy, IsDefinedNext, IsInOrder, IsSumOf}
 use Rattle.sum_outputs.specs.Totals.{AreWeights}
 use Rattle.sum_outputs.specs.declared.made.SumOutput.{SumOutput}
-use Rattle.sum_outputs.proofs.LaterStates.{get_other, replay_before, replay_once, replay_vars, after_not_learned}
+use Rattle.sum_outputs.proofs.LaterStates.{get_other, replay_vars, after_not_learned}
 use Rattle.sum_outputs.proofs.PartLines.{total_one}
 use Rattle.sum_outputs.proofs.ImplyLines.{none_found, put_live}
 

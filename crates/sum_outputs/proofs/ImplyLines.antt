@@ -33,12 +33,13 @@ use Rattle.proof_laws.specs.declared.line.Line.{Line}
 use Rattle.proof_laws.specs.declared.line.Line.TheVariants.{Pol}
 use Rattle.proof_laws.specs.declared.why.Why.{Why}
 use Rattle.proof_laws.specs.declared.why.Why.TheVariants.{AfterEnd, LogLong, VarRange}
+use Rattle.proof_laws.proofs.Replays.{replay_before, replay_once}
 use Rattle.proof_rules.specs.Recording.{MayBeAdded}
 use Rattle.sum_outputs.specs.Adding.{Snapshot, IsReached, IsReady, Always}
 use Rattle.sum_outputs.specs.ClauseTokens.{added, summed, weakens, cuts, named, clause_tokens}
 use Rattle.sum_outputs.specs.Outputs.{AreLiteralsOf, sums, CanImply, Imply}
 use Rattle.sum_outputs.specs.declared.made.SumOutput.{SumOutput}
-use Rattle.sum_outputs.proofs.LaterStates.{replay_before, replay_once, new_not_learned}
+use Rattle.sum_outputs.proofs.LaterStates.{new_not_learned}
 use Rattle.sum_outputs.proofs.Glue.{AreApart, apart_from_rising, bound, bound_within, none_true}
 use Rattle.sum_outputs.proofs.Chains.{AreLines, is_of, MakesClause, has_clause}
 use Rattle.sum_outputs.proofs.TokenLists.{lowers_of}

@@ -20,40 +20,13 @@ use Rattle.proof_laws.specs.Replay.{Leads, IsReplay}
 use Rattle.proof_laws.specs.Earned.{IsLearnedId}
 use Rattle.proof_laws.specs.declared.line.Line.{Line}
 use Rattle.proof_laws.specs.declared.line.Line.TheVariants.{Pol, Rup, Learn, Def, Red, Dom, Sol, Del, Reduce, End}
-use Rattle.proof_laws.proofs.Unique.{judged_once_law}
+use Rattle.proof_laws.proofs.Replays.{leads_split, replay_before, replay_once}
 use Rattle.proof_rules.specs.Recording.{Surroundings, KeepsSurroundings, CountsLater}
 use Rattle.proof_rules.specs.declared.recorder.RecordFault.{RecordFault}
 use Rattle.proof_rules.specs.declared.recorder.RecordFault.TheVariants.{Failed, Full, NoMemory}
 use Rattle.sum_outputs.specs.Totals.{IsTotalizerLine}
 use Rattle.sum_outputs.specs.Adding.{Snapshot, IsOwn, IsLater, IsReached, Always, IsReady, HasLater, Continues, IsFaultAt, IsRecorded}
 use Rattle.sum_outputs.proofs.ReplayIds.{HasIds, replay_ids}
-
--- ---- replays
-
-leads_once : (p : ProblemValue) (s : StateValue) (lines : List Line) (t u : StateValue) → Leads p s lines t → Leads p s lines u → t ≡ u
-leads_once p s [] t u one other = one ∙ sym other
-leads_once p s (line ∷ lines) t u one other =
-    let same : one.0 ≡ other.0 = (judged_once_law p s line).one_next one.0 other.0 one.1 other.1 in
-    leads_once p one.0 lines t u one.2 (subst (λ (v : StateValue). Leads p v lines u) (sym same) other.2)
-
--- lines reach at most one state
-pub replay_once : (p : ProblemValue) (lines : List Line) (s t : StateValue) → IsReplay p lines s → IsReplay p lines t → s ≡ t
-replay_once p lines s t one other = leads_once p (start p) lines s t one other
-
--- the lines before a place lead to the state that those after it start from
-pub leads_from : (p : ProblemValue) (s t : StateValue) (before after : List Line) → Leads p s (before ++ after) t → (u : StateValue) × Leads p s before u × Leads p u after t
-leads_from p s t [] after leads = (s, refl, leads)
-leads_from p s t (line ∷ before) after leads =
-    let rest = leads_from p leads.0 t before after leads.2 in
-    (rest.0, (leads.0, leads.1, rest.1), rest.2)
-
--- the state before the last line
-pub replay_before : (p : ProblemValue) (lines : List Line) (line : Line) (s t : StateValue) → IsReplay p lines s → IsReplay p (lines ++ line ∷ []) t → IsNext p s line t
-replay_before p lines line s t replay more =
-    let parts = leads_from p (start p) t lines (line ∷ []) more in
-    let last = parts.2 in
-    let same : parts.0 ≡ s = replay_once p lines parts.0 s parts.1 replay in
-    subst (λ (u : StateValue). IsNext p u line t) same (subst (λ (u : StateValue). IsNext p parts.0 line u) (sym last.2) last.1)
 
 -- ---- one line
 
@@ -156,7 +129,7 @@ replay_vars p lines s replay = (leads_rise p (start p) s lines replay).vars
 -- an id that was learned is below the next
 learned_below : (p : ProblemValue) (lines : List Line) (s : StateValue) (id : ℕ) → IsReplay p lines s → IsLearnedId p lines id → id < s.next_id
 learned_below p lines s id replay (before, goal, hints, after, u, splits, reached, is) =
-    let parts = leads_from p (start p) s before (Learn goal hints ∷ after) (subst (λ (ls : List Line). IsReplay p ls s) splits replay) in
+    let parts = leads_split p before (Learn goal hints ∷ after) (start p) s (subst (λ (ls : List Line). IsReplay p ls s) splits replay) in
     let same : parts.0 ≡ u = replay_once p before parts.0 u parts.1 reached in
     let next = parts.2 in
     let makes = next.1 in

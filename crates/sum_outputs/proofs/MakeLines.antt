@@ -1,6 +1,6 @@
 -- An output that is made, from its definition to the last of its clauses.
-use Rattle.std.proofs.Common.{◌≡◌, inr, ℕ, ◌<◌, ◌≤◌, Bool, true, false, List, [], ◌∷◌, ◌++◌, get_or, length, sym, subst, ⊎_elim, arith}
-use Rattle.std.proofs.lemmas.List.Elements.{All-nil, All-cons}
+use Rattle.std.proofs.Common.{◌≡◌, inr, ℕ, ◌<◌, ◌≤◌, ◌^◌, Bool, true, false, List, [], ◌∷◌, ◌++◌, get_or, length, sym, subst, ⊎_elim, arith}
+use Rattle.std.proofs.lemmas.List.Elements.{All-nil, All-cons, All-contains, Contains-get_or}
 use Rattle.scut_base.specs.Assignment.{lit_true}
 use Rattle.pb_lin.specs.Constraint.{IsVariable, total, value}
 use Rattle.cutting_planes.proofs.Terms.{Terms}
@@ -8,7 +8,7 @@ use Rattle.proof_laws.specs.State.{StateValue}
 use Rattle.sum_outputs.specs.Totals.{AreWeights, IsLeastSum}
 use Rattle.sum_outputs.specs.Adding.{Snapshot, IsReached, IsReady, Continues, KeptHold, Always}
 use Rattle.sum_outputs.specs.Outputs.{CanImplyNow, Imply, IsDefined, IsDefinedNext}
-use Rattle.sum_outputs.specs.Joining.{Follows, AreOutputsAt, AreOutputsNow, IsCompleteTo, AreChildren, AreChildrenNow, IsTarget, IsTargetNow, AreImplying, IsAboveAll, IsNewOutput}
+use Rattle.sum_outputs.specs.Joining.{Follows, IsOutputAt, SinglesImply, AreOutputsAt, AreOutputsNow, IsCompleteTo, AreChildren, AreChildrenNow, IsTarget, IsTargetNow, AreImplying, IsAboveAll, IsNewOutput}
 use Rattle.sum_outputs.specs.declared.made.SumOutput.{SumOutput}
 use Rattle.sum_outputs.proofs.Glue.{value-le-total}
 use Rattle.sum_outputs.proofs.LaterStates.{continues_twice, ready_later, always_later}
@@ -46,7 +46,7 @@ module _ (a b : Snapshot) (ready : IsReady a) (on : Continues a b) where
 module _ (a b c d : Snapshot) (ready : IsReady a) (one : Continues a b) (b_whole : b.broken ≡ false) (two : Continues b c) (c_whole : c.broken ≡ false) (three : Continues c d) (first second terms : Terms) (firsts seconds next : List SumOutput) (o : SumOutput) (from below : ℕ)
     (are : AreChildrenNow a first second firsts seconds) (same : terms ≡ first ++ second) (nexts : AreOutputsNow a terms next) (above : IsAboveAll terms next below) (greater : (k : ℕ) (e : SumOutput) → k < length next → o.sum < (get_or next k e).sum)
     (from_one : 0 < from) (from_is : o.from ≡ from) (least : IsLeastSum terms from o.sum) (left : IsCompleteTo first firsts from) (right : IsCompleteTo second seconds from) (new : IsDefinedNext a b terms o)
-    (ties : (k : ℕ) (e : SumOutput) → k < length next → Always c (Imply (get_or next k e ∷ []) o)) (by : AreImplying d firsts seconds o below) where
+    (most : ℕ) (large : 2 ^ 63 ≤ most) (ties : SinglesImply c next o most) (by : AreImplying d firsts seconds o below) where
   all : Continues a d
   all = continues_twice a c d (continues_twice a b c one two) three
 
@@ -65,11 +65,16 @@ module _ (a b c d : Snapshot) (ready : IsReady a) (one : Continues a b) (b_whole
       (λ (none : total terms < below). let most = value-le-total x terms in absurd (omega arith))
       (λ (next_is : (0 < length next) × ((e : SumOutput) → (get_or next 0 e).sum ≡ below)).
       let p = get_or next 0 o in
-      let is = (outputs_later a d ready all terms next nexts t reached).each 0 o next_is.0 in
+      let outputs = outputs_later a d ready all terms next nexts t reached in
       let sum = next_is.1 o in
-      let true_too : lit_true x p.lit ≡ true = is.follows x hold (omega arith) in
-      always_later c d (Imply (p ∷ []) o) (ready_later a c ready (continues_twice a b c one two) c_whole) three (ties 0 o next_is.0) t reached x hold
-      (All-cons (λ q. lit_true x q.lit ≡ true) p [] true_too (All-nil (λ q. lit_true x q.lit ≡ true))))
+      let over = greater 0 o next_is.0 in
+      let small = outputs.rising.small 0 o next_is.0 in
+      let lesser = ties p (Contains-get_or next 0 o next_is.0) (omega arith) (omega arith) in
+      let is = All-contains (IsOutputAt d t terms) next lesser.0 outputs.each lesser.1 in
+      let low = lesser.2 in
+      let true_too : lit_true x lesser.0.lit ≡ true = is.follows x hold (omega arith) in
+      always_later c d (Imply (lesser.0 ∷ []) o) (ready_later a c ready (continues_twice a b c one two) c_whole) three lesser.3 t reached x hold
+      (All-cons (λ q. lit_true x q.lit ≡ true) lesser.0 [] true_too (All-nil (λ q. lit_true x q.lit ≡ true))))
       above
 
   defined_d : (t : StateValue) → IsReached d t → IsDefined d t terms o × IsVariable t.vars o.lit.var

@@ -8,10 +8,11 @@ use Rattle.pb_lin.specs.Problem.{ProblemValue}
 use Rattle.cutting_planes.proofs.Terms.{Terms}
 use Rattle.proof_laws.specs.State.{StateValue}
 use Rattle.proof_laws.specs.Steps.{reached_if, reached_only_if}
+use Rattle.proof_laws.proofs.Replays.{replay_once}
 use Rattle.sum_outputs.specs.Adding.{Snapshot, IsOwn, IsReached, IsReady, HasLater, Continues}
 use Rattle.sum_outputs.specs.Outputs.{IsOfLeaf, IsDefined, IsLiteralOf, AreLiteralsOf, CanImply, CanImplyNow}
 use Rattle.sum_outputs.specs.declared.made.SumOutput.{SumOutput}
-use Rattle.sum_outputs.proofs.LaterStates.{replay_once, continues_again, continues_twice, ready_later}
+use Rattle.sum_outputs.proofs.LaterStates.{continues_again, continues_twice, ready_later}
 
 module _ (a b : Snapshot) (on : Continues a b) (s : StateValue) (has : HasLater a b s) where
   own_then : (id : ℕ) (c : ConstraintValue) → IsOwn a.problem a.lines s id c → IsOwn b.problem b.lines has.state id c

@@ -1,11 +1,11 @@
 // The outputs of a node, and those that it gets.
-ghost use Rattle.std.specs.Prelude.{◌≡◌, ℕ, ◌+◌, ◌<◌, ◌++◌, [], ◌∷◌, length, reverse, slice_index_or, All, IfOk, OnOk};
+ghost use Rattle.std.specs.Prelude.{◌≡◌, ℕ, ◌+◌, ◌-◌, ◌<◌, ◌^◌, ◌++◌, [], ◌∷◌, length, reverse, slice_index_or, All, IfOk, OnOk};
 ghost use Rattle.pb_lin.specs.Constraint.{total};
 ghost use Rattle.proof_laws.specs.State.{StateValue};
 ghost use Rattle.sum_outputs.specs.Totals.{definitions};
 ghost use Rattle.sum_outputs.specs.Adding.{seen, IsReached, IsReady, IsRecorded};
 ghost use Rattle.sum_outputs.specs.Outputs.{AreRising, CanImplyNow, IsDefined};
-ghost use Rattle.sum_outputs.specs.Joining.{AreChildrenNow, AreOutputsNow, IsCompleteTo};
+ghost use Rattle.sum_outputs.specs.Joining.{AreChildrenNow, AreOutputsNow, IsCompleteTo, SinglesImply};
 ghost use Rattle.sum_outputs.specs.Sums.{last_sum};
 ghost use Rattle.sum_outputs.specs.Falling.{AreAllBetween, AreExtended};
 ghost use Rattle.sum_outputs.specs.declared.made.SumOutput.{SumOutput};
@@ -13,7 +13,7 @@ ghost use Rattle.sum_outputs.specs.declared.made.SumOutput.{SumOutput};
 use crate::SumOutput;
 use crate::extending::{last_of, last_sum, make_falling};
 use crate::recording::in_memory;
-use crate::windows::{Child, add_singles};
+use crate::windows::{Child, add_single};
 use proof_rules::{RecordFault, Recorder};
 use scut_base::{Items, Lit, NoMemory};
 use std::alloc::Global;
@@ -63,7 +63,7 @@ pub(crate) fn extended<R: Recorder>(
     in_memory(joined(alloc, outputs, falling))
 }
 
-// The clauses by which outputs of a node imply smaller ones.
+// The clauses by which outputs of a node imply smaller ones: each smaller one by the least of the greater.
 pub(crate) fn tie<R: Recorder>(
     alloc: Global,
     rec: &mut R,
@@ -79,11 +79,14 @@ pub(crate) fn tie<R: Recorder>(
     ensures recorded { IsRecorded
         (seen R.problem R.limit R.lines R.faults R.broken R.around rec.old)
         (seen R.problem R.limit R.lines R.faults R.broken R.around rec.new) result }
+    ensures says { OnOk result ((i : ℕ) (d : SumOutput) → i < length smaller.now
+        → SinglesImply (seen R.problem R.limit R.lines R.faults R.broken R.around rec.new)
+        greater.now (slice_index_or smaller.now i d) (2 ^ 64 - 1)) }
     ensures defines_none { OnOk result
         (definitions (R.lines rec.new) ≡ definitions (R.lines rec.old)) }
 {
     for at in 0..smaller.len() {
-        add_singles(alloc, rec, greater, &[], &smaller[at], u64::MAX)?;
+        add_single(alloc, rec, greater, &[], &smaller[at], u64::MAX)?;
     }
     Ok(())
 }

@@ -6,7 +6,7 @@ ghost use Rattle.sum_outputs.specs.Joining.{AreChildrenNow, AreOutputsNow, IsAbo
 
 use crate::SumOutput;
 use crate::definition::define;
-use crate::windows::{Child, add_singles, add_window};
+use crate::windows::{Child, add_single, add_window};
 use proof_rules::{RecordFault, Recorder};
 use scut_base::Lit;
 use std::alloc::Global;
@@ -51,7 +51,7 @@ pub(crate) fn make_output<R: Recorder>(
         (definitions (R.lines rec.new) ≡ definitions (R.lines rec.old) + 1) }
 {
     let made = define(alloc, rec, terms, from, sum)?;
-    add_singles(alloc, rec, next, &[], &made, u64::MAX)?;
+    add_single(alloc, rec, next, &[], &made, u64::MAX)?;
     add_window(alloc, rec, first, second, &made, below)?;
     Ok(made)
 }

@@ -1,5 +1,5 @@
 // One line more in a recorder.
-ghost use Rattle.std.specs.Prelude.{◌≡◌, ◌++◌, ◌∷◌, [], Ok, IfOk, IfErr, OnOk};
+ghost use Rattle.std.specs.Prelude.{◌≡◌, ◌++◌, ◌∷◌, [], Ok, IsOk, IfOk, IfErr, OnOk};
 ghost use Rattle.proof_laws.specs.WellFormed.{IsWellFormed};
 ghost use Rattle.proof_rules.specs.Recording.{MayBeAdded, IsNextId};
 ghost use Rattle.sum_outputs.specs.Totals.{IsTotalizerLine};
@@ -34,6 +34,7 @@ pub(crate) fn record<R: Recorder>(rec: &mut R, line: &Line) -> Result<u64, Recor
 pub fn in_memory<T: Drop>(made: Result<T, NoMemory>) -> Result<T, RecordFault>
     ensures ok { IfOk result (λ x. made ≡ Ok x) }
     ensures fault { IfErr result (λ f. f ≡ RecordFault.NoMemory) }
+    ensures answered { IsOk made → IsOk result }
 {
     match made {
         Ok(made) => Ok(made),

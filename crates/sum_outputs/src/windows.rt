@@ -28,38 +28,6 @@ pub fn place_of(outputs: &[SumOutput], number: u64) -> usize
     outputs.partition_point(|output| output.sum < number)
 }
 
-// Adds the clause of each of these outputs alone whose sum is at least the target's, and below a number.
-pub(crate) fn add_singles<R: Recorder>(
-    alloc: Global,
-    rec: &mut R,
-    parts: &[SumOutput],
-    weakened: &[(Lit, u64)],
-    target: &SumOutput,
-    below: u64,
-) -> Result<(), RecordFault>
-    requires ready { IsReady (seen R.problem R.limit R.lines R.faults R.broken R.around rec.old) }
-    requires rising { AreRising parts.now }
-    requires can { (k : ℕ) (d : SumOutput) → k < length parts.now
-        → target.now.sum ≤ (slice_index_or parts.now k d).sum
-        → CanImplyNow (seen R.problem R.limit R.lines R.faults R.broken R.around rec.old)
-        (slice_index_or parts.now k d ∷ []) weakened.now target.now }
-    ensures recorded { IsRecorded
-        (seen R.problem R.limit R.lines R.faults R.broken R.around rec.old)
-        (seen R.problem R.limit R.lines R.faults R.broken R.around rec.new) result }
-    ensures says { OnOk result ((k : ℕ) (d : SumOutput) → k < length parts.now
-        → target.now.sum ≤ (slice_index_or parts.now k d).sum
-        → (slice_index_or parts.now k d).sum < below
-        → Always (seen R.problem R.limit R.lines R.faults R.broken R.around rec.new)
-        (Imply (slice_index_or parts.now k d ∷ []) target.now)) }
-    ensures defines_none { OnOk result
-        (definitions (R.lines rec.new) ≡ definitions (R.lines rec.old)) }
-{
-    for at in place_of(parts, target.sum)..place_of(parts, below) {
-        imply_by_one(alloc, rec, &parts[at], weakened, target)?;
-    }
-    Ok(())
-}
-
 // The least of these outputs whose sum is at least one number, where it is below another.
 fn least_between(outputs: &[SumOutput], from: u64, below: u64) -> Option<SumOutput>
     requires { AllPairs (λ o q. o.sum < q.sum) outputs.now }

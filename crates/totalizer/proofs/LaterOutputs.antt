@@ -5,13 +5,13 @@ use Rattle.pb_lin.specs.Problem.{ProblemValue}
 use Rattle.cutting_planes.proofs.Terms.{Terms}
 use Rattle.proof_laws.specs.State.{StateValue}
 use Rattle.proof_laws.specs.Steps.{reached_if, reached_only_if}
+use Rattle.proof_laws.proofs.Replays.{replay_once}
 use Rattle.sum_outputs.specs.Adding.{Snapshot, IsOwn, IsLater, IsReached, IsReady, KeptHold, Continues}
 use Rattle.sum_outputs.specs.Outputs.{IsOfLeaf, IsDefined, IsLiteralOf}
 use Rattle.sum_outputs.specs.Joining.{IsOutputAt}
 use Rattle.sum_outputs.specs.MadeOutputs.{AreMade}
 use Rattle.sum_outputs.specs.declared.node.Node.{Node}
 use Rattle.sum_outputs.specs.declared.made.SumOutput.{SumOutput}
-use Rattle.sum_outputs.proofs.LaterStates.{replay_once}
 
 module _ (a b : Snapshot) (problem : b.problem ≡ a.problem) (s t : StateValue)
     (later : IsLater a.problem a.lines s b.lines t) where

@@ -6,8 +6,9 @@ use Rattle.proof_laws.specs.Legal.{IsNext}
 use Rattle.proof_laws.specs.Replay.{IsReplay}
 use Rattle.proof_laws.specs.declared.line.Line.{Line}
 use Rattle.proof_laws.specs.declared.line.Line.TheVariants.{Pol, Rup, Learn, Def, Red, Dom, Sol, Del, Reduce, End}
+use Rattle.proof_laws.proofs.Replays.{leads_split, replay_before, replay_once}
 use Rattle.sum_outputs.specs.Adding.{IsLater}
-use Rattle.sum_outputs.proofs.LaterStates.{later_twice, leads_from, own_later, reduced_later, replay_before, replay_once}
+use Rattle.sum_outputs.proofs.LaterStates.{later_twice, own_later, reduced_later}
 use Rattle.totalizer.specs.Keeping.{DeletesLearned, OwnLinesStay}
 
 -- ---- one line
@@ -53,7 +54,7 @@ more_later p (line ∷ rest) old s t kinds replay after =
     let now = old ++ line ∷ [] in
     let whole : now ++ rest ≡ old ++ (line ∷ rest) = append_assoc old (line ∷ []) rest in
     let last = subst (λ (ls : List Line). IsReplay p ls t) (sym whole) after in
-    let parts = leads_from p (start p) t now rest last in
+    let parts = leads_split p now rest (start p) t last in
     let u = parts.0 in
     let kind = subst (λ (ls : List Line). DeletesLearned p ls line) (append-nil old) (kinds [] line rest refl) in
     let one = line_later p old s u replay line (replay_before p old line s u replay parts.1) kind in

@@ -1,4 +1,4 @@
-use Rattle.search_lines.proofs.Replays.{first_law}
+use Rattle.search_lines.proofs.Counts.{first_law}
 use Rattle.search_lines.proofs.earning.first_line_is_no_reduction.Goals as goal
 
 pub returns : goal.returns

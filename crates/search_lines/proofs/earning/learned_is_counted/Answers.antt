@@ -1,4 +1,4 @@
-use Rattle.search_lines.proofs.Replays.{counted_law}
+use Rattle.search_lines.proofs.Counts.{counted_law}
 use Rattle.search_lines.proofs.earning.learned_is_counted.Goals as goal
 
 pub returns : goal.returns

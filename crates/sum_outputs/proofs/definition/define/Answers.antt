@@ -5,8 +5,9 @@ use Rattle.proof_rules.specs.declared.recorder.RecordFault.{RecordFault}
 use Rattle.proof_rules.specs.declared.recorder.RecordFault.TheVariants.{NoMemory}
 use Rattle.sum_outputs.specs.Adding.{seen}
 use Rattle.sum_outputs.specs.Outputs.{IsInOrder, IsDefinedBy, IsDefinedNext}
-use Rattle.sum_outputs.proofs.LaterStates.{continues_again, recorded_err, replay_once, if_ok_both}
+use Rattle.sum_outputs.proofs.LaterStates.{continues_again, recorded_err, if_ok_both}
 use Rattle.proof_laws.specs.State.{StateValue}
+use Rattle.proof_laws.proofs.Replays.{replay_once}
 use Rattle.sum_outputs.proofs.DefinedLines.{defined_next, sum_of_order}
 use Rattle.sum_outputs.proofs.definition.define.Goals as goal
 

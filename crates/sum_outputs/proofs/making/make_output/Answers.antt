@@ -1,5 +1,5 @@
 -- What is made for an output, step by step.
-use Rattle.std.proofs.Common.{ℕ, ◌<◌, ◌++◌, ap, sym, subst, ◌∙◌, arith}
+use Rattle.std.proofs.Common.{ℕ, ◌<◌, ◌-◌, ◌^◌, ◌++◌, ap, sym, subst, ◌∙◌, arith}
 use Rattle.std.proofs.lemmas.Result.{err_from_is_err_and}
 use Rattle.proof_laws.specs.declared.line.Line.TheVariants.{Def}
 use Rattle.sum_outputs.specs.Adding.{seen}
@@ -17,16 +17,16 @@ define-requires-clause-most g c =
     let sum = is.1 in
     omega arith
 
-pub add_singles-requires-clause-ready : goal.add_singles-requires-clause-ready
-add_singles-requires-clause-ready g c =
+pub add_single-requires-clause-ready : goal.add_single-requires-clause-ready
+add_single-requires-clause-ready g c =
     let R = g.R.Recorder in
     let a = seen R.problem R.limit R.lines R.faults R.broken R.around c.args.rec.now in
     let b = seen R.problem R.limit R.lines R.faults R.broken R.around c.define.new.rec in
     let made = c.in_ok-made.ensures in
     ready_later a b c.requires.ready made.recorded.continues made.recorded.whole
 
-pub add_singles-requires-clause-can : goal.add_singles-requires-clause-can
-add_singles-requires-clause-can g c = λ k e short reach.
+pub add_single-requires-clause-can : goal.add_single-requires-clause-can
+add_single-requires-clause-can g c = λ k e short reach.
     let R = g.R.Recorder in
     let a = seen R.problem R.limit R.lines R.faults R.broken R.around c.args.rec.now in
     let b = seen R.problem R.limit R.lines R.faults R.broken R.around c.define.new.rec in
@@ -34,15 +34,15 @@ add_singles-requires-clause-can g c = λ k e short reach.
     let some : 0 < c.in_ok-made.made.sum = let r = c.requires.least.reaches in let s = made.sum.0 in let f = c.requires.from_one in omega arith in
     ties_now a b c.requires.ready made.recorded.continues c.args.first.terms.now c.args.second.terms.now c.args.terms.now c.args.first.outputs.now c.args.second.outputs.now c.args.next.now c.in_ok-made.made c.requires.children c.requires.terms c.requires.next some made.defined k e short reach
 
-pub returns-in_err-add_singles-clause-recorded : goal.returns-in_err-add_singles-clause-recorded
-returns-in_err-add_singles-clause-recorded g c =
+pub returns-in_err-add_single-clause-recorded : goal.returns-in_err-add_single-clause-recorded
+returns-in_err-add_single-clause-recorded g c =
     let R = g.R.Recorder in
     let a = seen R.problem R.limit R.lines R.faults R.broken R.around c.args.rec.now in
     let b = seen R.problem R.limit R.lines R.faults R.broken R.around c.define.new.rec in
     let made = c.in_ok-made.ensures in
-    let d = seen R.problem R.limit R.lines R.faults R.broken R.around c.add_singles.new.rec in
-    let p = err_from_is_err_and c.from_residual-in_err-add_singles.result c.from_residual-in_err-add_singles.ensures.1 in
-    handed_on a b d c.in_err-add_singles.field-0.0 p.0 c.from_residual-in_err-add_singles.result p.1 p.2 made.recorded.continues c.in_err-add_singles.ensures.recorded
+    let d = seen R.problem R.limit R.lines R.faults R.broken R.around c.add_single.new.rec in
+    let p = err_from_is_err_and c.from_residual-in_err-add_single.result c.from_residual-in_err-add_single.ensures.1 in
+    handed_on a b d c.in_err-add_single.field-0.0 p.0 c.from_residual-in_err-add_single.result p.1 p.2 made.recorded.continues c.in_err-add_single.ensures.recorded
 
 pub add_window-requires-clause-ready : goal.add_window-requires-clause-ready
 add_window-requires-clause-ready g c =
@@ -50,8 +50,8 @@ add_window-requires-clause-ready g c =
     let a = seen R.problem R.limit R.lines R.faults R.broken R.around c.args.rec.now in
     let b = seen R.problem R.limit R.lines R.faults R.broken R.around c.define.new.rec in
     let made = c.in_ok-made.ensures in
-    let d = seen R.problem R.limit R.lines R.faults R.broken R.around c.add_singles.new.rec in
-    let ties = c.in_ok-add_singles.ensures in
+    let d = seen R.problem R.limit R.lines R.faults R.broken R.around c.add_single.new.rec in
+    let ties = c.in_ok-add_single.ensures in
     let on = continues_twice a b d made.recorded.continues ties.recorded.continues in
     let ready_b = ready_later a b c.requires.ready made.recorded.continues made.recorded.whole in
     ready_later a d c.requires.ready on ties.recorded.whole
@@ -62,8 +62,8 @@ add_window-requires-clause-children g c =
     let a = seen R.problem R.limit R.lines R.faults R.broken R.around c.args.rec.now in
     let b = seen R.problem R.limit R.lines R.faults R.broken R.around c.define.new.rec in
     let made = c.in_ok-made.ensures in
-    let d = seen R.problem R.limit R.lines R.faults R.broken R.around c.add_singles.new.rec in
-    let ties = c.in_ok-add_singles.ensures in
+    let d = seen R.problem R.limit R.lines R.faults R.broken R.around c.add_single.new.rec in
+    let ties = c.in_ok-add_single.ensures in
     let on = continues_twice a b d made.recorded.continues ties.recorded.continues in
     let ready_b = ready_later a b c.requires.ready made.recorded.continues made.recorded.whole in
     children_later a d c.requires.ready on c.args.first.terms.now c.args.second.terms.now c.args.first.outputs.now c.args.second.outputs.now c.requires.children
@@ -75,8 +75,8 @@ add_window-requires-clause-target g c =
     let b = seen R.problem R.limit R.lines R.faults R.broken R.around c.define.new.rec in
     let made = c.in_ok-made.ensures in
     let some : 0 < c.in_ok-made.made.sum = let r = c.requires.least.reaches in let s = made.sum.0 in let f = c.requires.from_one in omega arith in
-    let d = seen R.problem R.limit R.lines R.faults R.broken R.around c.add_singles.new.rec in
-    let ties = c.in_ok-add_singles.ensures in
+    let d = seen R.problem R.limit R.lines R.faults R.broken R.around c.add_single.new.rec in
+    let ties = c.in_ok-add_single.ensures in
     let on = continues_twice a b d made.recorded.continues ties.recorded.continues in
     let ready_b = ready_later a b c.requires.ready made.recorded.continues made.recorded.whole in
     target_later b d ready_b ties.recorded.continues (c.args.first.terms.now ++ c.args.second.terms.now) c.args.first.outputs.now c.args.second.outputs.now c.in_ok-made.made
@@ -88,8 +88,8 @@ returns-in_err-add_window-clause-recorded g c =
     let a = seen R.problem R.limit R.lines R.faults R.broken R.around c.args.rec.now in
     let b = seen R.problem R.limit R.lines R.faults R.broken R.around c.define.new.rec in
     let made = c.in_ok-made.ensures in
-    let d = seen R.problem R.limit R.lines R.faults R.broken R.around c.add_singles.new.rec in
-    let ties = c.in_ok-add_singles.ensures in
+    let d = seen R.problem R.limit R.lines R.faults R.broken R.around c.add_single.new.rec in
+    let ties = c.in_ok-add_single.ensures in
     let on = continues_twice a b d made.recorded.continues ties.recorded.continues in
     let ready_b = ready_later a b c.requires.ready made.recorded.continues made.recorded.whole in
     let h = seen R.problem R.limit R.lines R.faults R.broken R.around c.add_window.new.rec in
@@ -102,8 +102,8 @@ returns-clause-recorded g c =
     let a = seen R.problem R.limit R.lines R.faults R.broken R.around c.args.rec.now in
     let b = seen R.problem R.limit R.lines R.faults R.broken R.around c.define.new.rec in
     let made = c.in_ok-made.ensures in
-    let d = seen R.problem R.limit R.lines R.faults R.broken R.around c.add_singles.new.rec in
-    let ties = c.in_ok-add_singles.ensures in
+    let d = seen R.problem R.limit R.lines R.faults R.broken R.around c.add_single.new.rec in
+    let ties = c.in_ok-add_single.ensures in
     let on = continues_twice a b d made.recorded.continues ties.recorded.continues in
     let ready_b = ready_later a b c.requires.ready made.recorded.continues made.recorded.whole in
     let h = seen R.problem R.limit R.lines R.faults R.broken R.around c.add_window.new.rec in
@@ -116,8 +116,8 @@ returns-clause-made g c =
     let a = seen R.problem R.limit R.lines R.faults R.broken R.around c.args.rec.now in
     let b = seen R.problem R.limit R.lines R.faults R.broken R.around c.define.new.rec in
     let made = c.in_ok-made.ensures in
-    let d = seen R.problem R.limit R.lines R.faults R.broken R.around c.add_singles.new.rec in
-    let ties = c.in_ok-add_singles.ensures in
+    let d = seen R.problem R.limit R.lines R.faults R.broken R.around c.add_single.new.rec in
+    let ties = c.in_ok-add_single.ensures in
     let on = continues_twice a b d made.recorded.continues ties.recorded.continues in
     let ready_b = ready_later a b c.requires.ready made.recorded.continues made.recorded.whole in
     let h = seen R.problem R.limit R.lines R.faults R.broken R.around c.add_window.new.rec in
@@ -125,14 +125,13 @@ returns-clause-made g c =
     output_made a b d h c.requires.ready made.recorded.continues made.recorded.whole ties.recorded.continues ties.recorded.whole last.recorded.continues c.args.first.terms.now c.args.second.terms.now c.args.terms.now c.args.first.outputs.now c.args.second.outputs.now c.args.next.now c.in_ok-made.made c.args.from c.args.below
     c.requires.children c.requires.terms c.requires.next c.requires.above (λ k e short. let less = c.requires.greater k e short in let s = made.sum.0 in omega arith)
     c.requires.from_one made.sum.1 (subst (λ (n : ℕ). IsLeastSum c.args.terms.now c.args.from n) (sym made.sum.0) c.requires.least) c.requires.first_complete c.requires.second_complete made.defined
-    (λ k e short. let less = c.requires.greater k e short in let s = made.sum.0 in let small = (c.requires.next c.requires.ready.state c.requires.ready.reached).rising.small k e short in ties.says k e short (omega arith) (omega arith))
-    last.says
+    (2 ^ 64 - 1) (omega arith) ties.says last.says
 
 pub returns-clause-defines_one : goal.returns-clause-defines_one
 returns-clause-defines_one g c =
     let R = g.R.Recorder in
     let defined = c.in_ok-made.ensures.defined in
     let one = ap definitions defined.line ∙ definitions_push (R.lines c.args.rec.now) (Def c.in_ok-made.made.lit.var defined.constraint) in
-    let ties = c.in_ok-add_singles.ensures.defines_none in
+    let ties = c.in_ok-add_single.ensures.defines_none in
     let window = c.in_ok-add_window.ensures.defines_none in
     omega arith

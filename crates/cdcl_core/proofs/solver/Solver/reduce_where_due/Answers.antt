@@ -1,7 +1,7 @@
 use Rattle.std.proofs.Common.{ap, ◌∙◌, subst}
 use Rattle.proof_laws.specs.State.{StateValue}
+use Rattle.proof_laws.proofs.Replays.{replay_once}
 use Rattle.oracle.specs.Solving.{Reaches}
-use Rattle.search_lines.proofs.Replays.{one_law}
 use Rattle.search_lines.proofs.SearchLines.{none_law}
 use Rattle.cdcl_core.specs.Ledgers.{IsDue}
 use Rattle.cdcl_core.specs.Work.{SolverValue}
@@ -12,7 +12,7 @@ reduce-requires-clause-due g c =
     let rec = g.R.Recorder in
     let due = c.is_due.ensures.0 c.if-is_due.true in
     subst (λ (v : SolverValue _). Reaches (rec.problem v.recorder) (rec.lines v.recorder) (λ s. IsDue v.ledger.reductions s.learned)) c.self.view_is
-    (λ s replay. subst (IsDue c.self.inside.ledger.reductions) (c.learned-learned.ensures ∙ ap (λ (t : StateValue). t.learned) (one_law _ _ _ s c.state.ensures replay)) due)
+    (λ s replay. subst (IsDue c.self.inside.ledger.reductions) (c.learned-learned.ensures ∙ ap (λ (t : StateValue). t.learned) (replay_once _ _ _ s c.state.ensures replay)) due)
 
 pub returns-clause-adds : goal.returns-clause-adds
 returns-clause-adds g c = none_law _ _
