@@ -68,7 +68,6 @@ abbrev IsOneFault : List Literal → List Bool → ℕ → CostRowValue → ℕ 
 IsOneFault cut a i r id fault named = MatchOption named (fault ≡ Some (NoSuchId id)) (λ c. (Bounds cut a c r × (fault ≡ None)) ⊎ ((Bounds cut a c r → ⊥) × (fault ≡ Some (CutOpen i))))
 
 module _ (live : LineMap) (cut truths : List Literal) (a : List Bool) (i : ℕ) (r : CostRowValue) (id : ℕ) (same : truths ≡ map opposite cut) where
-
   module _ (line g bound : ConstraintValue) (named : Some line ≡ option_map (λ c. restriction c truths) (line_or_none live id)) (order : IsPermutation r.terms g.terms) (degree : g.degree ≡ value a r.terms) (left : bound ≡ restriction g truths) where
     is_named : (c : ConstraintValue) × (line_or_none live id ≡ Some c) × (line ≡ restriction c truths)
     is_named = named_some (λ c. restriction c truths) (line_or_none live id) line named

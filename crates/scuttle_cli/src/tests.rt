@@ -44,6 +44,13 @@ static FAULTS: [(&str, ShelfCall, u64, u8, &str, &str); 17] = [
     (CHECK, ShelfCall::Say, 1, 74, LIST, FAULT),
 ];
 
+// A command line, and the call that fails on the shelf that it runs over; a call of number 0 is none.
+#[derive(Clone, Copy, Debug)]
+struct Case<'a> {
+    line: &'a str,
+    fault: PlannedFault,
+}
+
 // The words of a command line.
 fn words_of(alloc: Global, line: &str) -> Result<Vec<String>, AllocError> {
     let mut words = Vec::new(alloc);
@@ -53,26 +60,68 @@ fn words_of(alloc: Global, line: &str) -> Result<Vec<String>, AllocError> {
     Ok(words)
 }
 
+// Runs a command line: the number with which the program would end. It has no clause, so that no test below
+// carries those of `run`.
+fn number_of(alloc: Global, line: &str, shelf: &mut MemShelf) -> Result<u8, AllocError> {
+    Ok(run(alloc, &words_of(alloc, line)?, shelf).number())
+}
+
+// A shelf with the files that a command line reads, on which the call fails.
+fn shelf_for(alloc: Global, case: &Case<'_>) -> Result<MemShelf, Fail> {
+    let mut shelf = MemShelf::cutting(alloc, &[case.fault])?;
+    shelf.put("a.mcnf", INPUT.as_bytes())?;
+    if case.line == CHECK {
+        shelf.put("a.list", LIST.as_bytes())?;
+        shelf.put("a.log", LOG.as_bytes())?;
+    }
+    Ok(shelf)
+}
+
+// Fails where a place doesn't hold what is wanted.
+fn expect(rt: &impl Abort, case: &Case<'_>, found: &[u8], wanted: &[u8]) -> Result<(), Fail> {
+    assert_eq!(rt; found, wanted, "{case:?}");
+    Ok(())
+}
+
+// Runs a case, which ends with a number, warns, says nothing and leaves the input: the shelf afterwards.
+fn failed(
+    rt: &impl Abort,
+    alloc: Global,
+    case: &Case<'_>,
+    number: u8,
+    warned: &str,
+) -> Result<MemShelf, Fail> {
+    let mut shelf = shelf_for(alloc, case)?;
+    let ended = number_of(alloc, case.line, &mut shelf)?;
+    expect(rt, case, &[ended], &[number])?;
+    expect(rt, case, shelf.warned(), warned.as_bytes())?;
+    expect(rt, case, shelf.said(), b"")?;
+    expect(
+        rt,
+        case,
+        shelf.get("a.mcnf").unwrap_or(b"none"),
+        INPUT.as_bytes(),
+    )?;
+    Ok(shelf)
+}
+
 #[test]
 fn a_call_that_fails_is_answered(rt: HostRuntime) -> Result<(), Fail> {
     let alloc = rt.alloc();
     for (line, call, n, number, list, warned) in FAULTS.iter() {
-        let mut shelf = MemShelf::new(alloc, &[(*call, *n)])?;
-        shelf.put("a.mcnf", INPUT.as_bytes())?;
-        if *line == CHECK {
-            shelf.put("a.list", LIST.as_bytes())?;
-            shelf.put("a.log", LOG.as_bytes())?;
-        }
-        let status = run(alloc, &words_of(alloc, *line)?, &mut shelf);
-        assert_eq!(rt; status.number(), *number, "{call:?} {n}");
-        assert_eq!(rt;
+        let fault = PlannedFault {
+            call: *call,
+            number: *n,
+            bytes: 0,
+        };
+        let case = Case { line: *line, fault };
+        let shelf = failed(&rt, alloc, &case, *number, *warned)?;
+        expect(
+            &rt,
+            &case,
             shelf.get("a.list").unwrap_or(b"none"),
             list.as_bytes(),
-            "{call:?} {n}"
-        );
-        assert_eq!(rt; shelf.said(), b"".as_slice(), "{call:?} {n}");
-        assert_eq!(rt; shelf.warned(), warned.as_bytes(), "{call:?} {n}");
-        assert_eq!(rt; shelf.get("a.mcnf"), Some(INPUT.as_bytes()), "{call:?} {n}");
+        )?;
     }
     Ok(())
 }
@@ -105,60 +154,51 @@ fn begun(text: &[u8], lines: u64, bytes: u64) -> &[u8] {
         .unwrap_or(text)
 }
 
-// A shelf with the input, on which these calls fail.
-fn shelf_of(alloc: Global, plan: &[PlannedFault]) -> Result<MemShelf, Fail> {
-    let mut shelf = MemShelf::cutting(alloc, plan)?;
-    shelf.put("a.mcnf", INPUT.as_bytes())?;
-    Ok(shelf)
-}
-
-// A run whose n-th append fails after these bytes, beside one with no fault: the log's pieces come before the list's.
-fn cut_run(
-    rt: &impl Abort,
-    alloc: Global,
-    line: &str,
-    whole: &MemShelf,
-    number: u64,
-    bytes: u64,
-) -> Result<(), Fail> {
-    let plan = [PlannedFault {
-        call: ShelfCall::Append,
-        number,
-        bytes,
-    }];
-    let mut shelf = shelf_of(alloc, &plan)?;
-    let status = run(alloc, &words_of(alloc, line)?, &mut shelf);
-    assert_eq!(rt; status.number(), 74, "{line} {number} {bytes}");
-    assert_eq!(rt; shelf.said(), b"".as_slice(), "{line} {number} {bytes}");
-    assert_eq!(rt; shelf.warned(), FAULT.as_bytes(), "{line} {number} {bytes}");
-    let before = number.saturating_sub(1);
-    let log = whole.get("a.log").unwrap_or(b"");
+// A run whose n-th append fails, where a run with no fault makes this log: the log's pieces come before the list's.
+fn cut_run(rt: &impl Abort, alloc: Global, case: &Case<'_>, log: &[u8]) -> Result<(), Fail> {
+    let shelf = failed(rt, alloc, case, 74, FAULT)?;
+    let bytes = case.fault.bytes;
+    let before = case.fault.number.saturating_sub(1);
     let list = match before.checked_sub(lines_of(log)) {
         Some(of_list) => begun(LIST.as_bytes(), of_list, bytes),
         None => b"none",
     };
-    assert_eq!(rt;
+    expect(
+        rt,
+        case,
         shelf.get("a.log").unwrap_or(b""),
         begun(log, before, bytes),
-        "{line} {number} {bytes}"
-    );
-    assert_eq!(rt;
-        shelf.get("a.list").unwrap_or(b"none"),
-        list,
-        "{line} {number} {bytes}"
-    );
-    Ok(())
+    )?;
+    expect(rt, case, shelf.get("a.list").unwrap_or(b"none"), list)
 }
 
 // The runs whose appends fail one after another, each with these bytes put before.
 fn cut_each(rt: &impl Abort, alloc: Global, line: &str, bytes: u64) -> Result<(), Fail> {
-    let mut whole = shelf_of(alloc, &[])?;
-    let status = run(alloc, &words_of(alloc, line)?, &mut whole);
-    assert_eq!(rt; status.number(), 0, "{line}");
-    assert_eq!(rt; whole.get("a.list"), Some(LIST.as_bytes()), "{line}");
-    let of_log = lines_of(whole.get("a.log").unwrap_or(b""));
-    for before in 0..of_log.saturating_add(lines_of(LIST.as_bytes())) {
-        cut_run(rt, alloc, line, &whole, before.saturating_add(1), bytes)?;
+    let call = ShelfCall::Append;
+    let none = PlannedFault {
+        call,
+        number: 0,
+        bytes,
+    };
+    let case = Case { line, fault: none };
+    let mut whole = shelf_for(alloc, &case)?;
+    let ended = number_of(alloc, line, &mut whole)?;
+    expect(rt, &case, &[ended], &[0])?;
+    expect(
+        rt,
+        &case,
+        whole.get("a.list").unwrap_or(b"none"),
+        LIST.as_bytes(),
+    )?;
+    let log = whole.get("a.log").unwrap_or(b"");
+    for before in 0..lines_of(log).saturating_add(lines_of(LIST.as_bytes())) {
+        let number = before.saturating_add(1);
+        let fault = PlannedFault {
+            call,
+            number,
+            bytes,
+        };
+        cut_run(rt, alloc, &Case { line, fault }, log)?;
     }
     Ok(())
 }

@@ -50,7 +50,6 @@ small_costs : (i : InstanceValue) (entries : List Entry) → AreProblemVectors i
 small_costs i entries vectors = All-weaker (λ (e : Entry). IsProblemVector i e.costs) HasCosts (λ e vector. vector.small) entries vectors
 
 module _ (format : Format) (input list log : List ℕ) (limit : Option ℕ) (before after : World) where
-
   -- a fault of the shelf, after the search
   pub solve_shelf_fault : (fault : ShelfFault) → IsSolvedPartly before after format input list log limit → (fault ≡ Failed → OwnCountRose before.faults after.faults input list log) → SolveAnswers format input list log limit (status_of_shelf fault) before after
   solve_shelf_fault Failed partly rose = (partly, rose refl)
