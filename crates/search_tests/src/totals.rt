@@ -56,64 +56,69 @@ fn degree(state: &ProofState, id: u64) -> u128 {
     }
 }
 
-// What stands for "the sum is at least k", for each k from 0 on, in words: for a literal the degree of its line.
+// What stands for "the sum is at least k", for each of these numbers, in words: for a literal the degree of its line.
+// The recorder's fault ends the text.
 fn answers<R: Recorder>(
     alloc: Global,
     rec: &mut R,
     sum: &mut Totalizer,
-    end: i64,
+    numbers: &[i64],
 ) -> Result<String, Fail>
     requires { IsAskable (seen R.problem R.limit R.lines R.faults R.broken R.around rec.old) sum.old }
 {
     let mut text = String::new(alloc);
-    for k in 0..end {
-        match ask(rec, sum, k)? {
-            Bound::Always { lower_line } => write!(text, "always {lower_line};")?,
-            Bound::Never => write!(text, "never;")?,
-            Bound::At { lower_line, .. } => write!(text, "{};", degree(rec.state(), lower_line))?,
+    for k in numbers {
+        match ask(rec, sum, *k) {
+            Ok(Bound::Always { lower_line }) => write!(text, "always {lower_line};")?,
+            Ok(Bound::Never) => write!(text, "never;")?,
+            Ok(Bound::At { lower_line, .. }) => {
+                write!(text, "{};", degree(rec.state(), lower_line))?;
+            }
+            Err(fault) => {
+                write!(text, "{fault:?}")?;
+                return Ok(text);
+            }
         }
     }
     Ok(text)
 }
 
-#[test]
-fn a_sum_is_answered_by_the_least_attainable_one(rt: HostRuntime) -> Result<(), Fail> {
-    let alloc = rt.alloc();
-    let problem = problem(alloc, "min: 3 x1 2 x2 ;")?;
-    let mut recorder = MemRecorder::new(alloc, &problem, 0)?;
+// The answers of a totalizer of a text's first objective, and how many variables it has defined then. The call of
+// this number of its recorder fails; none has the number 0.
+fn totalized(
+    alloc: Global,
+    text: &str,
+    failing: u64,
+    numbers: &[i64],
+) -> Result<(String, usize), Fail> {
+    let problem = problem(alloc, text)?;
+    let mut recorder = MemRecorder::new(alloc, &problem, failing)?;
     let mut sum = first_sum(alloc, &recorder, &problem)?;
-    let answers = answers(alloc, &mut recorder, &mut sum, 7)?;
-    assert_eq!(rt; answers.as_str(), "always 0;2;2;3;5;5;never;");
-    Ok(())
+    let answers = answers(alloc, &mut recorder, &mut sum, numbers)?;
+    Ok((answers, definitions(recorder.lines())))
 }
 
 // Eight literals of weight 1 have seven inner nodes.
 const EIGHT: &str = "min: 1 x1 1 x2 1 x3 1 x4 1 x5 1 x6 1 x7 1 x8 ;";
 
-#[test]
-fn each_inner_node_has_an_output_for_each_sum_up_to_k(rt: HostRuntime) -> Result<(), Fail> {
-    let alloc = rt.alloc();
-    let problem = problem(alloc, EIGHT)?;
-    let mut recorder = MemRecorder::new(alloc, &problem, 0)?;
-    let mut sum = first_sum(alloc, &recorder, &problem)?;
-    ask(&mut recorder, &mut sum, 1)?;
-    assert_eq!(rt; definitions(recorder.lines()), 7);
-    ask(&mut recorder, &mut sum, 2)?;
-    assert_eq!(rt; definitions(recorder.lines()), 14);
-    // It is there already.
-    ask(&mut recorder, &mut sum, 2)?;
-    assert_eq!(rt; definitions(recorder.lines()), 14);
-    Ok(())
-}
+// An objective, the number of the failing call, the numbers that are asked for, the answers, and how many
+// variables are defined then: one for each answer at the root, and one for each sum up to it of the inner nodes below.
+static CASES: [(&str, u64, [i64; 3], &str, usize); 6] = [
+    ("min: 3 x1 2 x2 ;", 0, [0, 1, 2], "always 0;2;2;", 1),
+    ("min: 3 x1 2 x2 ;", 0, [3, 4, 5], "3;5;5;", 2),
+    ("min: 3 x1 2 x2 ;", 0, [5, 6, 7], "5;never;never;", 1),
+    (EIGHT, 0, [1, 1, 1], "1;1;1;", 7),
+    (EIGHT, 0, [1, 2, 2], "1;2;2;", 14),
+    (EIGHT, 1, [1, 2, 3], "Failed", 0),
+];
 
 #[test]
-fn a_fault_of_the_recorder_is_handed_on(rt: HostRuntime) -> Result<(), Fail> {
-    let alloc = rt.alloc();
-    let problem = problem(alloc, EIGHT)?;
-    let mut recorder = MemRecorder::new(alloc, &problem, 1)?;
-    let mut sum = first_sum(alloc, &recorder, &problem)?;
-    assert!(rt; ask(&mut recorder, &mut sum, 1) == Err(RecordFault::Failed));
-    assert_eq!(rt; recorder.lines().len(), 0);
+fn a_sum_is_answered_by_the_least_attainable_one(rt: HostRuntime) -> Result<(), Fail> {
+    for (text, failing, numbers, expected, count) in &CASES {
+        let (answers, defined) = totalized(rt.alloc(), *text, *failing, numbers)?;
+        assert_eq!(rt; answers.as_str(), *expected, "{text} {numbers:?}");
+        assert_eq!(rt; defined, *count, "{text} {numbers:?}");
+    }
     Ok(())
 }
 
@@ -133,13 +138,9 @@ fn long_objective(alloc: Global) -> Result<(String, i64), Fail> {
 
 #[test]
 fn a_tenth_of_a_long_sum_needs_few_outputs(rt: HostRuntime) -> Result<(), Fail> {
-    let alloc = rt.alloc();
-    let (text, k) = long_objective(alloc)?;
-    let problem = problem(alloc, text.as_str())?;
-    let mut recorder = MemRecorder::new(alloc, &problem, 0)?;
-    let mut sum = first_sum(alloc, &recorder, &problem)?;
-    ask(&mut recorder, &mut sum, k)?;
+    let (text, tenth) = long_objective(rt.alloc())?;
+    let (_, defined) = totalized(rt.alloc(), text.as_str(), 0, &[tenth])?;
     // A measure, which was taken from a run: it shows where a change makes more outputs, or fewer.
-    assert_eq!(rt; definitions(recorder.lines()), 1921);
+    assert_eq!(rt; defined, 1921);
     Ok(())
 }
