@@ -11,7 +11,7 @@ use Rattle.pb_lin.specs.Problem.{ProblemValue}
 use Rattle.pb_lin.specs.Propagation.{IsClosedUnder}
 use Rattle.hint_rup.specs.declared.hint.Hint.{Hint}
 use Rattle.hint_rup.specs.declared.hint.Hint.TheVariants.{Id as IdHint}
-use Rattle.proof_laws.specs.State.{StateValue, IsState, Fits}
+use Rattle.proof_laws.specs.State.{StateValue, IsState, Fits, start}
 use Rattle.proof_laws.specs.Steps.{clause}
 use Rattle.proof_laws.specs.Refusal.{is_clause}
 use Rattle.proof_laws.specs.Legal.{IsNext}
