@@ -39,8 +39,8 @@ pub fn check<H: Shelf>(
     // Tells that the problem is within its limits.
     let _vars = problem.vars();
     let vectors = problem_vectors(alloc, &inst, found.entries.as_slice())?;
-    let mut checker = Checker::new(alloc, &problem, vectors)?;
-    judge_log(alloc, &mut checker, log, shelf)?;
+    let checker = Checker::new(alloc, &problem, vectors)?;
+    judge_log(alloc, checker, log, shelf)?;
     say_accepted(shelf)?;
     Ok(())
 }

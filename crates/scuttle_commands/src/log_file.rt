@@ -18,9 +18,34 @@ use std::alloc::Global;
 // The most bytes that a log may have.
 const MOST_BYTES: u64 = (1 << 62) - 1;
 
-/// Judges a log file as it is read, and reads no further than its first line that is refused. Where it
-/// isn't accepted, answers the status of that line, or of a file that is too large.
+/// Judges a log file as it is read, by a checker that has read nothing, and reads no further than its first
+/// line that is refused. Where it isn't accepted, answers the status of that line, or of a file that is too
+/// large.
 pub fn judge_log<H: Shelf>(
+    alloc: Global,
+    checker: Checker,
+    log: &str,
+    shelf: &mut H,
+) -> Result<(), Status>
+    requires stands { StandsFor checker [] }
+    requires open { checker.finished ≡ false }
+    ensures ended { OnOk result (HasText (H.files shelf.old) log.now (λ bytes. (length bytes < 2 ^ 62)
+        × IsEndedProof checker.problem checker.vectors bytes)) }
+    ensures stop { IfErr result (λ status.
+        IsLogStop checker.problem checker.vectors log.now status
+        (H.files shelf.old) (H.faults shelf.old) (H.faults shelf.new)) }
+    ensures files { H.files shelf.new ≡ H.files shelf.old }
+    ensures said { H.said shelf.new ≡ H.said shelf.old }
+    ensures warned { H.warned shelf.new ≡ H.warned shelf.old }
+    ensures later { NoneFell (H.faults shelf.old) (H.faults shelf.new) }
+{
+    let mut checker = checker;
+    feed_log(alloc, &mut checker, log, shelf)
+}
+
+// The same by a checker that is lent. Each way out of a function that owns a checker is a long proof that all
+// of it may be dropped; so `judge_log`, which has one, owns it.
+fn feed_log<H: Shelf>(
     alloc: Global,
     checker: &mut Checker,
     log: &str,

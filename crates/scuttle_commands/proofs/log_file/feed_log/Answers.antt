@@ -5,7 +5,7 @@ use Rattle.scut_base.specs.Files.{Files}
 use Rattle.scuttle_commands.specs.Causes.{HasText}
 use Rattle.scuttle_commands.specs.Feeding.{IsFedWhole}
 use Rattle.scuttle_commands.proofs.LogFed.{fed_nothing, fed_to_end, finished_stops, finished_ended, too_large}
-use Rattle.scuttle_commands.proofs.log_file.judge_log.Goals as goal
+use Rattle.scuttle_commands.proofs.log_file.feed_log.Goals as goal
 
 pub loop-at-init : goal.loop-at-init
 loop-at-init g c = record {

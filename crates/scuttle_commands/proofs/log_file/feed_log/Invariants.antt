@@ -1,7 +1,7 @@
 use Rattle.std.proofs.Common.{◌≡◌, ◌<◌, ◌-◌, ◌^◌, vec_len}
 use Rattle.scut_base.specs.Faults.{NoneFell}
 use Rattle.scuttle_commands.specs.Feeding.{IsFedSoFar}
-use Rattle.scuttle_commands.proofs.log_file.judge_log.Given as goal
+use Rattle.scuttle_commands.proofs.log_file.feed_log.Given as goal
 
 abbrev pub invariant-loop-at : goal.invariant-loop-at
 invariant-loop-at g l =
