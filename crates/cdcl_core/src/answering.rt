@@ -24,37 +24,37 @@ impl<R: Recorder + Drop, P: Propagator + Drop> Solver<R, P> {
     // Takes up what was added, and searches.
     fn answer(&mut self, assumptions: &[Lit]) -> Result<Answer, OracleFault>
         requires begun { self.old.broken ≡ true }
-        requires whole { R.broken self.old.recorder ≡ false }
-        requires held { IsHeld (R.problem self.old.recorder) (R.lines self.old.recorder)
+        requires whole { (R.seen self.old.recorder).broken ≡ false }
+        requires held { IsHeld (R.seen self.old.recorder).problem (R.seen self.old.recorder).lines
             self.old.search self.old.next self.old.rows self.old.ledger }
-        requires unended { Reaches (R.problem self.old.recorder) (R.lines self.old.recorder)
+        requires unended { Reaches (R.seen self.old.recorder).problem (R.seen self.old.recorder).lines
             (λ s. s.ended ≡ false) }
-        requires assumptions { Reaches (R.problem self.old.recorder) (R.lines self.old.recorder)
+        requires assumptions { Reaches (R.seen self.old.recorder).problem (R.seen self.old.recorder).lines
             (λ s. AreAssumptions s.vars assumptions.now) }
-        requires earned { AreEarned (R.problem self.old.recorder) (R.lines self.old.recorder) }
-        requires within { IsWithin self.old.limit (R.problem self.old.recorder)
-            (R.lines self.old.recorder) }
+        requires earned { AreEarned (R.seen self.old.recorder).problem (R.seen self.old.recorder).lines }
+        requires within { IsWithin self.old.limit (R.seen self.old.recorder).problem
+            (R.seen self.old.recorder).lines }
         ensures answer { IfOk result
-            (IsAnswer (R.problem self.new.recorder) (R.lines self.new.recorder) assumptions.now) }
-        ensures done { OnOk result (IsDone (R.problem self.new.recorder)
-            (R.broken self.new.recorder) (R.lines self.new.recorder) self.new.search
+            (IsAnswer (R.seen self.new.recorder).problem (R.seen self.new.recorder).lines assumptions.now) }
+        ensures done { OnOk result (IsDone (R.seen self.new.recorder).problem
+            (R.seen self.new.recorder).broken (R.seen self.new.recorder).lines self.new.search
             self.new.next self.new.rows self.new.ledger) }
-        ensures cause { IfErr result (λ f. HasCause f self.old.limit (R.problem self.new.recorder)
-            (R.lines self.new.recorder)
-            (Rose (R.faults self.old.recorder) (R.faults self.new.recorder))) }
-        ensures goes_on { IfErr result (λ f. GoesOn f (IsDone (R.problem self.new.recorder)
-            (R.broken self.new.recorder) (R.lines self.new.recorder) self.new.search
+        ensures cause { IfErr result (λ f. HasCause f self.old.limit (R.seen self.new.recorder).problem
+            (R.seen self.new.recorder).lines
+            (Rose (R.seen self.old.recorder).faults (R.seen self.new.recorder).faults)) }
+        ensures goes_on { IfErr result (λ f. GoesOn f (IsDone (R.seen self.new.recorder).problem
+            (R.seen self.new.recorder).broken (R.seen self.new.recorder).lines self.new.search
             self.new.next self.new.rows self.new.ledger)) }
-        ensures adds { AddsSearchLines (R.problem self.old.recorder) (R.lines self.old.recorder)
-            (R.lines self.new.recorder) }
-        ensures within { IsWithin self.old.limit (R.problem self.old.recorder)
-            (R.lines self.new.recorder) }
+        ensures adds { AddsSearchLines (R.seen self.old.recorder).problem (R.seen self.old.recorder).lines
+            (R.seen self.new.recorder).lines }
+        ensures within { IsWithin self.old.limit (R.seen self.old.recorder).problem
+            (R.seen self.new.recorder).lines }
         ensures begun { self.new.broken ≡ true }
         ensures limit { self.new.limit ≡ self.old.limit }
-        ensures kept { KeepsRecorder (R.problem self.old.recorder) (R.problem self.new.recorder)
-            (R.limit self.old.recorder) (R.limit self.new.recorder) (R.around self.old.recorder)
-            (R.around self.new.recorder) (R.faults self.old.recorder)
-            (R.faults self.new.recorder) }
+        ensures kept { KeepsRecorder (R.seen self.old.recorder).problem (R.seen self.new.recorder).problem
+            (R.seen self.old.recorder).limit (R.seen self.new.recorder).limit (R.seen self.old.recorder).around
+            (R.seen self.new.recorder).around (R.seen self.old.recorder).faults
+            (R.seen self.new.recorder).faults }
     {
         self.take_up()?;
         self.run(assumptions)

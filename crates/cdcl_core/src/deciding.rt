@@ -128,35 +128,35 @@ impl<R: Recorder + Drop, P: Propagator + Drop> Solver<R, P> {
     // variables have steps.
     pub(crate) fn decide(&mut self, assumptions: &[Lit]) -> Result<Turn, OracleFault>
         requires begun { self.old.broken ≡ true }
-        requires whole { R.broken self.old.recorder ≡ false }
-        requires work { IsAtWork (R.problem self.old.recorder) self.old.limit
-            (R.lines self.old.recorder) self.old.search self.old.next self.old.rows
+        requires whole { (R.seen self.old.recorder).broken ≡ false }
+        requires work { IsAtWork (R.seen self.old.recorder).problem self.old.limit
+            (R.seen self.old.recorder).lines self.old.search self.old.next self.old.rows
             self.old.ledger }
         requires led { IsLed assumptions.now self.old.search.trail }
         requires assumptions { AreAssumptions self.old.search.trail.vars assumptions.now }
         requires closed { IsClosedFor self.old.search.store self.old.search.trail }
         ensures turn { IsTurn result
-            (IsAnswer (R.problem self.new.recorder) (R.lines self.new.recorder) assumptions.now)
-            (IsOn (R.problem self.new.recorder) self.new.limit assumptions.now
-            (R.broken self.new.recorder) (R.lines self.old.recorder)
-            (R.lines self.new.recorder) self.old.search self.new.search self.new.next
+            (IsAnswer (R.seen self.new.recorder).problem (R.seen self.new.recorder).lines assumptions.now)
+            (IsOn (R.seen self.new.recorder).problem self.new.limit assumptions.now
+            (R.seen self.new.recorder).broken (R.seen self.old.recorder).lines
+            (R.seen self.new.recorder).lines self.old.search self.new.search self.new.next
             self.new.rows self.new.ledger
             (left self.old.ledger.reductions)) }
-        ensures done { OnOk result (IsDone (R.problem self.new.recorder)
-            (R.broken self.new.recorder) (R.lines self.new.recorder) self.new.search
+        ensures done { OnOk result (IsDone (R.seen self.new.recorder).problem
+            (R.seen self.new.recorder).broken (R.seen self.new.recorder).lines self.new.search
             self.new.next self.new.rows self.new.ledger) }
-        ensures cause { IfErr result (λ f. IsRecordCause f (R.lines self.new.recorder)
-            (Rose (R.faults self.old.recorder) (R.faults self.new.recorder))) }
-        ensures adds { AddsSearchLines (R.problem self.old.recorder) (R.lines self.old.recorder)
-            (R.lines self.new.recorder) }
-        ensures within { IsWithin self.old.limit (R.problem self.old.recorder)
-            (R.lines self.new.recorder) }
+        ensures cause { IfErr result (λ f. IsRecordCause f (R.seen self.new.recorder).lines
+            (Rose (R.seen self.old.recorder).faults (R.seen self.new.recorder).faults)) }
+        ensures adds { AddsSearchLines (R.seen self.old.recorder).problem (R.seen self.old.recorder).lines
+            (R.seen self.new.recorder).lines }
+        ensures within { IsWithin self.old.limit (R.seen self.old.recorder).problem
+            (R.seen self.new.recorder).lines }
         ensures begun { self.new.broken ≡ true }
         ensures limit { self.new.limit ≡ self.old.limit }
-        ensures kept { KeepsRecorder (R.problem self.old.recorder) (R.problem self.new.recorder)
-            (R.limit self.old.recorder) (R.limit self.new.recorder) (R.around self.old.recorder)
-            (R.around self.new.recorder) (R.faults self.old.recorder)
-            (R.faults self.new.recorder) }
+        ensures kept { KeepsRecorder (R.seen self.old.recorder).problem (R.seen self.new.recorder).problem
+            (R.seen self.old.recorder).limit (R.seen self.new.recorder).limit (R.seen self.old.recorder).around
+            (R.seen self.new.recorder).around (R.seen self.old.recorder).faults
+            (R.seen self.new.recorder).faults }
     {
         // Tells that the trail is one of a search.
         let _level = self.search.level();
@@ -183,30 +183,30 @@ impl<R: Recorder + Drop, P: Propagator + Drop> Solver<R, P> {
     // Names a live line that is the clause of these literals: a hinted one, or one that is recorded now.
     fn name_clause(&mut self, lits: Items<Lit>, hints: Items<Hint>) -> Result<u64, OracleFault>
         requires begun { self.old.broken ≡ true }
-        requires whole { R.broken self.old.recorder ≡ false }
-        requires work { IsAtWork (R.problem self.old.recorder) self.old.limit
-            (R.lines self.old.recorder) self.old.search self.old.next self.old.rows
+        requires whole { (R.seen self.old.recorder).broken ≡ false }
+        requires work { IsAtWork (R.seen self.old.recorder).problem self.old.limit
+            (R.seen self.old.recorder).lines self.old.search self.old.next self.old.rows
             self.old.ledger }
         requires rising { AllPairs (λ l m. l.var < m.var) lits }
         requires within { All (λ l. (0 < l.var) × (l.var ≤ self.old.search.trail.vars)) lits }
         requires hints { AreHints self.old.search.store self.old.search.trail.vars lits hints }
-        ensures named { IfOk result (λ id. Reaches (R.problem self.new.recorder)
-            (R.lines self.new.recorder) (λ s. get s.live id ≡ Some (clause lits))) }
-        ensures done { OnOk result (IsDone (R.problem self.new.recorder)
-            (R.broken self.new.recorder) (R.lines self.new.recorder) self.new.search
+        ensures named { IfOk result (λ id. Reaches (R.seen self.new.recorder).problem
+            (R.seen self.new.recorder).lines (λ s. get s.live id ≡ Some (clause lits))) }
+        ensures done { OnOk result (IsDone (R.seen self.new.recorder).problem
+            (R.seen self.new.recorder).broken (R.seen self.new.recorder).lines self.new.search
             self.new.next self.new.rows self.new.ledger) }
-        ensures cause { IfErr result (λ f. IsRecordCause f (R.lines self.new.recorder)
-            (Rose (R.faults self.old.recorder) (R.faults self.new.recorder))) }
-        ensures adds { AddsSearchLines (R.problem self.old.recorder) (R.lines self.old.recorder)
-            (R.lines self.new.recorder) }
-        ensures within { IsWithin self.old.limit (R.problem self.old.recorder)
-            (R.lines self.new.recorder) }
+        ensures cause { IfErr result (λ f. IsRecordCause f (R.seen self.new.recorder).lines
+            (Rose (R.seen self.old.recorder).faults (R.seen self.new.recorder).faults)) }
+        ensures adds { AddsSearchLines (R.seen self.old.recorder).problem (R.seen self.old.recorder).lines
+            (R.seen self.new.recorder).lines }
+        ensures within { IsWithin self.old.limit (R.seen self.old.recorder).problem
+            (R.seen self.new.recorder).lines }
         ensures begun { self.new.broken ≡ true }
         ensures limit { self.new.limit ≡ self.old.limit }
-        ensures kept { KeepsRecorder (R.problem self.old.recorder) (R.problem self.new.recorder)
-            (R.limit self.old.recorder) (R.limit self.new.recorder) (R.around self.old.recorder)
-            (R.around self.new.recorder) (R.faults self.old.recorder)
-            (R.faults self.new.recorder) }
+        ensures kept { KeepsRecorder (R.seen self.old.recorder).problem (R.seen self.new.recorder).problem
+            (R.seen self.old.recorder).limit (R.seen self.new.recorder).limit (R.seen self.old.recorder).around
+            (R.seen self.new.recorder).around (R.seen self.old.recorder).faults
+            (R.seen self.new.recorder).faults }
     {
         if let Some(id) = hinted_clause(&self.search, lits.as_slice(), hints.as_slice()) {
             return Ok(id);
@@ -224,30 +224,30 @@ impl<R: Recorder + Drop, P: Propagator + Drop> Solver<R, P> {
     // Answers that the assumptions can't all be true, where one is false by a step that a line forces.
     fn blame(&mut self, lit: Lit) -> Result<Core, OracleFault>
         requires begun { self.old.broken ≡ true }
-        requires whole { R.broken self.old.recorder ≡ false }
-        requires work { IsAtWork (R.problem self.old.recorder) self.old.limit
-            (R.lines self.old.recorder) self.old.search self.old.next self.old.rows
+        requires whole { (R.seen self.old.recorder).broken ≡ false }
+        requires work { IsAtWork (R.seen self.old.recorder).problem self.old.limit
+            (R.seen self.old.recorder).lines self.old.search self.old.next self.old.rows
             self.old.ledger }
         requires falsified { IsForcedFalse self.old.search.trail lit }
-        ensures core { IfOk result (λ core. Reaches (R.problem self.new.recorder)
-            (R.lines self.new.recorder) (IsCore core.lits core.lits core.id)) }
+        ensures core { IfOk result (λ core. Reaches (R.seen self.new.recorder).problem
+            (R.seen self.new.recorder).lines (IsCore core.lits core.lits core.id)) }
         ensures among { IfOk result
             (λ core. All (λ m. (m ≡ lit) ⊎ IsDecided self.old.search.trail m) core.lits) }
-        ensures done { OnOk result (IsDone (R.problem self.new.recorder)
-            (R.broken self.new.recorder) (R.lines self.new.recorder) self.new.search
+        ensures done { OnOk result (IsDone (R.seen self.new.recorder).problem
+            (R.seen self.new.recorder).broken (R.seen self.new.recorder).lines self.new.search
             self.new.next self.new.rows self.new.ledger) }
-        ensures cause { IfErr result (λ f. IsRecordCause f (R.lines self.new.recorder)
-            (Rose (R.faults self.old.recorder) (R.faults self.new.recorder))) }
-        ensures adds { AddsSearchLines (R.problem self.old.recorder) (R.lines self.old.recorder)
-            (R.lines self.new.recorder) }
-        ensures within { IsWithin self.old.limit (R.problem self.old.recorder)
-            (R.lines self.new.recorder) }
+        ensures cause { IfErr result (λ f. IsRecordCause f (R.seen self.new.recorder).lines
+            (Rose (R.seen self.old.recorder).faults (R.seen self.new.recorder).faults)) }
+        ensures adds { AddsSearchLines (R.seen self.old.recorder).problem (R.seen self.old.recorder).lines
+            (R.seen self.new.recorder).lines }
+        ensures within { IsWithin self.old.limit (R.seen self.old.recorder).problem
+            (R.seen self.new.recorder).lines }
         ensures begun { self.new.broken ≡ true }
         ensures limit { self.new.limit ≡ self.old.limit }
-        ensures kept { KeepsRecorder (R.problem self.old.recorder) (R.problem self.new.recorder)
-            (R.limit self.old.recorder) (R.limit self.new.recorder) (R.around self.old.recorder)
-            (R.around self.new.recorder) (R.faults self.old.recorder)
-            (R.faults self.new.recorder) }
+        ensures kept { KeepsRecorder (R.seen self.old.recorder).problem (R.seen self.new.recorder).problem
+            (R.seen self.old.recorder).limit (R.seen self.new.recorder).limit (R.seen self.old.recorder).around
+            (R.seen self.new.recorder).around (R.seen self.old.recorder).faults
+            (R.seen self.new.recorder).faults }
     {
         // Tells that the trail is one of a search.
         let _level = self.search.level();
@@ -260,30 +260,30 @@ impl<R: Recorder + Drop, P: Propagator + Drop> Solver<R, P> {
     // Answers that nothing satisfies the lines, where one is violated and nothing is decided.
     pub(crate) fn refute(&mut self, conflict: u64) -> Result<Core, OracleFault>
         requires begun { self.old.broken ≡ true }
-        requires whole { R.broken self.old.recorder ≡ false }
-        requires work { IsAtWork (R.problem self.old.recorder) self.old.limit
-            (R.lines self.old.recorder) self.old.search self.old.next self.old.rows
+        requires whole { (R.seen self.old.recorder).broken ≡ false }
+        requires work { IsAtWork (R.seen self.old.recorder).problem self.old.limit
+            (R.seen self.old.recorder).lines self.old.search self.old.next self.old.rows
             self.old.ledger }
         requires conflict { IsConflict self.old.search.store self.old.search.trail conflict }
         requires undecided { IsUndecided self.old.search.trail }
-        ensures core { IfOk result (λ core. Reaches (R.problem self.new.recorder)
-            (R.lines self.new.recorder) (IsCore [] core.lits core.id)) }
+        ensures core { IfOk result (λ core. Reaches (R.seen self.new.recorder).problem
+            (R.seen self.new.recorder).lines (IsCore [] core.lits core.id)) }
         ensures none { IfOk result (λ core. core.lits ≡ []) }
-        ensures done { OnOk result (IsDone (R.problem self.new.recorder)
-            (R.broken self.new.recorder) (R.lines self.new.recorder) self.new.search
+        ensures done { OnOk result (IsDone (R.seen self.new.recorder).problem
+            (R.seen self.new.recorder).broken (R.seen self.new.recorder).lines self.new.search
             self.new.next self.new.rows self.new.ledger) }
-        ensures cause { IfErr result (λ f. IsRecordCause f (R.lines self.new.recorder)
-            (Rose (R.faults self.old.recorder) (R.faults self.new.recorder))) }
-        ensures adds { AddsSearchLines (R.problem self.old.recorder) (R.lines self.old.recorder)
-            (R.lines self.new.recorder) }
-        ensures within { IsWithin self.old.limit (R.problem self.old.recorder)
-            (R.lines self.new.recorder) }
+        ensures cause { IfErr result (λ f. IsRecordCause f (R.seen self.new.recorder).lines
+            (Rose (R.seen self.old.recorder).faults (R.seen self.new.recorder).faults)) }
+        ensures adds { AddsSearchLines (R.seen self.old.recorder).problem (R.seen self.old.recorder).lines
+            (R.seen self.new.recorder).lines }
+        ensures within { IsWithin self.old.limit (R.seen self.old.recorder).problem
+            (R.seen self.new.recorder).lines }
         ensures begun { self.new.broken ≡ true }
         ensures limit { self.new.limit ≡ self.old.limit }
-        ensures kept { KeepsRecorder (R.problem self.old.recorder) (R.problem self.new.recorder)
-            (R.limit self.old.recorder) (R.limit self.new.recorder) (R.around self.old.recorder)
-            (R.around self.new.recorder) (R.faults self.old.recorder)
-            (R.faults self.new.recorder) }
+        ensures kept { KeepsRecorder (R.seen self.old.recorder).problem (R.seen self.new.recorder).problem
+            (R.seen self.old.recorder).limit (R.seen self.new.recorder).limit (R.seen self.old.recorder).around
+            (R.seen self.new.recorder).around (R.seen self.old.recorder).faults
+            (R.seen self.new.recorder).faults }
     {
         let hints = self.search.refute(conflict)?;
         let id = self.name_clause(Items::new(self.alloc), hints)?;

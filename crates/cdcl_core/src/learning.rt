@@ -27,37 +27,37 @@ impl<R: Recorder + Drop, P: Propagator + Drop> Solver<R, P> {
     // `Spent` where no clause may be learned any more; then only the trail was cut.
     pub(crate) fn learn(&mut self, lesson: Lesson) -> Result<(), OracleFault>
         requires begun { self.old.broken ≡ true }
-        requires whole { R.broken self.old.recorder ≡ false }
-        requires work { IsAtWork (R.problem self.old.recorder) self.old.limit
-            (R.lines self.old.recorder) self.old.search self.old.next self.old.rows
+        requires whole { (R.seen self.old.recorder).broken ≡ false }
+        requires work { IsAtWork (R.seen self.old.recorder).problem self.old.limit
+            (R.seen self.old.recorder).lines self.old.search self.old.next self.old.rows
             self.old.ledger }
         requires lesson { IsLesson self.old.search.store self.old.search.trail lesson }
-        ensures whole { OnOk result (R.broken self.new.recorder ≡ false) }
-        ensures work { OnOk result (IsAtWork (R.problem self.new.recorder) self.new.limit
-            (R.lines self.new.recorder) self.new.search self.new.next self.new.rows
+        ensures whole { OnOk result ((R.seen self.new.recorder).broken ≡ false) }
+        ensures work { OnOk result (IsAtWork (R.seen self.new.recorder).problem self.new.limit
+            (R.seen self.new.recorder).lines self.new.search self.new.next self.new.rows
             self.new.ledger) }
-        ensures cause { IfErr result (λ f. HasCause f self.old.limit (R.problem self.new.recorder)
-            (R.lines self.new.recorder)
-            (Rose (R.faults self.old.recorder) (R.faults self.new.recorder))) }
-        ensures goes_on { IfErr result (λ f. GoesOn f ((R.broken self.new.recorder ≡ false)
-            × IsAtWork (R.problem self.new.recorder) self.new.limit
-            (R.lines self.new.recorder) self.new.search self.new.next self.new.rows
+        ensures cause { IfErr result (λ f. HasCause f self.old.limit (R.seen self.new.recorder).problem
+            (R.seen self.new.recorder).lines
+            (Rose (R.seen self.old.recorder).faults (R.seen self.new.recorder).faults)) }
+        ensures goes_on { IfErr result (λ f. GoesOn f (((R.seen self.new.recorder).broken ≡ false)
+            × IsAtWork (R.seen self.new.recorder).problem self.new.limit
+            (R.seen self.new.recorder).lines self.new.search self.new.next self.new.rows
             self.new.ledger)) }
-        ensures adds { AddsLearned (R.problem self.old.recorder) (R.lines self.old.recorder)
-            (R.lines self.new.recorder) }
-        ensures within { IsWithin self.old.limit (R.problem self.old.recorder)
-            (R.lines self.new.recorder) }
+        ensures adds { AddsLearned (R.seen self.old.recorder).problem (R.seen self.old.recorder).lines
+            (R.seen self.new.recorder).lines }
+        ensures within { IsWithin self.old.limit (R.seen self.old.recorder).problem
+            (R.seen self.new.recorder).lines }
         ensures rises { OnOk result (rank self.old.search.trail < rank self.new.search.trail) }
         ensures vars { self.new.search.trail.vars ≡ self.old.search.trail.vars }
         ensures led { OnOk result ((assumptions : List Literal)
             → IsLed assumptions self.old.search.trail → IsLed assumptions self.new.search.trail) }
         ensures limit { self.new.limit ≡ self.old.limit }
-        ensures kept { KeepsRecorder (R.problem self.old.recorder) (R.problem self.new.recorder)
-            (R.limit self.old.recorder) (R.limit self.new.recorder) (R.around self.old.recorder)
-            (R.around self.new.recorder) (R.faults self.old.recorder)
-            (R.faults self.new.recorder) }
+        ensures kept { KeepsRecorder (R.seen self.old.recorder).problem (R.seen self.new.recorder).problem
+            (R.seen self.old.recorder).limit (R.seen self.new.recorder).limit (R.seen self.old.recorder).around
+            (R.seen self.new.recorder).around (R.seen self.old.recorder).faults
+            (R.seen self.new.recorder).faults }
         ensures begun { self.new.broken ≡ true }
-        ensures last { OnOk result (EndsLearned (R.lines self.new.recorder)) }
+        ensures last { OnOk result (EndsLearned (R.seen self.new.recorder).lines) }
         ensures number { self.new.ledger.reductions ≡ self.old.ledger.reductions }
     {
         // Tells that the trail is one of a search.
@@ -92,33 +92,33 @@ impl<R: Recorder + Drop, P: Propagator + Drop> Solver<R, P> {
         distance: u64,
     ) -> Result<(), OracleFault>
         requires begun { self.old.broken ≡ true }
-        requires whole { R.broken self.old.recorder ≡ false }
-        requires work { IsAtWork (R.problem self.old.recorder) self.old.limit
-            (R.lines self.old.recorder) self.old.search self.old.next self.old.rows
+        requires whole { (R.seen self.old.recorder).broken ≡ false }
+        requires work { IsAtWork (R.seen self.old.recorder).problem self.old.limit
+            (R.seen self.old.recorder).lines self.old.search self.old.next self.old.rows
             self.old.ledger }
         requires learnable { IsLearnable self.old.search level lit line.now }
-        requires more { MayLearn self.old.limit (R.problem self.old.recorder)
-            (R.lines self.old.recorder) }
+        requires more { MayLearn self.old.limit (R.seen self.old.recorder).problem
+            (R.seen self.old.recorder).lines }
         ensures begun { self.new.broken ≡ true }
-        ensures whole { OnOk result (R.broken self.new.recorder ≡ false) }
-        ensures work { OnOk result (IsAtWork (R.problem self.new.recorder) self.new.limit
-            (R.lines self.new.recorder) self.new.search self.new.next self.new.rows
+        ensures whole { OnOk result ((R.seen self.new.recorder).broken ≡ false) }
+        ensures work { OnOk result (IsAtWork (R.seen self.new.recorder).problem self.new.limit
+            (R.seen self.new.recorder).lines self.new.search self.new.next self.new.rows
             self.new.ledger) }
-        ensures cause { IfErr result (λ f. IsRecordCause f (R.lines self.new.recorder)
-            (Rose (R.faults self.old.recorder) (R.faults self.new.recorder))) }
-        ensures adds { AddsLearned (R.problem self.old.recorder) (R.lines self.old.recorder)
-            (R.lines self.new.recorder) }
-        ensures within { IsWithin self.old.limit (R.problem self.old.recorder)
-            (R.lines self.new.recorder) }
+        ensures cause { IfErr result (λ f. IsRecordCause f (R.seen self.new.recorder).lines
+            (Rose (R.seen self.old.recorder).faults (R.seen self.new.recorder).faults)) }
+        ensures adds { AddsLearned (R.seen self.old.recorder).problem (R.seen self.old.recorder).lines
+            (R.seen self.new.recorder).lines }
+        ensures within { IsWithin self.old.limit (R.seen self.old.recorder).problem
+            (R.seen self.new.recorder).lines }
         ensures forced { OnOk result
             (IsForcedBySome self.old.search.trail self.new.search.trail lit level) }
         ensures vars { self.new.search.trail.vars ≡ self.old.search.trail.vars }
         ensures limit { self.new.limit ≡ self.old.limit }
-        ensures kept { KeepsRecorder (R.problem self.old.recorder) (R.problem self.new.recorder)
-            (R.limit self.old.recorder) (R.limit self.new.recorder) (R.around self.old.recorder)
-            (R.around self.new.recorder) (R.faults self.old.recorder)
-            (R.faults self.new.recorder) }
-        ensures last { OnOk result (EndsLearned (R.lines self.new.recorder)) }
+        ensures kept { KeepsRecorder (R.seen self.old.recorder).problem (R.seen self.new.recorder).problem
+            (R.seen self.old.recorder).limit (R.seen self.new.recorder).limit (R.seen self.old.recorder).around
+            (R.seen self.new.recorder).around (R.seen self.old.recorder).faults
+            (R.seen self.new.recorder).faults }
+        ensures last { OnOk result (EndsLearned (R.seen self.new.recorder).lines) }
         ensures number { self.new.ledger.reductions ≡ self.old.ledger.reductions }
     {
         let id = record(&mut self.recorder, line)?;

@@ -16,18 +16,18 @@ use proof_rules::Recorder;
 /// Records a line, and answers the first id that it makes.
 pub(crate) fn record<R: Recorder>(recorder: &mut R, line: &Line) -> Result<u64, OracleFault>
     requires formed { IsWellFormed line.now }
-    requires legal { MayBeAdded (R.problem recorder.old) (R.lines recorder.old) line.now }
-    requires whole { R.broken recorder.old ≡ false }
+    requires legal { MayBeAdded (R.seen recorder.old).problem (R.seen recorder.old).lines line.now }
+    requires whole { (R.seen recorder.old).broken ≡ false }
     ensures added { OnOk result
-        (R.lines recorder.new ≡ R.lines recorder.old ++ line.now ∷ []) }
-    ensures id { IfOk result (IsNextId (R.problem recorder.old) (R.lines recorder.old)) }
-    ensures whole { OnOk result (R.broken recorder.new ≡ false) }
-    ensures same { OnErr result (R.lines recorder.new ≡ R.lines recorder.old) }
-    ensures cause { IfErr result (λ f. IsRecordCause f (R.lines recorder.old)
-        (Rose (R.faults recorder.old) (R.faults recorder.new))) }
-    ensures kept { KeepsRecorder (R.problem recorder.old) (R.problem recorder.new)
-        (R.limit recorder.old) (R.limit recorder.new) (R.around recorder.old)
-        (R.around recorder.new) (R.faults recorder.old) (R.faults recorder.new) }
+        ((R.seen recorder.new).lines ≡ (R.seen recorder.old).lines ++ line.now ∷ []) }
+    ensures id { IfOk result (IsNextId (R.seen recorder.old).problem (R.seen recorder.old).lines) }
+    ensures whole { OnOk result ((R.seen recorder.new).broken ≡ false) }
+    ensures same { OnErr result ((R.seen recorder.new).lines ≡ (R.seen recorder.old).lines) }
+    ensures cause { IfErr result (λ f. IsRecordCause f (R.seen recorder.old).lines
+        (Rose (R.seen recorder.old).faults (R.seen recorder.new).faults)) }
+    ensures kept { KeepsRecorder (R.seen recorder.old).problem (R.seen recorder.new).problem
+        (R.seen recorder.old).limit (R.seen recorder.new).limit (R.seen recorder.old).around
+        (R.seen recorder.new).around (R.seen recorder.old).faults (R.seen recorder.new).faults }
 {
     match recorder.add_line(line) {
         Ok(id) => Ok(id),

@@ -22,22 +22,22 @@ impl<R: Recorder + Drop, P: Propagator + Drop> Solver<R, P> {
     // learned lines alone, which nothing but reductions deletes.
     pub(crate) fn reduce_where_due(&mut self) -> Result<(), OracleFault>
         requires begun { self.old.broken ≡ true }
-        requires whole { R.broken self.old.recorder ≡ false }
-        requires work { IsAtWork (R.problem self.old.recorder) self.old.limit
-            (R.lines self.old.recorder) self.old.search self.old.next self.old.rows
+        requires whole { (R.seen self.old.recorder).broken ≡ false }
+        requires work { IsAtWork (R.seen self.old.recorder).problem self.old.limit
+            (R.seen self.old.recorder).lines self.old.search self.old.next self.old.rows
             self.old.ledger }
-        requires last { EndsLearned (R.lines self.old.recorder) }
+        requires last { EndsLearned (R.seen self.old.recorder).lines }
         ensures begun { self.new.broken ≡ true }
-        ensures whole { OnOk result (R.broken self.new.recorder ≡ false) }
-        ensures work { OnOk result (IsAtWork (R.problem self.new.recorder) self.new.limit
-            (R.lines self.new.recorder) self.new.search self.new.next self.new.rows
+        ensures whole { OnOk result ((R.seen self.new.recorder).broken ≡ false) }
+        ensures work { OnOk result (IsAtWork (R.seen self.new.recorder).problem self.new.limit
+            (R.seen self.new.recorder).lines self.new.search self.new.next self.new.rows
             self.new.ledger) }
-        ensures cause { IfErr result (λ f. IsRecordCause f (R.lines self.new.recorder)
-            (Rose (R.faults self.old.recorder) (R.faults self.new.recorder))) }
-        ensures adds { AddsLearned (R.problem self.old.recorder) (R.lines self.old.recorder)
-            (R.lines self.new.recorder) }
-        ensures within { IsWithin self.old.limit (R.problem self.old.recorder)
-            (R.lines self.new.recorder) }
+        ensures cause { IfErr result (λ f. IsRecordCause f (R.seen self.new.recorder).lines
+            (Rose (R.seen self.old.recorder).faults (R.seen self.new.recorder).faults)) }
+        ensures adds { AddsLearned (R.seen self.old.recorder).problem (R.seen self.old.recorder).lines
+            (R.seen self.new.recorder).lines }
+        ensures within { IsWithin self.old.limit (R.seen self.old.recorder).problem
+            (R.seen self.new.recorder).lines }
         ensures fewer { OnOk result (((self.new.search.trail ≡ self.old.search.trail)
             × (self.new.ledger.reductions ≡ self.old.ledger.reductions))
             ⊎ (left self.new.ledger.reductions < left self.old.ledger.reductions)) }
@@ -45,10 +45,10 @@ impl<R: Recorder + Drop, P: Propagator + Drop> Solver<R, P> {
         ensures led { OnOk result ((assumptions : List Literal)
             → IsLed assumptions self.old.search.trail → IsLed assumptions self.new.search.trail) }
         ensures limit { self.new.limit ≡ self.old.limit }
-        ensures kept { KeepsRecorder (R.problem self.old.recorder) (R.problem self.new.recorder)
-            (R.limit self.old.recorder) (R.limit self.new.recorder) (R.around self.old.recorder)
-            (R.around self.new.recorder) (R.faults self.old.recorder)
-            (R.faults self.new.recorder) }
+        ensures kept { KeepsRecorder (R.seen self.old.recorder).problem (R.seen self.new.recorder).problem
+            (R.seen self.old.recorder).limit (R.seen self.new.recorder).limit (R.seen self.old.recorder).around
+            (R.seen self.new.recorder).around (R.seen self.old.recorder).faults
+            (R.seen self.new.recorder).faults }
     {
         let learned = self.recorder.state().learned();
         if self.ledger.is_due(learned) {
@@ -61,34 +61,34 @@ impl<R: Recorder + Drop, P: Propagator + Drop> Solver<R, P> {
     // A line that names nothing isn't allowed, and without it no later reduction is ever due.
     fn reduce(&mut self) -> Result<(), OracleFault>
         requires begun { self.old.broken ≡ true }
-        requires whole { R.broken self.old.recorder ≡ false }
-        requires work { IsAtWork (R.problem self.old.recorder) self.old.limit
-            (R.lines self.old.recorder) self.old.search self.old.next self.old.rows
+        requires whole { (R.seen self.old.recorder).broken ≡ false }
+        requires work { IsAtWork (R.seen self.old.recorder).problem self.old.limit
+            (R.seen self.old.recorder).lines self.old.search self.old.next self.old.rows
             self.old.ledger }
-        requires last { EndsLearned (R.lines self.old.recorder) }
-        requires due { Reaches (R.problem self.old.recorder) (R.lines self.old.recorder)
+        requires last { EndsLearned (R.seen self.old.recorder).lines }
+        requires due { Reaches (R.seen self.old.recorder).problem (R.seen self.old.recorder).lines
             (λ s. IsDue self.old.ledger.reductions s.learned) }
         ensures begun { self.new.broken ≡ true }
-        ensures whole { OnOk result (R.broken self.new.recorder ≡ false) }
-        ensures work { OnOk result (IsAtWork (R.problem self.new.recorder) self.new.limit
-            (R.lines self.new.recorder) self.new.search self.new.next self.new.rows
+        ensures whole { OnOk result ((R.seen self.new.recorder).broken ≡ false) }
+        ensures work { OnOk result (IsAtWork (R.seen self.new.recorder).problem self.new.limit
+            (R.seen self.new.recorder).lines self.new.search self.new.next self.new.rows
             self.new.ledger) }
-        ensures cause { IfErr result (λ f. IsRecordCause f (R.lines self.new.recorder)
-            (Rose (R.faults self.old.recorder) (R.faults self.new.recorder))) }
-        ensures adds { AddsLearned (R.problem self.old.recorder) (R.lines self.old.recorder)
-            (R.lines self.new.recorder) }
-        ensures within { IsWithin self.old.limit (R.problem self.old.recorder)
-            (R.lines self.new.recorder) }
+        ensures cause { IfErr result (λ f. IsRecordCause f (R.seen self.new.recorder).lines
+            (Rose (R.seen self.old.recorder).faults (R.seen self.new.recorder).faults)) }
+        ensures adds { AddsLearned (R.seen self.old.recorder).problem (R.seen self.old.recorder).lines
+            (R.seen self.new.recorder).lines }
+        ensures within { IsWithin self.old.limit (R.seen self.old.recorder).problem
+            (R.seen self.new.recorder).lines }
         ensures fewer { OnOk result
             (left self.new.ledger.reductions < left self.old.ledger.reductions) }
         ensures vars { self.new.search.trail.vars ≡ self.old.search.trail.vars }
         ensures led { OnOk result ((assumptions : List Literal)
             → IsLed assumptions self.old.search.trail → IsLed assumptions self.new.search.trail) }
         ensures limit { self.new.limit ≡ self.old.limit }
-        ensures kept { KeepsRecorder (R.problem self.old.recorder) (R.problem self.new.recorder)
-            (R.limit self.old.recorder) (R.limit self.new.recorder) (R.around self.old.recorder)
-            (R.around self.new.recorder) (R.faults self.old.recorder)
-            (R.faults self.new.recorder) }
+        ensures kept { KeepsRecorder (R.seen self.old.recorder).problem (R.seen self.new.recorder).problem
+            (R.seen self.old.recorder).limit (R.seen self.new.recorder).limit (R.seen self.old.recorder).around
+            (R.seen self.new.recorder).around (R.seen self.old.recorder).faults
+            (R.seen self.new.recorder).faults }
     {
         let Choice { named, kept } = self.ledger.choose(self.alloc, &self.search)?;
         if named.is_empty() {

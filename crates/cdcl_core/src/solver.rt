@@ -54,8 +54,8 @@ impl<R: Recorder + Drop, P: Propagator + Drop> Model for Solver<R, P> {
       ledger = s.ledger;
     } };
 
-    ghost invariant = { λ s. s.broken ≡ false → (R.broken s.recorder ≡ false)
-        × IsHeld (R.problem s.recorder) (R.lines s.recorder) s.search s.next s.rows
+    ghost invariant = { λ s. s.broken ≡ false → ((R.seen s.recorder).broken ≡ false)
+        × IsHeld (R.seen s.recorder).problem (R.seen s.recorder).lines s.search s.next s.rows
         s.ledger };
 }
 
@@ -77,10 +77,10 @@ impl<R: Recorder + Drop, P: Propagator + Drop> Solver<R, P> {
         problem: &PbProblem,
         limit: Option<u64>,
     ) -> Result<Solver<R, P>, NoRoom<R>>
-        requires whole { R.broken recorder ≡ false }
-        requires problem { problem.now ≡ R.problem recorder }
+        requires whole { (R.seen recorder).broken ≡ false }
+        requires problem { problem.now ≡ (R.seen recorder).problem }
         requires in_step { P.in_step propagator empty (record { vars = 0; steps = [] }) }
-        requires within { IsWithin limit (R.problem recorder) (R.lines recorder) }
+        requires within { IsWithin limit (R.seen recorder).problem (R.seen recorder).lines }
         ensures recorder { IfOk result (λ s. s.recorder ≡ recorder) }
         ensures limit { IfOk result (λ s. s.limit ≡ limit) }
         ensures whole { IfOk result (λ s. s.broken ≡ false) }
@@ -112,7 +112,7 @@ impl<R: Recorder + Drop, P: Propagator + Drop> Solver<R, P> {
     /// The recorder, with all that was added; it isn't broken where the solver isn't. Takes no memory.
     pub fn into_recorder(self) -> R
         ensures recorder { result ≡ self.recorder }
-        ensures whole { self.broken ≡ false → R.broken result ≡ false }
+        ensures whole { self.broken ≡ false → (R.seen result).broken ≡ false }
     {
         let Solver {
             alloc: _,
@@ -129,17 +129,17 @@ impl<R: Recorder + Drop, P: Propagator + Drop> Solver<R, P> {
 }
 
 impl<R: Recorder + Drop, P: Propagator + Drop> Recorder for Solver<R, P> {
-    ghost problem = { λ s. R.problem s.recorder };
+    ghost problem = { λ s. (R.seen s.recorder).problem };
 
     ghost limit = { λ s. s.limit };
 
-    ghost lines = { λ s. R.lines s.recorder };
+    ghost lines = { λ s. (R.seen s.recorder).lines };
 
-    ghost faults = { λ s. R.faults s.recorder };
+    ghost faults = { λ s. (R.seen s.recorder).faults };
 
     ghost broken = { λ s. s.broken };
 
-    ghost around = { λ s. R.around s.recorder };
+    ghost around = { λ s. (R.seen s.recorder).around };
 
     /// The line is taken up by the next call of `solve`; what it deletes is dropped at once.
     fn add_line(&mut self, line: &Line) -> Result<u64, RecordFault> {

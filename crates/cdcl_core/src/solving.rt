@@ -22,33 +22,33 @@ impl<R: Recorder + Drop, P: Propagator + Drop> Solver<R, P> {
     // rises between restarts and reductions, of which there are only so many.
     pub(crate) fn run(&mut self, assumptions: &[Lit]) -> Result<Answer, OracleFault>
         requires begun { self.old.broken ≡ true }
-        requires whole { R.broken self.old.recorder ≡ false }
-        requires work { IsAtWork (R.problem self.old.recorder) self.old.limit
-            (R.lines self.old.recorder) self.old.search self.old.next self.old.rows
+        requires whole { (R.seen self.old.recorder).broken ≡ false }
+        requires work { IsAtWork (R.seen self.old.recorder).problem self.old.limit
+            (R.seen self.old.recorder).lines self.old.search self.old.next self.old.rows
             self.old.ledger }
         requires undecided { IsUndecided self.old.search.trail }
         requires assumptions { AreAssumptions self.old.search.trail.vars assumptions.now }
         ensures answer { IfOk result
-            (IsAnswer (R.problem self.new.recorder) (R.lines self.new.recorder) assumptions.now) }
-        ensures done { OnOk result (IsDone (R.problem self.new.recorder)
-            (R.broken self.new.recorder) (R.lines self.new.recorder) self.new.search
+            (IsAnswer (R.seen self.new.recorder).problem (R.seen self.new.recorder).lines assumptions.now) }
+        ensures done { OnOk result (IsDone (R.seen self.new.recorder).problem
+            (R.seen self.new.recorder).broken (R.seen self.new.recorder).lines self.new.search
             self.new.next self.new.rows self.new.ledger) }
-        ensures cause { IfErr result (λ f. HasCause f self.old.limit (R.problem self.new.recorder)
-            (R.lines self.new.recorder)
-            (Rose (R.faults self.old.recorder) (R.faults self.new.recorder))) }
-        ensures goes_on { IfErr result (λ f. GoesOn f (IsDone (R.problem self.new.recorder)
-            (R.broken self.new.recorder) (R.lines self.new.recorder) self.new.search
+        ensures cause { IfErr result (λ f. HasCause f self.old.limit (R.seen self.new.recorder).problem
+            (R.seen self.new.recorder).lines
+            (Rose (R.seen self.old.recorder).faults (R.seen self.new.recorder).faults)) }
+        ensures goes_on { IfErr result (λ f. GoesOn f (IsDone (R.seen self.new.recorder).problem
+            (R.seen self.new.recorder).broken (R.seen self.new.recorder).lines self.new.search
             self.new.next self.new.rows self.new.ledger)) }
-        ensures adds { AddsSearchLines (R.problem self.old.recorder) (R.lines self.old.recorder)
-            (R.lines self.new.recorder) }
-        ensures within { IsWithin self.old.limit (R.problem self.old.recorder)
-            (R.lines self.new.recorder) }
+        ensures adds { AddsSearchLines (R.seen self.old.recorder).problem (R.seen self.old.recorder).lines
+            (R.seen self.new.recorder).lines }
+        ensures within { IsWithin self.old.limit (R.seen self.old.recorder).problem
+            (R.seen self.new.recorder).lines }
         ensures begun { self.new.broken ≡ true }
         ensures limit { self.new.limit ≡ self.old.limit }
-        ensures kept { KeepsRecorder (R.problem self.old.recorder) (R.problem self.new.recorder)
-            (R.limit self.old.recorder) (R.limit self.new.recorder) (R.around self.old.recorder)
-            (R.around self.new.recorder) (R.faults self.old.recorder)
-            (R.faults self.new.recorder) }
+        ensures kept { KeepsRecorder (R.seen self.old.recorder).problem (R.seen self.new.recorder).problem
+            (R.seen self.old.recorder).limit (R.seen self.new.recorder).limit (R.seen self.old.recorder).around
+            (R.seen self.new.recorder).around (R.seen self.old.recorder).faults
+            (R.seen self.new.recorder).faults }
     {
         let mut restarts = 0;
         let mut since = 0u64;
@@ -72,38 +72,38 @@ impl<R: Recorder + Drop, P: Propagator + Drop> Solver<R, P> {
     // Propagates, and then learns from a conflict or decides a literal, or answers.
     fn turn(&mut self, assumptions: &[Lit]) -> Result<Turn, OracleFault>
         requires begun { self.old.broken ≡ true }
-        requires whole { R.broken self.old.recorder ≡ false }
-        requires work { IsAtWork (R.problem self.old.recorder) self.old.limit
-            (R.lines self.old.recorder) self.old.search self.old.next self.old.rows
+        requires whole { (R.seen self.old.recorder).broken ≡ false }
+        requires work { IsAtWork (R.seen self.old.recorder).problem self.old.limit
+            (R.seen self.old.recorder).lines self.old.search self.old.next self.old.rows
             self.old.ledger }
         requires led { IsLed assumptions.now self.old.search.trail }
         requires assumptions { AreAssumptions self.old.search.trail.vars assumptions.now }
         ensures turn { IsTurn result
-            (IsAnswer (R.problem self.new.recorder) (R.lines self.new.recorder) assumptions.now)
-            (IsOn (R.problem self.new.recorder) self.new.limit assumptions.now
-            (R.broken self.new.recorder) (R.lines self.old.recorder)
-            (R.lines self.new.recorder) self.old.search self.new.search self.new.next
+            (IsAnswer (R.seen self.new.recorder).problem (R.seen self.new.recorder).lines assumptions.now)
+            (IsOn (R.seen self.new.recorder).problem self.new.limit assumptions.now
+            (R.seen self.new.recorder).broken (R.seen self.old.recorder).lines
+            (R.seen self.new.recorder).lines self.old.search self.new.search self.new.next
             self.new.rows self.new.ledger
             (left self.old.ledger.reductions)) }
-        ensures done { OnOk result (IsDone (R.problem self.new.recorder)
-            (R.broken self.new.recorder) (R.lines self.new.recorder) self.new.search
+        ensures done { OnOk result (IsDone (R.seen self.new.recorder).problem
+            (R.seen self.new.recorder).broken (R.seen self.new.recorder).lines self.new.search
             self.new.next self.new.rows self.new.ledger) }
-        ensures cause { IfErr result (λ f. HasCause f self.old.limit (R.problem self.new.recorder)
-            (R.lines self.new.recorder)
-            (Rose (R.faults self.old.recorder) (R.faults self.new.recorder))) }
-        ensures goes_on { IfErr result (λ f. GoesOn f (IsDone (R.problem self.new.recorder)
-            (R.broken self.new.recorder) (R.lines self.new.recorder) self.new.search
+        ensures cause { IfErr result (λ f. HasCause f self.old.limit (R.seen self.new.recorder).problem
+            (R.seen self.new.recorder).lines
+            (Rose (R.seen self.old.recorder).faults (R.seen self.new.recorder).faults)) }
+        ensures goes_on { IfErr result (λ f. GoesOn f (IsDone (R.seen self.new.recorder).problem
+            (R.seen self.new.recorder).broken (R.seen self.new.recorder).lines self.new.search
             self.new.next self.new.rows self.new.ledger)) }
-        ensures adds { AddsSearchLines (R.problem self.old.recorder) (R.lines self.old.recorder)
-            (R.lines self.new.recorder) }
-        ensures within { IsWithin self.old.limit (R.problem self.old.recorder)
-            (R.lines self.new.recorder) }
+        ensures adds { AddsSearchLines (R.seen self.old.recorder).problem (R.seen self.old.recorder).lines
+            (R.seen self.new.recorder).lines }
+        ensures within { IsWithin self.old.limit (R.seen self.old.recorder).problem
+            (R.seen self.new.recorder).lines }
         ensures begun { self.new.broken ≡ true }
         ensures limit { self.new.limit ≡ self.old.limit }
-        ensures kept { KeepsRecorder (R.problem self.old.recorder) (R.problem self.new.recorder)
-            (R.limit self.old.recorder) (R.limit self.new.recorder) (R.around self.old.recorder)
-            (R.around self.new.recorder) (R.faults self.old.recorder)
-            (R.faults self.new.recorder) }
+        ensures kept { KeepsRecorder (R.seen self.old.recorder).problem (R.seen self.new.recorder).problem
+            (R.seen self.old.recorder).limit (R.seen self.new.recorder).limit (R.seen self.old.recorder).around
+            (R.seen self.new.recorder).around (R.seen self.old.recorder).faults
+            (R.seen self.new.recorder).faults }
     {
         match self.search.propagate()? {
             Some(conflict) => self.meet(conflict, assumptions),
@@ -115,38 +115,38 @@ impl<R: Recorder + Drop, P: Propagator + Drop> Solver<R, P> {
     // where nothing is decided.
     fn meet(&mut self, conflict: u64, _assumptions: &[Lit]) -> Result<Turn, OracleFault>
         requires begun { self.old.broken ≡ true }
-        requires whole { R.broken self.old.recorder ≡ false }
-        requires work { IsAtWork (R.problem self.old.recorder) self.old.limit
-            (R.lines self.old.recorder) self.old.search self.old.next self.old.rows
+        requires whole { (R.seen self.old.recorder).broken ≡ false }
+        requires work { IsAtWork (R.seen self.old.recorder).problem self.old.limit
+            (R.seen self.old.recorder).lines self.old.search self.old.next self.old.rows
             self.old.ledger }
         requires led { IsLed _assumptions.now self.old.search.trail }
         requires conflict { IsConflict self.old.search.store self.old.search.trail conflict }
         ensures turn { IsTurn result
-            (IsAnswer (R.problem self.new.recorder) (R.lines self.new.recorder) _assumptions.now)
-            (IsOn (R.problem self.new.recorder) self.new.limit _assumptions.now
-            (R.broken self.new.recorder) (R.lines self.old.recorder)
-            (R.lines self.new.recorder) self.old.search self.new.search self.new.next
+            (IsAnswer (R.seen self.new.recorder).problem (R.seen self.new.recorder).lines _assumptions.now)
+            (IsOn (R.seen self.new.recorder).problem self.new.limit _assumptions.now
+            (R.seen self.new.recorder).broken (R.seen self.old.recorder).lines
+            (R.seen self.new.recorder).lines self.old.search self.new.search self.new.next
             self.new.rows self.new.ledger
             (left self.old.ledger.reductions)) }
-        ensures done { OnOk result (IsDone (R.problem self.new.recorder)
-            (R.broken self.new.recorder) (R.lines self.new.recorder) self.new.search
+        ensures done { OnOk result (IsDone (R.seen self.new.recorder).problem
+            (R.seen self.new.recorder).broken (R.seen self.new.recorder).lines self.new.search
             self.new.next self.new.rows self.new.ledger) }
-        ensures cause { IfErr result (λ f. HasCause f self.old.limit (R.problem self.new.recorder)
-            (R.lines self.new.recorder)
-            (Rose (R.faults self.old.recorder) (R.faults self.new.recorder))) }
-        ensures goes_on { IfErr result (λ f. GoesOn f (IsDone (R.problem self.new.recorder)
-            (R.broken self.new.recorder) (R.lines self.new.recorder) self.new.search
+        ensures cause { IfErr result (λ f. HasCause f self.old.limit (R.seen self.new.recorder).problem
+            (R.seen self.new.recorder).lines
+            (Rose (R.seen self.old.recorder).faults (R.seen self.new.recorder).faults)) }
+        ensures goes_on { IfErr result (λ f. GoesOn f (IsDone (R.seen self.new.recorder).problem
+            (R.seen self.new.recorder).broken (R.seen self.new.recorder).lines self.new.search
             self.new.next self.new.rows self.new.ledger)) }
-        ensures adds { AddsSearchLines (R.problem self.old.recorder) (R.lines self.old.recorder)
-            (R.lines self.new.recorder) }
-        ensures within { IsWithin self.old.limit (R.problem self.old.recorder)
-            (R.lines self.new.recorder) }
+        ensures adds { AddsSearchLines (R.seen self.old.recorder).problem (R.seen self.old.recorder).lines
+            (R.seen self.new.recorder).lines }
+        ensures within { IsWithin self.old.limit (R.seen self.old.recorder).problem
+            (R.seen self.new.recorder).lines }
         ensures begun { self.new.broken ≡ true }
         ensures limit { self.new.limit ≡ self.old.limit }
-        ensures kept { KeepsRecorder (R.problem self.old.recorder) (R.problem self.new.recorder)
-            (R.limit self.old.recorder) (R.limit self.new.recorder) (R.around self.old.recorder)
-            (R.around self.new.recorder) (R.faults self.old.recorder)
-            (R.faults self.new.recorder) }
+        ensures kept { KeepsRecorder (R.seen self.old.recorder).problem (R.seen self.new.recorder).problem
+            (R.seen self.old.recorder).limit (R.seen self.new.recorder).limit (R.seen self.old.recorder).around
+            (R.seen self.new.recorder).around (R.seen self.old.recorder).faults
+            (R.seen self.new.recorder).faults }
     {
         if self.search.level() == 0 {
             let core = self.refute(conflict)?;

@@ -104,12 +104,12 @@ impl<R: Recorder + Drop, P: Propagator + Drop> Solver<R, P> {
     // Takes up the lines and variables that came since the last call, over a trail without decisions.
     pub(crate) fn take_up(&mut self) -> Result<(), NoMemory>
         requires begun { self.old.broken ≡ true }
-        requires held { IsHeld (R.problem self.old.recorder) (R.lines self.old.recorder)
+        requires held { IsHeld (R.seen self.old.recorder).problem (R.seen self.old.recorder).lines
             self.old.search self.old.next self.old.rows self.old.ledger }
-        requires unended { Reaches (R.problem self.old.recorder) (R.lines self.old.recorder)
+        requires unended { Reaches (R.seen self.old.recorder).problem (R.seen self.old.recorder).lines
             (λ s. s.ended ≡ false) }
-        ensures taken { OnOk result (IsTakenUp (R.problem self.new.recorder)
-            (R.lines self.new.recorder) self.new.search self.new.next self.new.rows
+        ensures taken { OnOk result (IsTakenUp (R.seen self.new.recorder).problem
+            (R.seen self.new.recorder).lines self.new.search self.new.next self.new.rows
             self.new.ledger) }
         ensures undecided { OnOk result (IsUndecided self.new.search.trail) }
         ensures recorder { self.new.recorder ≡ self.old.recorder }

@@ -39,20 +39,20 @@ pub fn certified_front<O: Oracle>(
     inst: &Instance,
 ) -> Result<Found, RecordFault>
     requires normal { IsNormalFormOf inst.now problem.now }
-    requires problem { O.problem oracle.old ≡ problem.now }
-    requires begun { O.lines oracle.old ≡ [] }
-    requires whole { O.broken oracle.old ≡ false }
+    requires problem { (O.seen oracle.old).problem ≡ problem.now }
+    requires begun { (O.seen oracle.old).lines ≡ [] }
+    requires whole { (O.seen oracle.old).broken ≡ false }
     ensures covers { IfOk result
-        (λ found. CoversLogged inst.now problem.now (O.lines oracle.new) found.entries.items) }
+        (λ found. CoversLogged inst.now problem.now (O.seen oracle.new).lines found.entries.items) }
     ensures ending { IfOk result
-        (λ found. IsEnding (O.limit oracle.old) problem.now (O.lines oracle.new) found.ending) }
-    ensures whole { OnOk result (O.broken oracle.new ≡ false) }
+        (λ found. IsEnding (O.seen oracle.old).limit problem.now (O.seen oracle.new).lines found.ending) }
+    ensures whole { OnOk result ((O.seen oracle.new).broken ≡ false) }
     ensures failed { IsErrOf result RecordFault.Failed
-        → Rose (O.faults oracle.old) (O.faults oracle.new) }
-    ensures full { IsErrOf result RecordFault.Full → length (O.lines oracle.new) ≡ 2 ^ 61 }
-    ensures problem { O.problem oracle.new ≡ O.problem oracle.old }
-    ensures later { O.faults oracle.old ≤ O.faults oracle.new }
-    ensures around { KeepsSurroundings (O.around oracle.old) (O.around oracle.new) }
+        → Rose (O.seen oracle.old).faults (O.seen oracle.new).faults }
+    ensures full { IsErrOf result RecordFault.Full → length (O.seen oracle.new).lines ≡ 2 ^ 61 }
+    ensures problem { (O.seen oracle.new).problem ≡ (O.seen oracle.old).problem }
+    ensures later { (O.seen oracle.old).faults ≤ (O.seen oracle.new).faults }
+    ensures around { KeepsSurroundings (O.seen oracle.old).around (O.seen oracle.new).around }
 {
     beginning_is_good();
     logged_is_reached();
@@ -83,18 +83,14 @@ fn search_to_the_end<O: Oracle>(
     bounds: &mut Bounds,
     board: &mut Board<'_>,
 ) -> Result<Ending, RecordFault>
-    requires { IsGood (seen O.problem O.limit O.lines O.faults O.broken O.around oracle.old)
-        bounds.old board.old }
+    requires { IsGood (O.seen oracle.old) bounds.old board.old }
     ensures ending { IfOk result
-        (IsEnding (O.limit oracle.old) (O.problem oracle.new) (O.lines oracle.new)) }
-    ensures whole { OnOk result (O.broken oracle.new ≡ false) }
+        (IsEnding (O.seen oracle.old).limit (O.seen oracle.new).problem (O.seen oracle.new).lines) }
+    ensures whole { OnOk result ((O.seen oracle.new).broken ≡ false) }
     ensures entries { OnOk result
-        (IsBoard board.new (logged (O.problem oracle.new) (O.lines oracle.new))) }
-    ensures stop { IfErr result (IsStop
-        (seen O.problem O.limit O.lines O.faults O.broken O.around oracle.old)
-        (seen O.problem O.limit O.lines O.faults O.broken O.around oracle.new)) }
-    ensures stays { StaysWith (seen O.problem O.limit O.lines O.faults O.broken O.around oracle.old)
-        (seen O.problem O.limit O.lines O.faults O.broken O.around oracle.new) }
+        (IsBoard board.new (logged (O.seen oracle.new).problem (O.seen oracle.new).lines)) }
+    ensures stop { IfErr result (IsStop (O.seen oracle.old) (O.seen oracle.new)) }
+    ensures stays { StaysWith (O.seen oracle.old) (O.seen oracle.new) }
     ensures board { KeepsBoard board.old board.new }
 {
     learned_is_counted();
@@ -110,17 +106,14 @@ fn search_to_the_end<O: Oracle>(
 
 // Ends the proof by a live line `0 >= 1`.
 fn end_proof<O: Oracle>(oracle: &mut O, id: u64) -> Result<Ending, RecordFault>
-    requires ready { IsReady (seen O.problem O.limit O.lines O.faults O.broken O.around oracle.old) }
-    requires line { IsEndLine (O.problem oracle.old) (O.lines oracle.old) id }
+    requires ready { IsReady (O.seen oracle.old) }
+    requires line { IsEndLine (O.seen oracle.old).problem (O.seen oracle.old).lines id }
     ensures ending { IfOk result
-        (IsEnding (O.limit oracle.old) (O.problem oracle.new) (O.lines oracle.new)) }
-    ensures whole { OnOk result (O.broken oracle.new ≡ false) }
-    ensures logged { LogsNone (O.problem oracle.old) (O.lines oracle.old) (O.lines oracle.new) }
-    ensures stop { IfErr result (IsStop
-        (seen O.problem O.limit O.lines O.faults O.broken O.around oracle.old)
-        (seen O.problem O.limit O.lines O.faults O.broken O.around oracle.new)) }
-    ensures stays { StaysWith (seen O.problem O.limit O.lines O.faults O.broken O.around oracle.old)
-        (seen O.problem O.limit O.lines O.faults O.broken O.around oracle.new) }
+        (IsEnding (O.seen oracle.old).limit (O.seen oracle.new).problem (O.seen oracle.new).lines) }
+    ensures whole { OnOk result ((O.seen oracle.new).broken ≡ false) }
+    ensures logged { LogsNone (O.seen oracle.old).problem (O.seen oracle.old).lines (O.seen oracle.new).lines }
+    ensures stop { IfErr result (IsStop (O.seen oracle.old) (O.seen oracle.new)) }
+    ensures stays { StaysWith (O.seen oracle.old) (O.seen oracle.new) }
 {
     // Tells that ids are below the next one.
     let _vars = oracle.state().vars();

@@ -34,13 +34,13 @@ fn add<R: Recorder>(
     state: &mut ProofState,
     line: &Line,
 ) -> Result<u64, RecordFault>
-    requires problem { R.problem rec.old ≡ problem.now }
-    requires whole { R.broken rec.old ≡ false }
-    requires kept { IsKept problem.now (R.lines rec.old) state.old }
+    requires problem { (R.seen rec.old).problem ≡ problem.now }
+    requires whole { (R.seen rec.old).broken ≡ false }
+    requires kept { IsKept problem.now (R.seen rec.old).lines state.old }
     requires formed { IsWellFormed line.now }
-    ensures problem { R.problem rec.new ≡ R.problem rec.old }
-    ensures whole { OnOk result (R.broken rec.new ≡ false) }
-    ensures kept { OnOk result (IsKept problem.now (R.lines rec.new) state.new) }
+    ensures problem { (R.seen rec.new).problem ≡ (R.seen rec.old).problem }
+    ensures whole { OnOk result ((R.seen rec.new).broken ≡ false) }
+    ensures kept { OnOk result (IsKept problem.now (R.seen rec.new).lines state.new) }
 {
     match state.step(problem, line) {
         Ok(()) => rec.add_line(line),
@@ -56,12 +56,12 @@ fn add_text<R: Recorder>(
     state: &mut ProofState,
     text: &str,
 ) -> Result<u64, RecordFault>
-    requires problem { R.problem rec.old ≡ problem.now }
-    requires whole { R.broken rec.old ≡ false }
-    requires kept { IsKept problem.now (R.lines rec.old) state.old }
-    ensures problem { R.problem rec.new ≡ R.problem rec.old }
-    ensures whole { OnOk result (R.broken rec.new ≡ false) }
-    ensures kept { OnOk result (IsKept problem.now (R.lines rec.new) state.new) }
+    requires problem { (R.seen rec.old).problem ≡ problem.now }
+    requires whole { (R.seen rec.old).broken ≡ false }
+    requires kept { IsKept problem.now (R.seen rec.old).lines state.old }
+    ensures problem { (R.seen rec.new).problem ≡ (R.seen rec.old).problem }
+    ensures whole { OnOk result ((R.seen rec.new).broken ≡ false) }
+    ensures kept { OnOk result (IsKept problem.now (R.seen rec.new).lines state.new) }
 {
     match read_line(alloc, text.as_bytes()) {
         Ok(line) => add(rec, problem, state, &line),
@@ -71,9 +71,9 @@ fn add_text<R: Recorder>(
 
 // What is answered for the lines, one after another up to the first fault: their ids, and the fault.
 fn answers<R: Recorder>(alloc: Global, rec: &mut R, problem: &PbProblem) -> Result<String, Fail>
-    requires problem { R.problem rec.old ≡ problem.now }
-    requires begun { R.lines rec.old ≡ [] }
-    requires whole { R.broken rec.old ≡ false }
+    requires problem { (R.seen rec.old).problem ≡ problem.now }
+    requires begun { (R.seen rec.old).lines ≡ [] }
+    requires whole { (R.seen rec.old).broken ≡ false }
 {
     let mut state = ProofState::new(alloc, problem)?;
     let mut text = String::new(alloc);

@@ -17,26 +17,26 @@ pub trait Oracle: Recorder {
     /// of learned clauses is reached and one more would be learned; then it may be asked again. After `Failed`, `Full` and `NoMemory` it
     /// is broken.
     fn solve(&mut self, assumptions: &[Lit]) -> Result<Answer, OracleFault>
-        requires whole { Self.broken self.old ≡ false }
-        requires unended { Reaches (Self.problem self.old) (Self.lines self.old)
+        requires whole { (Self.seen self.old).broken ≡ false }
+        requires unended { Reaches (Self.seen self.old).problem (Self.seen self.old).lines
             (λ s. s.ended ≡ false) }
-        requires assumptions { Reaches (Self.problem self.old) (Self.lines self.old)
+        requires assumptions { Reaches (Self.seen self.old).problem (Self.seen self.old).lines
             (λ s. AreAssumptions s.vars assumptions.now) }
-        requires earned { AreEarned (Self.problem self.old) (Self.lines self.old) }
-        requires within { IsWithin (Self.limit self.old) (Self.problem self.old) (Self.lines self.old) }
+        requires earned { AreEarned (Self.seen self.old).problem (Self.seen self.old).lines }
+        requires within { IsWithin (Self.seen self.old).limit (Self.seen self.old).problem (Self.seen self.old).lines }
         ensures answer { IfOk result
-            (IsAnswer (Self.problem self.old) (Self.lines self.new) assumptions.now) }
-        ensures fault { IfErr result (λ f. HasFault f (Self.limit self.old) (Self.problem self.old)
-            (Self.lines self.new) (Rose (Self.faults self.old) (Self.faults self.new))
-            (Self.broken self.new)) }
-        ensures whole { OnOk result (Self.broken self.new ≡ false) }
-        ensures lines { AddsSearchLines (Self.problem self.old)
-            (Self.lines self.old) (Self.lines self.new) }
+            (IsAnswer (Self.seen self.old).problem (Self.seen self.new).lines assumptions.now) }
+        ensures fault { IfErr result (λ f. HasFault f (Self.seen self.old).limit (Self.seen self.old).problem
+            (Self.seen self.new).lines (Rose (Self.seen self.old).faults (Self.seen self.new).faults)
+            (Self.seen self.new).broken) }
+        ensures whole { OnOk result ((Self.seen self.new).broken ≡ false) }
+        ensures lines { AddsSearchLines (Self.seen self.old).problem
+            (Self.seen self.old).lines (Self.seen self.new).lines }
         ensures earned { IsOrderly result
-            → AreEarned (Self.problem self.old) (Self.lines self.new) }
-        ensures within { IsWithin (Self.limit self.old) (Self.problem self.old) (Self.lines self.new) }
-        ensures later { Self.faults self.old ≤ Self.faults self.new }
-        ensures problem { Self.problem self.new ≡ Self.problem self.old }
-        ensures limit { Self.limit self.new ≡ Self.limit self.old }
-        ensures around { KeepsSurroundings (Self.around self.old) (Self.around self.new) };
+            → AreEarned (Self.seen self.old).problem (Self.seen self.new).lines }
+        ensures within { IsWithin (Self.seen self.old).limit (Self.seen self.old).problem (Self.seen self.new).lines }
+        ensures later { (Self.seen self.old).faults ≤ (Self.seen self.new).faults }
+        ensures problem { (Self.seen self.new).problem ≡ (Self.seen self.old).problem }
+        ensures limit { (Self.seen self.new).limit ≡ (Self.seen self.old).limit }
+        ensures around { KeepsSurroundings (Self.seen self.old).around (Self.seen self.new).around };
 }

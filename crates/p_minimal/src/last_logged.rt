@@ -10,9 +10,9 @@ use std::alloc::Global;
 
 /// A copy of the vector that was logged last, where there is one.
 pub(crate) fn last_logged<R: Recorder>(alloc: Global, rec: &R) -> Result<CostVec, NoMemory>
-    requires { 0 < length (logged (R.problem rec.now) (R.lines rec.now)) }
+    requires { 0 < length (logged (R.seen rec.now).problem (R.seen rec.now).lines) }
     ensures { IfOk result (λ v. (before : List (List ℤ)) (last : List ℤ)
-        → logged (R.problem rec.now) (R.lines rec.now) ≡ before ++ last ∷ [] → v ≡ last) }
+        → logged (R.seen rec.now).problem (R.seen rec.now).lines ≡ before ++ last ∷ [] → v ≡ last) }
 {
     logged_is_reached();
     let sols = rec.state().sols();

@@ -58,28 +58,16 @@ impl PMinimal {
         bounds: &mut Bounds,
         board: &mut Board<'_>,
     ) -> Result<Turn, OracleFault>
-        requires good { IsGood
-            (seen O.problem O.limit O.lines O.faults O.broken O.around oracle.old)
-            bounds.old board.old }
-        requires serves { Serves self.old (O.problem oracle.old) }
-        ensures turn { IfOk result (IsTurn
-            (seen O.problem O.limit O.lines O.faults O.broken O.around oracle.old)
-            (seen O.problem O.limit O.lines O.faults O.broken O.around oracle.new)
+        requires good { IsGood (O.seen oracle.old) bounds.old board.old }
+        requires serves { Serves self.old (O.seen oracle.old).problem }
+        ensures turn { IfOk result (IsTurn (O.seen oracle.old) (O.seen oracle.new)
             (own_number self.old) (own_number self.new)) }
-        ensures aim { IfOk result (Aims
-            (seen O.problem O.limit O.lines O.faults O.broken O.around oracle.old)
-            (seen O.problem O.limit O.lines O.faults O.broken O.around oracle.new)
-            self.old self.new) }
+        ensures aim { IfOk result (Aims (O.seen oracle.old) (O.seen oracle.new) self.old self.new) }
         ensures same_aim { IfErr result (λ f. self.new ≡ self.old) }
-        ensures good { IsInOrder result
-            → IsGood (seen O.problem O.limit O.lines O.faults O.broken O.around oracle.new)
-            bounds.new board.new }
-        ensures serves { Serves self.new (O.problem oracle.new) }
-        ensures fault { IfErr result
-            (IsSearchFault (seen O.problem O.limit O.lines O.faults O.broken O.around oracle.old)
-            (seen O.problem O.limit O.lines O.faults O.broken O.around oracle.new)) }
-        ensures goes_on { GoesOn (seen O.problem O.limit O.lines O.faults O.broken O.around oracle.old)
-            (seen O.problem O.limit O.lines O.faults O.broken O.around oracle.new) }
+        ensures good { IsInOrder result → IsGood (O.seen oracle.new) bounds.new board.new }
+        ensures serves { Serves self.new (O.seen oracle.new).problem }
+        ensures fault { IfErr result (IsSearchFault (O.seen oracle.old) (O.seen oracle.new)) }
+        ensures goes_on { GoesOn (O.seen oracle.old) (O.seen oracle.new) }
         ensures board { KeepsBoard board.old board.new }
     {
         match self.ask(oracle, bounds)? {
@@ -103,19 +91,13 @@ impl PMinimal {
         oracle: &mut O,
         bounds: &mut Bounds,
     ) -> Result<Option<Answer>, OracleFault>
-        requires good { IsGoodWithSome (seen O.problem O.limit O.lines O.faults O.broken O.around oracle.old)
-            bounds.old }
-        requires serves { Serves self.now (O.problem oracle.old) }
-        ensures tells { IfOk result
-            (Tells (seen O.problem O.limit O.lines O.faults O.broken O.around oracle.new) self.now) }
-        ensures good { IsInOrder result
-            → StaysGood (seen O.problem O.limit O.lines O.faults O.broken O.around oracle.old)
-            (seen O.problem O.limit O.lines O.faults O.broken O.around oracle.new) bounds.old bounds.new }
-        ensures fault { IfErr result
-            (IsSearchFault (seen O.problem O.limit O.lines O.faults O.broken O.around oracle.old)
-            (seen O.problem O.limit O.lines O.faults O.broken O.around oracle.new)) }
-        ensures goes_on { GoesOn (seen O.problem O.limit O.lines O.faults O.broken O.around oracle.old)
-            (seen O.problem O.limit O.lines O.faults O.broken O.around oracle.new) }
+        requires good { IsGoodWithSome (O.seen oracle.old) bounds.old }
+        requires serves { Serves self.now (O.seen oracle.old).problem }
+        ensures tells { IfOk result (Tells (O.seen oracle.new) self.now) }
+        ensures good { IsInOrder result → StaysGood (O.seen oracle.old)
+            (O.seen oracle.new) bounds.old bounds.new }
+        ensures fault { IfErr result (IsSearchFault (O.seen oracle.old) (O.seen oracle.new)) }
+        ensures goes_on { GoesOn (O.seen oracle.old) (O.seen oracle.new) }
     {
         bounds_stay();
         asking_stays_good();

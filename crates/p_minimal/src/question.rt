@@ -20,16 +20,13 @@ pub(crate) fn question<R: Recorder>(
     bounds: &mut Bounds,
     aim: &CostVec,
 ) -> Result<Option<Items<Lit>>, RecordFault>
-    requires ready { IsReady (seen R.problem R.limit R.lines R.faults R.broken R.around rec.old) }
-    requires fits { FitBounds (seen R.problem R.limit R.lines R.faults R.broken R.around rec.old) bounds.old }
-    requires costs { All (λ r. IsCostRow r.terms r.offset) (R.problem rec.old).costs }
-    requires serves { length aim.now ≡ length (R.problem rec.old).costs }
-    ensures recorded { IsRecorded (seen R.problem R.limit R.lines R.faults R.broken R.around rec.old)
-        (seen R.problem R.limit R.lines R.faults R.broken R.around rec.new) result }
-    ensures asked { IfOk result
-        (IsQuestion (seen R.problem R.limit R.lines R.faults R.broken R.around rec.new) aim.now) }
-    ensures fits { OnOk result
-        (FitBounds (seen R.problem R.limit R.lines R.faults R.broken R.around rec.new) bounds.new) }
+    requires ready { IsReady (R.seen rec.old) }
+    requires fits { FitBounds (R.seen rec.old) bounds.old }
+    requires costs { All (λ r. IsCostRow r.terms r.offset) (R.seen rec.old).problem.costs }
+    requires serves { length aim.now ≡ length (R.seen rec.old).problem.costs }
+    ensures recorded { IsRecorded (R.seen rec.old) (R.seen rec.new) result }
+    ensures asked { IfOk result (IsQuestion (R.seen rec.new) aim.now) }
+    ensures fits { OnOk result (FitBounds (R.seen rec.new) bounds.new) }
 {
     bounds_stay();
     turn_lines_join();
@@ -51,16 +48,14 @@ fn excess_of<R: Recorder>(
     objective: usize,
     cost: i64,
 ) -> Result<Bound, RecordFault>
-    requires ready { IsReady (seen R.problem R.limit R.lines R.faults R.broken R.around rec.old) }
-    requires fits { FitBounds (seen R.problem R.limit R.lines R.faults R.broken R.around rec.old) bounds.old }
-    requires costs { All (λ r. IsCostRow r.terms r.offset) (R.problem rec.old).costs }
-    requires there { objective < length (R.problem rec.old).costs }
-    ensures recorded { IsRecorded (seen R.problem R.limit R.lines R.faults R.broken R.around rec.old)
-        (seen R.problem R.limit R.lines R.faults R.broken R.around rec.new) result }
-    ensures bound { IfOk result (λ bound. (d : CostRowValue) → IsCostBound (R.problem rec.new)
-        (R.lines rec.new) (slice_index_or (R.problem rec.old).costs objective d) (cost +ℤ pos 1) bound) }
-    ensures fits { OnOk result
-        (FitBounds (seen R.problem R.limit R.lines R.faults R.broken R.around rec.new) bounds.new) }
+    requires ready { IsReady (R.seen rec.old) }
+    requires fits { FitBounds (R.seen rec.old) bounds.old }
+    requires costs { All (λ r. IsCostRow r.terms r.offset) (R.seen rec.old).problem.costs }
+    requires there { objective < length (R.seen rec.old).problem.costs }
+    ensures recorded { IsRecorded (R.seen rec.old) (R.seen rec.new) result }
+    ensures bound { IfOk result (λ bound. (d : CostRowValue) → IsCostBound (R.seen rec.new).problem
+        (R.seen rec.new).lines (slice_index_or (R.seen rec.old).problem.costs objective d) (cost +ℤ pos 1) bound) }
+    ensures fits { OnOk result (FitBounds (R.seen rec.new) bounds.new) }
 {
     match cost.checked_add(1) {
         Some(least) => bounds.at_least(rec, objective, least),

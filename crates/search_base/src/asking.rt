@@ -19,15 +19,12 @@ pub(crate) fn answers_at<R: Recorder>(
     bounds: &mut Bounds,
     costs: &CostVec,
 ) -> Result<Items<Bound>, RecordFault>
-    requires ready { IsReady (seen R.problem R.limit R.lines R.faults R.broken R.around rec.old) }
-    requires fits { FitBounds
-        (seen R.problem R.limit R.lines R.faults R.broken R.around rec.old) bounds.old }
-    requires count { length costs.now ≡ length (R.problem rec.old).costs }
-    ensures recorded { IsRecorded (seen R.problem R.limit R.lines R.faults R.broken R.around rec.old)
-        (seen R.problem R.limit R.lines R.faults R.broken R.around rec.new) result }
-    ensures fits { OnOk result (FitBounds
-        (seen R.problem R.limit R.lines R.faults R.broken R.around rec.new) bounds.new) }
-    ensures answers { IfOk result (AreAnswers (R.problem rec.new) (R.lines rec.new) costs.now) }
+    requires ready { IsReady (R.seen rec.old) }
+    requires fits { FitBounds (R.seen rec.old) bounds.old }
+    requires count { length costs.now ≡ length (R.seen rec.old).problem.costs }
+    ensures recorded { IsRecorded (R.seen rec.old) (R.seen rec.new) result }
+    ensures fits { OnOk result (FitBounds (R.seen rec.new) bounds.new) }
+    ensures answers { IfOk result (AreAnswers (R.seen rec.new).problem (R.seen rec.new).lines costs.now) }
 {
     bounds_stay();
     let mut answers = Items::new(alloc);

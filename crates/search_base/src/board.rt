@@ -72,22 +72,12 @@ impl<'a> Board<'a> {
         bounds: &mut Bounds,
         a: &Assignment,
     ) -> Result<(), RecordFault>
-        requires good { IsGood
-            (seen R.problem R.limit R.lines R.faults R.broken R.around rec.old)
-            bounds.old self.old }
-        requires model { IsTakable
-            (seen R.problem R.limit R.lines R.faults R.broken R.around rec.old) a.now }
-        ensures good { OnOk result (IsGood
-            (seen R.problem R.limit R.lines R.faults R.broken R.around rec.new)
-            bounds.new self.new) }
-        ensures taken { OnOk result (IsTaken
-            (seen R.problem R.limit R.lines R.faults R.broken R.around rec.old)
-            (seen R.problem R.limit R.lines R.faults R.broken R.around rec.new) a.now) }
-        ensures fault { IfErr result (IsFaultAt
-            (seen R.problem R.limit R.lines R.faults R.broken R.around rec.old)
-            (seen R.problem R.limit R.lines R.faults R.broken R.around rec.new)) }
-        ensures goes_on { GoesOn (seen R.problem R.limit R.lines R.faults R.broken R.around rec.old)
-            (seen R.problem R.limit R.lines R.faults R.broken R.around rec.new) }
+        requires good { IsGood (R.seen rec.old) bounds.old self.old }
+        requires model { IsTakable (R.seen rec.old) a.now }
+        ensures good { OnOk result (IsGood (R.seen rec.new) bounds.new self.new) }
+        ensures taken { OnOk result (IsTaken (R.seen rec.old) (R.seen rec.new) a.now) }
+        ensures fault { IfErr result (IsFaultAt (R.seen rec.old) (R.seen rec.new)) }
+        ensures goes_on { GoesOn (R.seen rec.old) (R.seen rec.new) }
         ensures board { KeepsBoard self.old self.new }
     {
         // Tells the limits of the problem and of the instance, and that the lines reach a state.

@@ -64,16 +64,13 @@ impl Bounds {
         objective: usize,
         value: i64,
     ) -> Result<Bound, RecordFault>
-        requires ready { IsReady (seen R.problem R.limit R.lines R.faults R.broken R.around rec.old) }
-        requires fits { FitBounds
-            (seen R.problem R.limit R.lines R.faults R.broken R.around rec.old) self.old }
-        requires there { objective < length (R.problem rec.old).costs }
-        ensures recorded { IsRecorded (seen R.problem R.limit R.lines R.faults R.broken R.around rec.old)
-            (seen R.problem R.limit R.lines R.faults R.broken R.around rec.new) result }
-        ensures bound { IfOk result (λ bound. (d : CostRowValue) → IsCostBound (R.problem rec.new)
-            (R.lines rec.new) (slice_index_or (R.problem rec.old).costs objective d) value bound) }
-        ensures fits { OnOk result (FitBounds
-            (seen R.problem R.limit R.lines R.faults R.broken R.around rec.new) self.new) }
+        requires ready { IsReady (R.seen rec.old) }
+        requires fits { FitBounds (R.seen rec.old) self.old }
+        requires there { objective < length (R.seen rec.old).problem.costs }
+        ensures recorded { IsRecorded (R.seen rec.old) (R.seen rec.new) result }
+        ensures bound { IfOk result (λ bound. (d : CostRowValue) → IsCostBound (R.seen rec.new).problem
+            (R.seen rec.new).lines (slice_index_or (R.seen rec.old).problem.costs objective d) value bound) }
+        ensures fits { OnOk result (FitBounds (R.seen rec.new) self.new) }
     {
         fitting_stays();
         let bound = &mut self.bounds[objective];
@@ -88,15 +85,12 @@ fn bound_of<R: Recorder>(
     rec: &mut R,
     k: i128,
 ) -> Result<Bound, RecordFault>
-    requires ready { IsReady (seen R.problem R.limit R.lines R.faults R.broken R.around rec.old) }
-    requires fits { Fits
-        (seen R.problem R.limit R.lines R.faults R.broken R.around rec.old) totalizer.old }
-    ensures recorded { IsRecorded (seen R.problem R.limit R.lines R.faults R.broken R.around rec.old)
-        (seen R.problem R.limit R.lines R.faults R.broken R.around rec.new) result }
-    ensures bound { IfOk result (IsBound (R.problem rec.new) (R.lines rec.new)
+    requires ready { IsReady (R.seen rec.old) }
+    requires fits { Fits (R.seen rec.old) totalizer.old }
+    ensures recorded { IsRecorded (R.seen rec.old) (R.seen rec.new) result }
+    ensures bound { IfOk result (IsBound (R.seen rec.new).problem (R.seen rec.new).lines
         (terms_of totalizer.old) k) }
-    ensures fits { OnOk result (Fits
-        (seen R.problem R.limit R.lines R.faults R.broken R.around rec.new) totalizer.new) }
+    ensures fits { OnOk result (Fits (R.seen rec.new) totalizer.new) }
     ensures terms { terms_of totalizer.new ≡ terms_of totalizer.old }
 {
     if k < 1 {

@@ -21,19 +21,15 @@ pub(crate) fn log_model<R: Recorder>(
     model: &Assignment,
     answers: &[Bound],
 ) -> Result<(), RecordFault>
-    requires ready { IsReady (seen R.problem R.limit R.lines R.faults R.broken R.around rec.old) }
-    requires problem { IsProblem (R.problem rec.old) }
-    requires model { IsProblemModel (R.problem rec.old) model.now }
-    requires answers { AreAnswers (R.problem rec.old) (R.lines rec.old)
-        (problem_costs (R.problem rec.old) model.now) answers.now }
-    ensures logged { OnOk result (LogsModel
-        (seen R.problem R.limit R.lines R.faults R.broken R.around rec.old)
-        (seen R.problem R.limit R.lines R.faults R.broken R.around rec.new) model.now answers.now) }
-    ensures fault { IfErr result (IsFaultAt
-        (seen R.problem R.limit R.lines R.faults R.broken R.around rec.old)
-        (seen R.problem R.limit R.lines R.faults R.broken R.around rec.new)) }
-    ensures goes_on { GoesOn (seen R.problem R.limit R.lines R.faults R.broken R.around rec.old)
-        (seen R.problem R.limit R.lines R.faults R.broken R.around rec.new) }
+    requires ready { IsReady (R.seen rec.old) }
+    requires problem { IsProblem (R.seen rec.old).problem }
+    requires model { IsProblemModel (R.seen rec.old).problem model.now }
+    requires answers { AreAnswers (R.seen rec.old).problem (R.seen rec.old).lines
+        (problem_costs (R.seen rec.old).problem model.now) answers.now }
+    ensures logged { OnOk result (LogsModel (R.seen rec.old)
+        (R.seen rec.new) model.now answers.now) }
+    ensures fault { IfErr result (IsFaultAt (R.seen rec.old) (R.seen rec.new)) }
+    ensures goes_on { GoesOn (R.seen rec.old) (R.seen rec.new) }
 {
     // Tells that the lines so far reach a state.
     let _vars = rec.state().vars();

@@ -15,19 +15,12 @@ pub fn run_search<O: Oracle, S: Search>(
     board: &mut Board<'_>,
     search: &mut S,
 ) -> Result<u64, OracleFault>
-    requires good { IsGood
-        (seen O.problem O.limit O.lines O.faults O.broken O.around oracle.old)
-        bounds.old board.old }
-    requires serves { S.serves search.old (O.problem oracle.old) }
-    ensures end { IfOk result (IsEndLine (O.problem oracle.new) (O.lines oracle.new)) }
-    ensures good { IsInOrder result
-        → IsGood (seen O.problem O.limit O.lines O.faults O.broken O.around oracle.new)
-        bounds.new board.new }
-    ensures fault { IfErr result (IsSearchFault
-        (seen O.problem O.limit O.lines O.faults O.broken O.around oracle.old)
-        (seen O.problem O.limit O.lines O.faults O.broken O.around oracle.new)) }
-    ensures goes_on { GoesOn (seen O.problem O.limit O.lines O.faults O.broken O.around oracle.old)
-        (seen O.problem O.limit O.lines O.faults O.broken O.around oracle.new) }
+    requires good { IsGood (O.seen oracle.old) bounds.old board.old }
+    requires serves { S.serves search.old (O.seen oracle.old).problem }
+    ensures end { IfOk result (IsEndLine (O.seen oracle.new).problem (O.seen oracle.new).lines) }
+    ensures good { IsInOrder result → IsGood (O.seen oracle.new) bounds.new board.new }
+    ensures fault { IfErr result (IsSearchFault (O.seen oracle.old) (O.seen oracle.new)) }
+    ensures goes_on { GoesOn (O.seen oracle.old) (O.seen oracle.new) }
     ensures board { KeepsBoard board.old board.new }
 {
     loop {
@@ -44,23 +37,14 @@ fn next_model<O: Oracle, S: Search>(
     board: &mut Board<'_>,
     search: &mut S,
 ) -> Result<Option<u64>, OracleFault>
-    requires good { IsGood
-        (seen O.problem O.limit O.lines O.faults O.broken O.around oracle.old)
-        bounds.old board.old }
-    requires serves { S.serves search.old (O.problem oracle.old) }
-    ensures found { IfOk result (λ found. MatchOption found
-        (FindsNew (seen O.problem O.limit O.lines O.faults O.broken O.around oracle.old)
-        (seen O.problem O.limit O.lines O.faults O.broken O.around oracle.new))
-        (IsEndLine (O.problem oracle.new) (O.lines oracle.new))) }
-    ensures good { IsInOrder result
-        → IsGood (seen O.problem O.limit O.lines O.faults O.broken O.around oracle.new)
-        bounds.new board.new }
-    ensures serves { IsInOrder result → S.serves search.new (O.problem oracle.new) }
-    ensures fault { IfErr result (IsSearchFault
-        (seen O.problem O.limit O.lines O.faults O.broken O.around oracle.old)
-        (seen O.problem O.limit O.lines O.faults O.broken O.around oracle.new)) }
-    ensures goes_on { GoesOn (seen O.problem O.limit O.lines O.faults O.broken O.around oracle.old)
-        (seen O.problem O.limit O.lines O.faults O.broken O.around oracle.new) }
+    requires good { IsGood (O.seen oracle.old) bounds.old board.old }
+    requires serves { S.serves search.old (O.seen oracle.old).problem }
+    ensures found { IfOk result (λ found. MatchOption found (FindsNew (O.seen oracle.old)
+        (O.seen oracle.new)) (IsEndLine (O.seen oracle.new).problem (O.seen oracle.new).lines)) }
+    ensures good { IsInOrder result → IsGood (O.seen oracle.new) bounds.new board.new }
+    ensures serves { IsInOrder result → S.serves search.new (O.seen oracle.new).problem }
+    ensures fault { IfErr result (IsSearchFault (O.seen oracle.old) (O.seen oracle.new)) }
+    ensures goes_on { GoesOn (O.seen oracle.old) (O.seen oracle.new) }
     ensures board { KeepsBoard board.old board.new }
 {
     loop {

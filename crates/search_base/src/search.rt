@@ -25,21 +25,13 @@ pub trait Search {
         bounds: &mut Bounds,
         board: &mut Board<'_>,
     ) -> Result<Turn, OracleFault>
-        requires good { IsGood (seen O.problem O.limit O.lines O.faults O.broken O.around oracle.old)
-            bounds.old board.old }
-        requires serves { serves self.old (O.problem oracle.old) }
-        ensures turn { IfOk result (IsTurn
-            (seen O.problem O.limit O.lines O.faults O.broken O.around oracle.old)
-            (seen O.problem O.limit O.lines O.faults O.broken O.around oracle.new)
+        requires good { IsGood (O.seen oracle.old) bounds.old board.old }
+        requires serves { serves self.old (O.seen oracle.old).problem }
+        ensures turn { IfOk result (IsTurn (O.seen oracle.old) (O.seen oracle.new)
             (own self.old) (own self.new)) }
-        ensures good { IsInOrder result
-            → IsGood (seen O.problem O.limit O.lines O.faults O.broken O.around oracle.new)
-            bounds.new board.new }
-        ensures serves { IsInOrder result → serves self.new (O.problem oracle.new) }
-        ensures fault { IfErr result (IsSearchFault
-            (seen O.problem O.limit O.lines O.faults O.broken O.around oracle.old)
-            (seen O.problem O.limit O.lines O.faults O.broken O.around oracle.new)) }
-        ensures goes_on { GoesOn (seen O.problem O.limit O.lines O.faults O.broken O.around oracle.old)
-            (seen O.problem O.limit O.lines O.faults O.broken O.around oracle.new) }
+        ensures good { IsInOrder result → IsGood (O.seen oracle.new) bounds.new board.new }
+        ensures serves { IsInOrder result → serves self.new (O.seen oracle.new).problem }
+        ensures fault { IfErr result (IsSearchFault (O.seen oracle.old) (O.seen oracle.new)) }
+        ensures goes_on { GoesOn (O.seen oracle.old) (O.seen oracle.new) }
         ensures board { KeepsBoard board.old board.new };
 }

@@ -16,11 +16,10 @@ use totalizer::{Bound, Totalizer};
 
 // The totalizer of a problem's first objective, over a recorder that has no lines.
 fn first_sum<R: Recorder>(alloc: Global, rec: &R, problem: &PbProblem) -> Result<Totalizer, Fail>
-    requires problem { R.problem rec.now ≡ problem.now }
-    requires begun { R.lines rec.now ≡ [] }
-    requires whole { R.broken rec.now ≡ false }
-    ensures { IfOk result
-        (IsAskable (seen R.problem R.limit R.lines R.faults R.broken R.around rec.now)) }
+    requires problem { (R.seen rec.now).problem ≡ problem.now }
+    requires begun { (R.seen rec.now).lines ≡ [] }
+    requires whole { (R.seen rec.now).broken ≡ false }
+    ensures { IfOk result (IsAskable (R.seen rec.now)) }
 {
     // These tell that the rows' variables are the problem's, and that the lines reach a state.
     let _vars = problem.vars();
@@ -33,9 +32,8 @@ fn first_sum<R: Recorder>(alloc: Global, rec: &R, problem: &PbProblem) -> Result
 
 // What stands for "the sum is at least `k`".
 fn ask<R: Recorder>(rec: &mut R, sum: &mut Totalizer, k: i64) -> Result<Bound, RecordFault>
-    requires { IsAskable (seen R.problem R.limit R.lines R.faults R.broken R.around rec.old) sum.old }
-    ensures { OnOk result
-        (IsAskable (seen R.problem R.limit R.lines R.faults R.broken R.around rec.new) sum.new) }
+    requires { IsAskable (R.seen rec.old) sum.old }
+    ensures { OnOk result (IsAskable (R.seen rec.new) sum.new) }
 {
     sum.output(rec, k)
 }
@@ -64,7 +62,7 @@ fn answers<R: Recorder>(
     sum: &mut Totalizer,
     numbers: &[i64],
 ) -> Result<String, Fail>
-    requires { IsAskable (seen R.problem R.limit R.lines R.faults R.broken R.around rec.old) sum.old }
+    requires { IsAskable (R.seen rec.old) sum.old }
 {
     let mut text = String::new(alloc);
     for k in numbers {

@@ -35,32 +35,23 @@ pub fn ask<R: Recorder>(
     outputs: &[SumOutput],
     k: u64,
 ) -> Result<(SumOutput, Items<SumOutput>), RecordFault>
-    requires ready { IsReady (seen R.problem R.limit R.lines R.faults R.broken R.around rec.old) }
-    requires children { AreChildrenNow
-        (seen R.problem R.limit R.lines R.faults R.broken R.around rec.old)
+    requires ready { IsReady (R.seen rec.old) }
+    requires children { AreChildrenNow (R.seen rec.old)
         first.terms.now second.terms.now first.outputs.now second.outputs.now }
     requires terms { terms.now ≡ first.terms.now ++ second.terms.now }
     requires greatest { greatest ≡ total terms.now }
-    requires outputs { AreOutputsNow
-        (seen R.problem R.limit R.lines R.faults R.broken R.around rec.old)
-        terms.now outputs.now }
-    requires defined { (s : StateValue)
-        → IsReached (seen R.problem R.limit R.lines R.faults R.broken R.around rec.old) s
-        → All (IsDefined (seen R.problem R.limit R.lines R.faults R.broken R.around rec.old) s terms.now)
-        outputs.now }
+    requires outputs { AreOutputsNow (R.seen rec.old) terms.now outputs.now }
+    requires defined { (s : StateValue) → IsReached (R.seen rec.old) s
+        → All (IsDefined (R.seen rec.old) s terms.now) outputs.now }
     requires from_one { 0 < k }
     requires most { k ≤ greatest }
     requires first_complete { IsCompleteTo first.terms.now first.outputs.now k }
     requires second_complete { IsCompleteTo second.terms.now second.outputs.now k }
-    ensures recorded { IsRecorded
-        (seen R.problem R.limit R.lines R.faults R.broken R.around rec.old)
-        (seen R.problem R.limit R.lines R.faults R.broken R.around rec.new) result }
-    ensures asked { IfOk result (λ r. IsAsked
-        (seen R.problem R.limit R.lines R.faults R.broken R.around rec.old)
-        (seen R.problem R.limit R.lines R.faults R.broken R.around rec.new)
+    ensures recorded { IsRecorded (R.seen rec.old) (R.seen rec.new) result }
+    ensures asked { IfOk result (λ r. IsAsked (R.seen rec.old) (R.seen rec.new)
         terms.now outputs.now k r.0 r.1) }
-    ensures defined { IfOk result (λ r. definitions (R.lines rec.new) + length outputs.now
-        ≡ definitions (R.lines rec.old) + length r.1) }
+    ensures defined { IfOk result (λ r. definitions (R.seen rec.new).lines + length outputs.now
+        ≡ definitions (R.seen rec.old).lines + length r.1) }
 {
     let sum = least_sum(first.outputs, second.outputs, k, greatest);
     let place = place_of(outputs, sum);
@@ -143,34 +134,25 @@ fn ask_anew<R: Recorder>(
     k: u64,
     sum: u64,
 ) -> Result<(SumOutput, Items<SumOutput>), RecordFault>
-    requires ready { IsReady (seen R.problem R.limit R.lines R.faults R.broken R.around rec.old) }
-    requires children { AreChildrenNow
-        (seen R.problem R.limit R.lines R.faults R.broken R.around rec.old)
+    requires ready { IsReady (R.seen rec.old) }
+    requires children { AreChildrenNow (R.seen rec.old)
         first.terms.now second.terms.now first.outputs.now second.outputs.now }
     requires terms { terms.now ≡ first.terms.now ++ second.terms.now }
     requires greatest { greatest ≡ total terms.now }
-    requires outputs { AreOutputsNow
-        (seen R.problem R.limit R.lines R.faults R.broken R.around rec.old)
-        terms.now outputs.now }
-    requires defined { (s : StateValue)
-        → IsReached (seen R.problem R.limit R.lines R.faults R.broken R.around rec.old) s
-        → All (IsDefined (seen R.problem R.limit R.lines R.faults R.broken R.around rec.old) s terms.now)
-        outputs.now }
+    requires outputs { AreOutputsNow (R.seen rec.old) terms.now outputs.now }
+    requires defined { (s : StateValue) → IsReached (R.seen rec.old) s
+        → All (IsDefined (R.seen rec.old) s terms.now) outputs.now }
     requires place { IsPlace (λ o. o.sum) outputs.now sum place }
     requires absent { All (λ o. o.sum ≢ sum) outputs.now }
     requires from_one { 0 < k }
     requires least { IsLeastSum terms.now k sum }
     requires first_complete { IsCompleteTo first.terms.now first.outputs.now k }
     requires second_complete { IsCompleteTo second.terms.now second.outputs.now k }
-    ensures recorded { IsRecorded
-        (seen R.problem R.limit R.lines R.faults R.broken R.around rec.old)
-        (seen R.problem R.limit R.lines R.faults R.broken R.around rec.new) result }
-    ensures asked { IfOk result (λ r. IsAsked
-        (seen R.problem R.limit R.lines R.faults R.broken R.around rec.old)
-        (seen R.problem R.limit R.lines R.faults R.broken R.around rec.new)
+    ensures recorded { IsRecorded (R.seen rec.old) (R.seen rec.new) result }
+    ensures asked { IfOk result (λ r. IsAsked (R.seen rec.old) (R.seen rec.new)
         terms.now outputs.now k r.0 r.1) }
-    ensures defined { IfOk result (λ r. definitions (R.lines rec.new) + length outputs.now
-        ≡ definitions (R.lines rec.old) + length r.1) }
+    ensures defined { IfOk result (λ r. definitions (R.seen rec.new).lines + length outputs.now
+        ≡ definitions (R.seen rec.old).lines + length r.1) }
 {
     let greater = &outputs[place..];
     let made = make_between(alloc, rec, first, second, terms, greatest, greater, k, sum)?;
@@ -186,16 +168,13 @@ fn tie_one<R: Recorder>(
     greater: &SumOutput,
     smaller: &[SumOutput],
 ) -> Result<(), RecordFault>
-    requires ready { IsReady (seen R.problem R.limit R.lines R.faults R.broken R.around rec.old) }
+    requires ready { IsReady (R.seen rec.old) }
     requires small { greater.now.sum < 2 ^ 63 }
-    requires can { (i : ℕ) (d : SumOutput) → i < length smaller.now
-        → CanImplyNow (seen R.problem R.limit R.lines R.faults R.broken R.around rec.old)
+    requires can { (i : ℕ) (d : SumOutput) → i < length smaller.now → CanImplyNow (R.seen rec.old)
         (greater.now ∷ []) [] (slice_index_or smaller.now i d) }
-    ensures recorded { IsRecorded
-        (seen R.problem R.limit R.lines R.faults R.broken R.around rec.old)
-        (seen R.problem R.limit R.lines R.faults R.broken R.around rec.new) result }
+    ensures recorded { IsRecorded (R.seen rec.old) (R.seen rec.new) result }
     ensures defines_none { OnOk result
-        (definitions (R.lines rec.new) ≡ definitions (R.lines rec.old)) }
+        (definitions (R.seen rec.new).lines ≡ definitions (R.seen rec.old).lines) }
 {
     tie(alloc, rec, &[*greater], smaller)
 }
@@ -231,29 +210,22 @@ fn make_between<R: Recorder>(
     k: u64,
     sum: u64,
 ) -> Result<SumOutput, RecordFault>
-    requires ready { IsReady (seen R.problem R.limit R.lines R.faults R.broken R.around rec.old) }
-    requires children { AreChildrenNow
-        (seen R.problem R.limit R.lines R.faults R.broken R.around rec.old)
+    requires ready { IsReady (R.seen rec.old) }
+    requires children { AreChildrenNow (R.seen rec.old)
         first.terms.now second.terms.now first.outputs.now second.outputs.now }
     requires terms { terms.now ≡ first.terms.now ++ second.terms.now }
     requires greatest { greatest ≡ total terms.now }
-    requires outputs { AreOutputsNow
-        (seen R.problem R.limit R.lines R.faults R.broken R.around rec.old)
-        terms.now greater.now }
+    requires outputs { AreOutputsNow (R.seen rec.old) terms.now greater.now }
     requires greater { All (λ o. sum < o.sum) greater.now }
     requires from_one { 0 < k }
     requires least { IsLeastSum terms.now k sum }
     requires first_complete { IsCompleteTo first.terms.now first.outputs.now k }
     requires second_complete { IsCompleteTo second.terms.now second.outputs.now k }
-    ensures recorded { IsRecorded
-        (seen R.problem R.limit R.lines R.faults R.broken R.around rec.old)
-        (seen R.problem R.limit R.lines R.faults R.broken R.around rec.new) result }
+    ensures recorded { IsRecorded (R.seen rec.old) (R.seen rec.new) result }
     ensures sum { IfOk result (λ o. (o.sum ≡ sum) × (o.from ≡ k)) }
-    ensures made { IfOk result (IsNewOutput
-        (seen R.problem R.limit R.lines R.faults R.broken R.around rec.old)
-        (seen R.problem R.limit R.lines R.faults R.broken R.around rec.new) terms.now) }
+    ensures made { IfOk result (IsNewOutput (R.seen rec.old) (R.seen rec.new) terms.now) }
     ensures defines_one { OnOk result
-        (definitions (R.lines rec.new) ≡ definitions (R.lines rec.old) + 1) }
+        (definitions (R.seen rec.new).lines ≡ definitions (R.seen rec.old).lines + 1) }
 {
     let next = first_of(greater);
     let below = next_sum(next, greatest + 1);

@@ -21,18 +21,12 @@ pub(crate) fn add_clause<R: Recorder>(
     weakened: &[(Lit, u64)],
     target: SumOutput,
 ) -> Result<(), RecordFault>
-    requires ready { IsReady
-        (seen R.problem R.limit R.lines R.faults R.broken R.around rec.old) }
-    requires parts { CanImplyNow (seen R.problem R.limit R.lines R.faults R.broken R.around rec.old)
-        parts.now weakened.now target }
-    ensures recorded { IsRecorded
-        (seen R.problem R.limit R.lines R.faults R.broken R.around rec.old)
-        (seen R.problem R.limit R.lines R.faults R.broken R.around rec.new) result }
-    ensures says { OnOk result
-        (Always (seen R.problem R.limit R.lines R.faults R.broken R.around rec.new)
-        (Imply parts.now target)) }
+    requires ready { IsReady (R.seen rec.old) }
+    requires parts { CanImplyNow (R.seen rec.old) parts.now weakened.now target }
+    ensures recorded { IsRecorded (R.seen rec.old) (R.seen rec.new) result }
+    ensures says { OnOk result (Always (R.seen rec.new) (Imply parts.now target)) }
     ensures defines_none { OnOk result
-        (definitions (R.lines rec.new) ≡ definitions (R.lines rec.old)) }
+        (definitions (R.seen rec.new).lines ≡ definitions (R.seen rec.old).lines) }
 {
     // Tells that the lines so far reach a state.
     let _vars = rec.state().vars();

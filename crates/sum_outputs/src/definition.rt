@@ -22,21 +22,15 @@ pub(crate) fn define<R: Recorder>(
     from: u64,
     sum: u64,
 ) -> Result<SumOutput, RecordFault>
-    requires ready { IsReady
-        (seen R.problem R.limit R.lines R.faults R.broken R.around rec.old) }
+    requires ready { IsReady (R.seen rec.old) }
     requires terms { AreWeights terms.now }
     requires some { 0 < sum }
     requires most { sum ≤ total terms.now }
-    requires variables { (s : StateValue)
-        → IsReached (seen R.problem R.limit R.lines R.faults R.broken R.around rec.old) s
+    requires variables { (s : StateValue) → IsReached (R.seen rec.old) s
         → All (λ t. t.0.var ≤ s.vars) terms.now }
-    ensures recorded { IsRecorded
-        (seen R.problem R.limit R.lines R.faults R.broken R.around rec.old)
-        (seen R.problem R.limit R.lines R.faults R.broken R.around rec.new) result }
+    ensures recorded { IsRecorded (R.seen rec.old) (R.seen rec.new) result }
     ensures sum { IfOk result (λ o. (o.sum ≡ sum) × (o.from ≡ from)) }
-    ensures defined { IfOk result (IsDefinedNext
-        (seen R.problem R.limit R.lines R.faults R.broken R.around rec.old)
-        (seen R.problem R.limit R.lines R.faults R.broken R.around rec.new) terms.now) }
+    ensures defined { IfOk result (IsDefinedNext (R.seen rec.old) (R.seen rec.new) terms.now) }
 {
     let constraint = in_memory(at_least(alloc, terms, sum))?;
     let var = rec.state().vars() + 1;
@@ -51,18 +45,11 @@ fn define_next<R: Recorder>(
     from: u64,
     sum: u64,
 ) -> Result<SumOutput, RecordFault>
-    requires ready { IsReady
-        (seen R.problem R.limit R.lines R.faults R.broken R.around rec.old) }
-    requires next { (s : StateValue)
-        → IsReached (seen R.problem R.limit R.lines R.faults R.broken R.around rec.old) s
-        → IsSumOf s constraint var sum }
-    ensures recorded { IsRecorded
-        (seen R.problem R.limit R.lines R.faults R.broken R.around rec.old)
-        (seen R.problem R.limit R.lines R.faults R.broken R.around rec.new) result }
+    requires ready { IsReady (R.seen rec.old) }
+    requires next { (s : StateValue) → IsReached (R.seen rec.old) s → IsSumOf s constraint var sum }
+    ensures recorded { IsRecorded (R.seen rec.old) (R.seen rec.new) result }
     ensures sum { IfOk result (λ o. (o.sum ≡ sum) × (o.from ≡ from)) }
-    ensures defined { IfOk result (IsDefinedBy
-        (seen R.problem R.limit R.lines R.faults R.broken R.around rec.old)
-        (seen R.problem R.limit R.lines R.faults R.broken R.around rec.new) constraint) }
+    ensures defined { IfOk result (IsDefinedBy (R.seen rec.old) (R.seen rec.new) constraint) }
 {
     // Tells that the lines so far reach a state.
     let _vars = rec.state().vars();

@@ -30,32 +30,23 @@ pub(crate) fn extended<R: Recorder>(
     outputs: &[SumOutput],
     k: u64,
 ) -> Result<Items<SumOutput>, RecordFault>
-    requires ready { IsReady (seen R.problem R.limit R.lines R.faults R.broken R.around rec.old) }
-    requires children { AreChildrenNow
-        (seen R.problem R.limit R.lines R.faults R.broken R.around rec.old)
+    requires ready { IsReady (R.seen rec.old) }
+    requires children { AreChildrenNow (R.seen rec.old)
         first.terms.now second.terms.now first.outputs.now second.outputs.now }
     requires terms { terms.now ≡ first.terms.now ++ second.terms.now }
     requires greatest { greatest ≡ total terms.now }
-    requires outputs { AreOutputsNow
-        (seen R.problem R.limit R.lines R.faults R.broken R.around rec.old)
-        terms.now outputs.now }
-    requires defined { (s : StateValue)
-        → IsReached (seen R.problem R.limit R.lines R.faults R.broken R.around rec.old) s
-        → All (IsDefined (seen R.problem R.limit R.lines R.faults R.broken R.around rec.old) s terms.now)
-        outputs.now }
+    requires outputs { AreOutputsNow (R.seen rec.old) terms.now outputs.now }
+    requires defined { (s : StateValue) → IsReached (R.seen rec.old) s
+        → All (IsDefined (R.seen rec.old) s terms.now) outputs.now }
     requires gapless { AreAllBetween terms.now 0 (last_sum outputs.now) outputs.now }
     requires from_one { 0 < k }
     requires first_complete { IsCompleteTo first.terms.now first.outputs.now k }
     requires second_complete { IsCompleteTo second.terms.now second.outputs.now k }
-    ensures recorded { IsRecorded
-        (seen R.problem R.limit R.lines R.faults R.broken R.around rec.old)
-        (seen R.problem R.limit R.lines R.faults R.broken R.around rec.new) result }
-    ensures extended { IfOk result (AreExtended
-        (seen R.problem R.limit R.lines R.faults R.broken R.around rec.old)
-        (seen R.problem R.limit R.lines R.faults R.broken R.around rec.new)
+    ensures recorded { IsRecorded (R.seen rec.old) (R.seen rec.new) result }
+    ensures extended { IfOk result (AreExtended (R.seen rec.old) (R.seen rec.new)
         terms.now outputs.now k) }
-    ensures defined { IfOk result (λ all. definitions (R.lines rec.new) + length outputs.now
-        ≡ definitions (R.lines rec.old) + length all) }
+    ensures defined { IfOk result (λ all. definitions (R.seen rec.new).lines + length outputs.now
+        ≡ definitions (R.seen rec.old).lines + length all) }
 {
     let last = last_sum(outputs);
     let falling = make_falling(alloc, rec, first, second, terms, greatest, last, k)?;
@@ -70,20 +61,16 @@ pub(crate) fn tie<R: Recorder>(
     greater: &[SumOutput],
     smaller: &[SumOutput],
 ) -> Result<(), RecordFault>
-    requires ready { IsReady (seen R.problem R.limit R.lines R.faults R.broken R.around rec.old) }
+    requires ready { IsReady (R.seen rec.old) }
     requires rising { AreRising greater.now }
     requires can { (i : ℕ) (d : SumOutput) (k : ℕ) (e : SumOutput)
-        → i < length smaller.now → k < length greater.now
-        → CanImplyNow (seen R.problem R.limit R.lines R.faults R.broken R.around rec.old)
+        → i < length smaller.now → k < length greater.now → CanImplyNow (R.seen rec.old)
         (slice_index_or greater.now k e ∷ []) [] (slice_index_or smaller.now i d) }
-    ensures recorded { IsRecorded
-        (seen R.problem R.limit R.lines R.faults R.broken R.around rec.old)
-        (seen R.problem R.limit R.lines R.faults R.broken R.around rec.new) result }
+    ensures recorded { IsRecorded (R.seen rec.old) (R.seen rec.new) result }
     ensures says { OnOk result ((i : ℕ) (d : SumOutput) → i < length smaller.now
-        → SinglesImply (seen R.problem R.limit R.lines R.faults R.broken R.around rec.new)
-        greater.now (slice_index_or smaller.now i d) (2 ^ 64 - 1)) }
+        → SinglesImply (R.seen rec.new) greater.now (slice_index_or smaller.now i d) (2 ^ 64 - 1)) }
     ensures defines_none { OnOk result
-        (definitions (R.lines rec.new) ≡ definitions (R.lines rec.old)) }
+        (definitions (R.seen rec.new).lines ≡ definitions (R.seen rec.old).lines) }
 {
     for at in 0..smaller.len() {
         add_single(alloc, rec, greater, &[], &smaller[at], u64::MAX)?;

@@ -31,24 +31,19 @@ pub(crate) fn make_falling<R: Recorder>(
     last: u64,
     k: u64,
 ) -> Result<Items<SumOutput>, RecordFault>
-    requires ready { IsReady (seen R.problem R.limit R.lines R.faults R.broken R.around rec.old) }
-    requires children { AreChildrenNow
-        (seen R.problem R.limit R.lines R.faults R.broken R.around rec.old)
+    requires ready { IsReady (R.seen rec.old) }
+    requires children { AreChildrenNow (R.seen rec.old)
         first.terms.now second.terms.now first.outputs.now second.outputs.now }
     requires terms { terms.now ≡ first.terms.now ++ second.terms.now }
     requires greatest { greatest ≡ total terms.now }
     requires last { last ≤ greatest }
     requires first_complete { IsCompleteTo first.terms.now first.outputs.now k }
     requires second_complete { IsCompleteTo second.terms.now second.outputs.now k }
-    ensures recorded { IsRecorded
-        (seen R.problem R.limit R.lines R.faults R.broken R.around rec.old)
-        (seen R.problem R.limit R.lines R.faults R.broken R.around rec.new) result }
-    ensures falling { IfOk result (AreFallingTo
-        (seen R.problem R.limit R.lines R.faults R.broken R.around rec.old)
-        (seen R.problem R.limit R.lines R.faults R.broken R.around rec.new)
+    ensures recorded { IsRecorded (R.seen rec.old) (R.seen rec.new) result }
+    ensures falling { IfOk result (AreFallingTo (R.seen rec.old) (R.seen rec.new)
         terms.now last k) }
-    ensures defined { IfOk result (λ os. definitions (R.lines rec.new)
-        ≡ definitions (R.lines rec.old) + length os) }
+    ensures defined { IfOk result (λ os. definitions (R.seen rec.new).lines
+        ≡ definitions (R.seen rec.old).lines + length os) }
 {
     let mut sums = in_memory(new_sums(alloc, first.outputs, second.outputs, last, k, greatest))?;
     let mut falling = Items::new(alloc);
@@ -79,30 +74,23 @@ fn make_next<R: Recorder>(
     falling: &[SumOutput],
     run: (u64, u64),
 ) -> Result<SumOutput, RecordFault>
-    requires ready { IsReady (seen R.problem R.limit R.lines R.faults R.broken R.around rec.old) }
-    requires children { AreChildrenNow
-        (seen R.problem R.limit R.lines R.faults R.broken R.around rec.old)
+    requires ready { IsReady (R.seen rec.old) }
+    requires children { AreChildrenNow (R.seen rec.old)
         first.terms.now second.terms.now first.outputs.now second.outputs.now }
     requires terms { terms.now ≡ first.terms.now ++ second.terms.now }
     requires greatest { greatest ≡ total terms.now }
-    requires falling { AreOutputsNow
-        (seen R.problem R.limit R.lines R.faults R.broken R.around rec.old)
-        terms.now
+    requires falling { AreOutputsNow (R.seen rec.old) terms.now
         (drop (length falling.now - 1) falling.now) }
     requires greater { All (λ o. run.1 < o.sum) falling.now }
     requires from_one { 0 < run.0 }
     requires least { IsLeastSum terms.now run.0 run.1 }
     requires first_complete { IsCompleteTo first.terms.now first.outputs.now run.0 }
     requires second_complete { IsCompleteTo second.terms.now second.outputs.now run.0 }
-    ensures recorded { IsRecorded
-        (seen R.problem R.limit R.lines R.faults R.broken R.around rec.old)
-        (seen R.problem R.limit R.lines R.faults R.broken R.around rec.new) result }
+    ensures recorded { IsRecorded (R.seen rec.old) (R.seen rec.new) result }
     ensures sum { IfOk result (λ o. (o.sum ≡ run.1) × (o.from ≡ run.0)) }
-    ensures made { IfOk result (IsNewOutput
-        (seen R.problem R.limit R.lines R.faults R.broken R.around rec.old)
-        (seen R.problem R.limit R.lines R.faults R.broken R.around rec.new) terms.now) }
+    ensures made { IfOk result (IsNewOutput (R.seen rec.old) (R.seen rec.new) terms.now) }
     ensures defines_one { OnOk result
-        (definitions (R.lines rec.new) ≡ definitions (R.lines rec.old) + 1) }
+        (definitions (R.seen rec.new).lines ≡ definitions (R.seen rec.old).lines + 1) }
 {
     let below = least_or(falling, greatest + 1);
     make_output(

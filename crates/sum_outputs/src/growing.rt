@@ -25,23 +25,17 @@ pub fn extend_all<R: Recorder>(
     made: &mut Items<Items<SumOutput>>,
     k: u64,
 ) -> Result<(), RecordFault>
-    requires ready { IsReady (seen R.problem R.limit R.lines R.faults R.broken R.around rec.old) }
+    requires ready { IsReady (R.seen rec.old) }
     requires tree { IsTree nodes.now }
     requires some { 0 < length nodes.now }
-    requires made { AreMadeNow
-        (seen R.problem R.limit R.lines R.faults R.broken R.around rec.old) nodes.now made.old }
+    requires made { AreMadeNow (R.seen rec.old) nodes.now made.old }
     requires from_one { 0 < k }
-    ensures recorded { IsRecorded
-        (seen R.problem R.limit R.lines R.faults R.broken R.around rec.old)
-        (seen R.problem R.limit R.lines R.faults R.broken R.around rec.new) result }
-    ensures made { OnOk result (AreMadeNow
-        (seen R.problem R.limit R.lines R.faults R.broken R.around rec.new) nodes.now made.new) }
+    ensures recorded { IsRecorded (R.seen rec.old) (R.seen rec.new) result }
+    ensures made { OnOk result (AreMadeNow (R.seen rec.new) nodes.now made.new) }
     ensures complete { OnOk result (AreCompleteTo nodes.now made.new (length nodes.now - 1) k) }
-    ensures grown { OnOk result (AreGrownTo
-        (seen R.problem R.limit R.lines R.faults R.broken R.around rec.old)
-        nodes.now made.old made.new k) }
-    ensures defined { OnOk result (definitions (R.lines rec.new) + count_outputs made.old
-        ≡ definitions (R.lines rec.old) + count_outputs made.new) }
+    ensures grown { OnOk result (AreGrownTo (R.seen rec.old) nodes.now made.old made.new k) }
+    ensures defined { OnOk result (definitions (R.seen rec.new).lines + count_outputs made.old
+        ≡ definitions (R.seen rec.old).lines + count_outputs made.new) }
 {
     for at in 0..nodes.len() - 1 {
         extend_node(alloc, rec, nodes, made, at, k)?;
@@ -58,24 +52,18 @@ fn extend_node<R: Recorder>(
     at: usize,
     k: u64,
 ) -> Result<(), RecordFault>
-    requires ready { IsReady (seen R.problem R.limit R.lines R.faults R.broken R.around rec.old) }
+    requires ready { IsReady (R.seen rec.old) }
     requires tree { IsTree nodes.now }
     requires at { at + 1 < length nodes.now }
-    requires made { AreMadeNow
-        (seen R.problem R.limit R.lines R.faults R.broken R.around rec.old) nodes.now made.old }
+    requires made { AreMadeNow (R.seen rec.old) nodes.now made.old }
     requires complete { AreCompleteTo nodes.now made.old at k }
     requires from_one { 0 < k }
-    ensures recorded { IsRecorded
-        (seen R.problem R.limit R.lines R.faults R.broken R.around rec.old)
-        (seen R.problem R.limit R.lines R.faults R.broken R.around rec.new) result }
-    ensures made { OnOk result (AreMadeNow
-        (seen R.problem R.limit R.lines R.faults R.broken R.around rec.new) nodes.now made.new) }
+    ensures recorded { IsRecorded (R.seen rec.old) (R.seen rec.new) result }
+    ensures made { OnOk result (AreMadeNow (R.seen rec.new) nodes.now made.new) }
     ensures complete { OnOk result (AreCompleteTo nodes.now made.new (at + 1) k) }
-    ensures grown { OnOk result (AreGrownTo
-        (seen R.problem R.limit R.lines R.faults R.broken R.around rec.old)
-        nodes.now made.old made.new k) }
-    ensures defined { OnOk result (definitions (R.lines rec.new) + count_outputs made.old
-        ≡ definitions (R.lines rec.old) + count_outputs made.new) }
+    ensures grown { OnOk result (AreGrownTo (R.seen rec.old) nodes.now made.old made.new k) }
+    ensures defined { OnOk result (definitions (R.seen rec.new).lines + count_outputs made.old
+        ≡ definitions (R.seen rec.old).lines + count_outputs made.new) }
 {
     if nodes[at].terms.len() == 1 {
         return Ok(());
@@ -92,25 +80,19 @@ fn extend_inner<R: Recorder>(
     at: usize,
     k: u64,
 ) -> Result<(), RecordFault>
-    requires ready { IsReady (seen R.problem R.limit R.lines R.faults R.broken R.around rec.old) }
+    requires ready { IsReady (R.seen rec.old) }
     requires tree { IsTree nodes.now }
     requires at { at + 1 < length nodes.now }
     requires long { (d : Node) → 1 < length (slice_index_or nodes.now at d).terms }
-    requires made { AreMadeNow
-        (seen R.problem R.limit R.lines R.faults R.broken R.around rec.old) nodes.now made.old }
+    requires made { AreMadeNow (R.seen rec.old) nodes.now made.old }
     requires complete { AreCompleteTo nodes.now made.old at k }
     requires from_one { 0 < k }
-    ensures recorded { IsRecorded
-        (seen R.problem R.limit R.lines R.faults R.broken R.around rec.old)
-        (seen R.problem R.limit R.lines R.faults R.broken R.around rec.new) result }
-    ensures made { OnOk result (AreMadeNow
-        (seen R.problem R.limit R.lines R.faults R.broken R.around rec.new) nodes.now made.new) }
+    ensures recorded { IsRecorded (R.seen rec.old) (R.seen rec.new) result }
+    ensures made { OnOk result (AreMadeNow (R.seen rec.new) nodes.now made.new) }
     ensures complete { OnOk result (AreCompleteTo nodes.now made.new (at + 1) k) }
-    ensures grown { OnOk result (AreGrownTo
-        (seen R.problem R.limit R.lines R.faults R.broken R.around rec.old)
-        nodes.now made.old made.new k) }
-    ensures defined { OnOk result (definitions (R.lines rec.new) + count_outputs made.old
-        ≡ definitions (R.lines rec.old) + count_outputs made.new) }
+    ensures grown { OnOk result (AreGrownTo (R.seen rec.old) nodes.now made.old made.new k) }
+    ensures defined { OnOk result (definitions (R.seen rec.new).lines + count_outputs made.old
+        ≡ definitions (R.seen rec.old).lines + count_outputs made.new) }
 {
     let node = &nodes[at];
     let first = child(nodes, made, node.first);

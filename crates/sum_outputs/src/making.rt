@@ -25,14 +25,11 @@ pub(crate) fn make_output<R: Recorder>(
     sum: u64,
     below: u64,
 ) -> Result<SumOutput, RecordFault>
-    requires ready { IsReady (seen R.problem R.limit R.lines R.faults R.broken R.around rec.old) }
-    requires children { AreChildrenNow
-        (seen R.problem R.limit R.lines R.faults R.broken R.around rec.old)
+    requires ready { IsReady (R.seen rec.old) }
+    requires children { AreChildrenNow (R.seen rec.old)
         first.terms.now second.terms.now first.outputs.now second.outputs.now }
     requires terms { terms.now ≡ first.terms.now ++ second.terms.now }
-    requires next { AreOutputsNow
-        (seen R.problem R.limit R.lines R.faults R.broken R.around rec.old)
-        terms.now next.now }
+    requires next { AreOutputsNow (R.seen rec.old) terms.now next.now }
     requires above { IsAboveAll terms.now next.now below }
     requires greater { (k : ℕ) (d : SumOutput) → k < length next.now
         → sum < (slice_index_or next.now k d).sum }
@@ -40,15 +37,11 @@ pub(crate) fn make_output<R: Recorder>(
     requires least { IsLeastSum terms.now from sum }
     requires first_complete { IsCompleteTo first.terms.now first.outputs.now from }
     requires second_complete { IsCompleteTo second.terms.now second.outputs.now from }
-    ensures recorded { IsRecorded
-        (seen R.problem R.limit R.lines R.faults R.broken R.around rec.old)
-        (seen R.problem R.limit R.lines R.faults R.broken R.around rec.new) result }
+    ensures recorded { IsRecorded (R.seen rec.old) (R.seen rec.new) result }
     ensures sum { IfOk result (λ o. (o.sum ≡ sum) × (o.from ≡ from)) }
-    ensures made { IfOk result (IsNewOutput
-        (seen R.problem R.limit R.lines R.faults R.broken R.around rec.old)
-        (seen R.problem R.limit R.lines R.faults R.broken R.around rec.new) terms.now) }
+    ensures made { IfOk result (IsNewOutput (R.seen rec.old) (R.seen rec.new) terms.now) }
     ensures defines_one { OnOk result
-        (definitions (R.lines rec.new) ≡ definitions (R.lines rec.old) + 1) }
+        (definitions (R.seen rec.new).lines ≡ definitions (R.seen rec.old).lines + 1) }
 {
     let made = define(alloc, rec, terms, from, sum)?;
     add_single(alloc, rec, next, &[], &made, u64::MAX)?;

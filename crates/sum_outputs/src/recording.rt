@@ -11,16 +11,13 @@ use scut_base::NoMemory;
 
 // Records a line, and answers the first id that it makes.
 pub(crate) fn record<R: Recorder>(rec: &mut R, line: &Line) -> Result<u64, RecordFault>
-    requires ready { IsReady
-        (seen R.problem R.limit R.lines R.faults R.broken R.around rec.old) }
+    requires ready { IsReady (R.seen rec.old) }
     requires formed { IsWellFormed line.now }
     requires kind { IsTotalizerLine line.now }
-    requires legal { MayBeAdded (R.problem rec.old) (R.lines rec.old) line.now }
-    ensures recorded { IsRecorded
-        (seen R.problem R.limit R.lines R.faults R.broken R.around rec.old)
-        (seen R.problem R.limit R.lines R.faults R.broken R.around rec.new) result }
-    ensures added { OnOk result (R.lines rec.new ≡ R.lines rec.old ++ line.now ∷ []) }
-    ensures id { IfOk result (IsNextId (R.problem rec.old) (R.lines rec.old)) }
+    requires legal { MayBeAdded (R.seen rec.old).problem (R.seen rec.old).lines line.now }
+    ensures recorded { IsRecorded (R.seen rec.old) (R.seen rec.new) result }
+    ensures added { OnOk result ((R.seen rec.new).lines ≡ (R.seen rec.old).lines ++ line.now ∷ []) }
+    ensures id { IfOk result (IsNextId (R.seen rec.old).problem (R.seen rec.old).lines) }
 {
     // Tells that the lines so far reach a state.
     let _vars = rec.state().vars();

@@ -51,20 +51,15 @@ pub(crate) fn add_single<R: Recorder>(
     target: &SumOutput,
     below: u64,
 ) -> Result<(), RecordFault>
-    requires ready { IsReady (seen R.problem R.limit R.lines R.faults R.broken R.around rec.old) }
+    requires ready { IsReady (R.seen rec.old) }
     requires rising { AreRising parts.now }
     requires can { (k : ℕ) (d : SumOutput) → k < length parts.now
-        → target.now.sum ≤ (slice_index_or parts.now k d).sum
-        → CanImplyNow (seen R.problem R.limit R.lines R.faults R.broken R.around rec.old)
+        → target.now.sum ≤ (slice_index_or parts.now k d).sum → CanImplyNow (R.seen rec.old)
         (slice_index_or parts.now k d ∷ []) weakened.now target.now }
-    ensures recorded { IsRecorded
-        (seen R.problem R.limit R.lines R.faults R.broken R.around rec.old)
-        (seen R.problem R.limit R.lines R.faults R.broken R.around rec.new) result }
-    ensures says { OnOk result (SinglesImply
-        (seen R.problem R.limit R.lines R.faults R.broken R.around rec.new)
-        parts.now target.now below) }
+    ensures recorded { IsRecorded (R.seen rec.old) (R.seen rec.new) result }
+    ensures says { OnOk result (SinglesImply (R.seen rec.new) parts.now target.now below) }
     ensures defines_none { OnOk result
-        (definitions (R.lines rec.new) ≡ definitions (R.lines rec.old)) }
+        (definitions (R.seen rec.new).lines ≡ definitions (R.seen rec.old).lines) }
 {
     match least_between(parts, target.sum, below) {
         Some(least) => imply_by_one(alloc, rec, &least, weakened, target),
@@ -82,20 +77,16 @@ fn add_pair<R: Recorder>(
     target: &SumOutput,
     below: u64,
 ) -> Result<(), RecordFault>
-    requires ready { IsReady (seen R.problem R.limit R.lines R.faults R.broken R.around rec.old) }
+    requires ready { IsReady (R.seen rec.old) }
     requires rising { AreRising others.now }
     requires can { (k : ℕ) (d : SumOutput) → k < length others.now
         → target.now.sum ≤ part.now.sum + (slice_index_or others.now k d).sum
-        → CanImplyNow (seen R.problem R.limit R.lines R.faults R.broken R.around rec.old)
+        → CanImplyNow (R.seen rec.old)
         (part.now ∷ slice_index_or others.now k d ∷ []) [] target.now }
-    ensures recorded { IsRecorded
-        (seen R.problem R.limit R.lines R.faults R.broken R.around rec.old)
-        (seen R.problem R.limit R.lines R.faults R.broken R.around rec.new) result }
-    ensures says { OnOk result (PairsImply
-        (seen R.problem R.limit R.lines R.faults R.broken R.around rec.new)
-        part.now others.now target.now below) }
+    ensures recorded { IsRecorded (R.seen rec.old) (R.seen rec.new) result }
+    ensures says { OnOk result (PairsImply (R.seen rec.new) part.now others.now target.now below) }
     ensures defines_none { OnOk result
-        (definitions (R.lines rec.new) ≡ definitions (R.lines rec.old)) }
+        (definitions (R.seen rec.new).lines ≡ definitions (R.seen rec.old).lines) }
 {
     let rest = target.sum.saturating_sub(part.sum);
     match least_between(others, rest, below.saturating_sub(part.sum)) {
@@ -112,18 +103,12 @@ fn imply_by_one<R: Recorder>(
     weakened: &[(Lit, u64)],
     target: &SumOutput,
 ) -> Result<(), RecordFault>
-    requires ready { IsReady (seen R.problem R.limit R.lines R.faults R.broken R.around rec.old) }
-    requires can { CanImplyNow
-        (seen R.problem R.limit R.lines R.faults R.broken R.around rec.old)
-        (part.now ∷ []) weakened.now target.now }
-    ensures recorded { IsRecorded
-        (seen R.problem R.limit R.lines R.faults R.broken R.around rec.old)
-        (seen R.problem R.limit R.lines R.faults R.broken R.around rec.new) result }
-    ensures says { OnOk result (Always
-        (seen R.problem R.limit R.lines R.faults R.broken R.around rec.new)
-        (Imply (part.now ∷ []) target.now)) }
+    requires ready { IsReady (R.seen rec.old) }
+    requires can { CanImplyNow (R.seen rec.old) (part.now ∷ []) weakened.now target.now }
+    ensures recorded { IsRecorded (R.seen rec.old) (R.seen rec.new) result }
+    ensures says { OnOk result (Always (R.seen rec.new) (Imply (part.now ∷ []) target.now)) }
     ensures defines_none { OnOk result
-        (definitions (R.lines rec.new) ≡ definitions (R.lines rec.old)) }
+        (definitions (R.seen rec.new).lines ≡ definitions (R.seen rec.old).lines) }
 {
     add_clause(alloc, rec, &[*part], weakened, *target)
 }
@@ -136,18 +121,13 @@ fn imply_by_two<R: Recorder>(
     second: &SumOutput,
     target: &SumOutput,
 ) -> Result<(), RecordFault>
-    requires ready { IsReady (seen R.problem R.limit R.lines R.faults R.broken R.around rec.old) }
-    requires can { CanImplyNow
-        (seen R.problem R.limit R.lines R.faults R.broken R.around rec.old)
-        (first.now ∷ second.now ∷ []) [] target.now }
-    ensures recorded { IsRecorded
-        (seen R.problem R.limit R.lines R.faults R.broken R.around rec.old)
-        (seen R.problem R.limit R.lines R.faults R.broken R.around rec.new) result }
-    ensures says { OnOk result (Always
-        (seen R.problem R.limit R.lines R.faults R.broken R.around rec.new)
+    requires ready { IsReady (R.seen rec.old) }
+    requires can { CanImplyNow (R.seen rec.old) (first.now ∷ second.now ∷ []) [] target.now }
+    ensures recorded { IsRecorded (R.seen rec.old) (R.seen rec.new) result }
+    ensures says { OnOk result (Always (R.seen rec.new)
         (Imply (first.now ∷ second.now ∷ []) target.now)) }
     ensures defines_none { OnOk result
-        (definitions (R.lines rec.new) ≡ definitions (R.lines rec.old)) }
+        (definitions (R.seen rec.new).lines ≡ definitions (R.seen rec.old).lines) }
 {
     add_clause(alloc, rec, &[*first, *second], &[], *target)
 }
@@ -163,21 +143,16 @@ pub(crate) fn add_window<R: Recorder>(
     target: &SumOutput,
     below: u64,
 ) -> Result<(), RecordFault>
-    requires ready { IsReady (seen R.problem R.limit R.lines R.faults R.broken R.around rec.old) }
-    requires children { AreChildrenNow
-        (seen R.problem R.limit R.lines R.faults R.broken R.around rec.old)
+    requires ready { IsReady (R.seen rec.old) }
+    requires children { AreChildrenNow (R.seen rec.old)
         first.terms.now second.terms.now first.outputs.now second.outputs.now }
-    requires target { IsTargetNow
-        (seen R.problem R.limit R.lines R.faults R.broken R.around rec.old)
+    requires target { IsTargetNow (R.seen rec.old)
         (first.terms.now ++ second.terms.now) first.outputs.now second.outputs.now target.now }
-    ensures recorded { IsRecorded
-        (seen R.problem R.limit R.lines R.faults R.broken R.around rec.old)
-        (seen R.problem R.limit R.lines R.faults R.broken R.around rec.new) result }
-    ensures says { OnOk result (AreImplying
-        (seen R.problem R.limit R.lines R.faults R.broken R.around rec.new)
+    ensures recorded { IsRecorded (R.seen rec.old) (R.seen rec.new) result }
+    ensures says { OnOk result (AreImplying (R.seen rec.new)
         first.entry.outputs.now second.entry.outputs.now target.now below) }
     ensures defines_none { OnOk result
-        (definitions (R.lines rec.new) ≡ definitions (R.lines rec.old)) }
+        (definitions (R.seen rec.new).lines ≡ definitions (R.seen rec.old).lines) }
 {
     add_single(alloc, rec, first.outputs, second.terms, target, below)?;
     add_single(alloc, rec, second.outputs, first.terms, target, below)?;
@@ -193,23 +168,20 @@ fn add_pairs<R: Recorder>(
     target: &SumOutput,
     below: u64,
 ) -> Result<(), RecordFault>
-    requires ready { IsReady (seen R.problem R.limit R.lines R.faults R.broken R.around rec.old) }
+    requires ready { IsReady (R.seen rec.old) }
     requires rising { AreRising firsts.now }
     requires rising_too { AreRising seconds.now }
     requires can { (i : ℕ) (d : SumOutput) (j : ℕ) (e : SumOutput)
         → i < length firsts.now → j < length seconds.now
         → target.now.sum ≤ (slice_index_or firsts.now i d).sum + (slice_index_or seconds.now j e).sum
-        → CanImplyNow (seen R.problem R.limit R.lines R.faults R.broken R.around rec.old)
+        → CanImplyNow (R.seen rec.old)
         (slice_index_or firsts.now i d ∷ slice_index_or seconds.now j e ∷ []) [] target.now }
-    ensures recorded { IsRecorded
-        (seen R.problem R.limit R.lines R.faults R.broken R.around rec.old)
-        (seen R.problem R.limit R.lines R.faults R.broken R.around rec.new) result }
+    ensures recorded { IsRecorded (R.seen rec.old) (R.seen rec.new) result }
     ensures says { OnOk result ((i : ℕ) (d : SumOutput) → i < length firsts.now
-        → (slice_index_or firsts.now i d).sum < target.now.sum
-        → PairsImply (seen R.problem R.limit R.lines R.faults R.broken R.around rec.new)
+        → (slice_index_or firsts.now i d).sum < target.now.sum → PairsImply (R.seen rec.new)
         (slice_index_or firsts.now i d) seconds.now target.now below) }
     ensures defines_none { OnOk result
-        (definitions (R.lines rec.new) ≡ definitions (R.lines rec.old)) }
+        (definitions (R.seen rec.new).lines ≡ definitions (R.seen rec.old).lines) }
 {
     for at in 0..place_of(firsts, target.sum) {
         add_pair(alloc, rec, &firsts[at], seconds, target, below)?;

@@ -23,21 +23,16 @@ pub(crate) fn bound_at<R: Recorder>(
     made: &mut Items<Items<SumOutput>>,
     k: u64,
 ) -> Result<Bound, RecordFault>
-    requires ready { IsReady (seen R.problem R.limit R.lines R.faults R.broken R.around rec.old) }
-    requires fits { Fits (seen R.problem R.limit R.lines R.faults R.broken R.around rec.old)
-        (record { nodes = nodes.now; made = made.old }) }
+    requires ready { IsReady (R.seen rec.old) }
+    requires fits { Fits (R.seen rec.old) (record { nodes = nodes.now; made = made.old }) }
     requires from_one { 0 < k }
-    ensures recorded { IsRecorded (seen R.problem R.limit R.lines R.faults R.broken R.around rec.old)
-        (seen R.problem R.limit R.lines R.faults R.broken R.around rec.new) result }
-    ensures bound { IfOk result (IsBound (R.problem rec.new) (R.lines rec.new)
+    ensures recorded { IsRecorded (R.seen rec.old) (R.seen rec.new) result }
+    ensures bound { IfOk result (IsBound (R.seen rec.new).problem (R.seen rec.new).lines
         (root_terms nodes.now) (pos k)) }
-    ensures added { IfOk result (AddsFor
-        (seen R.problem R.limit R.lines R.faults R.broken R.around rec.old)
-        (seen R.problem R.limit R.lines R.faults R.broken R.around rec.new)
+    ensures added { IfOk result (AddsFor (R.seen rec.old) (R.seen rec.new)
         (pos k) (record { nodes = nodes.now; made = made.old })
         (record { nodes = nodes.now; made = made.new })) }
-    ensures fits { OnOk result (Fits
-        (seen R.problem R.limit R.lines R.faults R.broken R.around rec.new)
+    ensures fits { OnOk result (Fits (R.seen rec.new)
         (record { nodes = nodes.now; made = made.new })) }
 {
     if total_of(nodes) < k {

@@ -25,23 +25,18 @@ pub(crate) fn make<R: Recorder>(
     made: &mut Items<Items<SumOutput>>,
     k: u64,
 ) -> Result<Bound, RecordFault>
-    requires ready { IsReady (seen R.problem R.limit R.lines R.faults R.broken R.around rec.old) }
-    requires fits { Fits (seen R.problem R.limit R.lines R.faults R.broken R.around rec.old)
-        (record { nodes = nodes.now; made = made.old }) }
+    requires ready { IsReady (R.seen rec.old) }
+    requires fits { Fits (R.seen rec.old) (record { nodes = nodes.now; made = made.old }) }
     requires from_one { 0 < k }
     requires most { k ≤ total (root_terms nodes.now) }
     requires long { 1 < length (root_terms nodes.now) }
-    ensures recorded { IsRecorded (seen R.problem R.limit R.lines R.faults R.broken R.around rec.old)
-        (seen R.problem R.limit R.lines R.faults R.broken R.around rec.new) result }
-    ensures bound { IfOk result (IsBound (R.problem rec.new) (R.lines rec.new)
+    ensures recorded { IsRecorded (R.seen rec.old) (R.seen rec.new) result }
+    ensures bound { IfOk result (IsBound (R.seen rec.new).problem (R.seen rec.new).lines
         (root_terms nodes.now) (pos k)) }
-    ensures added { IfOk result (AddsFor
-        (seen R.problem R.limit R.lines R.faults R.broken R.around rec.old)
-        (seen R.problem R.limit R.lines R.faults R.broken R.around rec.new)
+    ensures added { IfOk result (AddsFor (R.seen rec.old) (R.seen rec.new)
         (pos k) (record { nodes = nodes.now; made = made.old })
         (record { nodes = nodes.now; made = made.new })) }
-    ensures fits { OnOk result (Fits
-        (seen R.problem R.limit R.lines R.faults R.broken R.around rec.new)
+    ensures fits { OnOk result (Fits (R.seen rec.new)
         (record { nodes = nodes.now; made = made.new })) }
 {
     extend_all(alloc, rec, nodes, made, k)?;
@@ -61,23 +56,20 @@ fn ask_root<R: Recorder>(
     made: &Items<Items<SumOutput>>,
     k: u64,
 ) -> Result<(SumOutput, Items<SumOutput>), RecordFault>
-    requires ready { IsReady (seen R.problem R.limit R.lines R.faults R.broken R.around rec.old) }
+    requires ready { IsReady (R.seen rec.old) }
     requires rooted { IsRooted nodes.now }
-    requires made { AreMadeNow
-        (seen R.problem R.limit R.lines R.faults R.broken R.around rec.old) nodes.now made.now }
+    requires made { AreMadeNow (R.seen rec.old) nodes.now made.now }
     requires complete { AreCompleteTo nodes.now made.now (length nodes.now - 1) k }
     requires from_one { 0 < k }
     requires most { k ≤ total (root_terms nodes.now) }
     requires long { 1 < length (root_terms nodes.now) }
-    ensures recorded { IsRecorded (seen R.problem R.limit R.lines R.faults R.broken R.around rec.old)
-        (seen R.problem R.limit R.lines R.faults R.broken R.around rec.new) result }
-    ensures asked { IfOk result (λ r. (e : List SumOutput)
-        → IsAsked (seen R.problem R.limit R.lines R.faults R.broken R.around rec.old)
-        (seen R.problem R.limit R.lines R.faults R.broken R.around rec.new)
+    ensures recorded { IsRecorded (R.seen rec.old) (R.seen rec.new) result }
+    ensures asked { IfOk result (λ r. (e : List SumOutput) → IsAsked (R.seen rec.old)
+        (R.seen rec.new)
         (root_terms nodes.now) (slice_index_or made.now (length nodes.now - 1) e) k r.0 r.1) }
     ensures defined { IfOk result (λ r. (e : List SumOutput)
-        → definitions (R.lines rec.new) + length (slice_index_or made.now (length nodes.now - 1) e)
-        ≡ definitions (R.lines rec.old) + length r.1) }
+        → definitions (R.seen rec.new).lines + length (slice_index_or made.now (length nodes.now - 1) e)
+        ≡ definitions (R.seen rec.old).lines + length r.1) }
 {
     let at = nodes.len() - 1;
     let root = &nodes[at];

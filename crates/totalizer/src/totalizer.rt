@@ -50,18 +50,13 @@ impl Totalizer {
     /// Costs a look-up where that output is there. Else it costs the outputs that it makes at each node:
     /// for each a definition, at most a line for each output of the node's first child, and five more.
     pub fn output<R: Recorder>(&mut self, rec: &mut R, k: i64) -> Result<Bound, RecordFault>
-        requires ready { IsReady (seen R.problem R.limit R.lines R.faults R.broken R.around rec.old) }
-        requires fits { Fits
-            (seen R.problem R.limit R.lines R.faults R.broken R.around rec.old) self.old }
-        ensures recorded { IsRecorded
-            (seen R.problem R.limit R.lines R.faults R.broken R.around rec.old)
-            (seen R.problem R.limit R.lines R.faults R.broken R.around rec.new) result }
-        ensures bound { IfOk result (IsBound (R.problem rec.new) (R.lines rec.new) (terms_of self.old) k) }
-        ensures added { IfOk result (AddsFor
-            (seen R.problem R.limit R.lines R.faults R.broken R.around rec.old)
-            (seen R.problem R.limit R.lines R.faults R.broken R.around rec.new) k self.old self.new) }
-        ensures fits { OnOk result (Fits
-            (seen R.problem R.limit R.lines R.faults R.broken R.around rec.new) self.new) }
+        requires ready { IsReady (R.seen rec.old) }
+        requires fits { Fits (R.seen rec.old) self.old }
+        ensures recorded { IsRecorded (R.seen rec.old) (R.seen rec.new) result }
+        ensures bound { IfOk result (IsBound (R.seen rec.new).problem (R.seen rec.new).lines (terms_of self.old) k) }
+        ensures added { IfOk result (AddsFor (R.seen rec.old)
+            (R.seen rec.new) k self.old self.new) }
+        ensures fits { OnOk result (Fits (R.seen rec.new) self.new) }
         ensures nodes { self.new.nodes ≡ self.old.nodes }
     {
         if k <= 0 {

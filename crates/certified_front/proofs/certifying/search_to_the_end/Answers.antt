@@ -14,5 +14,5 @@ returns-in-Ok-clause-entries g c =
     let good = c.in-Ok.ensures.good tt in
     let call = c.end_proof.ensures in
     on_ok_weaker c.end_proof.result
-    (λ whole. still_board (R.problem old) (R.problem new) (R.lines old) (R.lines new) c.run_search.new.board call.stays.problem call.logged good.board)
+    (λ whole. still_board (R.seen old).problem (R.seen new).problem (R.seen old).lines (R.seen new).lines c.run_search.new.board call.stays.problem call.logged good.board)
     call.whole

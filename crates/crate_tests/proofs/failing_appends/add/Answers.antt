@@ -10,13 +10,13 @@ use Rattle.crate_tests.proofs.failing_appends.add.Goals as goal
 
 pub add_line-requires-clause-legal : goal.add_line-requires-clause-legal
 add_line-requires-clause-legal g c =
-    let lines = g.R.Recorder.lines c.args.rec.now in
+    let lines = (g.R.Recorder.seen c.args.rec.now).lines in
     subst (λ (p : ProblemValue). MayBeAdded p lines c.args.line.now) (sym c.requires.problem)
     (may_be_added c.args.problem.now lines c.args.state.now c.args.line.now c.requires.kept.replay c.in-Ok.ensures.next.legal)
 
 pub returns-in-Ok-clause-kept : goal.returns-in-Ok-clause-kept
 returns-in-Ok-clause-kept g c =
-    let lines = g.R.Recorder.lines in
+    let lines = (λ r. (g.R.Recorder.seen r).lines) in
     let old = lines c.args.rec.now in
     let line = c.args.line.now in
     let p = c.args.problem.now in

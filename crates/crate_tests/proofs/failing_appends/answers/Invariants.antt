@@ -4,7 +4,7 @@ use Rattle.crate_tests.proofs.failing_appends.answers.Given as goal
 
 abbrev pub invariant-loop-line : goal.invariant-loop-line
 invariant-loop-line g l = record {
-  problem : g.R.Recorder.problem l.rec ≡ l.problem;
-  whole : g.R.Recorder.broken l.rec ≡ false;
-  kept : IsKept l.problem (g.R.Recorder.lines l.rec) l.state;
+  problem : (g.R.Recorder.seen l.rec).problem ≡ l.problem;
+  whole : (g.R.Recorder.seen l.rec).broken ≡ false;
+  kept : IsKept l.problem (g.R.Recorder.seen l.rec).lines l.state;
 }

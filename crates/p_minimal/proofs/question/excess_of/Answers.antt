@@ -7,5 +7,5 @@ use Rattle.p_minimal.proofs.question.excess_of.Goals as goal
 pub returns-in-None-clause-recorded : goal.returns-in-None-clause-recorded
 returns-in-None-clause-recorded g c =
     let R = g.R.Recorder in
-    let a = seen R.problem R.limit R.lines R.faults R.broken R.around c.args.rec.now in
+    let a = R.seen c.args.rec.now in
     recorded_ok a a Never (continues_again a) c.requires.ready.whole

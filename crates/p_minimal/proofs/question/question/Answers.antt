@@ -16,7 +16,7 @@ use Rattle.p_minimal.proofs.question.question.Goals as goal
 pub loop-objective-init : goal.loop-objective-init
 loop-objective-init g c =
     let R = g.R.Recorder in
-    let a = seen R.problem R.limit R.lines R.faults R.broken R.around c.args.rec.now in
+    let a = R.seen c.args.rec.now in
     record {
       way = record { on = continues_again a; whole = c.requires.ready.whole };
       fits = c.requires.fits;
@@ -27,16 +27,16 @@ loop-objective-init g c =
 pub excess_of-requires-clause-ready : goal.excess_of-requires-clause-ready
 excess_of-requires-clause-ready g c =
     let R = g.R.Recorder in
-    let a = seen R.problem R.limit R.lines R.faults R.broken R.around c.args.rec.now in
-    let b = seen R.problem R.limit R.lines R.faults R.broken R.around c.loop-objective.rec in
+    let a = R.seen c.args.rec.now in
+    let b = R.seen c.loop-objective.rec in
     ready_later a b c.requires.ready c.loop-objective.invariant.way.on c.loop-objective.invariant.way.whole
 
 pub returns-in_err-excess-clause-recorded : goal.returns-in_err-excess-clause-recorded
 returns-in_err-excess-clause-recorded g c =
     let R = g.R.Recorder in
-    let a = seen R.problem R.limit R.lines R.faults R.broken R.around c.args.rec.now in
-    let b = seen R.problem R.limit R.lines R.faults R.broken R.around c.loop-objective.rec in
-    let d = seen R.problem R.limit R.lines R.faults R.broken R.around c.excess_of.new.rec in
+    let a = R.seen c.args.rec.now in
+    let b = R.seen c.loop-objective.rec in
+    let d = R.seen c.excess_of.new.rec in
     let is = err_from_is_err_and c.from_residual.result c.from_residual.ensures.1 in
     handed_on a b d c.in_err-excess.field-0.0 is.0 c.from_residual.result is.1 is.2
     c.loop-objective.invariant.way.on c.in_err-excess.ensures.recorded
@@ -44,9 +44,9 @@ returns-in_err-excess-clause-recorded g c =
 pub returns-in_err-deny-clause-recorded : goal.returns-in_err-deny-clause-recorded
 returns-in_err-deny-clause-recorded g c =
     let R = g.R.Recorder in
-    let a = seen R.problem R.limit R.lines R.faults R.broken R.around c.args.rec.now in
-    let b = seen R.problem R.limit R.lines R.faults R.broken R.around c.loop-objective.rec in
-    let d = seen R.problem R.limit R.lines R.faults R.broken R.around c.excess_of.new.rec in
+    let a = R.seen c.args.rec.now in
+    let b = R.seen c.loop-objective.rec in
+    let d = R.seen c.excess_of.new.rec in
     let is = err_from_is_err_and c.from_residual-in_err-deny.result c.from_residual-in_err-deny.ensures.1 in
     let on = continues_twice a b d c.loop-objective.invariant.way.on c.in_ok-excess.ensures.recorded.continues in
     recorded_err a d NoMemory c.from_residual-in_err-deny.result
@@ -55,9 +55,9 @@ returns-in_err-deny-clause-recorded g c =
 pub returns-then-not-branch-clause-recorded : goal.returns-then-not-branch-clause-recorded
 returns-then-not-branch-clause-recorded g c =
     let R = g.R.Recorder in
-    let a = seen R.problem R.limit R.lines R.faults R.broken R.around c.args.rec.now in
-    let b = seen R.problem R.limit R.lines R.faults R.broken R.around c.loop-objective.rec in
-    let d = seen R.problem R.limit R.lines R.faults R.broken R.around c.excess_of.new.rec in
+    let a = R.seen c.args.rec.now in
+    let b = R.seen c.loop-objective.rec in
+    let d = R.seen c.excess_of.new.rec in
     recorded_ok a d None
     (continues_twice a b d c.loop-objective.invariant.way.on c.in_ok-excess.ensures.recorded.continues)
     c.in_ok-excess.ensures.recorded.whole
@@ -65,9 +65,9 @@ returns-then-not-branch-clause-recorded g c =
 pub returns-then-not-branch-clause-asked : goal.returns-then-not-branch-clause-asked
 returns-then-not-branch-clause-asked g c =
     let R = g.R.Recorder in
-    let a = seen R.problem R.limit R.lines R.faults R.broken R.around c.args.rec.now in
-    let b = seen R.problem R.limit R.lines R.faults R.broken R.around c.loop-objective.rec in
-    let d = seen R.problem R.limit R.lines R.faults R.broken R.around c.excess_of.new.rec in
+    let a = R.seen c.args.rec.now in
+    let b = R.seen c.loop-objective.rec in
+    let d = R.seen c.excess_of.new.rec in
     let was = c.loop-objective.invariant in
     let call = c.in_ok-excess.ensures in
     let aim = c.args.aim.now in
@@ -86,9 +86,9 @@ returns-then-not-branch-clause-asked g c =
 pub loop-objective-preserved : goal.loop-objective-preserved
 loop-objective-preserved g c =
     let R = g.R.Recorder in
-    let a = seen R.problem R.limit R.lines R.faults R.broken R.around c.args.rec.now in
-    let b = seen R.problem R.limit R.lines R.faults R.broken R.around c.loop-objective.rec in
-    let d = seen R.problem R.limit R.lines R.faults R.broken R.around c.excess_of.new.rec in
+    let a = R.seen c.args.rec.now in
+    let b = R.seen c.loop-objective.rec in
+    let d = R.seen c.excess_of.new.rec in
     let was = c.loop-objective.invariant in
     let call = c.in_ok-excess.ensures in
     let aim = c.args.aim.now in

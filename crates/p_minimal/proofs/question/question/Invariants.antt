@@ -8,8 +8,8 @@ abbrev pub invariant-loop-objective : goal.invariant-loop-objective
 invariant-loop-objective g l =
     let R = g.R.Recorder in
     record {
-      way : IsUnderWay (seen R.problem R.limit R.lines R.faults R.broken R.around l.initial.rec)
-          (seen R.problem R.limit R.lines R.faults R.broken R.around l.rec);
-      fits : FitBounds (seen R.problem R.limit R.lines R.faults R.broken R.around l.rec) l.bounds;
-      asks : Asks (R.problem l.rec) (R.lines l.rec) l.aim l.objective l.lits;
+      way : IsUnderWay (R.seen l.initial.rec)
+          (R.seen l.rec);
+      fits : FitBounds (R.seen l.rec) l.bounds;
+      asks : Asks (R.seen l.rec).problem (R.seen l.rec).lines l.aim l.objective l.lits;
     }

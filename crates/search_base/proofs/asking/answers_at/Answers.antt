@@ -20,18 +20,18 @@ use Rattle.search_base.proofs.asking.answers_at.Goals as goal
 pub loop-objective-init : goal.loop-objective-init
 loop-objective-init g c =
     let R = g.R.Recorder in
-    let a = seen R.problem R.limit R.lines R.faults R.broken R.around c.args.rec.now in
+    let a = R.seen c.args.rec.now in
     record {
       on = record { on = continues_again a; whole = c.requires.ready.whole };
       fits = c.requires.fits;
-      done = no_answers (R.problem c.args.rec.now) (R.lines c.args.rec.now) c.new-answers.result c.new-answers.ensures;
+      done = no_answers (R.seen c.args.rec.now).problem (R.seen c.args.rec.now).lines c.new-answers.result c.new-answers.ensures;
     }
 
 pub at_least-requires-clause-ready : goal.at_least-requires-clause-ready
 at_least-requires-clause-ready g c =
     let R = g.R.Recorder in
-    let a = seen R.problem R.limit R.lines R.faults R.broken R.around c.args.rec.now in
-    let b = seen R.problem R.limit R.lines R.faults R.broken R.around c.loop-objective.rec in
+    let a = R.seen c.args.rec.now in
+    let b = R.seen c.loop-objective.rec in
     ready_later a b c.requires.ready c.loop-objective.invariant.on.on c.loop-objective.invariant.on.whole
 
 pub at_least-requires-clause-there : goal.at_least-requires-clause-there
@@ -44,9 +44,9 @@ at_least-requires-clause-there g c =
 pub returns-in_err-answer-clause-recorded : goal.returns-in_err-answer-clause-recorded
 returns-in_err-answer-clause-recorded g c =
     let R = g.R.Recorder in
-    let a = seen R.problem R.limit R.lines R.faults R.broken R.around c.args.rec.now in
-    let b = seen R.problem R.limit R.lines R.faults R.broken R.around c.loop-objective.rec in
-    let d = seen R.problem R.limit R.lines R.faults R.broken R.around c.at_least.new.rec in
+    let a = R.seen c.args.rec.now in
+    let b = R.seen c.loop-objective.rec in
+    let d = R.seen c.at_least.new.rec in
     let p = err_from_is_err_and c.from_residual.result c.from_residual.ensures.1 in
     handed_on a b d c.in_err-answer.field-0.0 p.0 c.from_residual.result p.1 p.2 c.loop-objective.invariant.on.on
     c.in_err-answer.ensures.recorded
@@ -54,9 +54,9 @@ returns-in_err-answer-clause-recorded g c =
 pub returns-in_err-in_memory-clause-recorded : goal.returns-in_err-in_memory-clause-recorded
 returns-in_err-in_memory-clause-recorded g c =
     let R = g.R.Recorder in
-    let a = seen R.problem R.limit R.lines R.faults R.broken R.around c.args.rec.now in
-    let b = seen R.problem R.limit R.lines R.faults R.broken R.around c.loop-objective.rec in
-    let d = seen R.problem R.limit R.lines R.faults R.broken R.around c.at_least.new.rec in
+    let a = R.seen c.args.rec.now in
+    let b = R.seen c.loop-objective.rec in
+    let d = R.seen c.at_least.new.rec in
     let p = err_from_is_err_and c.from_residual-in_err-in_memory.result c.from_residual-in_err-in_memory.ensures.1 in
     let fault : p.0 ≡ NoMemory = p.2 ∙ c.in_err-in_memory.ensures.fault in
     recorded_err a d NoMemory c.from_residual-in_err-in_memory.result (p.1 ∙ ap (λ (f : RecordFault). Err f) fault)
@@ -65,9 +65,9 @@ returns-in_err-in_memory-clause-recorded g c =
 pub loop-objective-preserved : goal.loop-objective-preserved
 loop-objective-preserved g c =
     let R = g.R.Recorder in
-    let a = seen R.problem R.limit R.lines R.faults R.broken R.around c.args.rec.now in
-    let b = seen R.problem R.limit R.lines R.faults R.broken R.around c.loop-objective.rec in
-    let d = seen R.problem R.limit R.lines R.faults R.broken R.around c.at_least.new.rec in
+    let a = R.seen c.args.rec.now in
+    let b = R.seen c.loop-objective.rec in
+    let d = R.seen c.at_least.new.rec in
     let was = c.loop-objective.invariant in
     let call = c.in_ok-answer.ensures in
     let ready = ready_later a b c.requires.ready was.on.on was.on.whole in
@@ -110,7 +110,7 @@ returns-clause-answers g c =
     let vs = c.args.costs.now in
     let sizes : length c.as_slice-value-items.result.now ≡ length vs =
     ap (λ (us : List ℤ). length us) c.as_slice-value-items.ensures in
-    subst (λ (us : List ℤ). AreAnswers (R.problem c.loop-objective.rec) (R.lines c.loop-objective.rec) us
+    subst (λ (us : List ℤ). AreAnswers (R.seen c.loop-objective.rec).problem (R.seen c.loop-objective.rec).lines us
     c.loop-objective.answers)
     (take_all c.loop-objective.objective vs (omega (arith, c.loop-objective-test.false)))
     c.loop-objective.invariant.done

@@ -8,9 +8,9 @@ use Rattle.search_base.proofs.asking.answers_at.Given as goal
 abbrev pub invariant-loop-objective : goal.invariant-loop-objective
 invariant-loop-objective g l =
     let R = g.R.Recorder in
-    let b = seen R.problem R.limit R.lines R.faults R.broken R.around l.rec in
+    let b = R.seen l.rec in
     record {
-      on : IsUnderWay (seen R.problem R.limit R.lines R.faults R.broken R.around l.initial.rec) b;
+      on : IsUnderWay (R.seen l.initial.rec) b;
       fits : FitBounds b l.bounds;
-      done : AreAnswers (R.problem l.rec) (R.lines l.rec) (take l.objective l.costs) l.answers;
+      done : AreAnswers (R.seen l.rec).problem (R.seen l.rec).lines (take l.objective l.costs) l.answers;
     }

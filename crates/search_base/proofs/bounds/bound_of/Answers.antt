@@ -15,19 +15,19 @@ use Rattle.search_base.proofs.bounds.bound_of.Goals as goal
 pub returns-then-k-lt1-clause-recorded : goal.returns-then-k-lt1-clause-recorded
 returns-then-k-lt1-clause-recorded g c =
     let R = g.R.Recorder in
-    let a = seen R.problem R.limit R.lines R.faults R.broken R.around c.args.rec.now in
+    let a = R.seen c.args.rec.now in
     recorded_ok a a (Always 0) (continues_again a) c.requires.ready.whole
 
 pub returns-in_default-clause-recorded : goal.returns-in_default-clause-recorded
 returns-in_default-clause-recorded g c =
     let R = g.R.Recorder in
-    let a = seen R.problem R.limit R.lines R.faults R.broken R.around c.args.rec.now in
+    let a = R.seen c.args.rec.now in
     recorded_ok a a Never (continues_again a) c.requires.ready.whole
 
 pub returns-in_default-clause-bound : goal.returns-in_default-clause-bound
 returns-in_default-clause-bound g c =
     let R = g.R.Recorder in
-    let a = seen R.problem R.limit R.lines R.faults R.broken R.around c.args.rec.now in
+    let a = R.seen c.args.rec.now in
     let same : to_z w128 (of_z w128 c.args.k) ≡ c.args.k = to_z-of_z w128 c.args.k c.ranges.k in
     above_all (total (terms_of c.args.totalizer.now)) c.args.k (total_small a c.args.totalizer.now c.requires.fits)
     (subst (λ (k : ℤ). lt_z k (pos 1) ≡ false) same c.if-k-lt1.false)

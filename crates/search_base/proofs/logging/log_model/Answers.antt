@@ -12,8 +12,8 @@ use Rattle.search_base.proofs.logging.log_model.Goals as goal
 pub model_line-requires-clause-alike : goal.model_line-requires-clause-alike
 model_line-requires-clause-alike g c =
     let R = g.R.Recorder in
-    let p = R.problem c.args.rec.now in
-    let ls = R.lines c.args.rec.now in
+    let p = (R.seen c.args.rec.now).problem in
+    let ls = (R.seen c.args.rec.now).lines in
     let s = c.state.result.now in
     answers_alike p ls s c.args.model.now c.args.answers.now c.requires.problem.cost_variables
     (answers_at p ls s c.args.model.now c.args.answers.now c.state.ensures c.requires.answers)
@@ -21,13 +21,13 @@ model_line-requires-clause-alike g c =
 pub returns-in_err-line-clause-goes_on : goal.returns-in_err-line-clause-goes_on
 returns-in_err-line-clause-goes_on g c =
     let R = g.R.Recorder in
-    goes_again (seen R.problem R.limit R.lines R.faults R.broken R.around c.args.rec.now)
+    goes_again (R.seen c.args.rec.now)
 
 pub add_line-requires-clause-formed : goal.add_line-requires-clause-formed
 add_line-requires-clause-formed g c =
     let R = g.R.Recorder in
-    let p = R.problem c.args.rec.now in
-    let ls = R.lines c.args.rec.now in
+    let p = (R.seen c.args.rec.now).problem in
+    let ls = (R.seen c.args.rec.now).lines in
     let s = c.state.result.now in
     line_formed p ls s c.args.model.now c.args.answers.now c.in_ok-line.line
     (rw c.in_ok-line.ensures.ok at c.model_line.ensures)
@@ -37,8 +37,8 @@ add_line-requires-clause-formed g c =
 pub add_line-requires-clause-legal : goal.add_line-requires-clause-legal
 add_line-requires-clause-legal g c =
     let R = g.R.Recorder in
-    let p = R.problem c.args.rec.now in
-    let ls = R.lines c.args.rec.now in
+    let p = (R.seen c.args.rec.now).problem in
+    let ls = (R.seen c.args.rec.now).lines in
     let s = c.state.result.now in
     let ready = c.requires.ready in
     let same : ready.state ≡ s = replay_once p ls ready.state s ready.reached c.state.ensures in
@@ -51,16 +51,16 @@ add_line-requires-clause-legal g c =
 pub returns-in_err-add_line-clause-goes_on : goal.returns-in_err-add_line-clause-goes_on
 returns-in_err-add_line-clause-goes_on g c =
     let R = g.R.Recorder in
-    let a = seen R.problem R.limit R.lines R.faults R.broken R.around c.args.rec.now in
-    let b = seen R.problem R.limit R.lines R.faults R.broken R.around c.add_line.new.self in
+    let a = R.seen c.args.rec.now in
+    let b = R.seen c.add_line.new.self in
     let was = c.in_err-add_line.ensures in
     same_goes_on a b was.problem was.limit was.later was.around was.kept
 
 pub returns-clause-goes_on : goal.returns-clause-goes_on
 returns-clause-goes_on g c =
     let R = g.R.Recorder in
-    let a = seen R.problem R.limit R.lines R.faults R.broken R.around c.args.rec.now in
-    let b = seen R.problem R.limit R.lines R.faults R.broken R.around c.add_line.new.self in
+    let a = R.seen c.args.rec.now in
+    let b = R.seen c.add_line.new.self in
     let was = c.in_ok-add_line.ensures in
     model_goes_on a b was.problem was.limit was.later was.around c.args.model.now c.args.answers.now c.in_ok-line.line
     (rw c.in_ok-line.ensures.ok at c.model_line.ensures) was.added

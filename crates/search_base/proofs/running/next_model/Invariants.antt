@@ -7,10 +7,10 @@ abbrev pub invariant-loop-id : goal.invariant-loop-id
 invariant-loop-id g l =
     let R = g.O.Recorder in
     record {
-      turns : AreTurns (seen R.problem R.limit R.lines R.faults R.broken R.around l.initial.oracle)
-          (seen R.problem R.limit R.lines R.faults R.broken R.around l.oracle) l.bounds l.initial.board l.board;
-      none : LogsNone (R.problem l.initial.oracle) (R.lines l.initial.oracle) (R.lines l.oracle);
-      serves : g.S.Search.serves l.search (R.problem l.oracle);
+      turns : AreTurns (R.seen l.initial.oracle)
+          (R.seen l.oracle) l.bounds l.initial.board l.board;
+      none : LogsNone (R.seen l.initial.oracle).problem (R.seen l.initial.oracle).lines (R.seen l.oracle).lines;
+      serves : g.S.Search.serves l.search (R.seen l.oracle).problem;
     }
 
 abbrev pub decreases-loop-id : goal.decreases-loop-id

@@ -5,4 +5,4 @@ use Rattle.search_tests.proofs.totals.answers.Given as goal
 abbrev pub invariant-loop-k : goal.invariant-loop-k
 invariant-loop-k g l =
     let R = g.R.Recorder in
-    IsAskable (seen R.problem R.limit R.lines R.faults R.broken R.around l.rec) l.sum
+    IsAskable (R.seen l.rec) l.sum

@@ -11,7 +11,7 @@ use Rattle.search_tests.proofs.totals.first_sum.Goals as goal
 pub returns-in_ok-build-in-Some : goal.returns-in_ok-build-in-Some
 returns-in_ok-build-in-Some g c =
     let R = g.R.Recorder in
-    let a = seen R.problem R.limit R.lines R.faults R.broken R.around c.args.rec.now in
+    let a = R.seen c.args.rec.now in
     let row = c.in-Some.row.now in
     let t = c.in_ok-build-in-Some.field-0 in
     let same = sym c.requires.problem in

@@ -17,13 +17,13 @@ use Rattle.sum_outputs.proofs.asked.ask.Goals as goal
 pub returns-then-has_sum-clause-recorded : goal.returns-then-has_sum-clause-recorded
 returns-then-has_sum-clause-recorded g c =
     let R = g.R.Recorder in
-    let a = seen R.problem R.limit R.lines R.faults R.broken R.around c.args.rec.now in
+    let a = R.seen c.args.rec.now in
     memory_recorded a a c.in_memory.result (continues_again a) c.requires.ready.whole c.in_memory.ensures.fault
 
 pub returns-then-has_sum-clause-asked : goal.returns-then-has_sum-clause-asked
 returns-then-has_sum-clause-asked g c =
     let R = g.R.Recorder in
-    let a = seen R.problem R.limit R.lines R.faults R.broken R.around c.args.rec.now in
+    let a = R.seen c.args.rec.now in
     let least : IsLeastSum c.args.terms.now c.args.k c.least_sum-sum.result =
     least_of_run a c.requires.ready c.args.first.terms.now c.args.second.terms.now c.args.terms.now c.args.first.outputs.now c.args.second.outputs.now c.args.k c.args.k c.least_sum-sum.result c.requires.children c.requires.terms (omega arith) c.requires.first_complete c.requires.second_complete
     (subst (λ (n : ℕ). IsLeastOf c.args.first.outputs.now c.args.second.outputs.now c.args.k n c.least_sum-sum.result) c.requires.greatest c.least_sum-sum.ensures) in
@@ -39,7 +39,7 @@ returns-then-has_sum-clause-asked g c =
 pub returns-then-has_sum-clause-defined : goal.returns-then-has_sum-clause-defined
 returns-then-has_sum-clause-defined g c =
     let R = g.R.Recorder in
-    IfOk-weaker c.in_memory.result (λ r. c.asked_again.result ≡ Ok r) (λ r. definitions (R.lines c.args.rec.now) + length c.args.outputs.now ≡ definitions (R.lines c.args.rec.now) + length r.1)
+    IfOk-weaker c.in_memory.result (λ r. c.asked_again.result ≡ Ok r) (λ r. definitions (R.seen c.args.rec.now).lines + length c.args.outputs.now ≡ definitions (R.seen c.args.rec.now).lines + length r.1)
     (λ r is.
     let facts = IfOk-at_ok (λ q. (d : SumOutput) → (q.0 ≡ asked_from c.args.k (slice_index_or c.args.outputs.now c.place_of-place.result d)) × (q.1 ≡ set c.args.outputs.now c.place_of-place.result q.0)) is c.asked_again.ensures r.0 in
     let size = ap length facts.1 ∙ length-set c.args.outputs.now c.place_of-place.result r.0 in
@@ -49,6 +49,6 @@ returns-then-has_sum-clause-defined g c =
 pub ask_anew-requires-clause-least : goal.ask_anew-requires-clause-least
 ask_anew-requires-clause-least g c =
     let R = g.R.Recorder in
-    let a = seen R.problem R.limit R.lines R.faults R.broken R.around c.args.rec.now in
+    let a = R.seen c.args.rec.now in
     least_of_run a c.requires.ready c.args.first.terms.now c.args.second.terms.now c.args.terms.now c.args.first.outputs.now c.args.second.outputs.now c.args.k c.args.k c.least_sum-sum.result c.requires.children c.requires.terms (omega arith) c.requires.first_complete c.requires.second_complete
     (subst (λ (n : ℕ). IsLeastOf c.args.first.outputs.now c.args.second.outputs.now c.args.k n c.least_sum-sum.result) c.requires.greatest c.least_sum-sum.ensures)

@@ -17,8 +17,8 @@ use Rattle.sum_outputs.proofs.asked.ask_anew.Goals as goal
 pub tie_one-requires-clause-ready : goal.tie_one-requires-clause-ready
 tie_one-requires-clause-ready g c =
     let R = g.R.Recorder in
-    let a = seen R.problem R.limit R.lines R.faults R.broken R.around c.args.rec.now in
-    let b = seen R.problem R.limit R.lines R.faults R.broken R.around c.make_between.new.rec in
+    let a = R.seen c.args.rec.now in
+    let b = R.seen c.make_between.new.rec in
     let made = c.in_ok-made.ensures in
     let ready_b = ready_later a b c.requires.ready made.recorded.continues made.recorded.whole in
     ready_b
@@ -26,8 +26,8 @@ tie_one-requires-clause-ready g c =
 pub tie_one-requires-clause-can : goal.tie_one-requires-clause-can
 tie_one-requires-clause-can g c =
     let R = g.R.Recorder in
-    let a = seen R.problem R.limit R.lines R.faults R.broken R.around c.args.rec.now in
-    let b = seen R.problem R.limit R.lines R.faults R.broken R.around c.make_between.new.rec in
+    let a = R.seen c.args.rec.now in
+    let b = R.seen c.make_between.new.rec in
     let made = c.in_ok-made.ensures in
     let ready_b = ready_later a b c.requires.ready made.recorded.continues made.recorded.whole in
     let weights = subst (λ (ts : List (Literal × ℕ)). AreWeights ts) (sym c.requires.terms) (c.requires.children c.requires.ready.state c.requires.ready.reached).weights in
@@ -37,22 +37,22 @@ tie_one-requires-clause-can g c =
 pub returns-in_err-tie_one-clause-recorded : goal.returns-in_err-tie_one-clause-recorded
 returns-in_err-tie_one-clause-recorded g c =
     let R = g.R.Recorder in
-    let a = seen R.problem R.limit R.lines R.faults R.broken R.around c.args.rec.now in
-    let b = seen R.problem R.limit R.lines R.faults R.broken R.around c.make_between.new.rec in
+    let a = R.seen c.args.rec.now in
+    let b = R.seen c.make_between.new.rec in
     let made = c.in_ok-made.ensures in
     let ready_b = ready_later a b c.requires.ready made.recorded.continues made.recorded.whole in
-    let d = seen R.problem R.limit R.lines R.faults R.broken R.around c.tie_one.new.rec in
+    let d = R.seen c.tie_one.new.rec in
     let p = err_from_is_err_and c.from_residual-in_err-tie_one.result c.from_residual-in_err-tie_one.ensures.1 in
     handed_on a b d c.in_err-tie_one.field-0.0 p.0 c.from_residual-in_err-tie_one.result p.1 p.2 made.recorded.continues c.in_err-tie_one.ensures.recorded
 
 pub returns-in_err-all-clause-recorded : goal.returns-in_err-all-clause-recorded
 returns-in_err-all-clause-recorded g c =
     let R = g.R.Recorder in
-    let a = seen R.problem R.limit R.lines R.faults R.broken R.around c.args.rec.now in
-    let b = seen R.problem R.limit R.lines R.faults R.broken R.around c.make_between.new.rec in
+    let a = R.seen c.args.rec.now in
+    let b = R.seen c.make_between.new.rec in
     let made = c.in_ok-made.ensures in
     let ready_b = ready_later a b c.requires.ready made.recorded.continues made.recorded.whole in
-    let d = seen R.problem R.limit R.lines R.faults R.broken R.around c.tie_one.new.rec in
+    let d = R.seen c.tie_one.new.rec in
     let p = err_from_is_err_and c.from_residual-in_err-all.result c.from_residual-in_err-all.ensures.1 in
     let fault : p.0 ≡ NoMemory = p.2 ∙ c.in_err-all.ensures.fault in
     recorded_err a d NoMemory c.from_residual-in_err-all.result (p.1 ∙ ap (λ (f : RecordFault). Err f) fault) (continues_twice a b d made.recorded.continues c.in_ok-tie_one.ensures.recorded.continues) tt
@@ -60,22 +60,22 @@ returns-in_err-all-clause-recorded g c =
 pub returns-clause-recorded : goal.returns-clause-recorded
 returns-clause-recorded g c =
     let R = g.R.Recorder in
-    let a = seen R.problem R.limit R.lines R.faults R.broken R.around c.args.rec.now in
-    let b = seen R.problem R.limit R.lines R.faults R.broken R.around c.make_between.new.rec in
+    let a = R.seen c.args.rec.now in
+    let b = R.seen c.make_between.new.rec in
     let made = c.in_ok-made.ensures in
     let ready_b = ready_later a b c.requires.ready made.recorded.continues made.recorded.whole in
-    let d = seen R.problem R.limit R.lines R.faults R.broken R.around c.tie_one.new.rec in
+    let d = R.seen c.tie_one.new.rec in
     recorded_ok a d _ (continues_twice a b d made.recorded.continues c.in_ok-tie_one.ensures.recorded.continues) c.in_ok-tie_one.ensures.recorded.whole
 
 pub returns-clause-asked : goal.returns-clause-asked
 returns-clause-asked g c =
     let R = g.R.Recorder in
-    let a = seen R.problem R.limit R.lines R.faults R.broken R.around c.args.rec.now in
-    let b = seen R.problem R.limit R.lines R.faults R.broken R.around c.make_between.new.rec in
+    let a = R.seen c.args.rec.now in
+    let b = R.seen c.make_between.new.rec in
     let made = c.in_ok-made.ensures in
     let ready_b = ready_later a b c.requires.ready made.recorded.continues made.recorded.whole in
     let weights = subst (λ (ts : List (Literal × ℕ)). AreWeights ts) (sym c.requires.terms) (c.requires.children c.requires.ready.state c.requires.ready.reached).weights in
-    let d = seen R.problem R.limit R.lines R.faults R.broken R.around c.tie_one.new.rec in
+    let d = R.seen c.tie_one.new.rec in
     subst (λ (os : List SumOutput). IsAsked a d c.args.terms.now c.args.outputs.now c.args.k c.in_ok-made.made os)
     (sym (IfOk-at_ok (λ all. all ≡ (take c.args.place c.args.outputs.now ++ c.in_ok-made.made ∷ []) ++ drop c.args.place c.args.outputs.now) c.in_ok-all.ensures.ok c.inserted.ensures))
     (is_asked a b c.requires.ready made.recorded.continues c.args.terms.now weights c.args.outputs.now c.requires.outputs c.requires.defined c.args.sum c.args.place c.requires.place c.in_ok-made.made made.sum.0 made.made d ready_b c.in_ok-tie_one.ensures.recorded.continues c.requires.absent c.args.k c.requires.least made.sum.1)

@@ -9,5 +9,5 @@ use Rattle.sum_outputs.proofs.asked.make_between.Goals as goal
 pub make_output-requires-clause-next : goal.make_output-requires-clause-next
 make_output-requires-clause-next g c = λ s reached.
     let R = g.R.Recorder in
-    let a = seen R.problem R.limit R.lines R.faults R.broken R.around c.args.rec.now in
+    let a = R.seen c.args.rec.now in
     subst (λ (os : List SumOutput). AreOutputsAt a s c.args.terms.now os) (sym c.first_of-next.ensures) (first_outputs a s c.args.terms.now c.args.greater.now (c.requires.outputs s reached))

@@ -19,13 +19,13 @@ use Rattle.sum_outputs.proofs.clause.add_clause.Goals as goal
 pub sum_of-requires : goal.sum_of-requires
 sum_of-requires g c =
     let R = g.R.Recorder in
-    let a = seen R.problem R.limit R.lines R.faults R.broken R.around c.args.rec.now in
+    let a = R.seen c.args.rec.now in
     sums_small a c.state.result.now c.vars-vars.ensures.state c.state.ensures c.args.parts.now c.args.weakened.now c.args.target (c.requires.parts c.state.result.now c.state.ensures)
 
 pub overflow_add-degree : goal.overflow_add-degree
 overflow_add-degree g c =
     let R = g.R.Recorder in
-    let a = seen R.problem R.limit R.lines R.faults R.broken R.around c.args.rec.now in
+    let a = R.seen c.args.rec.now in
     let small = sums_small a c.state.result.now c.vars-vars.ensures.state c.state.ensures c.args.parts.now c.args.weakened.now c.args.target (c.requires.parts c.state.result.now c.state.ensures) in
     let is = c.sum_of.ensures in
     omega arith
@@ -33,7 +33,7 @@ overflow_add-degree g c =
 pub returns-in_err-tokens-clause-recorded : goal.returns-in_err-tokens-clause-recorded
 returns-in_err-tokens-clause-recorded g c =
     let R = g.R.Recorder in
-    let a = seen R.problem R.limit R.lines R.faults R.broken R.around c.args.rec.now in
+    let a = R.seen c.args.rec.now in
     let p = err_from_is_err_and c.from_residual.result c.from_residual.ensures.1 in
     let fault : p.0 ≡ NoMemory = p.2 ∙ c.in_err-tokens.ensures.fault in
     recorded_err a a NoMemory c.from_residual.result (p.1 ∙ ap (λ (f : RecordFault). Err f) fault) (continues_again a) tt
@@ -41,7 +41,7 @@ returns-in_err-tokens-clause-recorded g c =
 pub record-requires-clause-formed : goal.record-requires-clause-formed
 record-requires-clause-formed g c =
     let R = g.R.Recorder in
-    let a = seen R.problem R.limit R.lines R.faults R.broken R.around c.args.rec.now in
+    let a = R.seen c.args.rec.now in
     let can = c.requires.parts c.state.result.now c.state.ensures in
     let tokens_are : c.in_ok-tokens.tokens ≡ imply_tokens a c.state.result.now c.vars-vars.ensures.state c.state.ensures c.args.parts.now c.args.weakened.now c.args.target can =
     IfOk-at_ok (λ ts. ts ≡ clause_tokens (lowers_of c.args.parts.now) c.args.target.upper c.args.weakened.now ((c.sum_of.result + 1) - c.args.target.sum)) c.in_ok-tokens.ensures.ok c.clause_tokens.ensures
@@ -51,7 +51,7 @@ record-requires-clause-formed g c =
 pub record-requires-clause-legal : goal.record-requires-clause-legal
 record-requires-clause-legal g c =
     let R = g.R.Recorder in
-    let a = seen R.problem R.limit R.lines R.faults R.broken R.around c.args.rec.now in
+    let a = R.seen c.args.rec.now in
     let can = c.requires.parts c.state.result.now c.state.ensures in
     let tokens_are : c.in_ok-tokens.tokens ≡ imply_tokens a c.state.result.now c.vars-vars.ensures.state c.state.ensures c.args.parts.now c.args.weakened.now c.args.target can =
     IfOk-at_ok (λ ts. ts ≡ clause_tokens (lowers_of c.args.parts.now) c.args.target.upper c.args.weakened.now ((c.sum_of.result + 1) - c.args.target.sum)) c.in_ok-tokens.ensures.ok c.clause_tokens.ensures
@@ -61,17 +61,17 @@ record-requires-clause-legal g c =
 pub returns-clause-says : goal.returns-clause-says
 returns-clause-says g c =
     let R = g.R.Recorder in
-    let a = seen R.problem R.limit R.lines R.faults R.broken R.around c.args.rec.now in
+    let a = R.seen c.args.rec.now in
     let can = c.requires.parts c.state.result.now c.state.ensures in
     let tokens_are : c.in_ok-tokens.tokens ≡ imply_tokens a c.state.result.now c.vars-vars.ensures.state c.state.ensures c.args.parts.now c.args.weakened.now c.args.target can =
     IfOk-at_ok (λ ts. ts ≡ clause_tokens (lowers_of c.args.parts.now) c.args.target.upper c.args.weakened.now ((c.sum_of.result + 1) - c.args.target.sum)) c.in_ok-tokens.ensures.ok c.clause_tokens.ensures
     ∙ ap (λ (n : ℕ). clause_tokens (lowers_of c.args.parts.now) c.args.target.upper c.args.weakened.now ((n + 1) - c.args.target.sum)) c.sum_of.ensures in
-    let b = seen R.problem R.limit R.lines R.faults R.broken R.around c.record.new.rec in
+    let b = R.seen c.record.new.rec in
     imply_says a c.state.result.now c.vars-vars.ensures.state c.state.ensures c.args.parts.now c.args.weakened.now c.args.target can b c.in_ok-_id.ensures.recorded.continues.problem
     (c.in_ok-_id.ensures.added ∙ ap (λ (ts : List PolToken). a.lines ++ Pol ts ∷ []) tokens_are)
 
 pub returns-clause-defines_none : goal.returns-clause-defines_none
 returns-clause-defines_none g c =
     let R = g.R.Recorder in
-    let more = ap definitions c.in_ok-_id.ensures.added ∙ definitions_push (R.lines c.args.rec.now) (Pol c.in_ok-tokens.tokens) in
+    let more = ap definitions c.in_ok-_id.ensures.added ∙ definitions_push (R.seen c.args.rec.now).lines (Pol c.in_ok-tokens.tokens) in
     omega arith

@@ -14,7 +14,7 @@ use Rattle.sum_outputs.proofs.definition.define.Goals as goal
 pub returns-in_err-constraint-clause-recorded : goal.returns-in_err-constraint-clause-recorded
 returns-in_err-constraint-clause-recorded g c =
     let R = g.R.Recorder in
-    let a = seen R.problem R.limit R.lines R.faults R.broken R.around c.args.rec.now in
+    let a = R.seen c.args.rec.now in
     let p = err_from_is_err_and c.from_residual.result c.from_residual.ensures.1 in
     let fault : p.0 ≡ NoMemory = p.2 ∙ c.in_err-constraint.ensures.fault in
     recorded_err a a NoMemory c.from_residual.result (p.1 ∙ ap (λ (f : RecordFault). Err f) fault) (continues_again a) tt
@@ -22,7 +22,7 @@ returns-in_err-constraint-clause-recorded g c =
 pub define_next-requires-clause-next : goal.define_next-requires-clause-next
 define_next-requires-clause-next g c = λ s reached.
     let R = g.R.Recorder in
-    let a = seen R.problem R.limit R.lines R.faults R.broken R.around c.args.rec.now in
+    let a = R.seen c.args.rec.now in
     let order : IsInOrder c.args.terms.now c.args.sum c.in_ok-constraint.constraint = IfOk-at_ok (IsInOrder c.args.terms.now c.args.sum) c.in_ok-constraint.ensures.ok c.at_least.ensures in
     let same : c.state.result.now ≡ s = replay_once a.problem a.lines c.state.result.now s c.state.ensures reached in
     let next : c.vars-var.result + 1 ≡ s.vars + 1 = ap (λ (n : ℕ). n + 1) (c.vars-var.ensures.value ∙ ap (λ (u : StateValue). u.vars) same) in
@@ -31,8 +31,8 @@ define_next-requires-clause-next g c = λ s reached.
 pub returns-clause-defined : goal.returns-clause-defined
 returns-clause-defined g c =
     let R = g.R.Recorder in
-    let a = seen R.problem R.limit R.lines R.faults R.broken R.around c.args.rec.now in
-    let b = seen R.problem R.limit R.lines R.faults R.broken R.around c.define_next.new.rec in
+    let a = R.seen c.args.rec.now in
+    let b = R.seen c.define_next.new.rec in
     let order : IsInOrder c.args.terms.now c.args.sum c.in_ok-constraint.constraint = IfOk-at_ok (IsInOrder c.args.terms.now c.args.sum) c.in_ok-constraint.ensures.ok c.at_least.ensures in
     if_ok_both c.define_next.result (λ o. (o.sum ≡ c.args.sum) × (o.from ≡ c.args.from)) (IsDefinedBy a b c.in_ok-constraint.constraint) (IsDefinedNext a b c.args.terms.now)
     (λ o sum is. defined_next a b c.args.terms.now c.in_ok-constraint.constraint o c.args.sum sum.0 order c.requires.variables c.requires.ready c.define_next.ensures.recorded.continues.problem is)

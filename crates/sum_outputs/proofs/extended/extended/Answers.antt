@@ -17,7 +17,7 @@ use Rattle.sum_outputs.proofs.extended.extended.Goals as goal
 pub make_falling-requires-clause-last : goal.make_falling-requires-clause-last
 make_falling-requires-clause-last g c =
     let R = g.R.Recorder in
-    let a = seen R.problem R.limit R.lines R.faults R.broken R.around c.args.rec.now in
+    let a = R.seen c.args.rec.now in
     let within = last_within a c.requires.ready c.args.terms.now c.args.outputs.now c.requires.outputs in
     let last = c.last_sum-last.ensures in
     let all = c.requires.greatest in
@@ -26,8 +26,8 @@ make_falling-requires-clause-last g c =
 pub tie-requires-clause-ready : goal.tie-requires-clause-ready
 tie-requires-clause-ready g c =
     let R = g.R.Recorder in
-    let a = seen R.problem R.limit R.lines R.faults R.broken R.around c.args.rec.now in
-    let b = seen R.problem R.limit R.lines R.faults R.broken R.around c.make_falling.new.rec in
+    let a = R.seen c.args.rec.now in
+    let b = R.seen c.make_falling.new.rec in
     let made = c.in_ok-falling.ensures in
     let ready_b = ready_later a b c.requires.ready made.recorded.continues made.recorded.whole in
     let weights = subst (λ (ts : List (Literal × ℕ)). AreWeights ts) (sym c.requires.terms) (c.requires.children c.requires.ready.state c.requires.ready.reached).weights in
@@ -37,8 +37,8 @@ tie-requires-clause-ready g c =
 pub tie-requires-clause-rising : goal.tie-requires-clause-rising
 tie-requires-clause-rising g c =
     let R = g.R.Recorder in
-    let a = seen R.problem R.limit R.lines R.faults R.broken R.around c.args.rec.now in
-    let b = seen R.problem R.limit R.lines R.faults R.broken R.around c.make_falling.new.rec in
+    let a = R.seen c.args.rec.now in
+    let b = R.seen c.make_falling.new.rec in
     let made = c.in_ok-falling.ensures in
     let ready_b = ready_later a b c.requires.ready made.recorded.continues made.recorded.whole in
     let weights = subst (λ (ts : List (Literal × ℕ)). AreWeights ts) (sym c.requires.terms) (c.requires.children c.requires.ready.state c.requires.ready.reached).weights in
@@ -49,8 +49,8 @@ tie-requires-clause-rising g c =
 pub tie-requires-clause-can : goal.tie-requires-clause-can
 tie-requires-clause-can g c =
     let R = g.R.Recorder in
-    let a = seen R.problem R.limit R.lines R.faults R.broken R.around c.args.rec.now in
-    let b = seen R.problem R.limit R.lines R.faults R.broken R.around c.make_falling.new.rec in
+    let a = R.seen c.args.rec.now in
+    let b = R.seen c.make_falling.new.rec in
     let made = c.in_ok-falling.ensures in
     let ready_b = ready_later a b c.requires.ready made.recorded.continues made.recorded.whole in
     let weights = subst (λ (ts : List (Literal × ℕ)). AreWeights ts) (sym c.requires.terms) (c.requires.children c.requires.ready.state c.requires.ready.reached).weights in
@@ -63,38 +63,38 @@ tie-requires-clause-can g c =
 pub returns-in_err-tie-clause-recorded : goal.returns-in_err-tie-clause-recorded
 returns-in_err-tie-clause-recorded g c =
     let R = g.R.Recorder in
-    let a = seen R.problem R.limit R.lines R.faults R.broken R.around c.args.rec.now in
-    let b = seen R.problem R.limit R.lines R.faults R.broken R.around c.make_falling.new.rec in
+    let a = R.seen c.args.rec.now in
+    let b = R.seen c.make_falling.new.rec in
     let made = c.in_ok-falling.ensures in
     let ready_b = ready_later a b c.requires.ready made.recorded.continues made.recorded.whole in
     let weights = subst (λ (ts : List (Literal × ℕ)). AreWeights ts) (sym c.requires.terms) (c.requires.children c.requires.ready.state c.requires.ready.reached).weights in
     let falling : AreFallingTo a b c.args.terms.now (last_sum c.args.outputs.now) c.args.k c.in_ok-falling.falling = subst (λ (n : ℕ). AreFallingTo a b c.args.terms.now n c.args.k c.in_ok-falling.falling) c.last_sum-last.ensures made.falling in
-    let d = seen R.problem R.limit R.lines R.faults R.broken R.around c.tie.new.rec in
+    let d = R.seen c.tie.new.rec in
     let p = err_from_is_err_and c.from_residual-in_err-tie.result c.from_residual-in_err-tie.ensures.1 in
     handed_on a b d c.in_err-tie.field-0.0 p.0 c.from_residual-in_err-tie.result p.1 p.2 made.recorded.continues c.in_err-tie.ensures.recorded
 
 pub returns-clause-recorded : goal.returns-clause-recorded
 returns-clause-recorded g c =
     let R = g.R.Recorder in
-    let a = seen R.problem R.limit R.lines R.faults R.broken R.around c.args.rec.now in
-    let b = seen R.problem R.limit R.lines R.faults R.broken R.around c.make_falling.new.rec in
+    let a = R.seen c.args.rec.now in
+    let b = R.seen c.make_falling.new.rec in
     let made = c.in_ok-falling.ensures in
     let ready_b = ready_later a b c.requires.ready made.recorded.continues made.recorded.whole in
     let weights = subst (λ (ts : List (Literal × ℕ)). AreWeights ts) (sym c.requires.terms) (c.requires.children c.requires.ready.state c.requires.ready.reached).weights in
     let falling : AreFallingTo a b c.args.terms.now (last_sum c.args.outputs.now) c.args.k c.in_ok-falling.falling = subst (λ (n : ℕ). AreFallingTo a b c.args.terms.now n c.args.k c.in_ok-falling.falling) c.last_sum-last.ensures made.falling in
-    let d = seen R.problem R.limit R.lines R.faults R.broken R.around c.tie.new.rec in
+    let d = R.seen c.tie.new.rec in
     memory_recorded a d c.in_memory.result (continues_twice a b d made.recorded.continues c.in_ok-tie.ensures.recorded.continues) c.in_ok-tie.ensures.recorded.whole c.in_memory.ensures.fault
 
 pub returns-clause-extended : goal.returns-clause-extended
 returns-clause-extended g c =
     let R = g.R.Recorder in
-    let a = seen R.problem R.limit R.lines R.faults R.broken R.around c.args.rec.now in
-    let b = seen R.problem R.limit R.lines R.faults R.broken R.around c.make_falling.new.rec in
+    let a = R.seen c.args.rec.now in
+    let b = R.seen c.make_falling.new.rec in
     let made = c.in_ok-falling.ensures in
     let ready_b = ready_later a b c.requires.ready made.recorded.continues made.recorded.whole in
     let weights = subst (λ (ts : List (Literal × ℕ)). AreWeights ts) (sym c.requires.terms) (c.requires.children c.requires.ready.state c.requires.ready.reached).weights in
     let falling : AreFallingTo a b c.args.terms.now (last_sum c.args.outputs.now) c.args.k c.in_ok-falling.falling = subst (λ (n : ℕ). AreFallingTo a b c.args.terms.now n c.args.k c.in_ok-falling.falling) c.last_sum-last.ensures made.falling in
-    let d = seen R.problem R.limit R.lines R.faults R.broken R.around c.tie.new.rec in
+    let d = R.seen c.tie.new.rec in
     IfOk-weaker c.in_memory.result (λ os. c.joined.result ≡ Ok os) (AreExtended a d c.args.terms.now c.args.outputs.now c.args.k)
     (λ os is. extended_later a b d ready_b c.in_ok-tie.ensures.recorded.continues c.args.terms.now c.args.outputs.now c.args.k os
     (subst (λ (all : List SumOutput). AreExtended a b c.args.terms.now c.args.outputs.now c.args.k all) (sym (IfOk-at_ok (λ all. all ≡ c.args.outputs.now ++ reverse c.in_ok-falling.falling) is c.joined.ensures))
@@ -105,7 +105,7 @@ pub returns-clause-defined : goal.returns-clause-defined
 returns-clause-defined g c =
     let R = g.R.Recorder in
     let made = c.in_ok-falling.ensures in
-    IfOk-weaker c.in_memory.result (λ os. c.joined.result ≡ Ok os) (λ os. definitions (R.lines c.tie.new.rec) + length c.args.outputs.now ≡ definitions (R.lines c.args.rec.now) + length os)
+    IfOk-weaker c.in_memory.result (λ os. c.joined.result ≡ Ok os) (λ os. definitions (R.seen c.tie.new.rec).lines + length c.args.outputs.now ≡ definitions (R.seen c.args.rec.now).lines + length os)
     (λ os is.
     let size = ap length (IfOk-at_ok (λ all. all ≡ c.args.outputs.now ++ reverse c.in_ok-falling.falling) is c.joined.ensures) ∙ length-append c.args.outputs.now (reverse c.in_ok-falling.falling) in
     let same = length-reverse c.in_ok-falling.falling in

@@ -13,21 +13,21 @@ use Rattle.sum_outputs.proofs.extended.tie.Goals as goal
 pub loop-at-init : goal.loop-at-init
 loop-at-init g c =
     let R = g.R.Recorder in
-    let a = seen R.problem R.limit R.lines R.faults R.broken R.around c.args.rec.now in
+    let a = R.seen c.args.rec.now in
     record { way = way_starts a c.requires.ready; defines_none = refl; done = λ k d low high. absurd (omega arith) }
 
 pub add_single-requires-clause-ready : goal.add_single-requires-clause-ready
 add_single-requires-clause-ready g c =
     let R = g.R.Recorder in
-    let a = seen R.problem R.limit R.lines R.faults R.broken R.around c.args.rec.now in
-    let b = seen R.problem R.limit R.lines R.faults R.broken R.around c.loop-at.rec in
+    let a = R.seen c.args.rec.now in
+    let b = R.seen c.loop-at.rec in
     way_ready a b c.requires.ready c.loop-at.invariant.way
 
 pub add_single-requires-clause-can : goal.add_single-requires-clause-can
 add_single-requires-clause-can g c = λ k e short reach.
     let R = g.R.Recorder in
-    let a = seen R.problem R.limit R.lines R.faults R.broken R.around c.args.rec.now in
-    let b = seen R.problem R.limit R.lines R.faults R.broken R.around c.loop-at.rec in
+    let a = R.seen c.args.rec.now in
+    let b = R.seen c.loop-at.rec in
     let x = c.index-smaller-at.result in
     can_later a b (get_or c.args.greater.now k e ∷ []) [] x c.requires.ready c.loop-at.invariant.way.on
     (subst (λ (o : SumOutput). CanImplyNow a (get_or c.args.greater.now k e ∷ []) [] o) (sym c.index-smaller-at.is) (c.requires.can c.loop-at.at x k e (omega arith) short))
@@ -35,18 +35,18 @@ add_single-requires-clause-can g c = λ k e short reach.
 pub returns-in_err-add_single-clause-recorded : goal.returns-in_err-add_single-clause-recorded
 returns-in_err-add_single-clause-recorded g c =
     let R = g.R.Recorder in
-    let a = seen R.problem R.limit R.lines R.faults R.broken R.around c.args.rec.now in
-    let b = seen R.problem R.limit R.lines R.faults R.broken R.around c.loop-at.rec in
-    let d = seen R.problem R.limit R.lines R.faults R.broken R.around c.add_single.new.rec in
+    let a = R.seen c.args.rec.now in
+    let b = R.seen c.loop-at.rec in
+    let d = R.seen c.add_single.new.rec in
     let p = err_from_is_err_and c.from_residual.result c.from_residual.ensures.1 in
     handed_on a b d c.in_err-add_single.field-0.0 p.0 c.from_residual.result p.1 p.2 c.loop-at.invariant.way.on c.in_err-add_single.ensures.recorded
 
 pub loop-at-preserved : goal.loop-at-preserved
 loop-at-preserved g c =
     let R = g.R.Recorder in
-    let a = seen R.problem R.limit R.lines R.faults R.broken R.around c.args.rec.now in
-    let b = seen R.problem R.limit R.lines R.faults R.broken R.around c.loop-at.rec in
-    let d = seen R.problem R.limit R.lines R.faults R.broken R.around c.add_single.new.rec in
+    let a = R.seen c.args.rec.now in
+    let b = R.seen c.loop-at.rec in
+    let d = R.seen c.add_single.new.rec in
     let call = c.in_ok-add_single.ensures in
     let ready = way_ready a b c.requires.ready c.loop-at.invariant.way in
     let greater = c.args.greater.now in

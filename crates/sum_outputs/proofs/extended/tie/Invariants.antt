@@ -9,7 +9,7 @@ use Rattle.sum_outputs.proofs.extended.tie.Given as goal
 
 abbrev pub invariant-loop-at : goal.invariant-loop-at
 invariant-loop-at g l = let R = g.R.Recorder in record {
-  way : IsUnderWay (seen R.problem R.limit R.lines R.faults R.broken R.around l.fn.rec) (seen R.problem R.limit R.lines R.faults R.broken R.around l.rec);
-  defines_none : definitions (R.lines l.rec) ≡ definitions (R.lines l.fn.rec);
-  done : (k : ℕ) (d : SumOutput) → 0 ≤ k → k < l.at → SinglesImply (seen R.problem R.limit R.lines R.faults R.broken R.around l.rec) l.greater (slice_index_or l.smaller k d) (2 ^ 64 - 1);
+  way : IsUnderWay (R.seen l.fn.rec) (R.seen l.rec);
+  defines_none : definitions (R.seen l.rec).lines ≡ definitions (R.seen l.fn.rec).lines;
+  done : (k : ℕ) (d : SumOutput) → 0 ≤ k → k < l.at → SinglesImply (R.seen l.rec) l.greater (slice_index_or l.smaller k d) (2 ^ 64 - 1);
 }

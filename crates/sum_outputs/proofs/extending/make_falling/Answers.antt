@@ -22,7 +22,7 @@ use Rattle.sum_outputs.proofs.extending.make_falling.Goals as goal
 pub returns-in_err-sums-clause-recorded : goal.returns-in_err-sums-clause-recorded
 returns-in_err-sums-clause-recorded g c =
     let R = g.R.Recorder in
-    let a = seen R.problem R.limit R.lines R.faults R.broken R.around c.args.rec.now in
+    let a = R.seen c.args.rec.now in
     let p = err_from_is_err_and c.from_residual.result c.from_residual.ensures.1 in
     let fault : p.0 ≡ NoMemory = p.2 ∙ c.in_err-sums.ensures.fault in
     recorded_err a a NoMemory c.from_residual.result (p.1 ∙ ap (λ (f : RecordFault). Err f) fault) (continues_again a) tt
@@ -30,7 +30,7 @@ returns-in_err-sums-clause-recorded g c =
 pub loop-run-init : goal.loop-run-init
 loop-run-init g c =
     let R = g.R.Recorder in
-    let a = seen R.problem R.limit R.lines R.faults R.broken R.around c.args.rec.now in
+    let a = R.seen c.args.rec.now in
     let run : IsRunTo c.args.first.outputs.now c.args.second.outputs.now c.args.greatest c.args.last c.args.k c.in_ok-sums.sums =
     IfOk-at_ok (IsRunTo c.args.first.outputs.now c.args.second.outputs.now c.args.greatest c.args.last c.args.k) c.in_ok-sums.ensures.ok c.new_sums.ensures in
     record {
@@ -45,8 +45,8 @@ loop-run-init g c =
 pub make_next-requires-clause-ready : goal.make_next-requires-clause-ready
 make_next-requires-clause-ready g c =
     let R = g.R.Recorder in
-    let a = seen R.problem R.limit R.lines R.faults R.broken R.around c.args.rec.now in
-    let b = seen R.problem R.limit R.lines R.faults R.broken R.around c.loop-run.rec in
+    let a = R.seen c.args.rec.now in
+    let b = R.seen c.loop-run.rec in
     let way = c.loop-run.invariant.way in
     let ready_b = way_ready a b c.requires.ready way in
     ready_b
@@ -54,8 +54,8 @@ make_next-requires-clause-ready g c =
 pub make_next-requires-clause-children : goal.make_next-requires-clause-children
 make_next-requires-clause-children g c =
     let R = g.R.Recorder in
-    let a = seen R.problem R.limit R.lines R.faults R.broken R.around c.args.rec.now in
-    let b = seen R.problem R.limit R.lines R.faults R.broken R.around c.loop-run.rec in
+    let a = R.seen c.args.rec.now in
+    let b = R.seen c.loop-run.rec in
     let way = c.loop-run.invariant.way in
     let ready_b = way_ready a b c.requires.ready way in
     children_later a b c.requires.ready way.on c.args.first.terms.now c.args.second.terms.now c.args.first.outputs.now c.args.second.outputs.now c.requires.children
@@ -63,8 +63,8 @@ make_next-requires-clause-children g c =
 pub make_next-requires-clause-falling : goal.make_next-requires-clause-falling
 make_next-requires-clause-falling g c = λ t reached.
     let R = g.R.Recorder in
-    let a = seen R.problem R.limit R.lines R.faults R.broken R.around c.args.rec.now in
-    let b = seen R.problem R.limit R.lines R.faults R.broken R.around c.loop-run.rec in
+    let a = R.seen c.args.rec.now in
+    let b = R.seen c.loop-run.rec in
     let way = c.loop-run.invariant.way in
     let ready_b = way_ready a b c.requires.ready way in
     subst (λ (os : List SumOutput). AreOutputsAt b t c.args.terms.now (drop (length os - 1) os)) (sym c.as_slice.ensures)
@@ -73,8 +73,8 @@ make_next-requires-clause-falling g c = λ t reached.
 pub make_next-requires-clause-greater : goal.make_next-requires-clause-greater
 make_next-requires-clause-greater g c =
     let R = g.R.Recorder in
-    let a = seen R.problem R.limit R.lines R.faults R.broken R.around c.args.rec.now in
-    let b = seen R.problem R.limit R.lines R.faults R.broken R.around c.loop-run.rec in
+    let a = R.seen c.args.rec.now in
+    let b = R.seen c.loop-run.rec in
     let way = c.loop-run.invariant.way in
     let ready_b = way_ready a b c.requires.ready way in
     let half : IsHalfWay a b c.args.terms.now c.args.first.outputs.now c.args.second.outputs.now c.args.greatest c.args.last c.args.k (c.pop.new.self ++ c.in-Some.run' ∷ []) c.loop-run.falling =
@@ -86,8 +86,8 @@ make_next-requires-clause-greater g c =
 pub make_next-requires-clause-from_one : goal.make_next-requires-clause-from_one
 make_next-requires-clause-from_one g c =
     let R = g.R.Recorder in
-    let a = seen R.problem R.limit R.lines R.faults R.broken R.around c.args.rec.now in
-    let b = seen R.problem R.limit R.lines R.faults R.broken R.around c.loop-run.rec in
+    let a = R.seen c.args.rec.now in
+    let b = R.seen c.loop-run.rec in
     let way = c.loop-run.invariant.way in
     let ready_b = way_ready a b c.requires.ready way in
     let half : IsHalfWay a b c.args.terms.now c.args.first.outputs.now c.args.second.outputs.now c.args.greatest c.args.last c.args.k (c.pop.new.self ++ c.in-Some.run' ∷ []) c.loop-run.falling =
@@ -99,8 +99,8 @@ make_next-requires-clause-from_one g c =
 pub make_next-requires-clause-least : goal.make_next-requires-clause-least
 make_next-requires-clause-least g c =
     let R = g.R.Recorder in
-    let a = seen R.problem R.limit R.lines R.faults R.broken R.around c.args.rec.now in
-    let b = seen R.problem R.limit R.lines R.faults R.broken R.around c.loop-run.rec in
+    let a = R.seen c.args.rec.now in
+    let b = R.seen c.loop-run.rec in
     let way = c.loop-run.invariant.way in
     let ready_b = way_ready a b c.requires.ready way in
     let half : IsHalfWay a b c.args.terms.now c.args.first.outputs.now c.args.second.outputs.now c.args.greatest c.args.last c.args.k (c.pop.new.self ++ c.in-Some.run' ∷ []) c.loop-run.falling =
@@ -113,8 +113,8 @@ make_next-requires-clause-least g c =
 pub make_next-requires-clause-first_complete : goal.make_next-requires-clause-first_complete
 make_next-requires-clause-first_complete g c =
     let R = g.R.Recorder in
-    let a = seen R.problem R.limit R.lines R.faults R.broken R.around c.args.rec.now in
-    let b = seen R.problem R.limit R.lines R.faults R.broken R.around c.loop-run.rec in
+    let a = R.seen c.args.rec.now in
+    let b = R.seen c.loop-run.rec in
     let way = c.loop-run.invariant.way in
     let ready_b = way_ready a b c.requires.ready way in
     let half : IsHalfWay a b c.args.terms.now c.args.first.outputs.now c.args.second.outputs.now c.args.greatest c.args.last c.args.k (c.pop.new.self ++ c.in-Some.run' ∷ []) c.loop-run.falling =
@@ -125,8 +125,8 @@ make_next-requires-clause-first_complete g c =
 pub make_next-requires-clause-second_complete : goal.make_next-requires-clause-second_complete
 make_next-requires-clause-second_complete g c =
     let R = g.R.Recorder in
-    let a = seen R.problem R.limit R.lines R.faults R.broken R.around c.args.rec.now in
-    let b = seen R.problem R.limit R.lines R.faults R.broken R.around c.loop-run.rec in
+    let a = R.seen c.args.rec.now in
+    let b = R.seen c.loop-run.rec in
     let way = c.loop-run.invariant.way in
     let ready_b = way_ready a b c.requires.ready way in
     let half : IsHalfWay a b c.args.terms.now c.args.first.outputs.now c.args.second.outputs.now c.args.greatest c.args.last c.args.k (c.pop.new.self ++ c.in-Some.run' ∷ []) c.loop-run.falling =
@@ -137,22 +137,22 @@ make_next-requires-clause-second_complete g c =
 pub returns-in_err-made-clause-recorded : goal.returns-in_err-made-clause-recorded
 returns-in_err-made-clause-recorded g c =
     let R = g.R.Recorder in
-    let a = seen R.problem R.limit R.lines R.faults R.broken R.around c.args.rec.now in
-    let b = seen R.problem R.limit R.lines R.faults R.broken R.around c.loop-run.rec in
+    let a = R.seen c.args.rec.now in
+    let b = R.seen c.loop-run.rec in
     let way = c.loop-run.invariant.way in
     let ready_b = way_ready a b c.requires.ready way in
-    let d = seen R.problem R.limit R.lines R.faults R.broken R.around c.make_next.new.rec in
+    let d = R.seen c.make_next.new.rec in
     let p = err_from_is_err_and c.from_residual-in_err-made.result c.from_residual-in_err-made.ensures.1 in
     handed_on a b d c.in_err-made.field-0.0 p.0 c.from_residual-in_err-made.result p.1 p.2 way.on c.in_err-made.ensures.recorded
 
 pub loop-run-preserved : goal.loop-run-preserved
 loop-run-preserved g c =
     let R = g.R.Recorder in
-    let a = seen R.problem R.limit R.lines R.faults R.broken R.around c.args.rec.now in
-    let b = seen R.problem R.limit R.lines R.faults R.broken R.around c.loop-run.rec in
+    let a = R.seen c.args.rec.now in
+    let b = R.seen c.loop-run.rec in
     let way = c.loop-run.invariant.way in
     let ready_b = way_ready a b c.requires.ready way in
-    let d = seen R.problem R.limit R.lines R.faults R.broken R.around c.make_next.new.rec in
+    let d = R.seen c.make_next.new.rec in
     let half : IsHalfWay a b c.args.terms.now c.args.first.outputs.now c.args.second.outputs.now c.args.greatest c.args.last c.args.k (c.pop.new.self ++ c.in-Some.run' ∷ []) c.loop-run.falling =
     subst (λ (ss : List (ℕ × ℕ)). IsHalfWay a b c.args.terms.now c.args.first.outputs.now c.args.second.outputs.now c.args.greatest c.args.last c.args.k ss c.loop-run.falling) c.in-Some.ensures c.loop-run.invariant.half in
     let last = run_pop c.args.first.outputs.now c.args.second.outputs.now c.args.greatest c.args.k c.args.last c.pop.new.self half.middle c.in-Some.run' half.run in
@@ -170,11 +170,11 @@ loop-run-preserved g c =
 pub returns-in_err-in_memory-clause-recorded : goal.returns-in_err-in_memory-clause-recorded
 returns-in_err-in_memory-clause-recorded g c =
     let R = g.R.Recorder in
-    let a = seen R.problem R.limit R.lines R.faults R.broken R.around c.args.rec.now in
-    let b = seen R.problem R.limit R.lines R.faults R.broken R.around c.loop-run.rec in
+    let a = R.seen c.args.rec.now in
+    let b = R.seen c.loop-run.rec in
     let way = c.loop-run.invariant.way in
     let ready_b = way_ready a b c.requires.ready way in
-    let d = seen R.problem R.limit R.lines R.faults R.broken R.around c.make_next.new.rec in
+    let d = R.seen c.make_next.new.rec in
     let p = err_from_is_err_and c.from_residual-in_err-in_memory.result c.from_residual-in_err-in_memory.ensures.1 in
     let fault : p.0 ≡ NoMemory = p.2 ∙ c.in_err-in_memory.ensures.fault in
     let made = c.in_ok-made.ensures in

@@ -8,9 +8,9 @@ use Rattle.sum_outputs.proofs.extending.make_falling.Given as goal
 
 abbrev pub invariant-loop-run : goal.invariant-loop-run
 invariant-loop-run g l = let R = g.R.Recorder in record {
-  way : IsUnderWay (seen R.problem R.limit R.lines R.faults R.broken R.around l.fn.rec) (seen R.problem R.limit R.lines R.faults R.broken R.around l.rec);
-  half : IsHalfWay (seen R.problem R.limit R.lines R.faults R.broken R.around l.fn.rec) (seen R.problem R.limit R.lines R.faults R.broken R.around l.rec) l.terms l.first.outputs.now l.second.outputs.now l.greatest l.last l.k l.sums l.falling;
-  defined : definitions (R.lines l.rec) ≡ definitions (R.lines l.fn.rec) + length l.falling;
+  way : IsUnderWay (R.seen l.fn.rec) (R.seen l.rec);
+  half : IsHalfWay (R.seen l.fn.rec) (R.seen l.rec) l.terms l.first.outputs.now l.second.outputs.now l.greatest l.last l.k l.sums l.falling;
+  defined : definitions (R.seen l.rec).lines ≡ definitions (R.seen l.fn.rec).lines + length l.falling;
 }
 
 abbrev pub decreases-loop-run : goal.decreases-loop-run

@@ -10,7 +10,7 @@ use Rattle.sum_outputs.proofs.growing.extend_all.Goals as goal
 pub loop-at-init : goal.loop-at-init
 loop-at-init g c =
     let R = g.R.Recorder in
-    let a = seen R.problem R.limit R.lines R.faults R.broken R.around c.args.rec.now in
+    let a = R.seen c.args.rec.now in
     record {
       way = way_starts a c.requires.ready;
       made = c.requires.made;
@@ -22,25 +22,25 @@ loop-at-init g c =
 pub extend_node-requires-clause-ready : goal.extend_node-requires-clause-ready
 extend_node-requires-clause-ready g c =
     let R = g.R.Recorder in
-    let a = seen R.problem R.limit R.lines R.faults R.broken R.around c.args.rec.now in
-    let b = seen R.problem R.limit R.lines R.faults R.broken R.around c.loop-at.rec in
+    let a = R.seen c.args.rec.now in
+    let b = R.seen c.loop-at.rec in
     way_ready a b c.requires.ready c.loop-at.invariant.way
 
 pub returns-in_err-extend_node-clause-recorded : goal.returns-in_err-extend_node-clause-recorded
 returns-in_err-extend_node-clause-recorded g c =
     let R = g.R.Recorder in
-    let a = seen R.problem R.limit R.lines R.faults R.broken R.around c.args.rec.now in
-    let b = seen R.problem R.limit R.lines R.faults R.broken R.around c.loop-at.rec in
-    let d = seen R.problem R.limit R.lines R.faults R.broken R.around c.extend_node.new.rec in
+    let a = R.seen c.args.rec.now in
+    let b = R.seen c.loop-at.rec in
+    let d = R.seen c.extend_node.new.rec in
     let p = err_from_is_err_and c.from_residual.result c.from_residual.ensures.1 in
     handed_on a b d c.in_err-extend_node.field-0.0 p.0 c.from_residual.result p.1 p.2 c.loop-at.invariant.way.on c.in_err-extend_node.ensures.recorded
 
 pub loop-at-preserved : goal.loop-at-preserved
 loop-at-preserved g c =
     let R = g.R.Recorder in
-    let a = seen R.problem R.limit R.lines R.faults R.broken R.around c.args.rec.now in
-    let b = seen R.problem R.limit R.lines R.faults R.broken R.around c.loop-at.rec in
-    let d = seen R.problem R.limit R.lines R.faults R.broken R.around c.extend_node.new.rec in
+    let a = R.seen c.args.rec.now in
+    let b = R.seen c.loop-at.rec in
+    let d = R.seen c.extend_node.new.rec in
     let call = c.in_ok-extend_node.ensures in
     record {
       way = way_on a b d c.loop-at.invariant.way call.recorded.continues call.recorded.whole;

@@ -18,7 +18,7 @@ use Rattle.sum_outputs.proofs.growing.extend_inner.Goals as goal
 pub extended-requires-clause-children : goal.extended-requires-clause-children
 extended-requires-clause-children g c = λ s reached.
     let R = g.R.Recorder in
-    let a = seen R.problem R.limit R.lines R.faults R.broken R.around c.args.rec.now in
+    let a = R.seen c.args.rec.now in
     let nodes = c.args.nodes.now in
     let made = c.args.made.now in
     let x = c.index-nodes-at.result in
@@ -40,7 +40,7 @@ extended-requires-clause-children g c = λ s reached.
 pub extended-requires-clause-terms : goal.extended-requires-clause-terms
 extended-requires-clause-terms g c =
     let R = g.R.Recorder in
-    let a = seen R.problem R.limit R.lines R.faults R.broken R.around c.args.rec.now in
+    let a = R.seen c.args.rec.now in
     let nodes = c.args.nodes.now in
     let made = c.args.made.now in
     let x = c.index-nodes-at.result in
@@ -60,7 +60,7 @@ extended-requires-clause-terms g c =
 pub extended-requires-clause-outputs : goal.extended-requires-clause-outputs
 extended-requires-clause-outputs g c = λ s reached.
     let R = g.R.Recorder in
-    let a = seen R.problem R.limit R.lines R.faults R.broken R.around c.args.rec.now in
+    let a = R.seen c.args.rec.now in
     let nodes = c.args.nodes.now in
     let made = c.args.made.now in
     let x = c.index-nodes-at.result in
@@ -79,7 +79,7 @@ extended-requires-clause-outputs g c = λ s reached.
 pub extended-requires-clause-defined : goal.extended-requires-clause-defined
 extended-requires-clause-defined g c = λ s reached.
     let R = g.R.Recorder in
-    let a = seen R.problem R.limit R.lines R.faults R.broken R.around c.args.rec.now in
+    let a = R.seen c.args.rec.now in
     let nodes = c.args.nodes.now in
     let made = c.args.made.now in
     let x = c.index-nodes-at.result in
@@ -98,7 +98,7 @@ extended-requires-clause-defined g c = λ s reached.
 pub extended-requires-clause-gapless : goal.extended-requires-clause-gapless
 extended-requires-clause-gapless g c =
     let R = g.R.Recorder in
-    let a = seen R.problem R.limit R.lines R.faults R.broken R.around c.args.rec.now in
+    let a = R.seen c.args.rec.now in
     let nodes = c.args.nodes.now in
     let made = c.args.made.now in
     let x = c.index-nodes-at.result in
@@ -117,7 +117,7 @@ extended-requires-clause-gapless g c =
 pub extended-requires-clause-first_complete : goal.extended-requires-clause-first_complete
 extended-requires-clause-first_complete g c =
     let R = g.R.Recorder in
-    let a = seen R.problem R.limit R.lines R.faults R.broken R.around c.args.rec.now in
+    let a = R.seen c.args.rec.now in
     let nodes = c.args.nodes.now in
     let made = c.args.made.now in
     let x = c.index-nodes-at.result in
@@ -136,7 +136,7 @@ extended-requires-clause-first_complete g c =
 pub extended-requires-clause-second_complete : goal.extended-requires-clause-second_complete
 extended-requires-clause-second_complete g c =
     let R = g.R.Recorder in
-    let a = seen R.problem R.limit R.lines R.faults R.broken R.around c.args.rec.now in
+    let a = R.seen c.args.rec.now in
     let nodes = c.args.nodes.now in
     let made = c.args.made.now in
     let x = c.index-nodes-at.result in
@@ -155,7 +155,7 @@ extended-requires-clause-second_complete g c =
 pub returns-clause-made : goal.returns-clause-made
 returns-clause-made g c = λ t reached.
     let R = g.R.Recorder in
-    let a = seen R.problem R.limit R.lines R.faults R.broken R.around c.args.rec.now in
+    let a = R.seen c.args.rec.now in
     let nodes = c.args.nodes.now in
     let made = c.args.made.now in
     let x = c.index-nodes-at.result in
@@ -168,7 +168,7 @@ returns-clause-made g c = λ t reached.
     let right : c.child-second.result.terms.now ≡ (get_or nodes (get_or nodes c.args.at x).second x).terms = c.child-second.ensures.terms x ∙ ap (λ (nd : Node). (get_or nodes nd.second x).terms) is in
     let lefts : c.child-first.result.outputs.now ≡ get_or made (get_or nodes c.args.at x).first [] = c.child-first.ensures.outputs [] ∙ ap (λ (nd : Node). get_or made nd.first []) is in
     let rights : c.child-second.result.outputs.now ≡ get_or made (get_or nodes c.args.at x).second [] = c.child-second.ensures.outputs [] ∙ ap (λ (nd : Node). get_or made nd.second []) is in
-    let b = seen R.problem R.limit R.lines R.faults R.broken R.around c.extended.new.rec in
+    let b = R.seen c.extended.new.rec in
     let call = c.in_ok-all.ensures in
     let ext : AreExtended a b (get_or nodes c.args.at x).terms (get_or made c.args.at []) c.args.k c.in_ok-all.all =
     subst (λ (ts : Terms). AreExtended a b ts (get_or made c.args.at []) c.args.k c.in_ok-all.all) whole
@@ -179,7 +179,7 @@ returns-clause-made g c = λ t reached.
 pub returns-clause-complete : goal.returns-clause-complete
 returns-clause-complete g c =
     let R = g.R.Recorder in
-    let a = seen R.problem R.limit R.lines R.faults R.broken R.around c.args.rec.now in
+    let a = R.seen c.args.rec.now in
     let nodes = c.args.nodes.now in
     let made = c.args.made.now in
     let x = c.index-nodes-at.result in
@@ -192,7 +192,7 @@ returns-clause-complete g c =
     let right : c.child-second.result.terms.now ≡ (get_or nodes (get_or nodes c.args.at x).second x).terms = c.child-second.ensures.terms x ∙ ap (λ (nd : Node). (get_or nodes nd.second x).terms) is in
     let lefts : c.child-first.result.outputs.now ≡ get_or made (get_or nodes c.args.at x).first [] = c.child-first.ensures.outputs [] ∙ ap (λ (nd : Node). get_or made nd.first []) is in
     let rights : c.child-second.result.outputs.now ≡ get_or made (get_or nodes c.args.at x).second [] = c.child-second.ensures.outputs [] ∙ ap (λ (nd : Node). get_or made nd.second []) is in
-    let b = seen R.problem R.limit R.lines R.faults R.broken R.around c.extended.new.rec in
+    let b = R.seen c.extended.new.rec in
     let call = c.in_ok-all.ensures in
     let ext : AreExtended a b (get_or nodes c.args.at x).terms (get_or made c.args.at []) c.args.k c.in_ok-all.all =
     subst (λ (ts : Terms). AreExtended a b ts (get_or made c.args.at []) c.args.k c.in_ok-all.all) whole
@@ -203,8 +203,8 @@ returns-clause-complete g c =
 pub returns-clause-grown : goal.returns-clause-grown
 returns-clause-grown g c =
     let R = g.R.Recorder in
-    let a = seen R.problem R.limit R.lines R.faults R.broken R.around c.args.rec.now in
-    let b = seen R.problem R.limit R.lines R.faults R.broken R.around c.extended.new.rec in
+    let a = R.seen c.args.rec.now in
+    let b = R.seen c.extended.new.rec in
     let nodes = c.args.nodes.now in
     let made = c.args.made.now in
     let x = c.index-nodes-at.result in

@@ -8,8 +8,8 @@ pub returns-in_err-id-clause-recorded : goal.returns-in_err-id-clause-recorded
 returns-in_err-id-clause-recorded g c =
     let p = err_from_is_err_and c.from_residual.result c.from_residual.ensures.1 in
     let R = g.R.Recorder in
-    let a = seen R.problem R.limit R.lines R.faults R.broken R.around c.args.rec.now in
-    let b = seen R.problem R.limit R.lines R.faults R.broken R.around c.add_line.new.self in
+    let a = R.seen c.args.rec.now in
+    let b = R.seen c.add_line.new.self in
     let was = c.in_err-id.ensures in
     recorded_err a b p.0 c.from_residual.result p.1
     (continues_same a b was.problem was.limit was.later was.around was.kept)
@@ -18,8 +18,8 @@ returns-in_err-id-clause-recorded g c =
 pub returns-clause-recorded : goal.returns-clause-recorded
 returns-clause-recorded g c =
     let R = g.R.Recorder in
-    let a = seen R.problem R.limit R.lines R.faults R.broken R.around c.args.rec.now in
-    let b = seen R.problem R.limit R.lines R.faults R.broken R.around c.add_line.new.self in
+    let a = R.seen c.args.rec.now in
+    let b = R.seen c.add_line.new.self in
     let was = c.in_ok-id.ensures in
     recorded_ok a b c.in_ok-id.id
     (continues_more a b c.args.line.now c.state.result.now c.state-state.result.now was.problem was.limit was.later was.around was.added c.requires.kind c.state.ensures c.state-state.ensures)

@@ -13,21 +13,21 @@ use Rattle.sum_outputs.proofs.windows.add_pairs.Goals as goal
 pub loop-at-init : goal.loop-at-init
 loop-at-init g c =
     let R = g.R.Recorder in
-    let a = seen R.problem R.limit R.lines R.faults R.broken R.around c.args.rec.now in
+    let a = R.seen c.args.rec.now in
     record { way = way_starts a c.requires.ready; defines_none = refl; done = λ k d low high. absurd (omega arith) }
 
 pub add_pair-requires-clause-ready : goal.add_pair-requires-clause-ready
 add_pair-requires-clause-ready g c =
     let R = g.R.Recorder in
-    let a = seen R.problem R.limit R.lines R.faults R.broken R.around c.args.rec.now in
-    let b = seen R.problem R.limit R.lines R.faults R.broken R.around c.loop-at.rec in
+    let a = R.seen c.args.rec.now in
+    let b = R.seen c.loop-at.rec in
     way_ready a b c.requires.ready c.loop-at.invariant.way
 
 pub add_pair-requires-clause-can : goal.add_pair-requires-clause-can
 add_pair-requires-clause-can g c = λ j e short reach.
     let R = g.R.Recorder in
-    let a = seen R.problem R.limit R.lines R.faults R.broken R.around c.args.rec.now in
-    let b = seen R.problem R.limit R.lines R.faults R.broken R.around c.loop-at.rec in
+    let a = R.seen c.args.rec.now in
+    let b = R.seen c.loop-at.rec in
     let x = c.index-firsts-at.result in
     let is = c.index-firsts-at.is in
     let sums : x.sum ≡ (get_or c.args.firsts.now c.loop-at.at x).sum = ap (λ (o : SumOutput). o.sum) is in
@@ -38,18 +38,18 @@ add_pair-requires-clause-can g c = λ j e short reach.
 pub returns-in_err-add_pair-clause-recorded : goal.returns-in_err-add_pair-clause-recorded
 returns-in_err-add_pair-clause-recorded g c =
     let R = g.R.Recorder in
-    let a = seen R.problem R.limit R.lines R.faults R.broken R.around c.args.rec.now in
-    let b = seen R.problem R.limit R.lines R.faults R.broken R.around c.loop-at.rec in
-    let b' = seen R.problem R.limit R.lines R.faults R.broken R.around c.add_pair.new.rec in
+    let a = R.seen c.args.rec.now in
+    let b = R.seen c.loop-at.rec in
+    let b' = R.seen c.add_pair.new.rec in
     let p = err_from_is_err_and c.from_residual.result c.from_residual.ensures.1 in
     handed_on a b b' c.in_err-add_pair.field-0.0 p.0 c.from_residual.result p.1 p.2 c.loop-at.invariant.way.on c.in_err-add_pair.ensures.recorded
 
 pub loop-at-preserved : goal.loop-at-preserved
 loop-at-preserved g c =
     let R = g.R.Recorder in
-    let a = seen R.problem R.limit R.lines R.faults R.broken R.around c.args.rec.now in
-    let b = seen R.problem R.limit R.lines R.faults R.broken R.around c.loop-at.rec in
-    let b' = seen R.problem R.limit R.lines R.faults R.broken R.around c.add_pair.new.rec in
+    let a = R.seen c.args.rec.now in
+    let b = R.seen c.loop-at.rec in
+    let b' = R.seen c.add_pair.new.rec in
     let way = c.loop-at.invariant.way in
     let call = c.in_ok-add_pair.ensures in
     let ready = way_ready a b c.requires.ready way in

@@ -13,48 +13,48 @@ use Rattle.sum_outputs.proofs.windows.add_window.Goals as goal
 pub add_single-requires-clause-can : goal.add_single-requires-clause-can
 add_single-requires-clause-can g c = λ k d short reach s reached.
     let R = g.R.Recorder in
-    let a = seen R.problem R.limit R.lines R.faults R.broken R.around c.args.rec.now in
+    let a = R.seen c.args.rec.now in
     first_can a s c.args.first.terms.now c.args.second.terms.now c.args.first.outputs.now c.args.second.outputs.now c.args.target.now (c.requires.children s reached) (c.requires.target s reached) k d short reach
 
 pub add_single-requires-2-clause-ready : goal.add_single-requires-2-clause-ready
 add_single-requires-2-clause-ready g c =
     let R = g.R.Recorder in
-    let a = seen R.problem R.limit R.lines R.faults R.broken R.around c.args.rec.now in
-    let b = seen R.problem R.limit R.lines R.faults R.broken R.around c.add_single.new.rec in
+    let a = R.seen c.args.rec.now in
+    let b = R.seen c.add_single.new.rec in
     ready_later a b c.requires.ready c.in_ok-add_single.ensures.recorded.continues c.in_ok-add_single.ensures.recorded.whole
 
 pub add_single-requires-2-clause-can : goal.add_single-requires-2-clause-can
 add_single-requires-2-clause-can g c = λ k d short reach.
     let R = g.R.Recorder in
-    let a = seen R.problem R.limit R.lines R.faults R.broken R.around c.args.rec.now in
-    let b = seen R.problem R.limit R.lines R.faults R.broken R.around c.add_single.new.rec in
+    let a = R.seen c.args.rec.now in
+    let b = R.seen c.add_single.new.rec in
     can_later a b (get_or c.args.second.outputs.now k d ∷ []) c.args.first.terms.now c.args.target.now c.requires.ready c.in_ok-add_single.ensures.recorded.continues
     (λ s reached. second_can a s c.args.first.terms.now c.args.second.terms.now c.args.first.outputs.now c.args.second.outputs.now c.args.target.now (c.requires.children s reached) (c.requires.target s reached) k d short reach)
 
 pub returns-in_err-add_single-2-clause-recorded : goal.returns-in_err-add_single-2-clause-recorded
 returns-in_err-add_single-2-clause-recorded g c =
     let R = g.R.Recorder in
-    let a = seen R.problem R.limit R.lines R.faults R.broken R.around c.args.rec.now in
-    let b = seen R.problem R.limit R.lines R.faults R.broken R.around c.add_single.new.rec in
-    let d = seen R.problem R.limit R.lines R.faults R.broken R.around c.add_single-2.new.rec in
+    let a = R.seen c.args.rec.now in
+    let b = R.seen c.add_single.new.rec in
+    let d = R.seen c.add_single-2.new.rec in
     let p = err_from_is_err_and c.from_residual-in_err-add_single-2.result c.from_residual-in_err-add_single-2.ensures.1 in
     handed_on a b d c.in_err-add_single-2.field-0.0 p.0 c.from_residual-in_err-add_single-2.result p.1 p.2 c.in_ok-add_single.ensures.recorded.continues c.in_err-add_single-2.ensures.recorded
 
 pub add_pairs-requires-clause-ready : goal.add_pairs-requires-clause-ready
 add_pairs-requires-clause-ready g c =
     let R = g.R.Recorder in
-    let a = seen R.problem R.limit R.lines R.faults R.broken R.around c.args.rec.now in
-    let b = seen R.problem R.limit R.lines R.faults R.broken R.around c.add_single.new.rec in
-    let d = seen R.problem R.limit R.lines R.faults R.broken R.around c.add_single-2.new.rec in
+    let a = R.seen c.args.rec.now in
+    let b = R.seen c.add_single.new.rec in
+    let d = R.seen c.add_single-2.new.rec in
     let on = continues_twice a b d c.in_ok-add_single.ensures.recorded.continues c.in_ok-add_single-2.ensures.recorded.continues in
     ready_later a d c.requires.ready on c.in_ok-add_single-2.ensures.recorded.whole
 
 pub add_pairs-requires-clause-can : goal.add_pairs-requires-clause-can
 add_pairs-requires-clause-can g c = λ i m j e short short' reach.
     let R = g.R.Recorder in
-    let a = seen R.problem R.limit R.lines R.faults R.broken R.around c.args.rec.now in
-    let b = seen R.problem R.limit R.lines R.faults R.broken R.around c.add_single.new.rec in
-    let d = seen R.problem R.limit R.lines R.faults R.broken R.around c.add_single-2.new.rec in
+    let a = R.seen c.args.rec.now in
+    let b = R.seen c.add_single.new.rec in
+    let d = R.seen c.add_single-2.new.rec in
     let on = continues_twice a b d c.in_ok-add_single.ensures.recorded.continues c.in_ok-add_single-2.ensures.recorded.continues in
     can_later a d (get_or c.args.first.outputs.now i m ∷ get_or c.args.second.outputs.now j e ∷ []) [] c.args.target.now c.requires.ready on
     (λ s reached. pair_can a s c.args.first.terms.now c.args.second.terms.now c.args.first.outputs.now c.args.second.outputs.now c.args.target.now (c.requires.children s reached) (c.requires.target s reached) i m j e short short' reach)
@@ -62,21 +62,21 @@ add_pairs-requires-clause-can g c = λ i m j e short short' reach.
 pub returns-clause-recorded : goal.returns-clause-recorded
 returns-clause-recorded g c =
     let R = g.R.Recorder in
-    let a = seen R.problem R.limit R.lines R.faults R.broken R.around c.args.rec.now in
-    let b = seen R.problem R.limit R.lines R.faults R.broken R.around c.add_single.new.rec in
-    let d = seen R.problem R.limit R.lines R.faults R.broken R.around c.add_single-2.new.rec in
+    let a = R.seen c.args.rec.now in
+    let b = R.seen c.add_single.new.rec in
+    let d = R.seen c.add_single-2.new.rec in
     let on = continues_twice a b d c.in_ok-add_single.ensures.recorded.continues c.in_ok-add_single-2.ensures.recorded.continues in
-    let h = seen R.problem R.limit R.lines R.faults R.broken R.around c.add_pairs.new.rec in
+    let h = R.seen c.add_pairs.new.rec in
     recorded_after a d h c.add_pairs.result on c.add_pairs.ensures.recorded
 
 pub returns-clause-says : goal.returns-clause-says
 returns-clause-says g c =
     let R = g.R.Recorder in
-    let a = seen R.problem R.limit R.lines R.faults R.broken R.around c.args.rec.now in
-    let b = seen R.problem R.limit R.lines R.faults R.broken R.around c.add_single.new.rec in
-    let d = seen R.problem R.limit R.lines R.faults R.broken R.around c.add_single-2.new.rec in
+    let a = R.seen c.args.rec.now in
+    let b = R.seen c.add_single.new.rec in
+    let d = R.seen c.add_single-2.new.rec in
     let on = continues_twice a b d c.in_ok-add_single.ensures.recorded.continues c.in_ok-add_single-2.ensures.recorded.continues in
-    let h = seen R.problem R.limit R.lines R.faults R.broken R.around c.add_pairs.new.rec in
+    let h = R.seen c.add_pairs.new.rec in
     let ready_b = ready_later a b c.requires.ready c.in_ok-add_single.ensures.recorded.continues c.in_ok-add_single.ensures.recorded.whole in
     let ready_d = ready_later a d c.requires.ready on c.in_ok-add_single-2.ensures.recorded.whole in
     let on_d = c.in_ok-add_single-2.ensures.recorded.continues in

@@ -16,7 +16,7 @@ use Rattle.totalizer.proofs.answering.bound_at.Goals as goal
 pub returns-then-total_of-k-clause-recorded : goal.returns-then-total_of-k-clause-recorded
 returns-then-total_of-k-clause-recorded g c =
     let R = g.R.Recorder in
-    let a = seen R.problem R.limit R.lines R.faults R.broken R.around c.args.rec.now in
+    let a = R.seen c.args.rec.now in
     recorded_ok a a _ (continues_again a) c.requires.ready.whole
 
 pub known-requires-clause-rising : goal.known-requires-clause-rising
@@ -50,7 +50,7 @@ make-requires-clause-long g c =
 pub known-requires-clause-apart : goal.known-requires-clause-apart
 known-requires-clause-apart g c =
     let R = g.R.Recorder in
-    let a = seen R.problem R.limit R.lines R.faults R.broken R.around c.args.rec.now in
+    let a = R.seen c.args.rec.now in
     let nodes = c.args.nodes.now in
     let made = c.args.made.now in
     let whole = c.total_of.ensures in
@@ -69,13 +69,13 @@ known-requires-clause-apart g c =
 pub returns-in-Some-clause-recorded : goal.returns-in-Some-clause-recorded
 returns-in-Some-clause-recorded g c =
     let R = g.R.Recorder in
-    let a = seen R.problem R.limit R.lines R.faults R.broken R.around c.args.rec.now in
+    let a = R.seen c.args.rec.now in
     recorded_ok a a _ (continues_again a) c.requires.ready.whole
 
 pub returns-in-Some-clause-bound : goal.returns-in-Some-clause-bound
 returns-in-Some-clause-bound g c =
     let R = g.R.Recorder in
-    let a = seen R.problem R.limit R.lines R.faults R.broken R.around c.args.rec.now in
+    let a = R.seen c.args.rec.now in
     let nodes = c.args.nodes.now in
     let made = c.args.made.now in
     let whole = c.total_of.ensures in
@@ -97,7 +97,7 @@ returns-in-Some-clause-bound g c =
 pub returns-in-Some-clause-added : goal.returns-in-Some-clause-added
 returns-in-Some-clause-added g c =
     let R = g.R.Recorder in
-    let a = seen R.problem R.limit R.lines R.faults R.broken R.around c.args.rec.now in
+    let a = R.seen c.args.rec.now in
     let nodes = c.args.nodes.now in
     let made = c.args.made.now in
     let whole = c.total_of.ensures in

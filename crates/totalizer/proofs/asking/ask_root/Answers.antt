@@ -21,7 +21,7 @@ child-first-requires-clause-node g c =
 pub child-first-requires-clause-outputs : goal.child-first-requires-clause-outputs
 child-first-requires-clause-outputs g c =
     let R = g.R.Recorder in
-    let a = seen R.problem R.limit R.lines R.faults R.broken R.around c.args.rec.now in
+    let a = R.seen c.args.rec.now in
     let nodes = c.args.nodes.now in
     let q = c.requires in
     let x = c.index-nodes-at in
@@ -39,7 +39,7 @@ child-second-requires-clause-node g c =
 pub child-second-requires-clause-outputs : goal.child-second-requires-clause-outputs
 child-second-requires-clause-outputs g c =
     let R = g.R.Recorder in
-    let a = seen R.problem R.limit R.lines R.faults R.broken R.around c.args.rec.now in
+    let a = R.seen c.args.rec.now in
     let nodes = c.args.nodes.now in
     let q = c.requires in
     let x = c.index-nodes-at in
@@ -49,7 +49,7 @@ child-second-requires-clause-outputs g c =
 pub ask-requires-clause-children : goal.ask-requires-clause-children
 ask-requires-clause-children g c =
     let R = g.R.Recorder in
-    let a = seen R.problem R.limit R.lines R.faults R.broken R.around c.args.rec.now in
+    let a = R.seen c.args.rec.now in
     let nodes = c.args.nodes.now in
     let q = c.requires in
     let x = c.index-nodes-at in
@@ -61,7 +61,7 @@ ask-requires-clause-children g c =
 pub ask-requires-clause-terms : goal.ask-requires-clause-terms
 ask-requires-clause-terms g c =
     let R = g.R.Recorder in
-    let a = seen R.problem R.limit R.lines R.faults R.broken R.around c.args.rec.now in
+    let a = R.seen c.args.rec.now in
     let nodes = c.args.nodes.now in
     let q = c.requires in
     let x = c.index-nodes-at in
@@ -82,7 +82,7 @@ ask-requires-clause-greatest g c =
 pub ask-requires-clause-outputs : goal.ask-requires-clause-outputs
 ask-requires-clause-outputs g c =
     let R = g.R.Recorder in
-    let a = seen R.problem R.limit R.lines R.faults R.broken R.around c.args.rec.now in
+    let a = R.seen c.args.rec.now in
     let nodes = c.args.nodes.now in
     let q = c.requires in
     let x = c.index-nodes-at in
@@ -92,7 +92,7 @@ ask-requires-clause-outputs g c =
 pub ask-requires-clause-defined : goal.ask-requires-clause-defined
 ask-requires-clause-defined g c =
     let R = g.R.Recorder in
-    let a = seen R.problem R.limit R.lines R.faults R.broken R.around c.args.rec.now in
+    let a = R.seen c.args.rec.now in
     let nodes = c.args.nodes.now in
     let q = c.requires in
     let x = c.index-nodes-at in
@@ -111,7 +111,7 @@ ask-requires-clause-most g c =
 pub ask-requires-clause-first_complete : goal.ask-requires-clause-first_complete
 ask-requires-clause-first_complete g c =
     let R = g.R.Recorder in
-    let a = seen R.problem R.limit R.lines R.faults R.broken R.around c.args.rec.now in
+    let a = R.seen c.args.rec.now in
     let nodes = c.args.nodes.now in
     let q = c.requires in
     let x = c.index-nodes-at in
@@ -123,7 +123,7 @@ ask-requires-clause-first_complete g c =
 pub ask-requires-clause-second_complete : goal.ask-requires-clause-second_complete
 ask-requires-clause-second_complete g c =
     let R = g.R.Recorder in
-    let a = seen R.problem R.limit R.lines R.faults R.broken R.around c.args.rec.now in
+    let a = R.seen c.args.rec.now in
     let nodes = c.args.nodes.now in
     let q = c.requires in
     let x = c.index-nodes-at in
@@ -135,8 +135,8 @@ ask-requires-clause-second_complete g c =
 pub returns-clause-asked : goal.returns-clause-asked
 returns-clause-asked g c =
     let R = g.R.Recorder in
-    let a = seen R.problem R.limit R.lines R.faults R.broken R.around c.args.rec.now in
-    let b = seen R.problem R.limit R.lines R.faults R.broken R.around c.ask.new.rec in
+    let a = R.seen c.args.rec.now in
+    let b = R.seen c.ask.new.rec in
     let nodes = c.args.nodes.now in
     let q = c.requires in
     let x = c.index-nodes-at in
@@ -151,12 +151,12 @@ returns-clause-asked g c =
 pub returns-clause-defined : goal.returns-clause-defined
 returns-clause-defined g c =
     let R = g.R.Recorder in
-    let a = seen R.problem R.limit R.lines R.faults R.broken R.around c.args.rec.now in
+    let a = R.seen c.args.rec.now in
     let nodes = c.args.nodes.now in
     let q = c.requires in
     let x = c.index-nodes-at in
-    let before = definitions (R.lines c.args.rec.now) in
-    let now = definitions (R.lines c.ask.new.rec) in
+    let before = definitions (R.seen c.args.rec.now).lines in
+    let now = definitions (R.seen c.ask.new.rec).lines in
     IfOk-weaker c.ask.result (λ r. now + length c.as_slice-outputs.result.now ≡ before + length r.1)
     (λ r. (e : List SumOutput) → now + length (get_or c.args.made.now (length nodes - 1) e) ≡ before + length r.1)
     (λ r counted. counted_of nodes q.rooted q.long x.result x.is a c.args.made.now q.made

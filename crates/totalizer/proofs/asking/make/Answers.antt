@@ -13,18 +13,18 @@ use Rattle.totalizer.proofs.asking.make.Goals as goal
 pub ask_root-requires-clause-ready : goal.ask_root-requires-clause-ready
 ask_root-requires-clause-ready g c =
     let R = g.R.Recorder in
-    let a = seen R.problem R.limit R.lines R.faults R.broken R.around c.args.rec.now in
-    let b = seen R.problem R.limit R.lines R.faults R.broken R.around c.extend_all.new.rec in
+    let a = R.seen c.args.rec.now in
+    let b = R.seen c.extend_all.new.rec in
     let first = c.in_ok-extend_all.ensures in
     ready_later a b c.requires.ready first.recorded.continues first.recorded.whole
 
 pub returns-in_err-asked-clause-recorded : goal.returns-in_err-asked-clause-recorded
 returns-in_err-asked-clause-recorded g c =
     let R = g.R.Recorder in
-    let a = seen R.problem R.limit R.lines R.faults R.broken R.around c.args.rec.now in
-    let b = seen R.problem R.limit R.lines R.faults R.broken R.around c.extend_all.new.rec in
+    let a = R.seen c.args.rec.now in
+    let b = R.seen c.extend_all.new.rec in
     let first = c.in_ok-extend_all.ensures in
-    let d = seen R.problem R.limit R.lines R.faults R.broken R.around c.ask_root.new.rec in
+    let d = R.seen c.ask_root.new.rec in
     let out = c.from_residual-in_err-asked in
     let p = err_from_is_err_and out.result out.ensures.1 in
     let call = c.in_err-asked.ensures in
@@ -33,20 +33,20 @@ returns-in_err-asked-clause-recorded g c =
 pub returns-clause-recorded : goal.returns-clause-recorded
 returns-clause-recorded g c =
     let R = g.R.Recorder in
-    let a = seen R.problem R.limit R.lines R.faults R.broken R.around c.args.rec.now in
-    let b = seen R.problem R.limit R.lines R.faults R.broken R.around c.extend_all.new.rec in
+    let a = R.seen c.args.rec.now in
+    let b = R.seen c.extend_all.new.rec in
     let first = c.in_ok-extend_all.ensures in
-    let d = seen R.problem R.limit R.lines R.faults R.broken R.around c.ask_root.new.rec in
+    let d = R.seen c.ask_root.new.rec in
     let second = c.in_ok-asked.ensures in
     recorded_ok a d _ (continues_twice a b d first.recorded.continues second.recorded.continues) second.recorded.whole
 
 pub returns-clause-bound : goal.returns-clause-bound
 returns-clause-bound g c =
     let R = g.R.Recorder in
-    let a = seen R.problem R.limit R.lines R.faults R.broken R.around c.args.rec.now in
-    let b = seen R.problem R.limit R.lines R.faults R.broken R.around c.extend_all.new.rec in
+    let a = R.seen c.args.rec.now in
+    let b = R.seen c.extend_all.new.rec in
     let first = c.in_ok-extend_all.ensures in
-    let d = seen R.problem R.limit R.lines R.faults R.broken R.around c.ask_root.new.rec in
+    let d = R.seen c.ask_root.new.rec in
     let second = c.in_ok-asked.ensures in
     let nodes = c.args.nodes.now in
     let made = c.extend_all.new.made in
@@ -64,10 +64,10 @@ returns-clause-bound g c =
 pub returns-clause-added : goal.returns-clause-added
 returns-clause-added g c =
     let R = g.R.Recorder in
-    let a = seen R.problem R.limit R.lines R.faults R.broken R.around c.args.rec.now in
-    let b = seen R.problem R.limit R.lines R.faults R.broken R.around c.extend_all.new.rec in
+    let a = R.seen c.args.rec.now in
+    let b = R.seen c.extend_all.new.rec in
     let first = c.in_ok-extend_all.ensures in
-    let d = seen R.problem R.limit R.lines R.faults R.broken R.around c.ask_root.new.rec in
+    let d = R.seen c.ask_root.new.rec in
     let second = c.in_ok-asked.ensures in
     let nodes = c.args.nodes.now in
     let made = c.extend_all.new.made in
@@ -100,10 +100,10 @@ returns-clause-added g c =
 pub returns-clause-fits : goal.returns-clause-fits
 returns-clause-fits g c =
     let R = g.R.Recorder in
-    let a = seen R.problem R.limit R.lines R.faults R.broken R.around c.args.rec.now in
-    let b = seen R.problem R.limit R.lines R.faults R.broken R.around c.extend_all.new.rec in
+    let a = R.seen c.args.rec.now in
+    let b = R.seen c.extend_all.new.rec in
     let first = c.in_ok-extend_all.ensures in
-    let d = seen R.problem R.limit R.lines R.faults R.broken R.around c.ask_root.new.rec in
+    let d = R.seen c.ask_root.new.rec in
     let second = c.in_ok-asked.ensures in
     let nodes = c.args.nodes.now in
     let made = c.extend_all.new.made in

@@ -10,7 +10,7 @@ pub invariant_of-self-2 : goal.invariant_of-self-2
 invariant_of-self-2 g c test =
     let rec = g.R.Recorder in
     let now = c.answer-result.new.self in
-    let done = orderly_done c.answer-result.result (IsDone (rec.problem now.recorder) (rec.broken now.recorder) (rec.lines now.recorder) now.search now.next now.rows now.ledger)
+    let done = orderly_done c.answer-result.result (IsDone (rec.seen now.recorder).problem (rec.seen now.recorder).broken (rec.seen now.recorder).lines now.search now.next now.rows now.ledger)
     (c.is_orderly.ensures.orderly (not_false c.is_orderly.result test)) c.answer-result.ensures.done c.answer-result.ensures.goes_on in
-    let moved = subst (λ (v : SolverValue _). IsDone (rec.problem v.recorder) (rec.broken v.recorder) (rec.lines v.recorder) v.search v.next v.rows v.ledger) (sym c.self-2.view_is) done in
+    let moved = subst (λ (v : SolverValue _). IsDone (rec.seen v.recorder).problem (rec.seen v.recorder).broken (rec.seen v.recorder).lines v.search v.next v.rows v.ledger) (sym c.self-2.view_is) done in
     (moved.whole, moved.held)

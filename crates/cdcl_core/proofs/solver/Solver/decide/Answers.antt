@@ -10,7 +10,7 @@ use Rattle.cdcl_core.proofs.solver.Solver.decide.Goals as goal
 
 pub returns-then-is_none-clause-turn : goal.returns-then-is_none-clause-turn
 returns-then-is_none-clause-turn g c =
-    let work = work_inside g.R.Recorder.problem g.R.Recorder.lines _ _ c.self.view_is c.requires.work in
+    let work = work_inside (λ r. (g.R.Recorder.seen r).problem) (λ r. (g.R.Recorder.seen r).lines) _ _ c.self.view_is c.requires.work in
     let led = trail_inside (IsLed c.args.assumptions.now) _ _ c.self.view_is c.requires.led in
     let whole = rw (← c.self.view_is) at c.requires.whole in
     let parts = decided_parts c.self.inside.search c.decide.new.self c.in-Some.lit c.decide.ensures in
@@ -18,7 +18,7 @@ returns-then-is_none-clause-turn g c =
 
 pub returns-then-is_none-clause-done : goal.returns-then-is_none-clause-done
 returns-then-is_none-clause-done g c =
-    let work = work_inside g.R.Recorder.problem g.R.Recorder.lines _ _ c.self.view_is c.requires.work in
+    let work = work_inside (λ r. (g.R.Recorder.seen r).problem) (λ r. (g.R.Recorder.seen r).lines) _ _ c.self.view_is c.requires.work in
     let whole = rw (← c.self.view_is) at c.requires.whole in
     let parts = decided_parts c.self.inside.search c.decide.new.self c.in-Some.lit c.decide.ensures in
     let now = work_decided _ _ _ c.self.inside.search c.decide.new.self c.self.inside.next c.self.inside.rows c.self.inside.ledger c.in-Some.lit parts.0 parts.1 work in
@@ -36,7 +36,7 @@ blame-requires-clause-falsified g c =
 
 pub returns-then-choose-clause-turn : goal.returns-then-choose-clause-turn
 returns-then-choose-clause-turn g c =
-    let work = work_inside g.R.Recorder.problem g.R.Recorder.lines _ _ c.self.view_is c.requires.work in
+    let work = work_inside (λ r. (g.R.Recorder.seen r).problem) (λ r. (g.R.Recorder.seen r).lines) _ _ c.self.view_is c.requires.work in
     let led = trail_inside (IsLed c.args.assumptions.now) _ _ c.self.view_is c.requires.led in
     let whole = rw (← c.self.view_is) at c.requires.whole in
     let chosen = c.if-choose.ensures.chosen (search rules) in
@@ -45,7 +45,7 @@ returns-then-choose-clause-turn g c =
 
 pub returns-then-choose-clause-done : goal.returns-then-choose-clause-done
 returns-then-choose-clause-done g c =
-    let work = work_inside g.R.Recorder.problem g.R.Recorder.lines _ _ c.self.view_is c.requires.work in
+    let work = work_inside (λ r. (g.R.Recorder.seen r).problem) (λ r. (g.R.Recorder.seen r).lines) _ _ c.self.view_is c.requires.work in
     let whole = rw (← c.self.view_is) at c.requires.whole in
     let chosen = c.if-choose.ensures.chosen (search rules) in
     let now = work_decided _ _ _ c.self.inside.search c.choose.new.self c.self.inside.next c.self.inside.rows c.self.inside.ledger chosen.0 c.if-choose.ensures.store chosen.1 work in
@@ -70,7 +70,7 @@ returns-in_ok-core-in-Some-clause-turn g c =
 
 pub returns-in_ok-model-in-None-clause-turn : goal.returns-in_ok-model-in-None-clause-turn
 returns-in_ok-model-in-None-clause-turn g c =
-    let work = work_inside g.R.Recorder.problem g.R.Recorder.lines _ _ c.self.view_is c.requires.work in
+    let work = work_inside (λ r. (g.R.Recorder.seen r).problem) (λ r. (g.R.Recorder.seen r).lines) _ _ c.self.view_is c.requires.work in
     let same = c.if-choose.ensures.stays refl in
     let now = work_same _ _ _ c.self.inside.search c.choose.new.self c.self.inside.next c.self.inside.rows c.self.inside.ledger c.if-choose.ensures.store same work in
     solution_found _ _ _ c.choose.new.self c.self.inside.next c.self.inside.rows c.self.inside.ledger c.args.assumptions.now c.in_ok-model-in-None.model now
@@ -79,7 +79,7 @@ returns-in_ok-model-in-None-clause-turn g c =
 
 pub returns-in_ok-model-in-None-clause-done : goal.returns-in_ok-model-in-None-clause-done
 returns-in_ok-model-in-None-clause-done g c =
-    let work = work_inside g.R.Recorder.problem g.R.Recorder.lines _ _ c.self.view_is c.requires.work in
+    let work = work_inside (λ r. (g.R.Recorder.seen r).problem) (λ r. (g.R.Recorder.seen r).lines) _ _ c.self.view_is c.requires.work in
     let whole = rw (← c.self.view_is) at c.requires.whole in
     let now = work_same _ _ _ c.self.inside.search c.choose.new.self c.self.inside.next c.self.inside.rows c.self.inside.ledger c.if-choose.ensures.store (c.if-choose.ensures.stays refl) work in
     done_moved _ _ _ _ _ c.choose.new.self c.self.inside.next c.self.inside.rows c.self.inside.ledger now refl whole

@@ -12,10 +12,10 @@ use Rattle.cdcl_core.proofs.solver.Solver.learn.Goals as goal
 
 pub returns-then-eq-clause-cause : goal.returns-then-eq-clause-cause
 returns-then-eq-clause-cause g c =
-    let taught = taught_inside g.R.Recorder.problem g.R.Recorder.lines g.R.Recorder.broken _ _ _ c.self.view_is c.requires.work c.requires.lesson c.requires.whole in
+    let taught = taught_inside (λ r. (g.R.Recorder.seen r).problem) (λ r. (g.R.Recorder.seen r).lines) (λ r. (g.R.Recorder.seen r).broken) _ _ _ c.self.view_is c.requires.work c.requires.lesson c.requires.whole in
     let reached : c.self.inside.limit ≡ Some c.learned-learned.result = search rules in
-    let rose = Rose (g.R.Recorder.faults c.args.self.now.recorder) (g.R.Recorder.faults c.self.inside.recorder) in
-    subst (λ (limit : Option ℕ). HasCause c.spent.result limit (g.R.Recorder.problem c.self.inside.recorder) (g.R.Recorder.lines c.self.inside.recorder) rose)
+    let rose = Rose (g.R.Recorder.seen c.args.self.now.recorder).faults (g.R.Recorder.seen c.self.inside.recorder).faults in
+    subst (λ (limit : Option ℕ). HasCause c.spent.result limit (g.R.Recorder.seen c.self.inside.recorder).problem (g.R.Recorder.seen c.self.inside.recorder).lines rose)
     (ap (λ (s : SolverValue _). s.limit) c.self.view_is)
     (spent_cause _ _ _ _ _ _ _ _ _ _ (work_back _ _ _ _ _ _ _ _ _ c.back_to.ensures.store c.back_to.ensures.trail taught.work)
     (learnable _ _ _ _ c.level-level.ensures.search taught.lesson_is c.back_to.ensures.store c.back_to.ensures.trail refl)
@@ -23,18 +23,18 @@ returns-then-eq-clause-cause g c =
 
 pub returns-then-eq-clause-goes_on : goal.returns-then-eq-clause-goes_on
 returns-then-eq-clause-goes_on g c =
-    let taught = taught_inside g.R.Recorder.problem g.R.Recorder.lines g.R.Recorder.broken _ _ _ c.self.view_is c.requires.work c.requires.lesson c.requires.whole in
+    let taught = taught_inside (λ r. (g.R.Recorder.seen r).problem) (λ r. (g.R.Recorder.seen r).lines) (λ r. (g.R.Recorder.seen r).broken) _ _ _ c.self.view_is c.requires.work c.requires.lesson c.requires.whole in
     goes_on_with c.spent.result _ (taught.whole, work_back _ _ _ _ _ _ _ _ _ c.back_to.ensures.store c.back_to.ensures.trail taught.work)
 
 pub returns-in_err-distance-clause-adds : goal.returns-in_err-distance-clause-adds
 returns-in_err-distance-clause-adds g c = none_law _ _
 
 pub returns-then-eq-clause-adds : goal.returns-then-eq-clause-adds
-returns-then-eq-clause-adds g c = adds_none g.R.Recorder.problem g.R.Recorder.lines _ _ _ c.self.view_is refl
+returns-then-eq-clause-adds g c = adds_none (λ r. (g.R.Recorder.seen r).problem) (λ r. (g.R.Recorder.seen r).lines) _ _ _ c.self.view_is refl
 
 pub add_learned-requires-clause-work : goal.add_learned-requires-clause-work
 add_learned-requires-clause-work g c =
-    let taught = taught_inside g.R.Recorder.problem g.R.Recorder.lines g.R.Recorder.broken _ _ _ c.self.view_is c.requires.work c.requires.lesson c.requires.whole in
+    let taught = taught_inside (λ r. (g.R.Recorder.seen r).problem) (λ r. (g.R.Recorder.seen r).lines) (λ r. (g.R.Recorder.seen r).broken) _ _ _ c.self.view_is c.requires.work c.requires.lesson c.requires.whole in
     work_back _ _ _ _ _ _ _ _ _ c.back_to.ensures.store c.back_to.ensures.trail taught.work
 
 pub add_learned-requires-clause-more : goal.add_learned-requires-clause-more
@@ -44,7 +44,7 @@ add_learned-requires-clause-more g c =
 
 pub returns-clause-rises : goal.returns-clause-rises
 returns-clause-rises g c =
-    let taught = taught_inside g.R.Recorder.problem g.R.Recorder.lines g.R.Recorder.broken _ _ _ c.self.view_is c.requires.work c.requires.lesson c.requires.whole in
+    let taught = taught_inside (λ r. (g.R.Recorder.seen r).problem) (λ r. (g.R.Recorder.seen r).lines) (λ r. (g.R.Recorder.seen r).broken) _ _ _ c.self.view_is c.requires.work c.requires.lesson c.requires.whole in
     let new = c.add_learned.new.self.search.trail in
     ok_then (IsForcedBySome c.back_to.new.self.trail new c.args.lesson.lit c.args.lesson.level) (rank c.args.self.now.search.trail < rank new) c.add_learned.result
     (λ forced. subst (λ (s : SolverValue _). rank s.search.trail < rank new) c.self.view_is

@@ -11,7 +11,7 @@ use Rattle.cdcl_core.proofs.solver.Solver.name_clause.Goals as goal
 
 pub returns-in-Some-clause-named : goal.returns-in-Some-clause-named
 returns-in-Some-clause-named g c =
-    let work = work_inside g.R.Recorder.problem g.R.Recorder.lines _ _ c.self.view_is c.requires.work in
+    let work = work_inside (λ r. (g.R.Recorder.seen r).problem) (λ r. (g.R.Recorder.seen r).lines) _ _ c.self.view_is c.requires.work in
     rw (← c.self.view_is) (stored_reached _ _ c.self.inside.search c.self.inside.next c.self.inside.rows c.self.inside.ledger c.in-Some.id (clause c.args.lits) work.taken.held
     (c.in-Some.ensures ∙ ap (λ (ls : List Literal). Some (clause ls)) c.as_slice.ensures))
 
@@ -21,25 +21,25 @@ returns-in-Some-clause-adds g c = adds_none _ _ _ refl
 pub record-requires-clause-formed : goal.record-requires-clause-formed
 record-requires-clause-formed g c =
     subst (λ (goal : ConstraintValue). IsWellFormed (Rup goal c.args.hints)) (sym c.clause.ensures)
-    (implied_formed g.R.Recorder.problem g.R.Recorder.lines _ _ c.args.lits c.args.hints c.self.view_is c.requires.work (record { rising = c.requires.rising; within = c.requires.within; given = c.requires.hints }))
+    (implied_formed (λ r. (g.R.Recorder.seen r).problem) (λ r. (g.R.Recorder.seen r).lines) _ _ c.args.lits c.args.hints c.self.view_is c.requires.work (record { rising = c.requires.rising; within = c.requires.within; given = c.requires.hints }))
 
 pub record-requires-clause-legal : goal.record-requires-clause-legal
 record-requires-clause-legal g c =
-    subst (λ (goal : ConstraintValue). MayBeAdded (g.R.Recorder.problem c.self.inside.recorder) (g.R.Recorder.lines c.self.inside.recorder) (Rup goal c.args.hints)) (sym c.clause.ensures)
-    (implied_legal g.R.Recorder.problem g.R.Recorder.lines _ _ c.args.lits c.args.hints c.self.view_is c.requires.work (record { rising = c.requires.rising; within = c.requires.within; given = c.requires.hints }))
+    subst (λ (goal : ConstraintValue). MayBeAdded (g.R.Recorder.seen c.self.inside.recorder).problem (g.R.Recorder.seen c.self.inside.recorder).lines (Rup goal c.args.hints)) (sym c.clause.ensures)
+    (implied_legal (λ r. (g.R.Recorder.seen r).problem) (λ r. (g.R.Recorder.seen r).lines) _ _ c.args.lits c.args.hints c.self.view_is c.requires.work (record { rising = c.requires.rising; within = c.requires.within; given = c.requires.hints }))
 
 pub returns-in_err-id-clause-adds : goal.returns-in_err-id-clause-adds
 returns-in_err-id-clause-adds g c = rw (← c.self.view_is) (adds_none _ _ _ (c.in_err-id.ensures.same))
 
 pub returns-clause-named : goal.returns-clause-named
 returns-clause-named g c =
-    let work = work_inside g.R.Recorder.problem g.R.Recorder.lines _ _ c.self.view_is c.requires.work in
+    let work = work_inside (λ r. (g.R.Recorder.seen r).problem) (λ r. (g.R.Recorder.seen r).lines) _ _ c.self.view_is c.requires.work in
     let added = rw c.clause.ensures at c.in_ok-id.ensures.added in
     named_implied _ _ _ _ c.args.lits c.args.hints c.in_ok-id.ensures.kept.problem added work.taken.held.state c.in_ok-id.id work.taken.held.replay c.in_ok-id.ensures.id
 
 pub returns-clause-done : goal.returns-clause-done
 returns-clause-done g c =
-    let work = work_inside g.R.Recorder.problem g.R.Recorder.lines _ _ c.self.view_is c.requires.work in
+    let work = work_inside (λ r. (g.R.Recorder.seen r).problem) (λ r. (g.R.Recorder.seen r).lines) _ _ c.self.view_is c.requires.work in
     let added = rw c.clause.ensures at c.in_ok-id.ensures.added in
     done_implied _ _ _ _ c.args.lits c.args.hints c.in_ok-id.ensures.kept.problem added c.self.inside.limit c.state.result.now c.self.inside.search c.self.inside.next c.self.inside.rows c.self.inside.ledger
     work c.state.ensures _ c.in_ok-id.ensures.whole (fits_law _ _ _ c.state.ensures) c.vars-vars.ensures.state
@@ -51,6 +51,6 @@ returns-clause-adds g c =
 
 pub returns-clause-within : goal.returns-clause-within
 returns-clause-within g c =
-    let work = work_inside g.R.Recorder.problem g.R.Recorder.lines _ _ c.self.view_is c.requires.work in
+    let work = work_inside (λ r. (g.R.Recorder.seen r).problem) (λ r. (g.R.Recorder.seen r).lines) _ _ c.self.view_is c.requires.work in
     let added = rw c.clause.ensures at c.in_ok-id.ensures.added in
     rw (← c.self.view_is) (within_implied _ _ _ _ c.args.lits c.args.hints c.in_ok-id.ensures.kept.problem added c.self.inside.limit work.taken.held.state work.taken.held.replay work.within)

@@ -14,12 +14,12 @@ invariant-loop-since g l =
     record {
       few : l.restarts ≤ 50;
       begun : l.self.broken ≡ true;
-      whole : rec.broken l.self.recorder ≡ false;
-      work : IsAtWork (rec.problem l.self.recorder) l.self.limit (rec.lines l.self.recorder) l.self.search l.self.next l.self.rows l.self.ledger;
+      whole : (rec.seen l.self.recorder).broken ≡ false;
+      work : IsAtWork (rec.seen l.self.recorder).problem l.self.limit (rec.seen l.self.recorder).lines l.self.search l.self.next l.self.rows l.self.ledger;
       led : IsLed l.assumptions l.self.search.trail;
       vars : l.self.search.trail.vars ≡ l.fn.self.search.trail.vars;
-      adds : AddsLearned (rec.problem l.fn.self.recorder) (rec.lines l.fn.self.recorder) (rec.lines l.self.recorder);
+      adds : AddsLearned (rec.seen l.fn.self.recorder).problem (rec.seen l.fn.self.recorder).lines (rec.seen l.self.recorder).lines;
       limit : l.self.limit ≡ l.fn.self.limit;
-      kept : KeepsRecorder (rec.problem l.fn.self.recorder) (rec.problem l.self.recorder) (rec.limit l.fn.self.recorder) (rec.limit l.self.recorder)
-          (rec.around l.fn.self.recorder) (rec.around l.self.recorder) (rec.faults l.fn.self.recorder) (rec.faults l.self.recorder);
+      kept : KeepsRecorder (rec.seen l.fn.self.recorder).problem (rec.seen l.self.recorder).problem (rec.seen l.fn.self.recorder).limit (rec.seen l.self.recorder).limit
+          (rec.seen l.fn.self.recorder).around (rec.seen l.self.recorder).around (rec.seen l.fn.self.recorder).faults (rec.seen l.self.recorder).faults;
     }

@@ -8,23 +8,23 @@ use Rattle.cdcl_core.proofs.solver.Solver.take_up.Goals as goal
 
 pub take_lines-requires-clause-vars : goal.take_lines-requires-clause-vars
 take_lines-requires-clause-vars g c =
-    let held = subst (λ (v : SolverValue _). IsHeld (g.R.Recorder.problem v.recorder) (g.R.Recorder.lines v.recorder) v.search v.next v.rows v.ledger) (sym c.self.view_is) c.requires.held in
+    let held = subst (λ (v : SolverValue _). IsHeld (g.R.Recorder.seen v.recorder).problem (g.R.Recorder.seen v.recorder).lines v.search v.next v.rows v.ledger) (sym c.self.view_is) c.requires.held in
     grown_vars c.grow.new.self.trail.vars c.vars.result c.back_to.new.self.trail.vars c.self.inside.search.trail.vars c.state-state.result.now.vars
     (ap (λ (s : SearchValue). s.trail.vars) c.in_ok-grow.ensures.ok) (vars_back 0 c.self.inside.search.trail c.back_to.new.self.trail c.back_to.ensures.trail) c.vars.ensures.value
     (held_state _ _ c.self.inside.search c.state-state.result.now c.self.inside.next c.self.inside.rows c.self.inside.ledger held c.state-state.ensures).1
 
 pub take_lines-requires-clause-within : goal.take_lines-requires-clause-within
 take_lines-requires-clause-within g c =
-    let held = subst (λ (v : SolverValue _). IsHeld (g.R.Recorder.problem v.recorder) (g.R.Recorder.lines v.recorder) v.search v.next v.rows v.ledger) (sym c.self.view_is) c.requires.held in
+    let held = subst (λ (v : SolverValue _). IsHeld (g.R.Recorder.seen v.recorder).problem (g.R.Recorder.seen v.recorder).lines v.search v.next v.rows v.ledger) (sym c.self.view_is) c.requires.held in
     (held_state _ _ c.self.inside.search c.state-state.result.now c.self.inside.next c.self.inside.rows c.self.inside.ledger held c.state-state.ensures).0
 
 pub returns-clause-taken : goal.returns-clause-taken
 returns-clause-taken g c =
     let rec = g.R.Recorder in
-    let held = subst (λ (v : SolverValue _). IsHeld (rec.problem v.recorder) (rec.lines v.recorder) v.search v.next v.rows v.ledger) (sym c.self.view_is) c.requires.held in
-    let unended = subst (λ (v : SolverValue _). Reaches (rec.problem v.recorder) (rec.lines v.recorder) (λ s. s.ended ≡ _)) (sym c.self.view_is) c.requires.unended in
+    let held = subst (λ (v : SolverValue _). IsHeld (rec.seen v.recorder).problem (rec.seen v.recorder).lines v.search v.next v.rows v.ledger) (sym c.self.view_is) c.requires.held in
+    let unended = subst (λ (v : SolverValue _). Reaches (rec.seen v.recorder).problem (rec.seen v.recorder).lines (λ s. s.ended ≡ _)) (sym c.self.view_is) c.requires.unended in
     let known = held_state _ _ c.self.inside.search c.state-state.result.now c.self.inside.next c.self.inside.rows c.self.inside.ledger held c.state-state.ensures in
-    subst (λ (n : ℕ). IsTakenUp (rec.problem c.self.inside.recorder) (rec.lines c.self.inside.recorder) c.take_lines.new.search n c.self.inside.rows c.self.inside.ledger) (sym c.next_id-self-inside.ensures)
+    subst (λ (n : ℕ). IsTakenUp (rec.seen c.self.inside.recorder).problem (rec.seen c.self.inside.recorder).lines c.take_lines.new.search n c.self.inside.rows c.self.inside.ledger) (sym c.next_id-self-inside.ensures)
     (taken_up _ _ c.self.inside.search c.grow.new.self c.take_lines.new.search c.state-state.result.now c.self.inside.next c.self.inside.rows c.self.inside.ledger held unended c.state-state.ensures
     (ap (λ (s : SearchValue). s.store) c.in_ok-grow.ensures.ok ∙ c.back_to.ensures.store) c.in_ok-take_lines.ensures.trail
     (grown_vars c.grow.new.self.trail.vars c.vars.result c.back_to.new.self.trail.vars c.self.inside.search.trail.vars c.state-state.result.now.vars

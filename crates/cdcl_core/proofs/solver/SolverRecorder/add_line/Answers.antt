@@ -7,9 +7,9 @@ use Rattle.cdcl_core.proofs.solver.SolverRecorder.add_line.Goals as goal
 
 pub invariant_of-self : goal.invariant_of-self
 invariant_of-self g c whole =
-    let old = subst (λ (p : ProblemValue). IsHeld p (g.R.Recorder.lines c.self.inside.recorder) c.self.inside.search c.self.inside.next c.self.inside.rows c.self.inside.ledger) (sym c.in-Ok.ensures.problem) (c.self.invariant whole).1 in (
+    let old = subst (λ (p : ProblemValue). IsHeld p (g.R.Recorder.seen c.self.inside.recorder).lines c.self.inside.search c.self.inside.next c.self.inside.rows c.self.inside.ledger) (sym c.in-Ok.ensures.problem) (c.self.invariant whole).1 in (
       c.in-Ok.ensures.whole,
-      subst (λ (ledger : LedgerValue). IsHeld (g.R.Recorder.problem c.add_line.new.self) (g.R.Recorder.lines c.add_line.new.self) c.drop_deleted.new.search c.self.inside.next c.self.inside.rows ledger) (sym c.note.ensures) (held_added _ _ _ c.args.line.now c.state.result.now c.self.inside.search c.drop_deleted.new.search c.self.inside.next c.self.inside.rows c.self.inside.ledger
+      subst (λ (ledger : LedgerValue). IsHeld (g.R.Recorder.seen c.add_line.new.self).problem (g.R.Recorder.seen c.add_line.new.self).lines c.drop_deleted.new.search c.self.inside.next c.self.inside.rows ledger) (sym c.note.ensures) (held_added _ _ _ c.args.line.now c.state.result.now c.self.inside.search c.drop_deleted.new.search c.self.inside.next c.self.inside.rows c.self.inside.ledger
           old c.in-Ok.ensures.added c.state.ensures (c.reached_state_fits.ensures _ _ _ c.state.ensures) c.vars-vars.ensures.state c.drop_deleted.ensures.store c.drop_deleted.ensures.vars),
     )
 

@@ -18,15 +18,15 @@ use Rattle.p_minimal.proofs.p_minimal.PMinimal.ask.Goals as goal
 pub solve-requires-clause-unended : goal.solve-requires-clause-unended
 solve-requires-clause-unended g c =
     let R = g.O.Recorder in
-    let a = seen R.problem R.limit R.lines R.faults R.broken R.around c.args.oracle.now in
+    let a = R.seen c.args.oracle.now in
     let good = c.requires.good in
     not_ended a good.1.ready
 
 pub returns-in_err-solve-clause-good : goal.returns-in_err-solve-clause-good
 returns-in_err-solve-clause-good g c =
     let R = g.O.Recorder in
-    let a = seen R.problem R.limit R.lines R.faults R.broken R.around c.args.oracle.now in
-    let b = seen R.problem R.limit R.lines R.faults R.broken R.around c.solve.new.self in
+    let a = R.seen c.args.oracle.now in
+    let b = R.seen c.solve.new.self in
     let call = c.in_err-solve.ensures in
     let is = err_from_is_err_and c.from_residual.result c.from_residual.ensures.1 in
     spent_stays_good c.asking_stays_good.ensures a b c.args.bounds.now
@@ -36,8 +36,8 @@ returns-in_err-solve-clause-good g c =
 pub returns-in_default-clause-good : goal.returns-in_default-clause-good
 returns-in_default-clause-good g c =
     let R = g.O.Recorder in
-    let a = seen R.problem R.limit R.lines R.faults R.broken R.around c.args.oracle.now in
-    let b = seen R.problem R.limit R.lines R.faults R.broken R.around c.solve.new.self in
+    let a = R.seen c.args.oracle.now in
+    let b = R.seen c.solve.new.self in
     let call = c.in_ok-solve.ensures in
     λ order. oracle_stays_good c.asking_stays_good.ensures a b c.args.bounds.now
     call.problem call.limit call.later call.around call.lines call.within call.whole (call.earned tt)
@@ -45,8 +45,8 @@ returns-in_default-clause-good g c =
 pub returns-in_default-clause-tells : goal.returns-in_default-clause-tells
 returns-in_default-clause-tells g c =
     let R = g.O.Recorder in
-    let a = seen R.problem R.limit R.lines R.faults R.broken R.around c.args.oracle.now in
-    let b = seen R.problem R.limit R.lines R.faults R.broken R.around c.solve.new.self in
+    let a = R.seen c.args.oracle.now in
+    let b = R.seen c.solve.new.self in
     let call = c.in_ok-solve.ensures in
     subst (λ (o : Option (List ℤ)). Tells b o (Some c.in_ok-solve.field-0)) (sym c.in_default.is ∙ c.self.view_is)
     (tells_any a b c.in_ok-solve.field-0 call.problem (call.earned tt) call.answer)
@@ -56,14 +56,14 @@ returns-in_default-clause-tells g c =
 pub question-requires-clause-costs : goal.question-requires-clause-costs
 question-requires-clause-costs g c =
     let R = g.O.Recorder in
-    let a = seen R.problem R.limit R.lines R.faults R.broken R.around c.args.oracle.now in
+    let a = R.seen c.args.oracle.now in
     good_rows a c.args.bounds.now c.requires.good
 
 pub returns-in_err-lits-clause-good : goal.returns-in_err-lits-clause-good
 returns-in_err-lits-clause-good g c =
     let R = g.O.Recorder in
-    let a = seen R.problem R.limit R.lines R.faults R.broken R.around c.args.oracle.now in
-    let m = seen R.problem R.limit R.lines R.faults R.broken R.around c.question.new.rec in
+    let a = R.seen c.args.oracle.now in
+    let m = R.seen c.question.new.rec in
     let is = err_from_is_err_and c.from_residual-in_err-lits.result c.from_residual-in_err-lits.ensures.1 in
     recording_ends a m c.args.bounds.now c.question.new.bounds c.from_residual-in_err-lits.result
     c.in_err-lits.field-0.0 (is.1 ∙ ap (λ (f : OracleFault). Err f) is.2)
@@ -71,8 +71,8 @@ returns-in_err-lits-clause-good g c =
 pub returns-in_default-2-clause-good : goal.returns-in_default-2-clause-good
 returns-in_default-2-clause-good g c =
     let R = g.O.Recorder in
-    let a = seen R.problem R.limit R.lines R.faults R.broken R.around c.args.oracle.now in
-    let m = seen R.problem R.limit R.lines R.faults R.broken R.around c.question.new.rec in
+    let a = R.seen c.args.oracle.now in
+    let m = R.seen c.question.new.rec in
     let call = c.in_ok-lits.ensures in
     λ order. bounds_stay_good c.bounding_stays_good.ensures a m c.args.bounds.now c.question.new.bounds
     call.recorded.continues call.recorded.whole call.fits
@@ -80,8 +80,8 @@ returns-in_default-2-clause-good g c =
 pub solve-requires-2 : goal.solve-requires-2
 solve-requires-2 g c =
     let R = g.O.Recorder in
-    let a = seen R.problem R.limit R.lines R.faults R.broken R.around c.args.oracle.now in
-    let m = seen R.problem R.limit R.lines R.faults R.broken R.around c.question.new.rec in
+    let a = R.seen c.args.oracle.now in
+    let m = R.seen c.question.new.rec in
     let call = c.in_ok-lits.ensures in
     let front = c.requires.good in
     let good = bounds_stay_good c.bounding_stays_good.ensures a m c.args.bounds.now c.question.new.bounds
@@ -101,9 +101,9 @@ solve-requires-2 g c =
 pub returns-in_err-solve-2-clause-good : goal.returns-in_err-solve-2-clause-good
 returns-in_err-solve-2-clause-good g c =
     let R = g.O.Recorder in
-    let a = seen R.problem R.limit R.lines R.faults R.broken R.around c.args.oracle.now in
-    let m = seen R.problem R.limit R.lines R.faults R.broken R.around c.question.new.rec in
-    let b = seen R.problem R.limit R.lines R.faults R.broken R.around c.solve-2.new.self in
+    let a = R.seen c.args.oracle.now in
+    let m = R.seen c.question.new.rec in
+    let b = R.seen c.solve-2.new.self in
     let asked = c.in_ok-lits.ensures in
     let call = c.in_err-solve-2.ensures in
     let is = err_from_is_err_and c.from_residual-in_err-solve-2.result c.from_residual-in_err-solve-2.ensures.1 in
@@ -118,9 +118,9 @@ returns-in_err-solve-2-clause-good g c =
 pub returns-in_err-solve-2-clause-goes_on : goal.returns-in_err-solve-2-clause-goes_on
 returns-in_err-solve-2-clause-goes_on g c =
     let R = g.O.Recorder in
-    let a = seen R.problem R.limit R.lines R.faults R.broken R.around c.args.oracle.now in
-    let m = seen R.problem R.limit R.lines R.faults R.broken R.around c.question.new.rec in
-    let b = seen R.problem R.limit R.lines R.faults R.broken R.around c.solve-2.new.self in
+    let a = R.seen c.args.oracle.now in
+    let m = R.seen c.question.new.rec in
+    let b = R.seen c.solve-2.new.self in
     let call = c.in_err-solve-2.ensures in
     goes_twice a m b (bounds_go_on c.turn_lines_join.ensures a m c.in_ok-lits.ensures.recorded.continues)
     (oracle_goes_on c.turn_lines_join.ensures m b call.problem call.limit call.later call.around call.lines)
@@ -128,9 +128,9 @@ returns-in_err-solve-2-clause-goes_on g c =
 pub returns-clause-goes_on : goal.returns-clause-goes_on
 returns-clause-goes_on g c =
     let R = g.O.Recorder in
-    let a = seen R.problem R.limit R.lines R.faults R.broken R.around c.args.oracle.now in
-    let m = seen R.problem R.limit R.lines R.faults R.broken R.around c.question.new.rec in
-    let b = seen R.problem R.limit R.lines R.faults R.broken R.around c.solve-2.new.self in
+    let a = R.seen c.args.oracle.now in
+    let m = R.seen c.question.new.rec in
+    let b = R.seen c.solve-2.new.self in
     let call = c.in_ok-solve-2.ensures in
     goes_twice a m b (bounds_go_on c.turn_lines_join.ensures a m c.in_ok-lits.ensures.recorded.continues)
     (oracle_goes_on c.turn_lines_join.ensures m b call.problem call.limit call.later call.around call.lines)
@@ -138,9 +138,9 @@ returns-clause-goes_on g c =
 pub returns-clause-good : goal.returns-clause-good
 returns-clause-good g c =
     let R = g.O.Recorder in
-    let a = seen R.problem R.limit R.lines R.faults R.broken R.around c.args.oracle.now in
-    let m = seen R.problem R.limit R.lines R.faults R.broken R.around c.question.new.rec in
-    let b = seen R.problem R.limit R.lines R.faults R.broken R.around c.solve-2.new.self in
+    let a = R.seen c.args.oracle.now in
+    let m = R.seen c.question.new.rec in
+    let b = R.seen c.solve-2.new.self in
     let asked = c.in_ok-lits.ensures in
     let call = c.in_ok-solve-2.ensures in
     let first = bounds_stay_good c.bounding_stays_good.ensures a m c.args.bounds.now c.question.new.bounds
@@ -153,9 +153,9 @@ returns-clause-good g c =
 pub returns-clause-tells : goal.returns-clause-tells
 returns-clause-tells g c =
     let R = g.O.Recorder in
-    let a = seen R.problem R.limit R.lines R.faults R.broken R.around c.args.oracle.now in
-    let m = seen R.problem R.limit R.lines R.faults R.broken R.around c.question.new.rec in
-    let b = seen R.problem R.limit R.lines R.faults R.broken R.around c.solve-2.new.self in
+    let a = R.seen c.args.oracle.now in
+    let m = R.seen c.question.new.rec in
+    let b = R.seen c.solve-2.new.self in
     let asked = c.in_ok-lits.ensures in
     let call = c.in_ok-solve-2.ensures in
     let answer = c.in_ok-solve-2.field-0 in

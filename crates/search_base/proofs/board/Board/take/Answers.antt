@@ -15,7 +15,7 @@ use Rattle.search_base.proofs.board.Board.take.Goals as goal
 pub tighten-requires-clause-long : goal.tighten-requires-clause-long
 tighten-requires-clause-long g c =
     let R = g.R.Recorder in
-    let a = seen R.problem R.limit R.lines R.faults R.broken R.around c.args.rec.now in
+    let a = R.seen c.args.rec.now in
     let same : c.self.inside.problem.now ≡ a.problem = ap (λ (b : BoardValue). b.problem) c.self.view_is
     ∙ c.requires.good.problem in
     subst (λ (p : ProblemValue). p.vars ≤ length c.args.a.now) (sym same)
@@ -24,7 +24,7 @@ tighten-requires-clause-long g c =
 pub tighten-requires-clause-model : goal.tighten-requires-clause-model
 tighten-requires-clause-model g c =
     let R = g.R.Recorder in
-    let a = seen R.problem R.limit R.lines R.faults R.broken R.around c.args.rec.now in
+    let a = R.seen c.args.rec.now in
     let same : c.self.inside.problem.now ≡ a.problem = ap (λ (b : BoardValue). b.problem) c.self.view_is
     ∙ c.requires.good.problem in
     subst (λ (p : ProblemValue). IsProblemModel p (take p.vars c.args.a.now)) (sym same)
@@ -34,52 +34,52 @@ tighten-requires-clause-model g c =
 pub returns-in_err-b-clause-goes_on : goal.returns-in_err-b-clause-goes_on
 returns-in_err-b-clause-goes_on g c =
     let R = g.R.Recorder in
-    goes_again (seen R.problem R.limit R.lines R.faults R.broken R.around c.args.rec.now)
+    goes_again (R.seen c.args.rec.now)
 
 pub returns-in_err-costs-clause-goes_on : goal.returns-in_err-costs-clause-goes_on
 returns-in_err-costs-clause-goes_on g c =
     let R = g.R.Recorder in
-    goes_again (seen R.problem R.limit R.lines R.faults R.broken R.around c.args.rec.now)
+    goes_again (R.seen c.args.rec.now)
 
 pub returns-in_err-answers-clause-goes_on : goal.returns-in_err-answers-clause-goes_on
 returns-in_err-answers-clause-goes_on g c =
     let R = g.R.Recorder in
-    let a = seen R.problem R.limit R.lines R.faults R.broken R.around c.args.rec.now in
-    let m = seen R.problem R.limit R.lines R.faults R.broken R.around c.answers_at.new.rec in
+    let a = R.seen c.args.rec.now in
+    let m = R.seen c.answers_at.new.rec in
     totalizer_goes_on a m c.in_err-answers.ensures.recorded.continues
 
 pub log_model-requires-clause-ready : goal.log_model-requires-clause-ready
 log_model-requires-clause-ready g c =
     let R = g.R.Recorder in
-    let a = seen R.problem R.limit R.lines R.faults R.broken R.around c.args.rec.now in
-    let m = seen R.problem R.limit R.lines R.faults R.broken R.around c.answers_at.new.rec in
+    let a = R.seen c.args.rec.now in
+    let m = R.seen c.answers_at.new.rec in
     ready_later a m c.requires.good.ready c.in_ok-answers.ensures.recorded.continues
     c.in_ok-answers.ensures.recorded.whole
 
 pub returns-in_err-log_model-clause-goes_on : goal.returns-in_err-log_model-clause-goes_on
 returns-in_err-log_model-clause-goes_on g c =
     let R = g.R.Recorder in
-    let a = seen R.problem R.limit R.lines R.faults R.broken R.around c.args.rec.now in
-    let m = seen R.problem R.limit R.lines R.faults R.broken R.around c.answers_at.new.rec in
-    let b = seen R.problem R.limit R.lines R.faults R.broken R.around c.log_model.new.rec in
+    let a = R.seen c.args.rec.now in
+    let m = R.seen c.answers_at.new.rec in
+    let b = R.seen c.log_model.new.rec in
     goes_twice a m b (totalizer_goes_on a m c.in_ok-answers.ensures.recorded.continues)
     c.in_err-log_model.ensures.goes_on
 
 pub returns-clause-goes_on : goal.returns-clause-goes_on
 returns-clause-goes_on g c =
     let R = g.R.Recorder in
-    let a = seen R.problem R.limit R.lines R.faults R.broken R.around c.args.rec.now in
-    let m = seen R.problem R.limit R.lines R.faults R.broken R.around c.answers_at.new.rec in
-    let b = seen R.problem R.limit R.lines R.faults R.broken R.around c.log_model.new.rec in
+    let a = R.seen c.args.rec.now in
+    let m = R.seen c.answers_at.new.rec in
+    let b = R.seen c.log_model.new.rec in
     goes_twice a m b (totalizer_goes_on a m c.in_ok-answers.ensures.recorded.continues)
     c.in_ok-log_model.ensures.goes_on
 
 pub returns-clause-good : goal.returns-clause-good
 returns-clause-good g c =
     let R = g.R.Recorder in
-    let a = seen R.problem R.limit R.lines R.faults R.broken R.around c.args.rec.now in
-    let m = seen R.problem R.limit R.lines R.faults R.broken R.around c.answers_at.new.rec in
-    let b = seen R.problem R.limit R.lines R.faults R.broken R.around c.log_model.new.rec in
+    let a = R.seen c.args.rec.now in
+    let m = R.seen c.answers_at.new.rec in
+    let b = R.seen c.log_model.new.rec in
     let y = c.args.a.now in
     let x = c.in_ok-b.b in
     let p = c.self.inside.problem.now in
@@ -113,9 +113,9 @@ returns-clause-good g c =
 pub returns-clause-taken : goal.returns-clause-taken
 returns-clause-taken g c =
     let R = g.R.Recorder in
-    let a = seen R.problem R.limit R.lines R.faults R.broken R.around c.args.rec.now in
-    let m = seen R.problem R.limit R.lines R.faults R.broken R.around c.answers_at.new.rec in
-    let b = seen R.problem R.limit R.lines R.faults R.broken R.around c.log_model.new.rec in
+    let a = R.seen c.args.rec.now in
+    let m = R.seen c.answers_at.new.rec in
+    let b = R.seen c.log_model.new.rec in
     let y = c.args.a.now in
     let x = c.in_ok-b.b in
     let p = c.self.inside.problem.now in

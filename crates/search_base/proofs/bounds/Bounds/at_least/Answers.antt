@@ -24,7 +24,7 @@ difference value offset v o first second e f = omega (arith, ints)
 pub index_mut-bound-requires : goal.index_mut-bound-requires
 index_mut-bound-requires g c =
     let R = g.R.Recorder in
-    let a = seen R.problem R.limit R.lines R.faults R.broken R.around c.args.rec.now in
+    let a = R.seen c.args.rec.now in
     let items = c.self.inside.bounds.items in
     let fit : FitBounds a items = subst (FitBounds a) (sym c.self.view_is) c.requires.fits in
     let same = AllZip-long (BoundsRow a) a.problem.costs items fit in
@@ -33,7 +33,7 @@ index_mut-bound-requires g c =
 pub bound_of-requires-clause-fits : goal.bound_of-requires-clause-fits
 bound_of-requires-clause-fits g c =
     let R = g.R.Recorder in
-    let a = seen R.problem R.limit R.lines R.faults R.broken R.around c.args.rec.now in
+    let a = R.seen c.args.rec.now in
     let items = c.self.inside.bounds.items in
     let fit : FitBounds a items = subst (FitBounds a) (sym c.self.view_is) c.requires.fits in
     let d : CostRowValue = record { terms = []; offset = pos 0 } in
@@ -43,14 +43,14 @@ bound_of-requires-clause-fits g c =
 pub returns-clause-bound : goal.returns-clause-bound
 returns-clause-bound g c =
     let R = g.R.Recorder in
-    let a = seen R.problem R.limit R.lines R.faults R.broken R.around c.args.rec.now in
+    let a = R.seen c.args.rec.now in
     let items = c.self.inside.bounds.items in
     let fit : FitBounds a items = subst (FitBounds a) (sym c.self.view_is) c.requires.fits in
     let i = c.args.objective in
     let o = c.index_mut-bound.result.now in
     let is = c.index_mut-bound.ensures.value in
-    let p = R.problem c.bound_of.new.rec in
-    let lines = R.lines c.bound_of.new.rec in
+    let p = (R.seen c.bound_of.new.rec).problem in
+    let lines = (R.seen c.bound_of.new.rec).lines in
     let value = c.args.value in
     let k = above c.from.result c.from-2.result in
     let in_range : SFits w64 o.offset = search rules in
@@ -66,8 +66,8 @@ returns-clause-bound g c =
 pub returns-clause-fits : goal.returns-clause-fits
 returns-clause-fits g c =
     let R = g.R.Recorder in
-    let a = seen R.problem R.limit R.lines R.faults R.broken R.around c.args.rec.now in
-    let b = seen R.problem R.limit R.lines R.faults R.broken R.around c.bound_of.new.rec in
+    let a = R.seen c.args.rec.now in
+    let b = R.seen c.bound_of.new.rec in
     let items = c.self.inside.bounds.items in
     let fit : FitBounds a items = subst (FitBounds a) (sym c.self.view_is) c.requires.fits in
     let o = c.index_mut-bound.result.now in
