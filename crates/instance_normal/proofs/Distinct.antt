@@ -10,11 +10,10 @@ use Rattle.std.proofs.lemmas.List.Elements.{All-nil, All-map, All-contains, All-
 use Rattle.std.proofs.lemmas.List.Quantifiers.{all_pairs_push}
 use Rattle.std.proofs.lemmas.List.Sorted.{Contains-permutation, IsPermutation-sym}
 use Rattle.front_set.proofs.Members.{Contains-nil, Contains-head, Contains-cons, Contains-cons_cases}
-use Rattle.scut_base.specs.Literal.{Literal}
+use Rattle.scut_base.specs.Literal.{Literal, is_same}
 use Rattle.instance.specs.declared.objective.Soft.{Soft}
 use Rattle.instance.specs.Shape.{ClauseUpTo}
 use Rattle.pb_lin.specs.Constraint.{ConstraintValue, UpTo, opposite, ones, size}
-use Rattle.pb_lin.specs.Cover.{is_same}
 use Rattle.pb_lin.specs.Restriction.{is_among}
 use Rattle.pb_lin.proofs.Covers.{is_same-true, same_literal}
 use Rattle.pb_lin.proofs.Ones.{total_ones, AreOnes-ones}

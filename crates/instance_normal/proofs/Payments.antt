@@ -8,14 +8,13 @@ use Rattle.std.proofs.lemmas.Bool.{false≢true, or_cases, or_parts, and_from, a
 use Rattle.std.proofs.lemmas.List.Elements.{All-nil, All-cons, All-head, All-tail, All-contains}
 use Rattle.std.proofs.lemmas.List.Folds.{list_any-append}
 use Rattle.std.proofs.lemmas.List.Sums.{sum_by-cons}
-use Rattle.scut_base.specs.Literal.{Literal}
+use Rattle.scut_base.specs.Literal.{Literal, is_same}
 use Rattle.scut_base.specs.Assignment.{value_of, lit_true}
 use Rattle.front_set.proofs.Members.{Contains-head, Contains-cons}
 use Rattle.instance.specs.declared.objective.Soft.{Soft}
 use Rattle.instance.specs.Shape.{ClauseUpTo}
 use Rattle.instance.specs.Meaning.{clause_true, int_sum_by, terms_value, term_value, soft_cost}
 use Rattle.pb_lin.specs.Constraint.{opposite}
-use Rattle.pb_lin.specs.Cover.{is_same}
 use Rattle.pb_lin.specs.Restriction.{is_among}
 use Rattle.pb_lin.proofs.Covers.{is_same-true}
 use Rattle.instance_normal.specs.NormalForm.{Clause, is_tautology, Payment, Never, Always, Where, Relaxed, clause_payment, payment, needs_variable, is_relaxed, positive, relaxed_clauses, payment_terms, payment_offset, next_variable, soft_terms, soft_offset}

@@ -6,7 +6,7 @@ use Rattle.std.proofs.lemmas.List.{length-map}
 use Rattle.std.proofs.lemmas.List.Elements.{All-nil, All-cons, All-head, All-tail, All-append, All-map, All-weaker}
 use Rattle.std.proofs.lemmas.List.Sums.{sum_by-cons, length-filter, count_by-le-length}
 use Rattle.std.proofs.lemmas.Slice.Zip.{AllZip-long}
-use Rattle.scut_base.specs.Literal.{Literal}
+use Rattle.scut_base.specs.Literal.{Literal, is_same}
 use Rattle.instance.specs.declared.row.Linear.{Linear}
 use Rattle.instance.specs.declared.row.Rel.{Rel}
 use Rattle.instance.specs.declared.row.Rel.TheVariants.{AtLeast, AtMost, Equal}
@@ -15,7 +15,6 @@ use Rattle.instance.specs.declared.objective.Soft.{Soft}
 use Rattle.instance.specs.Shape.{InstanceValue, IsWithinLimits, IsObjectiveWithin, ClauseUpTo}
 use Rattle.instance.specs.ParetoFront.{problem_number}
 use Rattle.pb_lin.specs.Constraint.{ConstraintValue, IsNormal, TermsUpTo, size, opposite}
-use Rattle.pb_lin.specs.Cover.{is_same}
 use Rattle.pb_lin.specs.CostRow.{CostRowValue, IsCostRow}
 use Rattle.pb_lin.specs.Problem.{ProblemValue, IsProblem}
 use Rattle.instance_normal.specs.NormalForm.{RowSource, Clause, IsRowOf, Payment, Never, Always, Where, Relaxed, clause_payment, payment, needs_variable, is_relaxed, is_tautology, next_variable, payment_terms, soft_terms, relaxed_softs, relaxed_clauses, linear_sources, sources_by, row_sources, CostSource, cost_source, cost_sources, first_seen, with_variable, IsCostRowOf, IsNormalFormOf}

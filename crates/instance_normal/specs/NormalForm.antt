@@ -1,7 +1,7 @@
 -- The normal form of an instance: the problem of constraints in normal form, and of sums to be minimised, that stands for it.
 use Rattle.std.specs.Prelude.{◌≡◌, ◌↔◌, ℕ, ◌+◌, ◌<◌, ◌==◌, ◌||◌, Bool, true, false, if◌then◌else◌, MatchBool, List, [], ◌∷◌, ◌++◌, length, map, fold, sum_by, ℤ, pos, ◌+ℤ◌, neg_ℤ, AllPairs, Contains}
 use Rattle.std.specs.List.{AllZip, filter, flat_map, list_any, list_all}
-use Rattle.scut_base.specs.Literal.{Literal}
+use Rattle.scut_base.specs.Literal.{Literal, is_same}
 use Rattle.instance.specs.declared.row.Linear.{Linear}
 use Rattle.instance.specs.declared.row.Rel.{Rel}
 use Rattle.instance.specs.declared.row.Rel.TheVariants.{AtLeast, AtMost, Equal}
@@ -10,7 +10,6 @@ use Rattle.instance.specs.declared.objective.Objective.{Objective}
 use Rattle.instance.specs.Shape.{InstanceValue}
 use Rattle.instance.specs.ParetoFront.{problem_number}
 use Rattle.pb_lin.specs.Constraint.{ConstraintValue, IsNormal, opposite, ones}
-use Rattle.pb_lin.specs.Cover.{is_same}
 use Rattle.pb_lin.specs.NormalForm.{IsNormalForm, sum_value}
 use Rattle.pb_lin.specs.CostRow.{CostRowValue, IsCostRow, row_cost}
 use Rattle.pb_lin.specs.Problem.{ProblemValue}

@@ -2,56 +2,20 @@
 use Rattle.std.proofs.Common.{◌≡◌, ℕ, ◌+◌, ◌<◌, ◌≤◌, ◌^◌, Bool, true, false, not, cond, List, [], ◌∷◌, length, drop, Option, None, Some, refl, sym, ap, ◌∙◌, subst, arith}
 use Rattle.std.specs.Prelude.{slice_index, ◌==◌, nat_lt, nat_le}
 use Rattle.std.specs.Option.{option_or}
-use Rattle.std.specs.List.{list_all}
-use Rattle.std.specs.Char.{is_ascii_digit, digit_value}
-use Rattle.std.specs.Int.{IsInRange}
-use Rattle.std.specs.Str.Parse.{AllDigits, starts_with_minus}
-use Rattle.std.proofs.lemmas.Bool.{and_from, and_parts, not_from_true, not_from_false, not-true, cond-true, cond-false, false_from_ne_true, lt-ltb, le-ltb, ltb-true, le-leb, lt-leb, leb-true, eq-eqb, ne_eqb, eqb-true, eqb-false}
-use Rattle.std.proofs.lemmas.Str.{digit_value_digit}
-use Rattle.std.proofs.lemmas.Str.Parse.{digit_from_value}
+use Rattle.std.specs.Str.Parse.{starts_with_minus}
+use Rattle.std.proofs.lemmas.Bool.{and_from, and_parts, not_from_true, not_from_false, cond-true, cond-false, false_from_ne_true, lt-ltb, le-ltb, ltb-true, le-leb, lt-leb, leb-true, eq-eqb, ne_eqb, eqb-true, eqb-false}
 use Rattle.scut_base.specs.Literal.{Literal}
-use Rattle.scut_base.specs.Number.{IsNatural, natural_value, magnitude_text}
+use Rattle.scut_base.specs.Number.{IsNatural, is_natural, natural_value, magnitude_text}
+use Rattle.scut_base.proofs.Naturals.{natural_passes, natural_from, no_natural}
 use Rattle.instance.specs.declared.fault.BadKind.{BadKind}
 use Rattle.instance.specs.declared.fault.BadKind.TheVariants.{UnknownLine, ObjectiveIndex, WeightExpected, LiteralExpected, NumberTooWide}
 use Rattle.instance.specs.declared.fault.InstanceLimit.TheVariants.{Vars, Weights, Objectives}
 use Rattle.instance.specs.declared.fault.PlaceFault.{PlaceFault}
 use Rattle.instance.specs.declared.fault.PlaceFault.TheVariants.{Bad, Limit}
 use Rattle.mcnf_reader.specs.Grammar.{SpellsLiteral, SpellsZero, SpellsObjective, SpellsWeight}
-use Rattle.mcnf_reader.specs.FirstFault.{is_natural, number_fault, objective_number_fault, objective_fault, weight_fault, literal_fault, is_zero}
+use Rattle.mcnf_reader.specs.FirstFault.{number_fault, objective_number_fault, objective_fault, weight_fault, literal_fault, is_zero}
 use Rattle.mcnf_reader.proofs.Clauses.{natural_sign}
 use Rattle.mcnf_reader.proofs.FaultChoice.{or_at_none, or_none, passed, failed_not, passed_last}
-
-digit_passes : (x : ℕ) → IsInRange 48 57 x → is_ascii_digit x ≡ true
-digit_passes x range = and_from (nat_le 48 x) (nat_le x 57) (le-leb 48 x range.0) (le-leb x 57 range.1)
-
-digit_below : (x : ℕ) → is_ascii_digit x ≡ true → digit_value x < 10
-digit_below x passes =
-    let parts = and_parts (nat_le 48 x) (nat_le x 57) passes in
-    let range : IsInRange 48 57 x = (leb-true 48 x parts.0, leb-true x 57 parts.1) in
-    omega (arith, digit_value_digit x range, range.1)
-
-digits_pass : (word : List ℕ) → AllDigits 10 word → list_all is_ascii_digit word ≡ true
-digits_pass [] digits = refl
-digits_pass (x ∷ word) digits = and_from (is_ascii_digit x) (list_all is_ascii_digit word) (digit_passes x (digit_from_value x digits.0)) (digits_pass word digits.1)
-
-digits_from : (word : List ℕ) → list_all is_ascii_digit word ≡ true → AllDigits 10 word
-digits_from [] pass = tt
-digits_from (x ∷ word) pass =
-    let parts = and_parts (is_ascii_digit x) (list_all is_ascii_digit word) pass in
-    (digit_below x parts.0, digits_from word parts.1)
-
--- the test for digits alone
-pub natural_passes : (word : List ℕ) → IsNatural word → is_natural word ≡ true
-natural_passes word natural = and_from (not (length word == 0)) (list_all is_ascii_digit word) (not_from_false (length word == 0) (ne_eqb (length word) 0 (λ e. absurd (omega (arith, natural.0))))) (digits_pass word natural.1)
-
-pub natural_from : (word : List ℕ) → is_natural word ≡ true → IsNatural word
-natural_from word pass =
-    let parts = and_parts (not (length word == 0)) (list_all is_ascii_digit word) pass in
-    let some : length word ≡ 0 → ⊥ = eqb-false (length word) 0 (not-true (length word == 0) parts.0) in
-    (omega (arith, some), digits_from word parts.1)
-
-pub no_natural : (word : List ℕ) → (IsNatural word → ⊥) → is_natural word ≡ false
-no_natural word none = false_from_ne_true (is_natural word) (λ e. none (natural_from word e))
 
 -- numbers
 pub number_none : (kind : BadKind) (word : List ℕ) → IsNatural word → natural_value word < 2 ^ 63 → number_fault kind word ≡ None

@@ -1,10 +1,8 @@
 -- The first fault of a text: the first bad place or reached limit, line by line, and in a line word by word from the left.
 use Rattle.std.specs.Prelude.{ℕ, Bool, not, ◌+◌, ◌==◌, ◌&&◌, nat_lt, nat_le, if◌then◌else◌, List, [], ◌∷◌, ◌++◌, length, map, drop, slice_index, sum_by, codes, Option, Some, None}
 use Rattle.std.specs.Option.{option_or, option_map}
-use Rattle.std.specs.List.{list_all}
-use Rattle.std.specs.Char.{is_ascii_digit}
 use Rattle.std.specs.Str.{bytes_eq}
-use Rattle.scut_base.specs.Number.{natural_value, magnitude_text}
+use Rattle.scut_base.specs.Number.{is_natural, natural_value, magnitude_text}
 use Rattle.instance.specs.declared.fault.BadKind.{BadKind}
 use Rattle.instance.specs.declared.fault.BadKind.TheVariants.{UnknownLine, ObjectiveIndex, WeightExpected, LiteralExpected, ZeroMissing, TextAfterZero, NumberTooWide}
 use Rattle.instance.specs.declared.fault.InstanceLimit.TheVariants.{Vars, Weights, Objectives}
@@ -14,10 +12,6 @@ use Rattle.instance.specs.declared.fault.ReadFault.{ReadFault}
 use Rattle.instance.specs.Shape.{max_vars, max_objectives, magnitude_limit}
 use Rattle.instance.specs.Reading.{at_line}
 use Rattle.mcnf_reader.specs.Words.{letter_c, letter_o, lines_of, words_of}
-
--- one decimal digit or more, and nothing else
-abbrev pub is_natural : List ℕ → Bool
-is_natural word = not (length word == 0) && list_all is_ascii_digit word
 
 -- a word that should be digits of a value below the limit, and is this kind of bad place where it isn't digits
 abbrev pub number_fault : BadKind → List ℕ → Option PlaceFault

@@ -6,10 +6,9 @@ use Rattle.std.proofs.lemmas.Bool.{cases_Bool, and_from}
 use Rattle.std.proofs.lemmas.List.Elements.{Contains-append_left, Contains-append_right, Contains-append_cases}
 use Rattle.std.proofs.lemmas.List.Folds.{list_any_at}
 use Rattle.std.proofs.lemmas.List.Quantifiers.{all_pairs_push}
-use Rattle.scut_base.specs.Literal.{Literal}
+use Rattle.scut_base.specs.Literal.{Literal, is_same}
 use Rattle.scut_base.proofs.Lists.{Contains-cons_cases, Contains-head, Contains-nil}
 use Rattle.pb_lin.specs.Constraint.{opposite}
-use Rattle.pb_lin.specs.Cover.{is_same}
 use Rattle.totalizer.specs.declared.bound.Bound.TheVariants.{At}
 use Rattle.p_minimal.specs.Asking.{AddsDenial}
 

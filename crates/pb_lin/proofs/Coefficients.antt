@@ -2,9 +2,9 @@
 use Rattle.std.proofs.Common.{◌≡◌, ℕ, ◌<◌, true, false, List, length, get_or, ⊎_elim, subst, sym, if◌then◌else◌}
 use Rattle.std.specs.List.{AllPairs}
 use Rattle.std.proofs.lemmas.Bool.{ne_eqb, and_left, cases_eq, cond-true, cond-false}
-use Rattle.scut_base.specs.Literal.{Literal}
+use Rattle.scut_base.specs.Literal.{Literal, is_same}
 use Rattle.pb_lin.specs.Place.{IsPlace}
-use Rattle.pb_lin.specs.Cover.{is_same, coefficient}
+use Rattle.pb_lin.specs.Cover.{coefficient}
 use Rattle.pb_lin.proofs.Places.{at_place}
 use Rattle.scut_base.proofs.Lists.{sum_by_zero, sum_by_single}
 use Rattle.std.proofs.Common.{◌∙◌}

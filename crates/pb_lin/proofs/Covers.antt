@@ -8,10 +8,10 @@ use Rattle.std.proofs.lemmas.List.{get_or_default}
 use Rattle.std.proofs.lemmas.List.Folds.{list_any_at, Any-from_list_any}
 use Rattle.std.proofs.lemmas.List.FromFn.{get_or-map-range_with_len}
 use Rattle.std.proofs.lemmas.List.Sums.{sum_by-cons, sum_by-le-sum_by, get_or-le-sum_by}
-use Rattle.scut_base.specs.Literal.{Literal}
+use Rattle.scut_base.specs.Literal.{Literal, is_same}
 use Rattle.scut_base.specs.Assignment.{value_of, lit_true}
 use Rattle.pb_lin.specs.Constraint.{ConstraintValue, IsNormal, Covers, term_value, value, opposite}
-use Rattle.pb_lin.specs.Cover.{is_same, coefficient, greatest_excess}
+use Rattle.pb_lin.specs.Cover.{coefficient, greatest_excess}
 use Rattle.scut_base.proofs.Lists.{AllApart, AllApart-from_pairs, sum_by_zero, sum_by_single, sum_by_same, sum_by-add, sum_by_same_in}
 use Rattle.pb_lin.proofs.Truths.{beq_same, beq_other}
 

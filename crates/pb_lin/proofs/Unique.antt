@@ -7,10 +7,10 @@ use Rattle.std.proofs.lemmas.Int.{ints, clamps}
 use Rattle.std.proofs.lemmas.Bool.{cases_Bool, cases_eq, cases_order, and_left, ne_eqb, cond-false}
 use Rattle.std.proofs.lemmas.List.Elements.{All-head, All-tail, All-cons, All-weaker}
 use Rattle.std.proofs.lemmas.List.Sums.{sum_by-cons, get_or-le-sum_by}
-use Rattle.scut_base.specs.Literal.{Literal}
+use Rattle.scut_base.specs.Literal.{Literal, is_same}
 use Rattle.pb_lin.specs.Constraint.{ConstraintValue, IsNormal, value}
 use Rattle.pb_lin.specs.NormalForm.{HasExcess}
-use Rattle.pb_lin.specs.Cover.{is_same, coefficient, greatest_excess}
+use Rattle.pb_lin.specs.Cover.{coefficient, greatest_excess}
 use Rattle.pb_lin.proofs.Covers.{Terms, coefficient_of_term, excess_reached, is_same-true, term_of}
 use Rattle.scut_base.proofs.Lists.{sum_by_zero}
 use Rattle.pb_lin.proofs.Merges.{rising_head, rising_tail}

@@ -1,11 +1,6 @@
 -- How far one left side can be above another.
-use Rattle.std.specs.Prelude.{ℕ, ◌-◌, ◌==◌, ◌&&◌, Bool, if◌then◌else◌, List, sum_by}
-use Rattle.std.proofs.Math.Bool.{beq}
-use Rattle.scut_base.specs.Literal.{Literal}
-
--- whether both are of one variable and one sign
-abbrev pub is_same : Literal → Literal → Bool
-is_same l m = l.var == m.var && beq l.neg m.neg
+use Rattle.std.specs.Prelude.{ℕ, ◌-◌, if◌then◌else◌, List, sum_by}
+use Rattle.scut_base.specs.Literal.{Literal, is_same}
 
 -- the coefficient of a literal, or 0
 abbrev pub coefficient : List (Literal × ℕ) → Literal → ℕ

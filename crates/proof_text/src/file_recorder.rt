@@ -53,7 +53,7 @@ impl<'a, H: Shelf> Model for FileRecorder<'a, H> {
       broken = r.broken;
     } };
 
-    ghost invariant = { λ r. IsHeld (H.files r.shelf.now) r.name.now
+    ghost invariant = { λ r. IsHeld (H.world r.shelf.now).files r.name.now
         r.problem r.lines r.state r.broken };
 }
 
@@ -77,11 +77,11 @@ impl<'a, H: Shelf> FileRecorder<'a, H> {
         problem: &PbProblem,
     ) -> Result<FileRecorder<'a, H>, NotBegun<'a, H>>
         ensures same_reference { IfOk result (λ r. r.shelf.ghost_name ≡ shelf.entry.ghost_name) }
-        ensures begun { IfOk result (λ r. H.files r.shelf.now
-            ≡ with_file (H.files shelf.old) name.entry.now header_line) }
-        ensures said { IfOk result (λ r. H.said r.shelf.now ≡ H.said shelf.old) }
-        ensures warned { IfOk result (λ r. H.warned r.shelf.now ≡ H.warned shelf.old) }
-        ensures later { IfOk result (λ r. NoneFell (H.faults shelf.old) (H.faults r.shelf.now)) }
+        ensures begun { IfOk result (λ r. (H.world r.shelf.now).files
+            ≡ with_file (H.world shelf.old).files name.entry.now header_line) }
+        ensures said { IfOk result (λ r. (H.world r.shelf.now).said ≡ (H.world shelf.old).said) }
+        ensures warned { IfOk result (λ r. (H.world r.shelf.now).warned ≡ (H.world shelf.old).warned) }
+        ensures later { IfOk result (λ r. NoneFell (H.world shelf.old).faults (H.world r.shelf.now).faults) }
         ensures name { IfOk result (λ r. r.name ≡ name.entry.now) }
         ensures problem { IfOk result (λ r. r.problem ≡ problem.now) }
         ensures empty { IfOk result (λ r. r.lines ≡ []) }
@@ -89,13 +89,13 @@ impl<'a, H: Shelf> FileRecorder<'a, H> {
         ensures same_reference_after { IfErr result
             (λ e. e.shelf.ghost_name ≡ shelf.entry.ghost_name) }
         ensures refused { IfErr result
-            (λ e. IsNotBegun (H.files shelf.old) (H.files e.shelf.now) name.entry.now) }
-        ensures said_after { IfErr result (λ e. H.said e.shelf.now ≡ H.said shelf.old) }
-        ensures warned_after { IfErr result (λ e. H.warned e.shelf.now ≡ H.warned shelf.old) }
+            (λ e. IsNotBegun (H.world shelf.old).files (H.world e.shelf.now).files name.entry.now) }
+        ensures said_after { IfErr result (λ e. (H.world e.shelf.now).said ≡ (H.world shelf.old).said) }
+        ensures warned_after { IfErr result (λ e. (H.world e.shelf.now).warned ≡ (H.world shelf.old).warned) }
         ensures later_after { IfErr result
-            (λ e. NoneFell (H.faults shelf.old) (H.faults e.shelf.now)) }
+            (λ e. NoneFell (H.world shelf.old).faults (H.world e.shelf.now).faults) }
         ensures cause { IfErr result (λ e. e.fault ≡ RecordFault.Failed
-            → WritingFailed (H.faults shelf.old) (H.faults e.shelf.now) name.entry.now) }
+            → WritingFailed (H.world shelf.old).faults (H.world e.shelf.now).faults name.entry.now) }
         ensures never_full { IfErr result (λ e. e.fault ≢ RecordFault.Full) }
     {
         let started = start(alloc, problem);
@@ -131,7 +131,7 @@ impl<'a, H: Shelf> FileRecorder<'a, H> {
     pub fn finish(self) -> &'a mut H
         ensures same_reference { result.ghost_name ≡ self.entry.shelf.ghost_name }
         ensures same { result.now ≡ self.entry.shelf.now }
-        ensures log { IsLogFile (H.files result.now) self.entry.name self.entry.problem
+        ensures log { IsLogFile (H.world result.now).files self.entry.name self.entry.problem
             self.entry.lines self.entry.broken }
         ensures kept { IsKept self.entry.problem self.entry.lines self.entry.state }
     {
@@ -161,18 +161,15 @@ impl<'a, H: Shelf> Recorder for FileRecorder<'a, H> {
 
     ghost lines = { λ r. r.lines };
 
-    ghost faults = { λ r. count (H.faults r.shelf.now) Append r.name };
+    ghost faults = { λ r. count (H.world r.shelf.now).faults Append r.name };
 
     ghost broken = { λ r. r.broken };
 
     ghost around = { λ r. record {
       shelf = Some r.shelf.ghost_name;
-      name = r.name;
-      others = without_file (H.files r.shelf.now) r.name;
-      said = H.said r.shelf.now;
-      warned = H.warned r.shelf.now;
-      counts = Some (H.faults r.shelf.now);
-    } };
+      name = r.name; others = without_file (H.world r.shelf.now).files r.name;
+      said = (H.world r.shelf.now).said; warned = (H.world r.shelf.now).warned;
+      counts = Some (H.world r.shelf.now).faults; } };
 
     fn add_line(&mut self, line: &Line) -> Result<u64, RecordFault> {
         if is_full(&self.lines, &self.state) {
@@ -208,13 +205,13 @@ impl<'a, H: Shelf> Recorder for FileRecorder<'a, H> {
 // Begins the file with the header.
 fn begin_log<H: Shelf>(shelf: &mut H, name: &str) -> Result<(), RecordFault>
     ensures ok { OnOk result
-        (H.files shelf.new ≡ with_file (H.files shelf.old) name.now header_line) }
-    ensures err { OnErr result (IsNotBegun (H.files shelf.old) (H.files shelf.new) name.now) }
-    ensures said { H.said shelf.new ≡ H.said shelf.old }
-    ensures warned { H.warned shelf.new ≡ H.warned shelf.old }
-    ensures later { NoneFell (H.faults shelf.old) (H.faults shelf.new) }
+        ((H.world shelf.new).files ≡ with_file (H.world shelf.old).files name.now header_line) }
+    ensures err { OnErr result (IsNotBegun (H.world shelf.old).files (H.world shelf.new).files name.now) }
+    ensures said { (H.world shelf.new).said ≡ (H.world shelf.old).said }
+    ensures warned { (H.world shelf.new).warned ≡ (H.world shelf.old).warned }
+    ensures later { NoneFell (H.world shelf.old).faults (H.world shelf.new).faults }
     ensures cause { IsErrOf result RecordFault.Failed
-        → WritingFailed (H.faults shelf.old) (H.faults shelf.new) name.now }
+        → WritingFailed (H.world shelf.old).faults (H.world shelf.new).faults name.now }
     ensures never_full { IsErrOf result RecordFault.Full → ⊥ }
 {
     if let Err(fault) = shelf.begin(name) {
@@ -245,23 +242,23 @@ fn commit<H: Shelf>(
     state: &mut ProofState,
     line: &Line,
 ) -> Result<u64, RecordFault>
-    requires there { IsTold (H.files shelf.old) → IsSome (content (H.files shelf.old) name.now) }
+    requires there { IsTold (H.world shelf.old).files → IsSome (content (H.world shelf.old).files name.now) }
     requires fits { Fits problem.now state.old }
     requires formed { IsWellFormed line.now }
     requires legal { IsLegal problem.now state.old line.now }
     ensures written { OnOk result
-        (H.files shelf.new ≡ with_appended (H.files shelf.old) name.now (printed line.now)) }
+        ((H.world shelf.new).files ≡ with_appended (H.world shelf.old).files name.now (printed line.now)) }
     ensures partly { OnErr result
-        (IsPutPartly (H.files shelf.old) (H.files shelf.new) name.now (printed line.now)) }
+        (IsPutPartly (H.world shelf.old).files (H.world shelf.new).files name.now (printed line.now)) }
     ensures id { IfOk result (λ id. id ≡ state.old.next_id) }
     ensures next { OnOk result (IsNext problem.now state.old line.now state.new) }
     ensures fits { OnOk result (Fits problem.now state.new) }
     ensures same { OnErr result (state.new ≡ state.old) }
-    ensures others { without_file (H.files shelf.new) name.now
-        ≡ without_file (H.files shelf.old) name.now }
-    ensures said { H.said shelf.new ≡ H.said shelf.old }
-    ensures warned { H.warned shelf.new ≡ H.warned shelf.old }
-    ensures cause { IsWrite name.now (H.faults shelf.old) (H.faults shelf.new) result }
+    ensures others { without_file (H.world shelf.new).files name.now
+        ≡ without_file (H.world shelf.old).files name.now }
+    ensures said { (H.world shelf.new).said ≡ (H.world shelf.old).said }
+    ensures warned { (H.world shelf.new).warned ≡ (H.world shelf.old).warned }
+    ensures cause { IsWrite name.now (H.world shelf.old).faults (H.world shelf.new).faults result }
 {
     write_line(shelf, name, text, line)?;
     match advance(problem, state, line) {
@@ -277,16 +274,16 @@ fn write_line<H: Shelf>(
     text: &mut Vec<u8>,
     line: &Line,
 ) -> Result<(), RecordFault>
-    requires there { IsTold (H.files shelf.old) → IsSome (content (H.files shelf.old) name.now) }
+    requires there { IsTold (H.world shelf.old).files → IsSome (content (H.world shelf.old).files name.now) }
     ensures written { OnOk result
-        (H.files shelf.new ≡ with_appended (H.files shelf.old) name.now (printed line.now)) }
+        ((H.world shelf.new).files ≡ with_appended (H.world shelf.old).files name.now (printed line.now)) }
     ensures partly { OnErr result
-        (IsPutPartly (H.files shelf.old) (H.files shelf.new) name.now (printed line.now)) }
-    ensures others { without_file (H.files shelf.new) name.now
-        ≡ without_file (H.files shelf.old) name.now }
-    ensures said { H.said shelf.new ≡ H.said shelf.old }
-    ensures warned { H.warned shelf.new ≡ H.warned shelf.old }
-    ensures cause { IsWrite name.now (H.faults shelf.old) (H.faults shelf.new) result }
+        (IsPutPartly (H.world shelf.old).files (H.world shelf.new).files name.now (printed line.now)) }
+    ensures others { without_file (H.world shelf.new).files name.now
+        ≡ without_file (H.world shelf.old).files name.now }
+    ensures said { (H.world shelf.new).said ≡ (H.world shelf.old).said }
+    ensures warned { (H.world shelf.new).warned ≡ (H.world shelf.old).warned }
+    ensures cause { IsWrite name.now (H.world shelf.old).faults (H.world shelf.new).faults result }
 {
     text.clear();
     if append_line(text, line).is_err() {

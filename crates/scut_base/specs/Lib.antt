@@ -10,3 +10,4 @@ pub mod FileMap
 pub mod Faults
 pub mod Memory
 pub mod MemoryCode
+pub mod World

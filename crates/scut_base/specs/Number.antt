@@ -1,5 +1,7 @@
 -- Numbers that are read from text.
-use Rattle.std.specs.Prelude.{◌≡◌, ℕ, ◌<◌, ◌≤◌, Bool, List, Option, None, Some, drop, ℤ, pos, neg_ℤ, Result, Ok, Err, if◌then◌else◌}
+use Rattle.std.specs.Prelude.{◌≡◌, ℕ, ◌<◌, ◌≤◌, ◌==◌, ◌&&◌, not, length, Bool, List, Option, None, Some, drop, ℤ, pos, neg_ℤ, Result, Ok, Err, if◌then◌else◌}
+use Rattle.std.specs.List.{list_all}
+use Rattle.std.specs.Char.{is_ascii_digit}
 use Rattle.std.specs.Str.Parse.{IsNumeral, digits_value, starts_with_minus}
 use Rattle.scut_base.specs.declared.number.NumberFault.{NumberFault}
 use Rattle.scut_base.specs.declared.number.NumberFault.TheVariants.{NotDigits, TooWide}
@@ -7,6 +9,10 @@ use Rattle.scut_base.specs.declared.number.NumberFault.TheVariants.{NotDigits, T
 -- one decimal digit or more, and nothing else
 abbrev pub IsNatural : List ℕ → Type 0
 IsNatural text = IsNumeral 10 text
+
+-- whether it is so
+abbrev pub is_natural : List ℕ → Bool
+is_natural text = not (length text == 0) && list_all is_ascii_digit text
 
 abbrev pub natural_value : List ℕ → ℕ
 natural_value text = digits_value 10 text

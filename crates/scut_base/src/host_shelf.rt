@@ -13,12 +13,25 @@ use std::marker::Model;
 use std::rt::{Files, Runtime};
 use std::{io, str};
 
+// The null device: it is empty, and opened to be read, it can't be written.
+const NOTHING: &str = "/dev/null";
+
 /// A file that is kept open, and the place that it stands at.
 #[derive(Drop)]
 struct Opened<F, A: Allocator> {
     name: String<A>,
     at: u64,
     file: F,
+}
+
+/// Files that are held open so that the numbers of the standard streams are taken: where the program
+/// was begun with a stream closed, the operating system gives the next file that is opened that
+/// stream's number, and what is said would be written into it.
+#[derive(Drop)]
+struct Standing<F> {
+    first: F,
+    second: F,
+    third: F,
 }
 
 /// The real files, standard output and standard error. It tells none of their bytes. Want of memory is
@@ -30,10 +43,14 @@ struct Opened<F, A: Allocator> {
 /// longer, since nothing tells where it stands then; the next call opens it anew. A read that a signal
 /// interrupts is made again, a million times at most: each loop here ends, and an outside that does
 /// nothing but interrupt counts as one that fails.
+///
+/// Before it opens its first file it makes sure that the numbers of the three standard streams are
+/// taken, so that no file gets one of them: a stream that was closed then fails when it is written.
 #[derive(Drop)]
 pub struct HostShelf<R: Runtime> {
     rt: R,
     faults: u64,
+    standing: Option<Standing<<R as Files>::File>>,
     reading: Option<Opened<<R as Files>::File, <R as Alloc>::A>>,
     writing: Option<Opened<<R as Files>::File, <R as Alloc>::A>>,
 }
@@ -54,6 +71,7 @@ impl<R: Runtime> HostShelf<R> {
         HostShelf {
             rt,
             faults: 0,
+            standing: None,
             reading: None,
             writing: None,
         }
@@ -100,6 +118,21 @@ fn read_some<F: Read>(file: &mut F, into: &mut [u8]) -> io::Result<usize>
         }
     }
     Err(io::Error::from(ErrorKind::Interrupted))
+}
+
+// Takes the numbers of the standard streams that are closed, where that wasn't done before.
+fn hold_streams<R: Runtime>(
+    rt: &R,
+    standing: &mut Option<Standing<<R as Files>::File>>,
+) -> io::Result<()> {
+    if standing.is_none() {
+        *standing = Some(Standing {
+            first: File::open(rt, NOTHING)?,
+            second: File::open(rt, NOTHING)?,
+            third: File::open(rt, NOTHING)?,
+        });
+    }
+    Ok(())
 }
 
 // Opens a file to read at a place, where it isn't open there. After an error it isn't open.
@@ -196,6 +229,7 @@ fn write_opened<F: Write + Drop, A: Allocator>(
 // Reads from a file at a place.
 fn read_host<R: Runtime>(
     rt: &R,
+    standing: &mut Option<Standing<<R as Files>::File>>,
     reading: &mut Option<Opened<<R as Files>::File, <R as Alloc>::A>>,
     name: &str,
     at: u64,
@@ -203,17 +237,31 @@ fn read_host<R: Runtime>(
 ) -> io::Result<usize>
     ensures { IfOk result (λ n. n ≤ length into.old) }
 {
+    hold_streams(rt, standing)?;
     reader_at(rt, reading, name, at)?;
     read_opened(reading, into)
+}
+
+// Makes a file anew, and keeps it open to write.
+fn begin_host<R: Runtime>(
+    rt: &R,
+    standing: &mut Option<Standing<<R as Files>::File>>,
+    writing: &mut Option<Opened<<R as Files>::File, <R as Alloc>::A>>,
+    name: &str,
+) -> io::Result<()> {
+    hold_streams(rt, standing)?;
+    writer_of(rt, writing, name, true)
 }
 
 // Writes at the end of a file.
 fn append_host<R: Runtime>(
     rt: &R,
+    standing: &mut Option<Standing<<R as Files>::File>>,
     writing: &mut Option<Opened<<R as Files>::File, <R as Alloc>::A>>,
     name: &str,
     piece: &[u8],
 ) -> io::Result<()> {
+    hold_streams(rt, standing)?;
     writer_of(rt, writing, name, false)?;
     write_opened(writing, piece)
 }
@@ -228,26 +276,33 @@ fn warn_host<R: Runtime>(rt: &R, piece: &[u8]) -> io::Result<()> {
 
 #[tactic(auto, unfolding(crate::specs::Files::with_file))]
 impl<R: Runtime> Shelf for HostShelf<R> {
-    ghost files = { λ s. None };
-
-    ghost said = { λ s. None };
-
-    ghost warned = { λ s. None };
-
-    ghost faults = { plain };
+    ghost world = { λ s. record { files = None; said = None; warned = None; faults = plain s } };
 
     fn read_at(&mut self, name: &str, at: u64, into: &mut [u8]) -> Result<usize, ShelfFault> {
-        let done = read_host(&self.rt, &mut self.reading, name, at, into);
+        let done = read_host(
+            &self.rt,
+            &mut self.standing,
+            &mut self.reading,
+            name,
+            at,
+            into,
+        );
         counted(done, &mut self.faults)
     }
 
     fn begin(&mut self, name: &str) -> Result<(), ShelfFault> {
-        let done = writer_of(&self.rt, &mut self.writing, name, true);
+        let done = begin_host(&self.rt, &mut self.standing, &mut self.writing, name);
         counted(done, &mut self.faults)
     }
 
     fn append(&mut self, name: &str, piece: &[u8]) -> Result<(), ShelfFault> {
-        let done = append_host(&self.rt, &mut self.writing, name, piece);
+        let done = append_host(
+            &self.rt,
+            &mut self.standing,
+            &mut self.writing,
+            name,
+            piece,
+        );
         counted(done, &mut self.faults)
     }
 

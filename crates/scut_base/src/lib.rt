@@ -22,7 +22,7 @@ pub use host_shelf::HostShelf;
 pub use items::Items;
 pub use literal::Lit;
 pub use mem_shelf::{MemShelf, PlannedFault};
-pub use memory::{Duplicate, NoMemory};
+pub use memory::{Duplicate, NoMemory, boxed};
 pub use number::{NumberFault, read_i64, read_i128, read_u64};
 pub use partial::Partial;
 pub use shelf::{Shelf, ShelfCall, ShelfFault};

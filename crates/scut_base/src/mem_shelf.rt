@@ -161,13 +161,12 @@ impl Shelf for MemShelf {
     ghost use Rattle.std.specs.Prelude.{Some};
     ghost use Rattle.scut_base.specs.Faults.{plain};
 
-    ghost files = { λ s. Some s.files };
-
-    ghost said = { λ s. Some s.said };
-
-    ghost warned = { λ s. Some s.warned };
-
-    ghost faults = { λ s. plain s.faults };
+    ghost world = { λ s. record {
+      files = Some s.files;
+      said = Some s.said;
+      warned = Some s.warned;
+      faults = plain s.faults;
+    } };
 
     fn read_at(&mut self, name: &str, at: u64, into: &mut [u8]) -> Result<usize, ShelfFault>
         requires { 0 < length into.old }

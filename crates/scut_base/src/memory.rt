@@ -21,6 +21,14 @@ impl<T: Drop> From<AllocFailed<T>> for NoMemory {
     }
 }
 
+/// The value in a box. A value of many parts is one part there: a function that owns it past several
+/// ways out is then proved in a fraction of the time.
+pub fn boxed<T: Drop>(alloc: Global, value: T) -> Result<Box<T>, NoMemory>
+    ensures { IfOk result (λ b. b.value ≡ value) }
+{
+    Ok(Box::new(alloc, value)?)
+}
+
 /// A value that can be copied, where there is memory for the copy.
 pub trait Duplicate {
     /// A value equal to this one. Costs as much as the value is large.

@@ -2,11 +2,10 @@
 use Rattle.std.proofs.Common.{◌≡◌, ℕ, ◌<◌, ◌≤◌, ◌^◌, Bool, true, not, List, ap, sym, ◌∙◌, subst, arith}
 use Rattle.std.specs.Prelude.{Some, None, Ok, Err, ◌&&◌, nat_lt}
 use Rattle.std.proofs.lemmas.Bool.{and_from, and_parts, not_from_false, not-true, cond-true, cond-false, false_from_ne_true, lt-ltb, le-ltb, ltb-false}
-use Rattle.scut_base.specs.Number.{IsNatural, natural_value, ReadsNatural}
+use Rattle.scut_base.specs.Number.{is_natural, IsNatural, natural_value, ReadsNatural}
 use Rattle.scut_base.specs.declared.number.NumberFault.{NumberFault}
 use Rattle.scut_base.specs.declared.number.NumberFault.TheVariants.{NotDigits, TooWide}
-use Rattle.mcnf_reader.specs.FirstFault.{is_natural}
-use Rattle.mcnf_reader.proofs.WordFaults.{natural_passes, natural_from}
+use Rattle.scut_base.proofs.Naturals.{natural_passes, natural_from}
 use Rattle.scuttle_cli.specs.Command.{limit_of}
 
 -- the test of `limit_of`

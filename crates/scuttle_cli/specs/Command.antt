@@ -2,8 +2,7 @@
 use Rattle.std.specs.Prelude.{◌≡◌, ℕ, ◌^◌, ◌&&◌, not, nat_lt, if◌then◌else◌, List, [], ◌∷◌, codes, Option, Some, None}
 use Rattle.std.specs.Str.{bytes_eq}
 use Rattle.std.specs.Option.{option_map, option_and_then}
-use Rattle.scut_base.specs.Number.{natural_value}
-use Rattle.mcnf_reader.specs.FirstFault.{is_natural}
+use Rattle.scut_base.specs.Number.{is_natural, natural_value}
 use Rattle.scuttle_commands.specs.InstanceFile.{format_of}
 use Rattle.scuttle_cli.specs.declared.command.Command.{Command}
 use Rattle.scuttle_cli.specs.declared.command.Command.TheVariants.{Front, Check, Solve}

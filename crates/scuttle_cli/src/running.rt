@@ -17,14 +17,12 @@ use std::alloc::Global;
 pub fn run<H: Shelf>(alloc: Global, words: &[String], shelf: &mut H) -> Status
     ensures usage { result ≢ Status.NoMemory
         → ((result ≡ Status.Usage) ↔ (request_of (map string_bytes words.now) ≡ None)) }
-    ensures answer { Answers (request_of (map string_bytes words.now)) result
-        (world H.files H.said H.warned H.faults shelf.old)
-        (world H.files H.said H.warned H.faults shelf.new) }
+    ensures answer { Answers (request_of (map string_bytes words.now)) result (H.world shelf.old)
+        (H.world shelf.new) }
     ensures complete { Completes (request_of (map string_bytes words.now)) result
-        (world H.files H.said H.warned H.faults shelf.old)
-        (world H.files H.said H.warned H.faults shelf.new) }
-    ensures warned { IsPartlyFollowed (H.warned shelf.old) (H.warned shelf.new) (warning_text result) }
-    ensures later { NoneFell (H.faults shelf.old) (H.faults shelf.new) }
+        (H.world shelf.old) (H.world shelf.new) }
+    ensures warned { IsPartlyFollowed (H.world shelf.old).warned (H.world shelf.new).warned (warning_text result) }
+    ensures later { NoneFell (H.world shelf.old).faults (H.world shelf.new).faults }
 {
     let (status, _) = run_and_warn(alloc, words, shelf);
     status
@@ -36,13 +34,11 @@ fn run_and_warn<H: Shelf>(
     words: &[String],
     shelf: &mut H,
 ) -> (Status, Result<(), ShelfFault>)
-    ensures answer { Answers (request_of (map string_bytes words.now)) result.0
-        (world H.files H.said H.warned H.faults shelf.old)
-        (world H.files H.said H.warned H.faults shelf.new) }
-    ensures warned { IsWarned (warning_text result.0)
-        (world H.files H.said H.warned H.faults shelf.old)
-        (world H.files H.said H.warned H.faults shelf.new) result.1 }
-    ensures later { NoneFell (H.faults shelf.old) (H.faults shelf.new) }
+    ensures answer { Answers (request_of (map string_bytes words.now)) result.0 (H.world shelf.old)
+        (H.world shelf.new) }
+    ensures warned { IsWarned (warning_text result.0) (H.world shelf.old)
+        (H.world shelf.new) result.1 }
+    ensures later { NoneFell (H.world shelf.old).faults (H.world shelf.new).faults }
 {
     let status = answer(alloc, words, shelf);
     let warning = warn_of(alloc, status, shelf);
@@ -51,11 +47,10 @@ fn run_and_warn<H: Shelf>(
 
 // The command's answer, with nothing warned yet.
 fn answer<H: Shelf>(alloc: Global, words: &[String], shelf: &mut H) -> Status
-    ensures answer { Answers (request_of (map string_bytes words.now)) result
-        (world H.files H.said H.warned H.faults shelf.old)
-        (world H.files H.said H.warned H.faults shelf.new) }
-    ensures warned { H.warned shelf.new ≡ H.warned shelf.old }
-    ensures later { NoneFell (H.faults shelf.old) (H.faults shelf.new) }
+    ensures answer { Answers (request_of (map string_bytes words.now)) result (H.world shelf.old)
+        (H.world shelf.new) }
+    ensures warned { (H.world shelf.new).warned ≡ (H.world shelf.old).warned }
+    ensures later { NoneFell (H.world shelf.old).faults (H.world shelf.new).faults }
 {
     let Some(command) = read_command(words) else {
         return Status::Usage;

@@ -28,10 +28,9 @@ pub fn check<H: Shelf>(
     shelf: &mut H,
 ) -> Result<(), Status>
     ensures answer { CheckAnswers format input.now list.now log.now (accepted_or result)
-        (world H.files H.said H.warned H.faults shelf.old)
-        (world H.files H.said H.warned H.faults shelf.new) }
-    ensures warned { H.warned shelf.new ≡ H.warned shelf.old }
-    ensures later { NoneFell (H.faults shelf.old) (H.faults shelf.new) }
+        (H.world shelf.old) (H.world shelf.new) }
+    ensures warned { (H.world shelf.new).warned ≡ (H.world shelf.old).warned }
+    ensures later { NoneFell (H.world shelf.old).faults (H.world shelf.new).faults }
 {
     let inst = read_instance(alloc, format, input, shelf)?;
     let found = read_right_list(alloc, &inst, list, shelf)?;

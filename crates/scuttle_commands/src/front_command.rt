@@ -29,11 +29,10 @@ pub fn front<H: Shelf>(
     list: &str,
     shelf: &mut H,
 ) -> Result<u64, Status>
-    ensures answer { FrontAnswers format input.now list.now (status_of result)
-        (world H.files H.said H.warned H.faults shelf.old)
-        (world H.files H.said H.warned H.faults shelf.new) }
-    ensures warned { H.warned shelf.new ≡ H.warned shelf.old }
-    ensures later { NoneFell (H.faults shelf.old) (H.faults shelf.new) }
+    ensures answer { FrontAnswers format input.now list.now (status_of result) (H.world shelf.old)
+        (H.world shelf.new) }
+    ensures warned { (H.world shelf.new).warned ≡ (H.world shelf.old).warned }
+    ensures later { NoneFell (H.world shelf.old).faults (H.world shelf.new).faults }
 {
     let inst = read_small(alloc, format, input, shelf)?;
     let entries = front_of(alloc, &inst)?;
@@ -52,15 +51,13 @@ fn read_small<H: Shelf>(
     input: &str,
     shelf: &mut H,
 ) -> Result<Instance, Status>
-    ensures read { IfOk result (λ inst. IsInstanceOf (H.files shelf.old) format input.now inst) }
+    ensures read { IfOk result (λ inst. IsInstanceOf (H.world shelf.old).files format input.now inst) }
     ensures refused { IfErr result (λ status. (list : List ℕ) →
-        FrontAnswers format input.now list status
-        (world H.files H.said H.warned H.faults shelf.old)
-        (world H.files H.said H.warned H.faults shelf.new)) }
-    ensures files { H.files shelf.new ≡ H.files shelf.old }
-    ensures said { H.said shelf.new ≡ H.said shelf.old }
-    ensures warned { H.warned shelf.new ≡ H.warned shelf.old }
-    ensures later { NoneFell (H.faults shelf.old) (H.faults shelf.new) }
+        FrontAnswers format input.now list status (H.world shelf.old) (H.world shelf.new)) }
+    ensures files { (H.world shelf.new).files ≡ (H.world shelf.old).files }
+    ensures said { (H.world shelf.new).said ≡ (H.world shelf.old).said }
+    ensures warned { (H.world shelf.new).warned ≡ (H.world shelf.old).warned }
+    ensures later { NoneFell (H.world shelf.old).faults (H.world shelf.new).faults }
 {
     let inst = read_instance(alloc, format, input, shelf)?;
     if inst.vars() > MOST_VARS {

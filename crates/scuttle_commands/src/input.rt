@@ -21,14 +21,14 @@ pub fn read_instance<H: Shelf>(
     shelf: &mut H,
 ) -> Result<Instance, Status>
     ensures read { IfOk result (λ inst.
-        HasText (H.files shelf.old) input.now (IsTextOf format inst)) }
+        HasText (H.world shelf.old).files input.now (IsTextOf format inst)) }
     ensures limits { IfOk result IsWithinLimits }
     ensures stop { IfErr result (λ status. IsInputStop format input.now status
-        (H.files shelf.old) (H.faults shelf.old) (H.faults shelf.new)) }
-    ensures files { H.files shelf.new ≡ H.files shelf.old }
-    ensures said { H.said shelf.new ≡ H.said shelf.old }
-    ensures warned { H.warned shelf.new ≡ H.warned shelf.old }
-    ensures later { NoneFell (H.faults shelf.old) (H.faults shelf.new) }
+        (H.world shelf.old).files (H.world shelf.old).faults (H.world shelf.new).faults) }
+    ensures files { (H.world shelf.new).files ≡ (H.world shelf.old).files }
+    ensures said { (H.world shelf.new).said ≡ (H.world shelf.old).said }
+    ensures warned { (H.world shelf.new).warned ≡ (H.world shelf.old).warned }
+    ensures later { NoneFell (H.world shelf.old).faults (H.world shelf.new).faults }
 {
     let bytes = match read_whole(alloc, input, shelf)? {
         Some(bytes) => bytes,

@@ -23,16 +23,16 @@ pub fn read_right_list<H: Shelf>(
     list: &str,
     shelf: &mut H,
 ) -> Result<FrontList, Status>
-    ensures read { IfOk result (λ found. HasText (H.files shelf.old) list.now
+    ensures read { IfOk result (λ found. HasText (H.world shelf.old).files list.now
         (λ listed. (length listed < 2 ^ 32) × Spells listed true found.entries)) }
     ensures right { IfOk result (λ found. IsRightList inst.now found.entries) }
     ensures vectors { IfOk result (λ found. AreProblemVectors inst.now found.entries) }
     ensures stop { IfErr result (λ status. IsListStop inst.now list.now status
-        (H.files shelf.old) (H.faults shelf.old) (H.faults shelf.new)) }
-    ensures files { H.files shelf.new ≡ H.files shelf.old }
-    ensures said { H.said shelf.new ≡ H.said shelf.old }
-    ensures warned { H.warned shelf.new ≡ H.warned shelf.old }
-    ensures later { NoneFell (H.faults shelf.old) (H.faults shelf.new) }
+        (H.world shelf.old).files (H.world shelf.old).faults (H.world shelf.new).faults) }
+    ensures files { (H.world shelf.new).files ≡ (H.world shelf.old).files }
+    ensures said { (H.world shelf.new).said ≡ (H.world shelf.old).said }
+    ensures warned { (H.world shelf.new).warned ≡ (H.world shelf.old).warned }
+    ensures later { NoneFell (H.world shelf.old).faults (H.world shelf.new).faults }
 {
     let bytes = match read_whole(alloc, list, shelf)? {
         Some(bytes) => bytes,

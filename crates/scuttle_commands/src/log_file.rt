@@ -29,15 +29,15 @@ pub fn judge_log<H: Shelf>(
 ) -> Result<(), Status>
     requires stands { StandsFor checker [] }
     requires open { checker.finished ≡ false }
-    ensures ended { OnOk result (HasText (H.files shelf.old) log.now (λ bytes. (length bytes < 2 ^ 62)
+    ensures ended { OnOk result (HasText (H.world shelf.old).files log.now (λ bytes. (length bytes < 2 ^ 62)
         × IsEndedProof checker.problem checker.vectors bytes)) }
     ensures stop { IfErr result (λ status.
         IsLogStop checker.problem checker.vectors log.now status
-        (H.files shelf.old) (H.faults shelf.old) (H.faults shelf.new)) }
-    ensures files { H.files shelf.new ≡ H.files shelf.old }
-    ensures said { H.said shelf.new ≡ H.said shelf.old }
-    ensures warned { H.warned shelf.new ≡ H.warned shelf.old }
-    ensures later { NoneFell (H.faults shelf.old) (H.faults shelf.new) }
+        (H.world shelf.old).files (H.world shelf.old).faults (H.world shelf.new).faults) }
+    ensures files { (H.world shelf.new).files ≡ (H.world shelf.old).files }
+    ensures said { (H.world shelf.new).said ≡ (H.world shelf.old).said }
+    ensures warned { (H.world shelf.new).warned ≡ (H.world shelf.old).warned }
+    ensures later { NoneFell (H.world shelf.old).faults (H.world shelf.new).faults }
 {
     let mut checker = checker;
     feed_log(alloc, &mut checker, log, shelf)
@@ -53,15 +53,15 @@ fn feed_log<H: Shelf>(
 ) -> Result<(), Status>
     requires stands { StandsFor checker.old [] }
     requires open { checker.old.finished ≡ false }
-    ensures ended { OnOk result (HasText (H.files shelf.old) log.now (λ bytes. (length bytes < 2 ^ 62)
+    ensures ended { OnOk result (HasText (H.world shelf.old).files log.now (λ bytes. (length bytes < 2 ^ 62)
         × IsEndedProof checker.old.problem checker.old.vectors bytes)) }
     ensures stop { IfErr result (λ status.
         IsLogStop checker.old.problem checker.old.vectors log.now status
-        (H.files shelf.old) (H.faults shelf.old) (H.faults shelf.new)) }
-    ensures files { H.files shelf.new ≡ H.files shelf.old }
-    ensures said { H.said shelf.new ≡ H.said shelf.old }
-    ensures warned { H.warned shelf.new ≡ H.warned shelf.old }
-    ensures later { NoneFell (H.faults shelf.old) (H.faults shelf.new) }
+        (H.world shelf.old).files (H.world shelf.old).faults (H.world shelf.new).faults) }
+    ensures files { (H.world shelf.new).files ≡ (H.world shelf.old).files }
+    ensures said { (H.world shelf.new).said ≡ (H.world shelf.old).said }
+    ensures warned { (H.world shelf.new).warned ≡ (H.world shelf.old).warned }
+    ensures later { NoneFell (H.world shelf.old).faults (H.world shelf.new).faults }
 {
     let mut buffer = zeros(alloc, PIECE)?;
     let mut at = 0;
@@ -91,22 +91,22 @@ fn feed_piece<H: Shelf>(
     buffer: &mut Vec<u8>,
     shelf: &mut H,
 ) -> Result<u64, Status>
-    requires fed { IsFedSoFar (H.files shelf.old) log.now checker.old at }
+    requires fed { IsFedSoFar (H.world shelf.old).files log.now checker.old at }
     requires room { at < 2 ^ 62 - 1 }
     requires buffer { vec_len buffer.old ≡ 65536 }
-    ensures more { IfOk result (λ n. IsFedSoFar (H.files shelf.old) log.now checker.new (at + n)) }
+    ensures more { IfOk result (λ n. IsFedSoFar (H.world shelf.old).files log.now checker.new (at + n)) }
     ensures within { IfOk result (λ n. at + n < 2 ^ 62) }
-    ensures whole { IfOk result (λ n. n ≡ 0 → IsFedWhole (H.files shelf.old) log.now checker.new at) }
+    ensures whole { IfOk result (λ n. n ≡ 0 → IsFedWhole (H.world shelf.old).files log.now checker.new at) }
     ensures stop { IfErr result (λ status.
         IsLogStop checker.old.problem checker.old.vectors log.now status
-        (H.files shelf.old) (H.faults shelf.old) (H.faults shelf.new)) }
+        (H.world shelf.old).files (H.world shelf.old).faults (H.world shelf.new).faults) }
     ensures problem { checker.new.problem ≡ checker.old.problem }
     ensures vectors { checker.new.vectors ≡ checker.old.vectors }
     ensures buffer { vec_len buffer.new ≡ 65536 }
-    ensures files { H.files shelf.new ≡ H.files shelf.old }
-    ensures said { H.said shelf.new ≡ H.said shelf.old }
-    ensures warned { H.warned shelf.new ≡ H.warned shelf.old }
-    ensures later { NoneFell (H.faults shelf.old) (H.faults shelf.new) }
+    ensures files { (H.world shelf.new).files ≡ (H.world shelf.old).files }
+    ensures said { (H.world shelf.new).said ≡ (H.world shelf.old).said }
+    ensures warned { (H.world shelf.new).warned ≡ (H.world shelf.old).warned }
+    ensures later { NoneFell (H.world shelf.old).faults (H.world shelf.new).faults }
 {
     let room = (PIECE as u64).min(MOST_BYTES - at) as usize;
     let piece = &mut buffer.as_mut_slice()[..room];
@@ -124,12 +124,12 @@ fn has_more<H: Shelf>(
 ) -> Result<bool, ShelfFault>
     requires { vec_len buffer.old ≡ 65536 }
     ensures more { IfOk result (λ more. MatchBool more
-        (HasText (H.files shelf.old) log.now (λ bytes. at < length bytes))
-        (HasText (H.files shelf.old) log.now (λ bytes. length bytes ≤ at))) }
-    ensures cause { HasCause ShelfCall.Read log.now (H.faults shelf.old) (H.faults shelf.new) result }
-    ensures files { H.files shelf.new ≡ H.files shelf.old }
-    ensures said { H.said shelf.new ≡ H.said shelf.old }
-    ensures warned { H.warned shelf.new ≡ H.warned shelf.old }
+        (HasText (H.world shelf.old).files log.now (λ bytes. at < length bytes))
+        (HasText (H.world shelf.old).files log.now (λ bytes. length bytes ≤ at))) }
+    ensures cause { HasCause ShelfCall.Read log.now (H.world shelf.old).faults (H.world shelf.new).faults result }
+    ensures files { (H.world shelf.new).files ≡ (H.world shelf.old).files }
+    ensures said { (H.world shelf.new).said ≡ (H.world shelf.old).said }
+    ensures warned { (H.world shelf.new).warned ≡ (H.world shelf.old).warned }
 {
     let n = shelf.read_at(log, at, &mut buffer.as_mut_slice()[..1])?;
     Ok(n > 0)

@@ -17,12 +17,12 @@ use std::alloc::Global;
 /// Says that the front is complete, and how many vectors it has.
 pub fn say_complete<H: Shelf>(alloc: Global, size: usize, shelf: &mut H) -> Result<(), ShelfFault>
     ensures said { OnOk result
-        (H.said shelf.new ≡ followed (H.said shelf.old) (complete_line size)) }
+        ((H.world shelf.new).said ≡ followed (H.world shelf.old).said (complete_line size)) }
     ensures cut { OnErr result
-        (IsPartlyFollowed (H.said shelf.old) (H.said shelf.new) (complete_line size)) }
-    ensures files { H.files shelf.new ≡ H.files shelf.old }
-    ensures warned { H.warned shelf.new ≡ H.warned shelf.old }
-    ensures cause { HasCause ShelfCall.Say [] (H.faults shelf.old) (H.faults shelf.new) result }
+        (IsPartlyFollowed (H.world shelf.old).said (H.world shelf.new).said (complete_line size)) }
+    ensures files { (H.world shelf.new).files ≡ (H.world shelf.old).files }
+    ensures warned { (H.world shelf.new).warned ≡ (H.world shelf.old).warned }
+    ensures cause { HasCause ShelfCall.Say [] (H.world shelf.old).faults (H.world shelf.new).faults result }
 {
     let line = complete_line(alloc, size)?;
     shelf.say(line.as_slice())
@@ -36,12 +36,12 @@ pub fn say_ending<H: Shelf>(
     shelf: &mut H,
 ) -> Result<(), ShelfFault>
     ensures said { OnOk result
-        (H.said shelf.new ≡ followed (H.said shelf.old) (ending_line size ending)) }
+        ((H.world shelf.new).said ≡ followed (H.world shelf.old).said (ending_line size ending)) }
     ensures cut { OnErr result
-        (IsPartlyFollowed (H.said shelf.old) (H.said shelf.new) (ending_line size ending)) }
-    ensures files { H.files shelf.new ≡ H.files shelf.old }
-    ensures warned { H.warned shelf.new ≡ H.warned shelf.old }
-    ensures cause { HasCause ShelfCall.Say [] (H.faults shelf.old) (H.faults shelf.new) result }
+        (IsPartlyFollowed (H.world shelf.old).said (H.world shelf.new).said (ending_line size ending)) }
+    ensures files { (H.world shelf.new).files ≡ (H.world shelf.old).files }
+    ensures warned { (H.world shelf.new).warned ≡ (H.world shelf.old).warned }
+    ensures cause { HasCause ShelfCall.Say [] (H.world shelf.old).faults (H.world shelf.new).faults result }
 {
     match ending {
         Ending::Complete => say_complete(alloc, size, shelf),
@@ -55,12 +55,12 @@ pub fn say_ending<H: Shelf>(
 /// Says that list and log are accepted.
 pub fn say_accepted<H: Shelf>(shelf: &mut H) -> Result<(), ShelfFault>
     ensures said { OnOk result
-        (H.said shelf.new ≡ followed (H.said shelf.old) accepted_line) }
+        ((H.world shelf.new).said ≡ followed (H.world shelf.old).said accepted_line) }
     ensures cut { OnErr result
-        (IsPartlyFollowed (H.said shelf.old) (H.said shelf.new) accepted_line) }
-    ensures files { H.files shelf.new ≡ H.files shelf.old }
-    ensures warned { H.warned shelf.new ≡ H.warned shelf.old }
-    ensures cause { HasCause ShelfCall.Say [] (H.faults shelf.old) (H.faults shelf.new) result }
+        (IsPartlyFollowed (H.world shelf.old).said (H.world shelf.new).said accepted_line) }
+    ensures files { (H.world shelf.new).files ≡ (H.world shelf.old).files }
+    ensures warned { (H.world shelf.new).warned ≡ (H.world shelf.old).warned }
+    ensures cause { HasCause ShelfCall.Say [] (H.world shelf.old).faults (H.world shelf.new).faults result }
 {
     shelf.say(b"accepted\n")
 }
@@ -69,12 +69,12 @@ pub fn say_accepted<H: Shelf>(shelf: &mut H) -> Result<(), ShelfFault>
 /// what a warning that fails means.
 pub fn warn_of<H: Shelf>(alloc: Global, status: Status, shelf: &mut H) -> Result<(), ShelfFault>
     ensures warned { OnOk result
-        (H.warned shelf.new ≡ followed (H.warned shelf.old) (warning_text status)) }
+        ((H.world shelf.new).warned ≡ followed (H.world shelf.old).warned (warning_text status)) }
     ensures cut { OnErr result
-        (IsPartlyFollowed (H.warned shelf.old) (H.warned shelf.new) (warning_text status)) }
-    ensures files { H.files shelf.new ≡ H.files shelf.old }
-    ensures said { H.said shelf.new ≡ H.said shelf.old }
-    ensures cause { HasCause ShelfCall.Warn [] (H.faults shelf.old) (H.faults shelf.new) result }
+        (IsPartlyFollowed (H.world shelf.old).warned (H.world shelf.new).warned (warning_text status)) }
+    ensures files { (H.world shelf.new).files ≡ (H.world shelf.old).files }
+    ensures said { (H.world shelf.new).said ≡ (H.world shelf.old).said }
+    ensures cause { HasCause ShelfCall.Warn [] (H.world shelf.old).faults (H.world shelf.new).faults result }
 {
     let line = warning_text(alloc, status)?;
     if line.is_empty() {

@@ -25,13 +25,13 @@ pub fn search_with_log<'a, H: Shelf>(
     shelf: &'a mut H,
 ) -> Result<Found, Status>
     requires normal { IsNormalFormOf inst.now problem.now }
-    ensures found { IfOk result (IsLogged (H.files shelf.old) (H.files shelf.new) inst.now
+    ensures found { IfOk result (IsLogged (H.world shelf.old).files (H.world shelf.new).files inst.now
         problem.now log.now limit) }
-    ensures stopped { IfErr result (λ status. IsLogStopped status (H.files shelf.old) (H.files shelf.new)
-        problem.now log.now (H.faults shelf.old) (H.faults shelf.new)) }
-    ensures said { H.said shelf.new ≡ H.said shelf.old }
-    ensures warned { H.warned shelf.new ≡ H.warned shelf.old }
-    ensures later { NoneFell (H.faults shelf.old) (H.faults shelf.new) }
+    ensures stopped { IfErr result (λ status. IsLogStopped status (H.world shelf.old).files (H.world shelf.new).files
+        problem.now log.now (H.world shelf.old).faults (H.world shelf.new).faults) }
+    ensures said { (H.world shelf.new).said ≡ (H.world shelf.old).said }
+    ensures warned { (H.world shelf.new).warned ≡ (H.world shelf.old).warned }
+    ensures later { NoneFell (H.world shelf.old).faults (H.world shelf.new).faults }
 {
     let recorder = match FileRecorder::new(alloc, shelf, log, problem) {
         Ok(recorder) => recorder,

@@ -31,10 +31,9 @@ pub fn solve<H: Shelf>(
     shelf: &mut H,
 ) -> Result<(u64, Ending), Status>
     ensures answer { SolveAnswers format input.now list.now log.now limit (solved_or result)
-        (world H.files H.said H.warned H.faults shelf.old)
-        (world H.files H.said H.warned H.faults shelf.new) }
-    ensures warned { H.warned shelf.new ≡ H.warned shelf.old }
-    ensures later { NoneFell (H.faults shelf.old) (H.faults shelf.new) }
+        (H.world shelf.old) (H.world shelf.new) }
+    ensures warned { (H.world shelf.new).warned ≡ (H.world shelf.old).warned }
+    ensures later { NoneFell (H.world shelf.old).faults (H.world shelf.new).faults }
 {
     let inst = read_instance(alloc, format, input, shelf)?;
     let problem = normalise(alloc, &inst)?;

@@ -1,7 +1,6 @@
 use Rattle.std.proofs.Common.{◌≡◌, ℕ, true, false, arith, ap, sym, ◌∙◌, subst}
 use Rattle.std.proofs.lemmas.Option.{get_or_from_slice_get, slice_get_within}
-use Rattle.scut_base.specs.Literal.{Literal}
-use Rattle.pb_lin.specs.Cover.{is_same}
+use Rattle.scut_base.specs.Literal.{Literal, is_same}
 use Rattle.pb_lin.proofs.Coefficients.{coefficient_at, coefficient_none}
 use Rattle.pb_lin.proofs.cover.coefficient_at.Goals as goal
 

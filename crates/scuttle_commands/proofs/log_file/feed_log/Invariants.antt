@@ -7,15 +7,15 @@ abbrev pub invariant-loop-at : goal.invariant-loop-at
 invariant-loop-at g l =
     let shelf = g.H.Shelf in
     record {
-      fed : IsFedSoFar (shelf.files l.fn.shelf) l.log l.checker l.at;
+      fed : IsFedSoFar (shelf.world l.fn.shelf).files l.log l.checker l.at;
       problem : l.checker.problem ≡ l.fn.checker.problem;
       vectors : l.checker.vectors ≡ l.fn.checker.vectors;
       within : l.at < 2 ^ 62;
       buffer : vec_len l.buffer ≡ 65536;
-      files : shelf.files l.shelf ≡ shelf.files l.fn.shelf;
-      said : shelf.said l.shelf ≡ shelf.said l.fn.shelf;
-      warned : shelf.warned l.shelf ≡ shelf.warned l.fn.shelf;
-      faults : NoneFell (shelf.faults l.fn.shelf) (shelf.faults l.shelf);
+      files : (shelf.world l.shelf).files ≡ (shelf.world l.fn.shelf).files;
+      said : (shelf.world l.shelf).said ≡ (shelf.world l.fn.shelf).said;
+      warned : (shelf.world l.shelf).warned ≡ (shelf.world l.fn.shelf).warned;
+      faults : NoneFell (shelf.world l.fn.shelf).faults (shelf.world l.shelf).faults;
     }
 
 abbrev pub decreases-loop-at : goal.decreases-loop-at

@@ -17,7 +17,7 @@ returns-in_err-feed-clause-stop g c =
     let p = err_from_is_err_and c.from_residual-in_err-feed.result c.from_residual-in_err-feed.ensures.1 in
     rw (p.1, p.2)
     (feeding_stops _ _ _ _ _ _ _ f.fed (take n into)
-    (read_further _ _ f.fed into n f.first (subst (λ (a : ℕ). IsReadAt (g.H.Shelf.files c.args.shelf.now) c.args.log.now a n into) (sym f.count) c.in_ok-n.ensures.bytes))
+    (read_further _ _ f.fed into n f.first (subst (λ (a : ℕ). IsReadAt (g.H.Shelf.world c.args.shelf.now).files c.args.log.now a n into) (sym f.count) c.in_ok-n.ensures.bytes))
     (λ told. let got = c.in_ok-n.ensures.bytes told in (got.0, got.1)) long
     (λ k why is. c.in_err-feed.ensures.refused k why (ap Err is) f.fed f.stands)
     (λ k why is. c.in_err-feed.ensures.no_list k why (ap Err is)))

@@ -7,7 +7,7 @@ use Rattle.scuttle_commands.proofs.searching.search_with_log.Goals as goal
 
 pub returns-in-Ok-found-clause-found : goal.returns-in-Ok-found-clause-found
 returns-in-Ok-found-clause-found g c =
-    let files = g.H.Shelf.files in
+    let files = (λ r. (g.H.Shelf.world r).files) in
     let first = c.in-Ok.recorder in
     let solver = c.certified_front-found.new.oracle in
     let last = solver.recorder in
@@ -26,8 +26,8 @@ returns-in-Ok-found-clause-found g c =
 
 pub returns-in-Err-found-clause-stopped : goal.returns-in-Err-found-clause-stopped
 returns-in-Err-found-clause-stopped g c =
-    let files = g.H.Shelf.files in
-    let faults = g.H.Shelf.faults in
+    let files = (λ r. (g.H.Shelf.world r).files) in
+    let faults = (λ r. (g.H.Shelf.world r).faults) in
     let first = c.in-Ok.recorder in
     let solver = c.certified_front-found.new.oracle in
     let last = solver.recorder in

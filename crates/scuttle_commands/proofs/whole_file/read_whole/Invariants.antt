@@ -7,12 +7,12 @@ abbrev pub invariant-loop-piece : goal.invariant-loop-piece
 invariant-loop-piece g l =
     let shelf = g.H.Shelf in
     record {
-      start : IsReadSoFar (shelf.files l.fn.shelf) l.name l.bytes.items;
-      there : IsThereSoFar (shelf.files l.fn.shelf) l.name l.bytes.items;
-      files : shelf.files l.shelf ≡ shelf.files l.fn.shelf;
-      said : shelf.said l.shelf ≡ shelf.said l.fn.shelf;
-      warned : shelf.warned l.shelf ≡ shelf.warned l.fn.shelf;
-      faults : NoneFell (shelf.faults l.fn.shelf) (shelf.faults l.shelf);
+      start : IsReadSoFar (shelf.world l.fn.shelf).files l.name l.bytes.items;
+      there : IsThereSoFar (shelf.world l.fn.shelf).files l.name l.bytes.items;
+      files : (shelf.world l.shelf).files ≡ (shelf.world l.fn.shelf).files;
+      said : (shelf.world l.shelf).said ≡ (shelf.world l.fn.shelf).said;
+      warned : (shelf.world l.shelf).warned ≡ (shelf.world l.fn.shelf).warned;
+      faults : NoneFell (shelf.world l.fn.shelf).faults (shelf.world l.shelf).faults;
     }
 
 abbrev pub decreases-loop-piece : goal.decreases-loop-piece

@@ -8,8 +8,8 @@ abbrev pub invariant-loop-line : goal.invariant-loop-line
 invariant-loop-line g l =
     let shelf = g.H.Shelf in
     record {
-      written : shelf.files l.shelf ≡ with_file (shelf.files l.fn.shelf) l.name (concat (take l.line-index l.lines));
-      said : shelf.said l.shelf ≡ shelf.said l.fn.shelf;
-      warned : shelf.warned l.shelf ≡ shelf.warned l.fn.shelf;
-      faults : NoneFell (shelf.faults l.fn.shelf) (shelf.faults l.shelf);
+      written : (shelf.world l.shelf).files ≡ with_file (shelf.world l.fn.shelf).files l.name (concat (take l.line-index l.lines));
+      said : (shelf.world l.shelf).said ≡ (shelf.world l.fn.shelf).said;
+      warned : (shelf.world l.shelf).warned ≡ (shelf.world l.fn.shelf).warned;
+      faults : NoneFell (shelf.world l.fn.shelf).faults (shelf.world l.shelf).faults;
     }

@@ -17,7 +17,7 @@ invariant_of-self-in-Ok g c =
     let s = c.self.inside in
     let whole : s.broken ≡ false = search rules in
     let pushed : c.push_copy.new.lines ≡ s.lines ++ c.args.line.now ∷ [] = search rules in
-    let held : IsHeld (g.H.Shelf.files s.shelf.now) s.name.now s.problem s.lines s.state false = rw whole at c.self.invariant in
+    let held : IsHeld (g.H.Shelf.world s.shelf.now).files s.name.now s.problem s.lines s.state false = rw whole at c.self.invariant in
     rw (pushed, whole) (held_more _ _ _ _ _ _ _ _ held c.requires.formed c.in-Ok.ensures.written c.in-Ok.ensures.next c.in-Ok.ensures.fits)
 
 pub invariant_of-self-in-Err : goal.invariant_of-self-in-Err
@@ -25,7 +25,7 @@ invariant_of-self-in-Err g c =
     let s = c.self.inside in
     let whole : s.broken ≡ false = search rules in
     let pushed : c.push_copy.new.lines ≡ s.lines ++ c.args.line.now ∷ [] = search rules in
-    let held : IsHeld (g.H.Shelf.files s.shelf.now) s.name.now s.problem s.lines s.state false = rw whole at c.self.invariant in
+    let held : IsHeld (g.H.Shelf.world s.shelf.now).files s.name.now s.problem s.lines s.state false = rw whole at c.self.invariant in
     let may : MayBeAdded s.problem s.lines c.args.line.now = rw (← c.self.view_is) at c.requires.legal in
     let legal : IsLegal s.problem s.state c.args.line.now = legal_here s.problem s.lines s.state c.args.line.now c.if-is_full.ensures.state c.self.invariant.kept.replay c.if-is_full.ensures.full may in
     rw (c.pop_last.ensures s.lines c.args.line.now pushed, c.in-Err.ensures.same) (held_partly _ _ _ _ _ _ _ held c.requires.formed legal c.in-Err.ensures.partly)
