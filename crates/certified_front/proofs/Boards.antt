@@ -12,7 +12,8 @@ use Rattle.proof_laws.specs.State.{StateValue, start}
 use Rattle.proof_laws.specs.Replay.{IsReplay}
 use Rattle.proof_laws.specs.declared.line.Line.{Line}
 use Rattle.log_checker.specs.Accepted.{IsCovered, problem_vectors}
-use Rattle.sum_outputs.specs.Adding.{Snapshot, IsReached}
+use Rattle.proof_rules.specs.Recording.{Snapshot}
+use Rattle.sum_outputs.specs.Adding.{IsReached}
 use Rattle.search_base.specs.Boards.{BoardValue, IsBoard}
 use Rattle.search_base.specs.CostBounds.{FitBounds}
 use Rattle.search_base.specs.Good.{IsGood}

@@ -13,8 +13,8 @@ use Rattle.proof_laws.specs.declared.line.Line.TheVariants.{End}
 use Rattle.proof_laws.specs.declared.why.Why.{Why}
 use Rattle.proof_laws.specs.declared.why.Why.TheVariants.{AfterEnd, LogLong}
 use Rattle.proof_laws.proofs.Replays.{replay_before, replay_once}
-use Rattle.proof_rules.specs.Recording.{MayBeAdded}
-use Rattle.sum_outputs.specs.Adding.{Snapshot, IsReady, IsReached}
+use Rattle.proof_rules.specs.Recording.{Snapshot, MayBeAdded}
+use Rattle.sum_outputs.specs.Adding.{IsReady, IsReached}
 use Rattle.search_base.specs.Boards.{BoardValue, IsBoard}
 use Rattle.search_base.specs.Logged.{LogsNone, logged}
 use Rattle.search_base.specs.Turns.{IsEndLine}

@@ -1,10 +1,9 @@
 -- Why a search for a front stops without one, and what it never changes.
 use Rattle.std.specs.Prelude.{◌≡◌, ◌≤◌, ◌^◌, length}
 use Rattle.scut_base.specs.Faults.{Rose}
-use Rattle.proof_rules.specs.Recording.{KeepsSurroundings}
+use Rattle.proof_rules.specs.Recording.{Snapshot, KeepsSurroundings}
 use Rattle.proof_rules.specs.declared.recorder.RecordFault.{RecordFault}
 use Rattle.proof_rules.specs.declared.recorder.RecordFault.TheVariants.{Failed, Full, NoMemory}
-use Rattle.sum_outputs.specs.Adding.{Snapshot}
 
 -- what no call changes, whatever lines it adds
 pub record StaysWith (a b : Snapshot) : Type 0 where

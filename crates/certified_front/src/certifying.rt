@@ -7,7 +7,7 @@ ghost use Rattle.front_set.specs.Front.{vectors_of};
 ghost use Rattle.instance.specs.ParetoFront.{listed_entry};
 ghost use Rattle.instance_normal.specs.NormalForm.{IsNormalFormOf};
 ghost use Rattle.proof_rules.specs.Recording.{KeepsSurroundings};
-ghost use Rattle.sum_outputs.specs.Adding.{seen, IsReady};
+ghost use Rattle.sum_outputs.specs.Adding.{IsReady};
 ghost use Rattle.search_base.specs.Boards.{IsBoard, IsModelPair};
 ghost use Rattle.search_base.specs.Good.{IsGood, KeepsBoard};
 ghost use Rattle.search_base.specs.Logged.{LogsNone, logged};

@@ -6,6 +6,7 @@ use Rattle.scut_base.specs.Literal.{Literal}
 use Rattle.scut_base.specs.Assignment.{lit_true}
 use Rattle.pb_lin.specs.Constraint.{ConstraintValue, Holds, IsVariable, literals, opposite}
 use Rattle.pb_lin.specs.Problem.{ProblemValue}
+use Rattle.hint_rup.specs.declared.hint.Hint.{Hint}
 use Rattle.proof_laws.specs.State.{StateValue}
 use Rattle.proof_laws.specs.Refusal.{is_clause}
 use Rattle.proof_laws.specs.Replay.{IsReplay}
@@ -84,6 +85,16 @@ pub record AddsSearchLines (p : ProblemValue) (old new : List Line) : Type 0 whe
   pub is : new ≡ old ++ more
   pub kinds : (first : List Line) (line : Line) (after : List Line) → more ≡ first ++ (line ∷ after) → IsSearchLine p (old ++ first) line
   pub one_implied : count_by is_rup more ≤ 1
+
+-- the clause of an answer's core
+abbrev pub IsCoreClause : Result Answer OracleFault → ConstraintValue → Type 0
+IsCoreClause (Ok (Unsat core)) goal = IsClauseAgainst core.lits goal
+IsCoreClause result goal = ⊥
+
+-- An implied clause among the new lines is that of the core, so there is one only where a core is answered.
+abbrev pub ImpliesCoreAlone : List Line → List Line → Result Answer OracleFault → Type 0
+ImpliesCoreAlone old new result = (first after : List Line) (goal : ConstraintValue) (hints : List Hint)
+    → new ≡ old ++ (first ++ (Rup goal hints ∷ after)) → IsCoreClause result goal
 
 -- ---- the faults
 

@@ -1,8 +1,8 @@
 // What may be asked of an oracle.
-ghost use Rattle.std.specs.Prelude.{◌≡◌, ◌≤◌, false, IfOk, IfErr, OnOk};
+ghost use Rattle.std.specs.Prelude.{◌≡◌, false, IfOk, IfErr, OnOk};
 ghost use Rattle.scut_base.specs.Faults.{Rose};
-ghost use Rattle.proof_rules.specs.Recording.{KeepsSurroundings};
-ghost use Rattle.oracle.specs.Solving.{AddsSearchLines, AreAssumptions, AreEarned, HasFault, IsAnswer};
+ghost use Rattle.proof_rules.specs.Recording.{KeepsRecorder};
+ghost use Rattle.oracle.specs.Solving.{AddsSearchLines, AreAssumptions, ImpliesCoreAlone, AreEarned, HasFault, IsAnswer};
 ghost use Rattle.oracle.specs.Solving.{IsOrderly, IsWithin, Reaches};
 
 use crate::{Answer, OracleFault};
@@ -32,11 +32,9 @@ pub trait Oracle: Recorder {
         ensures whole { OnOk result ((Self.seen self.new).broken ≡ false) }
         ensures lines { AddsSearchLines (Self.seen self.old).problem
             (Self.seen self.old).lines (Self.seen self.new).lines }
+        ensures implied { ImpliesCoreAlone (Self.seen self.old).lines (Self.seen self.new).lines result }
         ensures earned { IsOrderly result
             → AreEarned (Self.seen self.old).problem (Self.seen self.new).lines }
         ensures within { IsWithin (Self.seen self.old).limit (Self.seen self.old).problem (Self.seen self.new).lines }
-        ensures later { (Self.seen self.old).faults ≤ (Self.seen self.new).faults }
-        ensures problem { (Self.seen self.new).problem ≡ (Self.seen self.old).problem }
-        ensures limit { (Self.seen self.new).limit ≡ (Self.seen self.old).limit }
-        ensures around { KeepsSurroundings (Self.seen self.old).around (Self.seen self.new).around };
+        ensures keeps { KeepsRecorder (Self.seen self.old) (Self.seen self.new) };
 }

@@ -6,7 +6,7 @@ use Rattle.front_set.specs.Vector.{IsBelow}
 use Rattle.front_set.proofs.FrontLaws.{IsBelow-trans, length-IsBelow}
 use Rattle.pb_lin.specs.CostRow.{row_cost}
 use Rattle.pb_lin.specs.Problem.{ProblemValue, problem_costs}
-use Rattle.sum_outputs.specs.Adding.{Snapshot}
+use Rattle.proof_rules.specs.Recording.{Snapshot}
 use Rattle.search_base.specs.Logged.{Logs, LogsNone, logged}
 use Rattle.search_base.specs.Turns.{IsTaken}
 use Rattle.p_minimal.specs.Aiming.{AimsLower, Serves}

@@ -4,7 +4,8 @@ use Rattle.std.proofs.lemmas.List.{get_or_default}
 use Rattle.scut_base.specs.Literal.{Literal}
 use Rattle.pb_lin.specs.CostRow.{CostRowValue}
 use Rattle.pb_lin.specs.Problem.{ProblemValue}
-use Rattle.sum_outputs.specs.Adding.{Snapshot, Continues, IsReady}
+use Rattle.proof_rules.specs.Recording.{Snapshot}
+use Rattle.sum_outputs.specs.Adding.{Continues, IsReady}
 use Rattle.totalizer.specs.Keeping.{BoundStays}
 use Rattle.totalizer.specs.declared.bound.Bound.{Bound}
 use Rattle.search_base.specs.CostBounds.{IsCostBound}

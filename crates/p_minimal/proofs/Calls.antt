@@ -8,13 +8,13 @@ use Rattle.pb_lin.specs.Problem.{ProblemValue}
 use Rattle.instance_normal.specs.NormalForm.{CostSource, IsCostRowOf}
 use Rattle.proof_laws.specs.State.{StateValue}
 use Rattle.proof_laws.proofs.Replays.{replay_once}
-use Rattle.proof_rules.specs.Recording.{KeepsSurroundings}
+use Rattle.proof_rules.specs.Recording.{Snapshot, KeepsSurroundings}
 use Rattle.proof_rules.specs.declared.recorder.RecordFault.{RecordFault}
 use Rattle.proof_rules.specs.declared.recorder.RecordFault.TheVariants.{Failed as RecordingFailed, Full as RecordFull, NoMemory as RecordNoMemory}
 use Rattle.oracle.specs.Solving.{AddsSearchLines, AreEarned, HasFault, IsOrderly, IsWithin, Reaches, fault_of_recording}
 use Rattle.oracle.specs.declared.fault.OracleFault.{OracleFault}
 use Rattle.oracle.specs.declared.fault.OracleFault.TheVariants.{Spent, Failed, Full, NoMemory}
-use Rattle.sum_outputs.specs.Adding.{Snapshot, Continues, IsReady}
+use Rattle.sum_outputs.specs.Adding.{Continues, IsReady}
 use Rattle.search_base.specs.CostBounds.{FitBounds}
 use Rattle.search_base.specs.Good.{GoesOn}
 use Rattle.search_base.specs.Laws.{AskingStaysGood, BoundingStaysGood, TurnLinesJoin}

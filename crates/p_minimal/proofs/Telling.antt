@@ -6,10 +6,11 @@ use Rattle.scut_base.specs.Assignment.{lit_true}
 use Rattle.pb_lin.specs.Problem.{ProblemValue}
 use Rattle.proof_laws.specs.State.{StateValue}
 use Rattle.proof_laws.specs.Replay.{IsReplay}
+use Rattle.proof_rules.specs.Recording.{Snapshot}
 use Rattle.oracle.specs.Solving.{AddsSearchLines, AreEarned, IsAnswer, IsCore, Reaches}
 use Rattle.oracle.specs.declared.answer.Answer.{Answer}
 use Rattle.oracle.specs.declared.answer.Answer.TheVariants.{Sat, Unsat}
-use Rattle.sum_outputs.specs.Adding.{Snapshot, IsReached, KeptHold}
+use Rattle.sum_outputs.specs.Adding.{IsReached, KeptHold}
 use Rattle.totalizer.specs.Keeping.{BoundStays}
 use Rattle.search_base.specs.Laws.{TurnLinesJoin, TurnLinesKeepOwn}
 use Rattle.search_base.specs.Turns.{IsRemaining, IsTakable}

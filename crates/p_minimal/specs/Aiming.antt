@@ -2,7 +2,7 @@
 use Rattle.std.specs.Prelude.{◌≡◌, ℕ, List, ℤ, length, Option, None, Some, IfSome}
 use Rattle.front_set.specs.Vector.{IsBelow}
 use Rattle.pb_lin.specs.Problem.{ProblemValue}
-use Rattle.sum_outputs.specs.Adding.{Snapshot}
+use Rattle.proof_rules.specs.Recording.{Snapshot}
 use Rattle.search_base.specs.Logged.{Logs}
 use Rattle.search_base.specs.Turns.{IsRemaining}
 use Rattle.search_base.specs.declared.turn.Turn.{Turn}

@@ -6,9 +6,9 @@ use Rattle.pb_lin.specs.Constraint.{opposite}
 use Rattle.pb_lin.specs.CostRow.{CostRowValue}
 use Rattle.pb_lin.specs.Problem.{ProblemValue, problem_costs}
 use Rattle.proof_laws.specs.declared.line.Line.{Line}
+use Rattle.proof_rules.specs.Recording.{Snapshot}
 use Rattle.oracle.specs.declared.answer.Answer.{Answer}
 use Rattle.oracle.specs.declared.answer.Answer.TheVariants.{Sat, Unsat}
-use Rattle.sum_outputs.specs.Adding.{Snapshot}
 use Rattle.totalizer.specs.declared.bound.Bound.{Bound}
 use Rattle.totalizer.specs.declared.bound.Bound.TheVariants.{Always, Never, At}
 use Rattle.search_base.specs.Logged.{LogsNone}

@@ -1,6 +1,5 @@
 // The search for minimal models.
 ghost use Rattle.std.specs.Prelude.{◌≡◌, None, IfOk, IfErr, option_copied};
-ghost use Rattle.sum_outputs.specs.Adding.{seen};
 ghost use Rattle.search_base.specs.Good.{GoesOn, IsGood, KeepsBoard};
 ghost use Rattle.search_base.specs.Turns.{IsInOrder, IsSearchFault, IsTurn};
 ghost use Rattle.p_minimal.specs.Aiming.{Aims, Serves, own_number};

@@ -1,7 +1,7 @@
 // The question whether a model has costs below an aim.
 ghost use Rattle.std.specs.Prelude.{◌≡◌, ◌<◌, length, slice_index_or, All, pos, ◌+ℤ◌, IfOk, IfErr, OnOk, MatchBool};
 ghost use Rattle.pb_lin.specs.CostRow.{CostRowValue, IsCostRow};
-ghost use Rattle.sum_outputs.specs.Adding.{seen, IsReady, IsRecorded};
+ghost use Rattle.sum_outputs.specs.Adding.{IsReady, IsRecorded};
 ghost use Rattle.search_base.specs.CostBounds.{FitBounds, IsCostBound};
 ghost use Rattle.p_minimal.specs.Asking.{AddsDenial, IsQuestion, IsUndeniable};
 

@@ -1,5 +1,5 @@
 -- What recorders keep.
-use Rattle.std.specs.Prelude.{◌≡◌, ◌⊎◌, ℕ, List, Option, None, Some}
+use Rattle.std.specs.Prelude.{◌≡◌, ◌≤◌, ◌⊎◌, ℕ, Bool, List, Option, None, Some}
 use Rattle.std.specs.Borrow.{GName}
 use Rattle.scut_base.specs.Files.{Files}
 use Rattle.scut_base.specs.Faults.{Faults, NoneFell}
@@ -33,6 +33,27 @@ pub record KeepsSurroundings (before now : Surroundings) : Type 0 where
   pub said : now.said ≡ before.said
   pub warned : now.warned ≡ before.warned
   pub counts : CountsLater before.counts now.counts
+
+-- what can be seen of a recorder at one time
+pub record Snapshot : Type 0 where
+  pub problem : ProblemValue
+  -- how many clauses may be learned, where that is limited
+  pub limit : Option ℕ
+  -- the lines so far
+  pub lines : List Line
+  -- how often what keeps the proof has failed
+  pub faults : ℕ
+  -- an answer has left it unusable
+  pub broken : Bool
+  -- what stands around it and stays as it is
+  pub around : Surroundings
+
+-- What no call changes: the problem, the limit and the surroundings; and no fault is forgotten.
+pub record KeepsRecorder (before now : Snapshot) : Type 0 where
+  pub problem : now.problem ≡ before.problem
+  pub limit : now.limit ≡ before.limit
+  pub around : KeepsSurroundings before.around now.around
+  pub later : before.faults ≤ now.faults
 
 -- the line is legal after these, or refused for their number alone
 abbrev pub MayBeAdded : ProblemValue → List Line → Line → Type 0

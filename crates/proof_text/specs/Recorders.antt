@@ -6,15 +6,16 @@ use Rattle.scut_base.specs.Faults.{Faults, NoneFell, Rose, count, one_more}
 use Rattle.scut_base.specs.declared.shelf.ShelfCall.TheVariants.{Append}
 use Rattle.scut_base.specs.declared.shelf.ShelfFault.{ShelfFault}
 use Rattle.scut_base.specs.declared.shelf.ShelfFault.TheVariants.{Failed as ShelfFailed, NoMemory as ShelfNoMemory}
+use Rattle.scut_base.specs.World.{World}
 use Rattle.pb_lin.specs.Problem.{ProblemValue}
 use Rattle.proof_laws.specs.WellFormed.{IsWellFormed}
 use Rattle.proof_laws.specs.State.{StateValue, Fits, start}
 use Rattle.proof_laws.specs.Replay.{IsReplay}
 use Rattle.proof_laws.specs.declared.line.Line.{Line}
-use Rattle.proof_rules.specs.Recording.{Surroundings}
+use Rattle.proof_rules.specs.Recording.{Surroundings, Snapshot}
 use Rattle.proof_rules.specs.declared.recorder.RecordFault.{RecordFault}
 use Rattle.proof_rules.specs.declared.recorder.RecordFault.TheVariants.{Failed, Full, NoMemory}
-use Rattle.proof_text.specs.LogFile.{IsLogFile}
+use Rattle.proof_text.specs.LogFile.{IsLogFile, Held}
 
 -- lines that a log can spell, each legal where it stands, and the state that they reach
 pub record IsKept (p : ProblemValue) (lines : List Line) (s : StateValue) : Type 0 where
@@ -42,6 +43,10 @@ no_lines p fail_at = record { problem = p; lines = []; state = start p; calls = 
 abbrev pub apart : Surroundings
 apart = record { shelf = None; name = []; others = None; said = None; warned = None; counts = None }
 
+-- what can be seen of it
+abbrev pub memory_seen : MemoryLog → Snapshot
+memory_seen r = record { problem = r.problem; limit = None; lines = r.lines; faults = r.faults; broken = r.broken; around = apart }
+
 -- the next call is to fail
 abbrev pub IsPlanned : MemoryLog → Type 0
 IsPlanned r = r.calls + 1 ≡ r.fail_at
@@ -64,6 +69,24 @@ pub record IsHeld (files : Option Files) (name : List ℕ) (p : ProblemValue) (l
 unfoldable pub without_file : Option Files → List ℕ → Option Files
 without_file None name = None
 without_file (Some m) name = Some (remove m name)
+
+-- what can be seen of a recorder in a file, of a shelf that tells this
+abbrev pub file_seen : {H : Type 0} → (H → World) → Held H → Snapshot
+file_seen world r = record {
+  problem = r.problem;
+  limit = None;
+  lines = r.lines;
+  faults = count (world r.shelf.now).faults Append r.name;
+  broken = r.broken;
+  around = record {
+    shelf = Some r.shelf.ghost_name;
+    name = r.name;
+    others = without_file (world r.shelf.now).files r.name;
+    said = (world r.shelf.now).said;
+    warned = (world r.shelf.now).warned;
+    counts = Some (world r.shelf.now).faults;
+  };
+}
 
 -- the same fault, of a recorder
 abbrev pub fault_of : ShelfFault → RecordFault

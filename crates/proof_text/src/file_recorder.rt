@@ -1,14 +1,15 @@
 // A proof in a file of a shelf that is lent for the recorder's life.
-ghost use Rattle.std.specs.Prelude.{◌≡◌, ◌≢◌, [], false, IfOk, IfErr, OnOk, OnErr, IsErrOf, IsSome};
+ghost use Rattle.std.specs.Prelude.{◌≡◌, ◌≢◌, ◌↔◌, ◌^◌, ◌++◌, ◌∷◌, [], true, false, length, IfOk, IfErr, OnOk, OnErr, IsErrOf, IsSome};
 ghost use Rattle.scut_base.specs.Files.{content, with_file, with_appended, IsTold};
-ghost use Rattle.scut_base.specs.Faults.{NoneFell, WritingFailed};
+ghost use Rattle.scut_base.specs.Faults.{NoneFell, Rose, WritingFailed};
 ghost use Rattle.proof_laws.specs.WellFormed.{IsWellFormed};
 ghost use Rattle.proof_laws.specs.State.{Fits};
 ghost use Rattle.proof_laws.specs.Legal.{IsLegal, IsNext};
+ghost use Rattle.proof_rules.specs.Recording.{KeepsRecorder, MayBeAdded, IsNextId};
 ghost use Rattle.proof_lines.specs.LineText.{printed};
 ghost use Rattle.proof_text.specs.LogText.{header_line};
 ghost use Rattle.proof_text.specs.LogFile.{IsLogFile, IsNotBegun};
-ghost use Rattle.proof_text.specs.Recorders.{fault_of, without_file, IsKept, IsPutPartly, IsWrite};
+ghost use Rattle.proof_text.specs.Recorders.{fault_of, without_file, file_seen, IsKept, IsPutPartly, IsWrite};
 
 use crate::keeping::{advance, is_full, pop_last, push_copy, start};
 use pb_lin::PbProblem;
@@ -149,29 +150,33 @@ impl<'a, H: Shelf> FileRecorder<'a, H> {
     }
 }
 
+// The trait's clauses stand first, and then what the call puts into the file.
 impl<'a, H: Shelf> Recorder for FileRecorder<'a, H> {
-    ghost use Rattle.std.specs.Prelude.{None, Some};
-    ghost use Rattle.scut_base.specs.Faults.{count};
-    ghost use Rattle.scut_base.specs.declared.shelf.ShelfCall.TheVariants.{Append};
-    ghost use Rattle.proof_text.specs.Recorders.{without_file};
+    ghost use Rattle.proof_text.specs.Recorders.{file_seen};
 
-    ghost problem = { λ r. r.problem };
+    ghost seen = { file_seen H.world };
 
-    ghost limit = { λ r. None };
-
-    ghost lines = { λ r. r.lines };
-
-    ghost faults = { λ r. count (H.world r.shelf.now).faults Append r.name };
-
-    ghost broken = { λ r. r.broken };
-
-    ghost around = { λ r. record {
-      shelf = Some r.shelf.ghost_name;
-      name = r.name; others = without_file (H.world r.shelf.now).files r.name;
-      said = (H.world r.shelf.now).said; warned = (H.world r.shelf.now).warned;
-      counts = Some (H.world r.shelf.now).faults; } };
-
-    fn add_line(&mut self, line: &Line) -> Result<u64, RecordFault> {
+    fn add_line(&mut self, line: &Line) -> Result<u64, RecordFault>
+        requires formed { IsWellFormed line.now }
+        requires legal { MayBeAdded self.old.problem self.old.lines line.now }
+        requires whole { self.old.broken ≡ false }
+        ensures added { OnOk result (self.new.lines ≡ self.old.lines ++ line.now ∷ []) }
+        ensures id { IfOk result (IsNextId self.old.problem self.old.lines) }
+        ensures whole { OnOk result (self.new.broken ≡ false) }
+        ensures kept { OnErr result (self.new.lines ≡ self.old.lines) }
+        ensures full { IsErrOf result RecordFault.Full ↔ (length self.old.lines ≡ 2 ^ 61) }
+        ensures full_same { IsErrOf result RecordFault.Full
+            → file_seen H.world self.new ≡ file_seen H.world self.old }
+        ensures failed { IsErrOf result RecordFault.Failed
+            → Rose (file_seen H.world self.old).faults (file_seen H.world self.new).faults }
+        ensures failed_broken { IsErrOf result RecordFault.Failed → self.new.broken ≡ true }
+        ensures short_broken { IsErrOf result RecordFault.NoMemory → self.new.broken ≡ true }
+        ensures keeps { KeepsRecorder (file_seen H.world self.old) (file_seen H.world self.new) }
+        ensures written { OnOk result ((H.world self.new.shelf.now).files
+            ≡ with_appended (H.world self.old.shelf.now).files self.old.name (printed line.now)) }
+        ensures partly { OnErr result (IsPutPartly (H.world self.old.shelf.now).files
+            (H.world self.new.shelf.now).files self.old.name (printed line.now)) }
+    {
         if is_full(&self.lines, &self.state) {
             return Err(RecordFault::Full);
         }

@@ -1,10 +1,10 @@
 // A proof in memory, whose calls fail where they are told to.
-ghost use Rattle.std.specs.Prelude.{◌≡◌, ◌↔◌, ◌≤◌, ◌^◌, ◌++◌, ◌∷◌, ◌+◌, [], true, false, length, MatchBool, IfOk, OnOk, OnErr, IsErrOf};
+ghost use Rattle.std.specs.Prelude.{◌≡◌, ◌↔◌, ◌^◌, ◌++◌, ◌∷◌, ◌+◌, [], true, false, length, MatchBool, IfOk, OnOk, OnErr, IsErrOf};
 ghost use Rattle.scut_base.specs.Faults.{Rose, one_more};
 ghost use Rattle.proof_laws.specs.WellFormed.{IsWellFormed};
 ghost use Rattle.proof_laws.specs.Legal.{IsLegal};
-ghost use Rattle.proof_rules.specs.Recording.{MayBeAdded, IsNextId};
-ghost use Rattle.proof_text.specs.Recorders.{no_lines, IsPlanned, Counts, IsKept};
+ghost use Rattle.proof_rules.specs.Recording.{KeepsRecorder, MayBeAdded, IsNextId};
+ghost use Rattle.proof_text.specs.Recorders.{no_lines, memory_seen, IsPlanned, Counts, IsKept};
 
 use crate::keeping::{advance, is_full, pop_last, push_copy, start};
 use pb_lin::PbProblem;
@@ -98,20 +98,9 @@ impl MemRecorder {
 
 // The trait's clauses stand first, and then what the call counts, exactly.
 impl Recorder for MemRecorder {
-    ghost use Rattle.std.specs.Prelude.{None};
-    ghost use Rattle.proof_text.specs.Recorders.{apart};
+    ghost use Rattle.proof_text.specs.Recorders.{memory_seen};
 
-    ghost problem = { λ r. r.problem };
-
-    ghost limit = { λ r. None };
-
-    ghost lines = { λ r. r.lines };
-
-    ghost faults = { λ r. r.faults };
-
-    ghost broken = { λ r. r.broken };
-
-    ghost around = { λ r. apart };
+    ghost seen = { memory_seen };
 
     fn add_line(&mut self, line: &Line) -> Result<u64, RecordFault>
         requires formed { IsWellFormed line.now }
@@ -119,13 +108,14 @@ impl Recorder for MemRecorder {
         requires whole { self.old.broken ≡ false }
         ensures added { OnOk result (self.new.lines ≡ self.old.lines ++ line.now ∷ []) }
         ensures id { IfOk result (IsNextId self.old.problem self.old.lines) }
+        ensures whole { OnOk result (self.new.broken ≡ false) }
         ensures kept { OnErr result (self.new.lines ≡ self.old.lines) }
         ensures full { IsErrOf result RecordFault.Full ↔ (length self.old.lines ≡ 2 ^ 61) }
+        ensures full_same { IsErrOf result RecordFault.Full → self.new ≡ self.old }
         ensures failed { IsErrOf result RecordFault.Failed → Rose self.old.faults self.new.faults }
-        ensures whole { OnOk result (self.new.broken ≡ false) }
-        ensures full_whole { IsErrOf result RecordFault.Full → self.new.broken ≡ false }
-        ensures later { self.old.faults ≤ self.new.faults }
-        ensures problem { self.new.problem ≡ self.old.problem }
+        ensures failed_broken { IsErrOf result RecordFault.Failed → self.new.broken ≡ true }
+        ensures short_broken { IsErrOf result RecordFault.NoMemory → self.new.broken ≡ true }
+        ensures keeps { KeepsRecorder (memory_seen self.old) (memory_seen self.new) }
         ensures counts { Counts self.old result self.new }
         ensures plan { self.new.fail_at ≡ self.old.fail_at }
     {

@@ -6,7 +6,7 @@ use Rattle.std.proofs.lemmas.Option.{none-some}
 use Rattle.scut_base.specs.declared.shelf.ShelfFault.{ShelfFault}
 use Rattle.scut_base.specs.Files.{IsPartlyFollowed}
 use Rattle.scut_base.specs.Faults.{NoneFell}
-use Rattle.scuttle_commands.specs.World.{World}
+use Rattle.scut_base.specs.World.{World}
 use Rattle.scuttle_commands.specs.Messages.{IsWarned}
 use Rattle.scuttle_commands.specs.FrontAnswers.{FrontAnswers}
 use Rattle.scuttle_commands.specs.CheckAnswers.{CheckAnswers}

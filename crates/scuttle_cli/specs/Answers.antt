@@ -1,6 +1,6 @@
 -- What a run answers, by what the words ask for: for each command a table from its statuses to what they say of the world before and after.
 use Rattle.std.specs.Prelude.{Option, Some, None}
-use Rattle.scuttle_commands.specs.World.{World}
+use Rattle.scut_base.specs.World.{World}
 use Rattle.scuttle_commands.specs.Causes.{IsUntouched}
 use Rattle.scuttle_cli.specs.Command.{Request, FrontOf, SolveOf, CheckOf}
 use Rattle.scuttle_commands.specs.FrontAnswers.{FrontAnswers, FrontCompletes}

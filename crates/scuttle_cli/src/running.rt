@@ -2,7 +2,6 @@
 ghost use Rattle.std.specs.Prelude.{◌≡◌, ◌≢◌, ◌↔◌, None, map, string_bytes};
 ghost use Rattle.scut_base.specs.Faults.{NoneFell};
 ghost use Rattle.scut_base.specs.Files.{IsPartlyFollowed};
-ghost use Rattle.scuttle_commands.specs.World.{world};
 ghost use Rattle.scuttle_commands.specs.Messages.{warning_text, IsWarned};
 ghost use Rattle.scuttle_cli.specs.Command.{request_of};
 ghost use Rattle.scuttle_cli.specs.Answers.{Answers, Completes};

@@ -15,7 +15,7 @@ use Rattle.pb_lin.specs.Problem.{ProblemValue, IsProblem}
 use Rattle.log_checker.specs.declared.fault.CheckFault.TheVariants.{Refused as LineRefused, ListRefused}
 use Rattle.log_checker.specs.Accepted.{IsAccepted, IsRightList, IsEndedProof, problem_vectors}
 use Rattle.log_checker.proofs.AcceptedFront.{accepted_front}
-use Rattle.scuttle_commands.specs.World.{World}
+use Rattle.scut_base.specs.World.{World}
 use Rattle.scuttle_commands.specs.Causes.{HasText}
 use Rattle.scuttle_commands.specs.CheckAnswers.{CheckAnswers, OfInstance, OfLog, OfRightList, IsTakenAndAccepted, IsTakenFault, IsTooLarge, IsCutOff}
 use Rattle.scuttle_commands.specs.InstanceFile.{IsTextOf}

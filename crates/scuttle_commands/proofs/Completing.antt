@@ -9,7 +9,7 @@ use Rattle.instance.specs.Shape.{InstanceValue}
 use Rattle.instance.specs.declared.fault.InstanceLimit.TheVariants.{Bytes, Vars}
 use Rattle.instance.specs.declared.fault.ReadFault.{ReadFault}
 use Rattle.instance.specs.declared.fault.ReadFault.TheVariants.{Bad, Limit}
-use Rattle.scuttle_commands.specs.World.{World}
+use Rattle.scut_base.specs.World.{World}
 use Rattle.scuttle_commands.specs.InstanceFile.{IsTextOf, HasFault, HasFewVariables, HasManyVariables}
 use Rattle.scuttle_commands.specs.FrontAnswers.{FrontAnswers, FrontCompletes}
 use Rattle.scuttle_commands.specs.SolveAnswers.{SolveAnswers, SolveCompletes}

@@ -11,7 +11,7 @@ use Rattle.front_set.specs.ListText.{list_text}
 use Rattle.instance.specs.Shape.{InstanceValue}
 use Rattle.instance.specs.ParetoFront.{IsFront}
 use Rattle.instance.proofs.EmptyFront.{empty_exactly}
-use Rattle.scuttle_commands.specs.World.{World}
+use Rattle.scut_base.specs.World.{World}
 use Rattle.front_text.specs.Lines.{list_lines}
 use Rattle.front_text.proofs.Lines.{concat-list_lines}
 use Rattle.scuttle_commands.specs.Messages.{complete_line}

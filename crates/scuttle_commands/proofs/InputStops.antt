@@ -7,7 +7,7 @@ use Rattle.instance.specs.Reading.{IsFaultOf}
 use Rattle.instance.specs.declared.fault.InstanceLimit.TheVariants.{Bytes, Vars}
 use Rattle.instance.specs.declared.fault.ReadFault.{ReadFault}
 use Rattle.instance.specs.declared.fault.ReadFault.TheVariants.{Bad, Limit, NoMemory as ReadNoMemory}
-use Rattle.scuttle_commands.specs.World.{World}
+use Rattle.scut_base.specs.World.{World}
 use Rattle.scuttle_commands.specs.InstanceFile.{fault_in}
 use Rattle.scuttle_commands.specs.WholeFile.{IsWhole}
 use Rattle.scuttle_commands.specs.Statuses.{status_of_reading}

@@ -4,7 +4,7 @@ use Rattle.std.specs.Prelude.{Option}
 use Rattle.scut_base.specs.Files.{IsTouched, IsPartlyFollowed}
 use Rattle.scut_base.specs.Faults.{NoneFell}
 use Rattle.instance.specs.declared.fault.InstanceLimit.TheVariants.{Bytes, Vars}
-use Rattle.scuttle_commands.specs.World.{World}
+use Rattle.scut_base.specs.World.{World}
 use Rattle.scuttle_commands.specs.Messages.{accepted_line, complete_line, ending_line}
 use Rattle.scuttle_commands.specs.FrontAnswers.{FrontAnswers, IsComplete, IsCutShort, IsFrontWritten, IsPrefixOfFront}
 use Rattle.scuttle_commands.specs.Causes.{IsRefused, IsUntouched}

@@ -23,7 +23,7 @@ use Rattle.certified_front.specs.Certified.{HasEnded, IsEnding}
 use Rattle.certified_front.specs.declared.ending.Ending.{Ending}
 use Rattle.certified_front.specs.declared.ending.Ending.TheVariants.{Complete as EndingComplete, Incomplete as EndingIncomplete}
 use Rattle.certified_front.specs.declared.ending.Found.{Found}
-use Rattle.scuttle_commands.specs.World.{World}
+use Rattle.scut_base.specs.World.{World}
 use Rattle.scuttle_commands.specs.Messages.{ending_line}
 use Rattle.scuttle_commands.specs.Searches.{IsLogged, IsLogStopped}
 use Rattle.scuttle_commands.specs.SolveAnswers.{AreWritten, IsCertified, IsFound, IsLogTouched, IsPartOfLog, IsProblemOf, IsSolvedPartly, OwnCountRose, SolveAnswers, is_complete}

@@ -1,7 +1,7 @@
 -- What an answer says of the files and of what was said, whatever the command is.
 use Rattle.std.specs.Prelude.{◌≡◌, ℕ, List, Option, Some}
 use Rattle.scut_base.specs.Files.{Files, content, IsTold}
-use Rattle.scuttle_commands.specs.World.{World}
+use Rattle.scut_base.specs.World.{World}
 
 -- where the files are told, this one is there, and its bytes have P
 abbrev pub HasText : Option Files → List ℕ → (List ℕ → Type 0) → Type 0

@@ -16,7 +16,7 @@ use Rattle.log_checker.specs.declared.fault.CheckFault.TheVariants.{Refused as L
 use Rattle.log_checker.specs.Accepted.{IsAccepted, IsRightList, problem_vectors}
 use Rattle.log_checker.specs.ListFaults.{IsListFault}
 use Rattle.log_checker.specs.LogFaults.{IsLogFault, IsWholeFault, HasNoWholeFault}
-use Rattle.scuttle_commands.specs.World.{World}
+use Rattle.scut_base.specs.World.{World}
 use Rattle.scuttle_commands.specs.Causes.{HasText, IsRefused}
 use Rattle.scuttle_commands.specs.InstanceFile.{IsTextOf, HasFault}
 use Rattle.scuttle_commands.specs.Messages.{accepted_line}

@@ -9,7 +9,7 @@ use Rattle.instance.specs.declared.fault.ReadFault.TheVariants.{Bad, Limit}
 use Rattle.instance.specs.Shape.{InstanceValue}
 use Rattle.instance.specs.Meaning.{IsModel}
 use Rattle.instance.specs.ParetoFront.{IsFront}
-use Rattle.scuttle_commands.specs.World.{World}
+use Rattle.scut_base.specs.World.{World}
 use Rattle.scuttle_commands.specs.Causes.{HasText, IsRefused}
 use Rattle.scuttle_commands.specs.InstanceFile.{IsTextOf, HasFault, HasFewVariables, HasManyVariables}
 use Rattle.scuttle_commands.specs.Messages.{complete_line}

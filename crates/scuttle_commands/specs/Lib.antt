@@ -11,7 +11,7 @@ pub use Rattle.log_checker.specs.LogFaults
 pub use Rattle.mcnf_reader.specs.Words
 pub use Rattle.mcnf_reader.specs.Grammar
 pub use Rattle.mcnf_reader.specs.FirstFault
-pub mod World
+pub use Rattle.scut_base.specs.World
 pub mod InstanceFile
 pub mod Statuses
 pub mod Causes

@@ -15,7 +15,7 @@ use Rattle.log_checker.specs.declared.fault.CheckFault.TheVariants.{Refused as L
 use Rattle.certified_front.specs.declared.ending.Ending.{Ending}
 use Rattle.certified_front.specs.declared.ending.Ending.TheVariants.{Complete as EndingComplete, Incomplete as EndingIncomplete}
 use Rattle.scuttle_commands.specs.Refusals.{list_why_name, why_text}
-use Rattle.scuttle_commands.specs.World.{World}
+use Rattle.scut_base.specs.World.{World}
 use Rattle.scuttle_commands.specs.declared.status.Status.{Status}
 use Rattle.scuttle_commands.specs.declared.status.Status.TheVariants.{Complete, Incomplete, LogFull, Accepted, Refused, Usage, BadInput, TooLarge, NoMemory, ShelfFailed}
 

@@ -19,7 +19,7 @@ use Rattle.log_checker.specs.Accepted.{IsAccepted}
 use Rattle.certified_front.specs.Certified.{CoversLogged, IsEnding}
 use Rattle.certified_front.specs.declared.ending.Ending.{Ending}
 use Rattle.certified_front.specs.declared.ending.Ending.TheVariants.{Complete as EndingComplete, Incomplete as EndingIncomplete}
-use Rattle.scuttle_commands.specs.World.{World}
+use Rattle.scut_base.specs.World.{World}
 use Rattle.scuttle_commands.specs.Causes.{HasText, IsRefused}
 use Rattle.scuttle_commands.specs.InstanceFile.{IsTextOf, HasFault}
 use Rattle.scuttle_commands.specs.Messages.{complete_line, ending_line, incomplete_line}

@@ -1,7 +1,6 @@
 // The command `check`.
 ghost use Rattle.std.specs.Prelude.{◌≡◌};
 ghost use Rattle.scut_base.specs.Faults.{NoneFell};
-ghost use Rattle.scuttle_commands.specs.World.{world};
 ghost use Rattle.scuttle_commands.specs.CheckAnswers.{CheckAnswers};
 ghost use Rattle.scuttle_commands.specs.Statuses.{accepted_or};
 

@@ -1,7 +1,6 @@
 // The command `front`.
 ghost use Rattle.std.specs.Prelude.{◌≡◌, ℕ, List, IfOk, IfErr};
 ghost use Rattle.scut_base.specs.Faults.{NoneFell};
-ghost use Rattle.scuttle_commands.specs.World.{world};
 ghost use Rattle.scuttle_commands.specs.FrontAnswers.{FrontAnswers, IsInstanceOf};
 ghost use Rattle.scuttle_commands.specs.Statuses.{status_of};
 

@@ -1,7 +1,6 @@
 // The command `solve`.
 ghost use Rattle.std.specs.Prelude.{◌≡◌};
 ghost use Rattle.scut_base.specs.Faults.{NoneFell};
-ghost use Rattle.scuttle_commands.specs.World.{world};
 ghost use Rattle.scuttle_commands.specs.SolveAnswers.{SolveAnswers, is_complete};
 ghost use Rattle.scuttle_commands.specs.Statuses.{solved_or};
 

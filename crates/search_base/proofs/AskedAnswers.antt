@@ -5,7 +5,8 @@ use Rattle.std.proofs.lemmas.List.{get_or_append_left, get_or_push, length-appen
 use Rattle.pb_lin.specs.CostRow.{CostRowValue}
 use Rattle.pb_lin.specs.Problem.{ProblemValue}
 use Rattle.proof_laws.specs.declared.line.Line.{Line}
-use Rattle.sum_outputs.specs.Adding.{Snapshot, Continues, IsReady}
+use Rattle.proof_rules.specs.Recording.{Snapshot}
+use Rattle.sum_outputs.specs.Adding.{Continues, IsReady}
 use Rattle.totalizer.specs.Keeping.{BoundStays, KeepsOwn}
 use Rattle.totalizer.specs.declared.bound.Bound.{Bound}
 use Rattle.search_base.specs.CostBounds.{IsCostBound}

@@ -13,9 +13,10 @@ use Rattle.pb_lin.specs.Constraint.{TermsUpTo, total}
 use Rattle.pb_lin.specs.CostRow.{CostRowValue, IsCostRow}
 use Rattle.pb_lin.specs.Problem.{ProblemValue}
 use Rattle.proof_laws.specs.State.{StateValue}
+use Rattle.proof_rules.specs.Recording.{Snapshot}
 use Rattle.sum_outputs.specs.Tree.{IsTree}
 use Rattle.proof_laws.specs.declared.line.Line.{Line}
-use Rattle.sum_outputs.specs.Adding.{Snapshot, Continues, IsReached}
+use Rattle.sum_outputs.specs.Adding.{Continues, IsReached}
 use Rattle.sum_outputs.specs.declared.node.Node.{Node}
 use Rattle.totalizer.specs.Keeping.{FittingStays, KeepsOwn}
 use Rattle.totalizer.specs.Meaning.{IsBound}

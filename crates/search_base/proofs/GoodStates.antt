@@ -13,9 +13,10 @@ use Rattle.proof_laws.specs.declared.line.Line.{Line}
 use Rattle.proof_laws.specs.declared.line.Line.TheVariants.{Pol, Rup, Learn, Def, Red, Dom, Sol, Del, Reduce, End}
 use Rattle.proof_laws.proofs.EarnedLines.{line_keeps_earned}
 use Rattle.proof_laws.proofs.Replays.{leads_further}
+use Rattle.proof_rules.specs.Recording.{Snapshot}
 use Rattle.oracle.specs.Solving.{AreEarned, IsWithin}
 use Rattle.sum_outputs.specs.Totals.{IsTotalizerLine}
-use Rattle.sum_outputs.specs.Adding.{Snapshot, Continues, IsLater, IsReached, KeptHold}
+use Rattle.sum_outputs.specs.Adding.{Continues, IsLater, IsReached, KeptHold}
 use Rattle.totalizer.specs.Keeping.{FittingStays, KeepsOwn, OwnLinesStay}
 use Rattle.search_base.specs.Logged.{AddsTurnLines, IsCovered, LogsNone, logged}
 use Rattle.search_base.specs.Boards.{BoardValue, IsBoard}

@@ -15,8 +15,9 @@ use Rattle.proof_laws.specs.declared.line.Line.{Line}
 use Rattle.proof_laws.specs.declared.line.Line.TheVariants.{Sol}
 use Rattle.proof_laws.proofs.EarnedLines.{line_keeps_earned}
 use Rattle.proof_laws.proofs.Replays.{replay_before}
+use Rattle.proof_rules.specs.Recording.{Snapshot}
 use Rattle.oracle.specs.Solving.{AreEarned, IsWithin}
-use Rattle.sum_outputs.specs.Adding.{Snapshot, IsLater, KeptHold}
+use Rattle.sum_outputs.specs.Adding.{IsLater, KeptHold}
 use Rattle.sum_outputs.proofs.LaterStates.{new_not_learned, own_later}
 use Rattle.totalizer.specs.Keeping.{FittingStays}
 use Rattle.totalizer.specs.declared.bound.Bound.{Bound}

@@ -8,9 +8,10 @@ use Rattle.proof_laws.specs.Legal.{Makes}
 use Rattle.proof_laws.specs.Replay.{Leads}
 use Rattle.proof_laws.specs.declared.line.Line.{Line}
 use Rattle.proof_laws.specs.declared.line.Line.TheVariants.{Pol, Rup, Learn, Def, Red, Dom, Sol, Del, Reduce, End}
+use Rattle.proof_rules.specs.Recording.{Snapshot}
 use Rattle.oracle.specs.Solving.{AddsSearchLines, IsSearchLine}
 use Rattle.sum_outputs.specs.Totals.{IsTotalizerLine}
-use Rattle.sum_outputs.specs.Adding.{Snapshot, Continues}
+use Rattle.sum_outputs.specs.Adding.{Continues}
 use Rattle.search_base.specs.Logged.{LogsNone, logged, logged_by}
 use Rattle.search_base.specs.Laws.{LoggedIsReached}
 use Rattle.search_base.proofs.Places.{at_place, from_places}

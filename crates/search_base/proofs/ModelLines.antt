@@ -1,8 +1,8 @@
 -- A line that logs a model.
 use Rattle.std.proofs.Common.{◌≡◌, ◌≤◌, Bool, List, [], ◌∷◌, ◌++◌, sym, ◌∙◌, subst}
 use Rattle.proof_laws.specs.declared.line.Line.{Line}
-use Rattle.proof_rules.specs.Recording.{KeepsSurroundings}
-use Rattle.sum_outputs.specs.Adding.{Snapshot, Continues}
+use Rattle.proof_rules.specs.Recording.{Snapshot, KeepsSurroundings}
+use Rattle.sum_outputs.specs.Adding.{Continues}
 use Rattle.totalizer.specs.declared.bound.Bound.{Bound}
 use Rattle.search_base.specs.Logged.{AddsTurnLines, IsTurnLine}
 use Rattle.search_base.specs.Cutting.{IsModelLine}

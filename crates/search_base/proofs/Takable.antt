@@ -12,7 +12,8 @@ use Rattle.pb_lin.specs.CostRow.{CostRowValue, IsCostRow, row_cost}
 use Rattle.pb_lin.specs.Problem.{ProblemValue, IsProblem, IsProblemModel, problem_costs}
 use Rattle.proof_laws.specs.State.{StateValue}
 use Rattle.proof_laws.proofs.Images.{value-take}
-use Rattle.sum_outputs.specs.Adding.{Snapshot, IsReached}
+use Rattle.proof_rules.specs.Recording.{Snapshot}
+use Rattle.sum_outputs.specs.Adding.{IsReached}
 use Rattle.sum_outputs.proofs.LaterStates.{replay_vars}
 use Rattle.search_base.specs.Logged.{IsCovered}
 use Rattle.search_base.specs.Good.{AllIsNew}

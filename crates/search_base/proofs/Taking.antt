@@ -9,7 +9,8 @@ use Rattle.instance_normal.specs.NormalForm.{IsNormalFormOf}
 use Rattle.instance_normal.specs.Tightened.{tightened}
 use Rattle.pb_lin.specs.Problem.{ProblemValue, IsProblem, IsProblemModel, problem_costs}
 use Rattle.proof_laws.specs.State.{StateValue}
-use Rattle.sum_outputs.specs.Adding.{Snapshot, Continues, IsReached}
+use Rattle.proof_rules.specs.Recording.{Snapshot}
+use Rattle.sum_outputs.specs.Adding.{Continues, IsReached}
 use Rattle.totalizer.specs.Keeping.{FittingStays}
 use Rattle.totalizer.specs.declared.bound.Bound.{Bound}
 use Rattle.search_base.specs.Logged.{Logs}

@@ -3,9 +3,10 @@ use Rattle.std.proofs.Common.{◌≡◌, ⊎_elim, List, [], ◌∷◌, ◌++◌
 use Rattle.pb_lin.specs.Problem.{ProblemValue}
 use Rattle.proof_laws.specs.declared.line.Line.{Line}
 use Rattle.proof_laws.specs.declared.line.Line.TheVariants.{Pol, Rup, Learn, Def, Sol, Reduce}
+use Rattle.proof_rules.specs.Recording.{Snapshot}
 use Rattle.oracle.specs.Solving.{AddsSearchLines, IsSearchLine}
 use Rattle.sum_outputs.specs.Totals.{IsTotalizerLine}
-use Rattle.sum_outputs.specs.Adding.{Snapshot, Continues}
+use Rattle.sum_outputs.specs.Adding.{Continues}
 use Rattle.totalizer.specs.Keeping.{DeletesLearned}
 use Rattle.search_base.specs.Logged.{AddsTurnLines, IsTurnLine}
 use Rattle.search_base.specs.Laws.{TurnLinesJoin, TurnLinesKeepOwn}

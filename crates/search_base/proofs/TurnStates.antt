@@ -9,7 +9,8 @@ use Rattle.proof_laws.specs.Replay.{IsReplay, Leads}
 use Rattle.proof_laws.specs.declared.line.Line.{Line}
 use Rattle.proof_laws.specs.declared.line.Line.TheVariants.{Pol, Rup, Learn, Def, Red, Dom, Sol, Del, Reduce, End}
 use Rattle.proof_laws.proofs.Replays.{leads_split, replay_once}
-use Rattle.sum_outputs.specs.Adding.{Snapshot, IsReached, IsReady}
+use Rattle.proof_rules.specs.Recording.{Snapshot}
+use Rattle.sum_outputs.specs.Adding.{IsReached, IsReady}
 use Rattle.search_base.specs.Logged.{AddsTurnLines, IsTurnLine}
 use Rattle.search_base.proofs.Places.{from_places}
 

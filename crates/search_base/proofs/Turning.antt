@@ -3,7 +3,7 @@ use Rattle.std.proofs.Common.{◌≡◌, ℕ, ◌<◌, List, [], ◌∷◌, ◌+
 use Rattle.std.specs.Prelude.{not}
 use Rattle.std.specs.List.{count_by}
 use Rattle.pb_lin.specs.Problem.{ProblemValue}
-use Rattle.sum_outputs.specs.Adding.{Snapshot}
+use Rattle.proof_rules.specs.Recording.{Snapshot}
 use Rattle.sum_outputs.proofs.LaterStates.{around_again, around_twice}
 use Rattle.search_base.specs.Logged.{AddsTurnLines, LogsNone, Logs}
 use Rattle.search_base.specs.CostBox.{cost_box, is_covered, uncovered}

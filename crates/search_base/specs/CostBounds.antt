@@ -4,7 +4,7 @@ use Rattle.std.specs.List.{AllZip}
 use Rattle.pb_lin.specs.CostRow.{CostRowValue}
 use Rattle.pb_lin.specs.Problem.{ProblemValue}
 use Rattle.proof_laws.specs.declared.line.Line.{Line}
-use Rattle.sum_outputs.specs.Adding.{Snapshot}
+use Rattle.proof_rules.specs.Recording.{Snapshot}
 use Rattle.totalizer.specs.declared.bound.Bound.{Bound}
 use Rattle.totalizer.specs.Meaning.{IsBound}
 use Rattle.totalizer.specs.Totalizing.{Fits, terms_of}

@@ -3,9 +3,9 @@ use Rattle.std.specs.Prelude.{◌≡◌, ◌≤◌, List, Bool, All}
 use Rattle.pb_lin.specs.Constraint.{Holds}
 use Rattle.pb_lin.specs.Problem.{problem_costs}
 use Rattle.proof_laws.specs.State.{StateValue}
-use Rattle.proof_rules.specs.Recording.{KeepsSurroundings}
+use Rattle.proof_rules.specs.Recording.{Snapshot, KeepsSurroundings}
 use Rattle.oracle.specs.Solving.{AreEarned, IsWithin}
-use Rattle.sum_outputs.specs.Adding.{Snapshot, IsReached, IsReady, KeptHold}
+use Rattle.sum_outputs.specs.Adding.{IsReached, IsReady, KeptHold}
 use Rattle.search_base.specs.Logged.{AddsTurnLines, IsCovered, logged}
 use Rattle.search_base.specs.CostBounds.{FitBounds}
 use Rattle.search_base.specs.Boards.{BoardValue, IsBoard}

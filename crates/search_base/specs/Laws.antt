@@ -4,9 +4,9 @@ use Rattle.pb_lin.specs.Problem.{ProblemValue, IsProblem}
 use Rattle.proof_laws.specs.State.{StateValue}
 use Rattle.proof_laws.specs.Replay.{IsReplay}
 use Rattle.proof_laws.specs.declared.line.Line.{Line}
-use Rattle.proof_rules.specs.Recording.{KeepsSurroundings}
+use Rattle.proof_rules.specs.Recording.{Snapshot, KeepsSurroundings}
 use Rattle.oracle.specs.Solving.{AddsSearchLines, AreEarned, IsWithin}
-use Rattle.sum_outputs.specs.Adding.{Snapshot, Continues, IsReached}
+use Rattle.sum_outputs.specs.Adding.{Continues, IsReached}
 use Rattle.totalizer.specs.Keeping.{KeepsOwn}
 use Rattle.search_base.specs.Logged.{AddsTurnLines, LogsNone, logged}
 use Rattle.search_base.specs.CostBounds.{FitBounds}

@@ -7,10 +7,10 @@ use Rattle.pb_lin.specs.Problem.{ProblemValue, problem_costs}
 use Rattle.proof_laws.specs.State.{StateValue, Satisfies}
 use Rattle.proof_laws.specs.Replay.{IsReplay}
 use Rattle.proof_laws.specs.declared.line.Line.{Line}
+use Rattle.proof_rules.specs.Recording.{Snapshot}
 use Rattle.oracle.specs.Solving.{IsSolution, IsSpent, Reaches}
 use Rattle.oracle.specs.declared.fault.OracleFault.{OracleFault}
 use Rattle.oracle.specs.declared.fault.OracleFault.TheVariants.{Spent, Failed, Full, NoMemory}
-use Rattle.sum_outputs.specs.Adding.{Snapshot}
 use Rattle.search_base.specs.Logged.{LogsNone, Logs}
 use Rattle.search_base.specs.CostBox.{uncovered}
 use Rattle.search_base.specs.declared.turn.Turn.{Turn}

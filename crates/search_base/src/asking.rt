@@ -1,6 +1,6 @@
 // What stands for the costs of a model, objective by objective.
 ghost use Rattle.std.specs.Prelude.{◌≡◌, length, IfOk, OnOk};
-ghost use Rattle.sum_outputs.specs.Adding.{seen, IsReady, IsRecorded};
+ghost use Rattle.sum_outputs.specs.Adding.{IsReady, IsRecorded};
 ghost use Rattle.search_base.specs.CostBounds.{FitBounds};
 ghost use Rattle.search_base.specs.Cutting.{AreAnswers};
 

@@ -1,7 +1,7 @@
 // The board that searches share: the front so far.
 ghost use Rattle.std.specs.Prelude.{◌≡◌, ◌≤◌, ◌<◌, ◌^◌, [], length, take, IfOk, IfErr, OnOk};
 ghost use Rattle.instance_normal.specs.NormalForm.{IsNormalFormOf};
-ghost use Rattle.sum_outputs.specs.Adding.{seen, IsFaultAt};
+ghost use Rattle.sum_outputs.specs.Adding.{IsFaultAt};
 ghost use Rattle.search_base.specs.Boards.{IsBoard};
 ghost use Rattle.search_base.specs.Cutting.{IsPut};
 ghost use Rattle.search_base.specs.Good.{GoesOn, IsGood, KeepsBoard};

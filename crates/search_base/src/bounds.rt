@@ -2,7 +2,8 @@
 ghost use Rattle.std.specs.Prelude.{◌≡◌, ◌<◌, ◌≤◌, length, slice_index_or, List, IfOk, OnOk};
 ghost use Rattle.pb_lin.specs.CostRow.{CostRowValue};
 ghost use Rattle.proof_laws.specs.State.{StateValue};
-ghost use Rattle.sum_outputs.specs.Adding.{Snapshot, seen, IsReached, IsReady, IsRecorded};
+ghost use Rattle.proof_rules.specs.Recording.{Snapshot};
+ghost use Rattle.sum_outputs.specs.Adding.{IsReached, IsReady, IsRecorded};
 ghost use Rattle.totalizer.specs.Meaning.{IsBound};
 ghost use Rattle.totalizer.specs.Totalizing.{Fits, terms_of};
 ghost use Rattle.search_base.specs.CostBounds.{FitBounds, IsCostBound};

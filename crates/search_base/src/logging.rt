@@ -1,7 +1,7 @@
 // The line that logs a model.
 ghost use Rattle.std.specs.Prelude.{◌≡◌, ◌<◌, ◌^◌, length, IfOk, IfErr, OnOk};
 ghost use Rattle.pb_lin.specs.Problem.{IsProblem, IsProblemModel, problem_costs};
-ghost use Rattle.sum_outputs.specs.Adding.{seen, IsFaultAt, IsReady};
+ghost use Rattle.sum_outputs.specs.Adding.{IsFaultAt, IsReady};
 ghost use Rattle.search_base.specs.Cutting.{AreAlike, AreAnswers, IsModelLine, LogsModel, answered_literals, literals_at};
 ghost use Rattle.search_base.specs.Good.{GoesOn};
 

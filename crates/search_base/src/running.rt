@@ -1,6 +1,5 @@
 // A search, turn after turn.
 ghost use Rattle.std.specs.Prelude.{IfOk, IfErr, MatchOption};
-ghost use Rattle.sum_outputs.specs.Adding.{seen};
 ghost use Rattle.search_base.specs.Good.{GoesOn, IsGood, KeepsBoard};
 ghost use Rattle.search_base.specs.Turns.{FindsNew, IsEndLine, IsInOrder, IsSearchFault};
 

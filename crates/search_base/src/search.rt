@@ -1,7 +1,6 @@
 // What a search is.
 ghost use Rattle.std.specs.Prelude.{ℕ, IfOk, IfErr};
 ghost use Rattle.pb_lin.specs.Problem.{ProblemValue};
-ghost use Rattle.sum_outputs.specs.Adding.{seen};
 ghost use Rattle.search_base.specs.Good.{GoesOn, IsGood, KeepsBoard};
 ghost use Rattle.search_base.specs.Turns.{IsInOrder, IsSearchFault, IsTurn};
 

@@ -9,7 +9,8 @@ use Rattle.proof_laws.specs.State.{StateValue}
 use Rattle.proof_laws.specs.Replay.{IsReplay}
 use Rattle.proof_laws.specs.declared.line.Line.{Line}
 use Rattle.proof_rules.specs.declared.recorder.RecordFault.{RecordFault}
-use Rattle.sum_outputs.specs.Adding.{Snapshot, IsReached, IsReady, IsRecorded}
+use Rattle.proof_rules.specs.Recording.{Snapshot}
+use Rattle.sum_outputs.specs.Adding.{IsReached, IsReady, IsRecorded}
 use Rattle.sum_outputs.proofs.LaterStates.{ready_later, replay_vars}
 use Rattle.totalizer.specs.Totalizing.{TotalizerValue, Fits, HasVariables}
 use Rattle.search_tests.specs.Asked.{IsAskable}

@@ -1,5 +1,6 @@
 -- Totalizers that may be asked.
-use Rattle.sum_outputs.specs.Adding.{Snapshot, IsReady}
+use Rattle.proof_rules.specs.Recording.{Snapshot}
+use Rattle.sum_outputs.specs.Adding.{IsReady}
 use Rattle.totalizer.specs.Totalizing.{TotalizerValue, Fits}
 
 -- lines may be added, and the totalizer may be asked

@@ -1,6 +1,5 @@
 // Totalizers of the objectives of texts, over recorders in memory.
 ghost use Rattle.std.specs.Prelude.{◌≡◌, [], false, IfOk, OnOk};
-ghost use Rattle.sum_outputs.specs.Adding.{seen};
 ghost use Rattle.search_tests.specs.Asked.{IsAskable};
 
 use crate::numbers::Numbers;

@@ -11,8 +11,9 @@ use Rattle.scut_base.proofs.Lists.{Contains-nil, Contains-head, Contains-cons_ca
 use Rattle.pb_lin.specs.Place.{IsPlace}
 use Rattle.cutting_planes.proofs.Terms.{Terms}
 use Rattle.proof_laws.specs.State.{StateValue}
+use Rattle.proof_rules.specs.Recording.{Snapshot}
 use Rattle.sum_outputs.specs.Totals.{AreWeights, IsLeastSum}
-use Rattle.sum_outputs.specs.Adding.{Snapshot, IsReached, IsReady, Continues}
+use Rattle.sum_outputs.specs.Adding.{IsReached, IsReady, Continues}
 use Rattle.sum_outputs.specs.Outputs.{AreRising, CanImplyNow, IsDefined}
 use Rattle.sum_outputs.specs.Joining.{IsOutputAt, AreOutputsAt, AreOutputsNow, IsNewOutput}
 use Rattle.sum_outputs.specs.declared.made.SumOutput.{SumOutput}

@@ -26,8 +26,8 @@ use Rattle.proof_laws.specs.declared.line.Line.TheVariants.{Def}
 use Rattle.proof_laws.specs.declared.why.Why.{Why}
 use Rattle.proof_laws.specs.declared.why.Why.TheVariants.{AfterEnd, LogLong, NotFresh, Overflow}
 use Rattle.proof_laws.proofs.Replays.{replay_before, replay_once}
-use Rattle.proof_rules.specs.Recording.{MayBeAdded, IsNextId}
-use Rattle.sum_outputs.specs.Adding.{Snapshot, IsReached, IsReady}
+use Rattle.proof_rules.specs.Recording.{Snapshot, MayBeAdded, IsNextId}
+use Rattle.sum_outputs.specs.Adding.{IsReached, IsReady}
 use Rattle.sum_outputs.specs.Outputs.{IsDefinedBy, IsDefinedNext, IsInOrder, IsSumOf}
 use Rattle.sum_outputs.specs.Totals.{AreWeights}
 use Rattle.sum_outputs.specs.declared.made.SumOutput.{SumOutput}

@@ -7,8 +7,9 @@ use Rattle.std.proofs.lemmas.List.Elements.{All-append, All-drop, All-contains, 
 use Rattle.pb_lin.specs.Constraint.{total}
 use Rattle.cutting_planes.proofs.Terms.{Terms}
 use Rattle.proof_laws.specs.State.{StateValue}
+use Rattle.proof_rules.specs.Recording.{Snapshot}
 use Rattle.sum_outputs.specs.Totals.{AreWeights, IsAttainable, IsUpToLeast}
-use Rattle.sum_outputs.specs.Adding.{Snapshot, IsReached, IsReady, Continues}
+use Rattle.sum_outputs.specs.Adding.{IsReached, IsReady, Continues}
 use Rattle.sum_outputs.specs.Outputs.{IsDefined, AreRising, CanImplyNow}
 use Rattle.sum_outputs.specs.Joining.{IsOutputAt, AreOutputsNow, IsCompleteTo}
 use Rattle.sum_outputs.specs.Sums.{last_sum}

@@ -9,8 +9,9 @@ use Rattle.scut_base.proofs.Lists.{Contains-head}
 use Rattle.pb_lin.specs.Constraint.{total}
 use Rattle.cutting_planes.proofs.Terms.{Terms}
 use Rattle.proof_laws.specs.State.{StateValue}
+use Rattle.proof_rules.specs.Recording.{Snapshot}
 use Rattle.sum_outputs.specs.Totals.{AreWeights, IsAttainable, IsLeastSum, IsUpToLeast}
-use Rattle.sum_outputs.specs.Adding.{Snapshot, IsReady, Continues}
+use Rattle.sum_outputs.specs.Adding.{IsReady, Continues}
 use Rattle.sum_outputs.specs.Outputs.{IsDefined}
 use Rattle.sum_outputs.specs.Joining.{IsOutputAt, AreOutputsAt, IsCompleteTo, AreChildrenNow, IsNewOutput}
 use Rattle.sum_outputs.specs.Sums.{IsLeastOf, IsRun, IsRunTo}

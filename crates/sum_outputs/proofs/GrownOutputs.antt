@@ -4,8 +4,9 @@ use Rattle.std.specs.List.{All, Contains}
 use Rattle.std.proofs.Math.ListN.{set}
 use Rattle.std.proofs.lemmas.List.{get_or_default, length-set}
 use Rattle.std.proofs.lemmas.List.Elements.{All-append, All-contains, All-contains_itself, Contains-append_left}
+use Rattle.proof_rules.specs.Recording.{Snapshot}
 use Rattle.sum_outputs.specs.Totals.{IsUpToLeast}
-use Rattle.sum_outputs.specs.Adding.{Snapshot, Continues}
+use Rattle.sum_outputs.specs.Adding.{Continues}
 use Rattle.sum_outputs.specs.Falling.{AreExtended}
 use Rattle.sum_outputs.specs.MadeOutputs.{AreGrownTo, IsNeeded}
 use Rattle.sum_outputs.specs.declared.node.Node.{Node}

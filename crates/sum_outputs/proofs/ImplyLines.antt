@@ -34,8 +34,8 @@ use Rattle.proof_laws.specs.declared.line.Line.TheVariants.{Pol}
 use Rattle.proof_laws.specs.declared.why.Why.{Why}
 use Rattle.proof_laws.specs.declared.why.Why.TheVariants.{AfterEnd, LogLong, VarRange}
 use Rattle.proof_laws.proofs.Replays.{replay_before, replay_once}
-use Rattle.proof_rules.specs.Recording.{MayBeAdded}
-use Rattle.sum_outputs.specs.Adding.{Snapshot, IsReached, IsReady, Always}
+use Rattle.proof_rules.specs.Recording.{Snapshot, MayBeAdded}
+use Rattle.sum_outputs.specs.Adding.{IsReached, IsReady, Always}
 use Rattle.sum_outputs.specs.ClauseTokens.{added, summed, weakens, cuts, named, clause_tokens}
 use Rattle.sum_outputs.specs.Outputs.{AreLiteralsOf, sums, CanImply, Imply}
 use Rattle.sum_outputs.specs.declared.made.SumOutput.{SumOutput}

@@ -10,8 +10,9 @@ use Rattle.cutting_planes.proofs.Terms.{Terms}
 use Rattle.proof_laws.specs.Earned.{IsLearnedId}
 use Rattle.proof_laws.specs.State.{StateValue}
 use Rattle.proof_laws.proofs.Ranges.{all_prefix, all_suffix}
+use Rattle.proof_rules.specs.Recording.{Snapshot}
 use Rattle.sum_outputs.specs.Totals.{AreWeights}
-use Rattle.sum_outputs.specs.Adding.{Snapshot, HasLater, Continues}
+use Rattle.sum_outputs.specs.Adding.{HasLater, Continues}
 use Rattle.sum_outputs.specs.Outputs.{CanImply, IsDefined, IsLiteralOf}
 use Rattle.sum_outputs.specs.Joining.{Follows, IsOutputAt, AreOutputsAt, AreChildren, IsTarget}
 use Rattle.sum_outputs.specs.declared.made.SumOutput.{SumOutput}

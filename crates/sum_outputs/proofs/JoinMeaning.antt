@@ -9,8 +9,9 @@ use Rattle.pb_lin.specs.Constraint.{term_value, value}
 use Rattle.cutting_planes.proofs.Terms.{Terms}
 use Rattle.proof_laws.specs.State.{StateValue}
 use Rattle.proof_laws.proofs.Definitions.{zero_or_more}
+use Rattle.proof_rules.specs.Recording.{Snapshot}
 use Rattle.sum_outputs.specs.Totals.{IsLeastSum}
-use Rattle.sum_outputs.specs.Adding.{Snapshot, IsReached, KeptHold}
+use Rattle.sum_outputs.specs.Adding.{IsReached, KeptHold}
 use Rattle.sum_outputs.specs.Joining.{Follows, IsOutputAt, IsCompleteTo, AreChildren, AreImplying, HaveLesser, PairsImply}
 use Rattle.sum_outputs.specs.declared.made.SumOutput.{SumOutput}
 use Rattle.sum_outputs.proofs.Attaining.{attain_first, attain_second}

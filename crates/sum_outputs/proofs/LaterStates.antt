@@ -21,11 +21,11 @@ use Rattle.proof_laws.specs.Earned.{IsLearnedId}
 use Rattle.proof_laws.specs.declared.line.Line.{Line}
 use Rattle.proof_laws.specs.declared.line.Line.TheVariants.{Pol, Rup, Learn, Def, Red, Dom, Sol, Del, Reduce, End}
 use Rattle.proof_laws.proofs.Replays.{leads_split, replay_before, replay_once}
-use Rattle.proof_rules.specs.Recording.{Surroundings, KeepsSurroundings, CountsLater}
+use Rattle.proof_rules.specs.Recording.{Snapshot, Surroundings, KeepsSurroundings, CountsLater}
 use Rattle.proof_rules.specs.declared.recorder.RecordFault.{RecordFault}
 use Rattle.proof_rules.specs.declared.recorder.RecordFault.TheVariants.{Failed, Full, NoMemory}
 use Rattle.sum_outputs.specs.Totals.{IsTotalizerLine}
-use Rattle.sum_outputs.specs.Adding.{Snapshot, IsOwn, IsLater, IsReached, Always, IsReady, HasLater, Continues, IsFaultAt, IsRecorded}
+use Rattle.sum_outputs.specs.Adding.{IsOwn, IsLater, IsReached, Always, IsReady, HasLater, Continues, IsFaultAt, IsRecorded}
 use Rattle.sum_outputs.proofs.ReplayIds.{HasIds, replay_ids}
 
 -- ---- one line

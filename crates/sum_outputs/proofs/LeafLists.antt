@@ -8,8 +8,8 @@ use Rattle.scut_base.specs.Assignment.{lit_true}
 use Rattle.scut_base.proofs.Lists.{Contains-head}
 use Rattle.pb_lin.specs.Constraint.{IsVariable, term_value, total, value}
 use Rattle.proof_laws.specs.State.{StateValue}
+use Rattle.proof_rules.specs.Recording.{Snapshot}
 use Rattle.sum_outputs.specs.Totals.{AreWeights}
-use Rattle.sum_outputs.specs.Adding.{Snapshot}
 use Rattle.sum_outputs.specs.Joining.{IsOutputAt, AreOutputsAt, IsCompleteTo}
 use Rattle.sum_outputs.specs.Leaves.{leaf_output}
 use Rattle.sum_outputs.proofs.Attaining.{attain_total}

@@ -8,8 +8,9 @@ use Rattle.std.proofs.lemmas.List.{take-append-drop, get_or-set_same, get_or-set
 use Rattle.pb_lin.specs.Constraint.{IsVariable}
 use Rattle.cutting_planes.proofs.Terms.{Terms}
 use Rattle.proof_laws.specs.State.{StateValue}
+use Rattle.proof_rules.specs.Recording.{Snapshot}
 use Rattle.sum_outputs.specs.Totals.{AreWeights, first_half}
-use Rattle.sum_outputs.specs.Adding.{Snapshot, IsReached, IsReady, Continues}
+use Rattle.sum_outputs.specs.Adding.{IsReached, IsReady, Continues}
 use Rattle.sum_outputs.specs.Outputs.{IsDefined}
 use Rattle.sum_outputs.specs.Sums.{last_sum}
 use Rattle.sum_outputs.specs.Falling.{AreAllBetween, AreExtended}

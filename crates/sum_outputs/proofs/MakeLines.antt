@@ -5,8 +5,9 @@ use Rattle.scut_base.specs.Assignment.{lit_true}
 use Rattle.pb_lin.specs.Constraint.{IsVariable, total, value}
 use Rattle.cutting_planes.proofs.Terms.{Terms}
 use Rattle.proof_laws.specs.State.{StateValue}
+use Rattle.proof_rules.specs.Recording.{Snapshot}
 use Rattle.sum_outputs.specs.Totals.{AreWeights, IsLeastSum}
-use Rattle.sum_outputs.specs.Adding.{Snapshot, IsReached, IsReady, Continues, KeptHold, Always}
+use Rattle.sum_outputs.specs.Adding.{IsReached, IsReady, Continues, KeptHold, Always}
 use Rattle.sum_outputs.specs.Outputs.{CanImplyNow, Imply, IsDefined, IsDefinedNext}
 use Rattle.sum_outputs.specs.Joining.{Follows, IsOutputAt, SinglesImply, AreOutputsAt, AreOutputsNow, IsCompleteTo, AreChildren, AreChildrenNow, IsTarget, IsTargetNow, AreImplying, IsAboveAll, IsNewOutput}
 use Rattle.sum_outputs.specs.declared.made.SumOutput.{SumOutput}

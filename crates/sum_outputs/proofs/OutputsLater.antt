@@ -9,7 +9,8 @@ use Rattle.cutting_planes.proofs.Terms.{Terms}
 use Rattle.proof_laws.specs.State.{StateValue}
 use Rattle.proof_laws.specs.Steps.{reached_if, reached_only_if}
 use Rattle.proof_laws.proofs.Replays.{replay_once}
-use Rattle.sum_outputs.specs.Adding.{Snapshot, IsOwn, IsReached, IsReady, HasLater, Continues}
+use Rattle.proof_rules.specs.Recording.{Snapshot}
+use Rattle.sum_outputs.specs.Adding.{IsOwn, IsReached, IsReady, HasLater, Continues}
 use Rattle.sum_outputs.specs.Outputs.{IsOfLeaf, IsDefined, IsLiteralOf, AreLiteralsOf, CanImply, CanImplyNow}
 use Rattle.sum_outputs.specs.declared.made.SumOutput.{SumOutput}
 use Rattle.sum_outputs.proofs.LaterStates.{continues_again, continues_twice, ready_later}

@@ -11,7 +11,7 @@ use Rattle.cutting_planes.proofs.Terms.{Terms}
 use Rattle.proof_laws.specs.State.{StateValue, IsState}
 use Rattle.proof_laws.specs.Steps.{reached_if, reached_only_if, term_of, missed_by}
 use Rattle.proof_laws.specs.Refusal.{given_in}
-use Rattle.sum_outputs.specs.Adding.{Snapshot}
+use Rattle.proof_rules.specs.Recording.{Snapshot}
 use Rattle.sum_outputs.specs.ClauseTokens.{named}
 use Rattle.sum_outputs.specs.Outputs.{IsOfLeaf, IsDefined, AreLiteralsOf, sums}
 use Rattle.sum_outputs.specs.declared.made.SumOutput.{SumOutput}

@@ -8,23 +8,10 @@ use Rattle.proof_laws.specs.State.{StateValue}
 use Rattle.proof_laws.specs.Replay.{IsReplay}
 use Rattle.proof_laws.specs.Earned.{IsLearnedId}
 use Rattle.proof_laws.specs.declared.line.Line.{Line}
-use Rattle.proof_rules.specs.Recording.{Surroundings, KeepsSurroundings}
+use Rattle.proof_rules.specs.Recording.{Snapshot, KeepsSurroundings}
 use Rattle.proof_rules.specs.declared.recorder.RecordFault.{RecordFault}
 use Rattle.proof_rules.specs.declared.recorder.RecordFault.TheVariants.{Failed, Full, NoMemory}
 use Rattle.sum_outputs.specs.Totals.{IsKeptClause, IsTotalizerLine}
-
--- what can be seen of a recorder at one time
-pub record Snapshot : Type 0 where
-  pub problem : ProblemValue
-  pub limit : Option ℕ
-  pub lines : List Line
-  pub faults : ℕ
-  pub broken : Bool
-  pub around : Surroundings
-
--- the snapshot of a recorder, by its ghost members
-abbrev pub seen : {Self : Type 0} → (Self → ProblemValue) → (Self → Option ℕ) → (Self → List Line) → (Self → ℕ) → (Self → Bool) → (Self → Surroundings) → Self → Snapshot
-seen problem limit lines faults broken around r = record { problem = problem r; limit = limit r; lines = lines r; faults = faults r; broken = broken r; around = around r }
 
 -- ---- states
 

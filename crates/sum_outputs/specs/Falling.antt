@@ -3,8 +3,9 @@ use Rattle.std.specs.Prelude.{◌≡◌, ◌≢◌, ◌⊎◌, ℕ, ◌<◌, ◌
 use Rattle.scut_base.specs.Literal.{Literal}
 use Rattle.pb_lin.specs.Constraint.{total}
 use Rattle.proof_laws.specs.State.{StateValue}
+use Rattle.proof_rules.specs.Recording.{Snapshot}
 use Rattle.sum_outputs.specs.Totals.{IsAttainable, IsLeastSum, IsUpToLeast}
-use Rattle.sum_outputs.specs.Adding.{Snapshot, IsReached}
+use Rattle.sum_outputs.specs.Adding.{IsReached}
 use Rattle.sum_outputs.specs.Outputs.{IsDefined}
 use Rattle.sum_outputs.specs.Joining.{IsOutputAt, AreOutputsAt, IsCompleteTo}
 use Rattle.sum_outputs.specs.Sums.{last_sum}

@@ -4,8 +4,9 @@ use Rattle.scut_base.specs.Literal.{Literal}
 use Rattle.scut_base.specs.Assignment.{lit_true}
 use Rattle.pb_lin.specs.Constraint.{IsVariable, total, value}
 use Rattle.proof_laws.specs.State.{StateValue}
+use Rattle.proof_rules.specs.Recording.{Snapshot}
 use Rattle.sum_outputs.specs.Totals.{AreWeights, IsAttainable}
-use Rattle.sum_outputs.specs.Adding.{Snapshot, IsReached, KeptHold, Always}
+use Rattle.sum_outputs.specs.Adding.{IsReached, KeptHold, Always}
 use Rattle.sum_outputs.specs.Outputs.{IsDefined, IsLiteralOf, AreRising, Imply}
 use Rattle.sum_outputs.specs.declared.made.SumOutput.{SumOutput}
 

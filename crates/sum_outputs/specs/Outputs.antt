@@ -7,8 +7,9 @@ use Rattle.pb_lin.specs.Constraint.{ConstraintValue, IsNormal, IsVariable, total
 use Rattle.proof_laws.specs.State.{StateValue}
 use Rattle.proof_laws.specs.Steps.{reached_if, reached_only_if}
 use Rattle.proof_laws.specs.declared.line.Line.TheVariants.{Def}
+use Rattle.proof_rules.specs.Recording.{Snapshot}
 use Rattle.sum_outputs.specs.Totals.{Defines}
-use Rattle.sum_outputs.specs.Adding.{Snapshot, IsOwn, IsReached}
+use Rattle.sum_outputs.specs.Adding.{IsOwn, IsReached}
 use Rattle.sum_outputs.specs.declared.made.SumOutput.{SumOutput}
 
 -- the only term of a leaf is the literal, with the sum as its weight, and there is no line

@@ -6,7 +6,7 @@ ghost use Rattle.pb_lin.specs.Place.{IsPlace};
 ghost use Rattle.proof_laws.specs.State.{StateValue};
 ghost use Rattle.sum_outputs.specs.Outputs.{CanImplyNow, IsDefined};
 ghost use Rattle.sum_outputs.specs.Falling.{IsAsked, asked_from};
-ghost use Rattle.sum_outputs.specs.Adding.{seen, IsReached, IsReady, IsRecorded};
+ghost use Rattle.sum_outputs.specs.Adding.{IsReached, IsReady, IsRecorded};
 ghost use Rattle.sum_outputs.specs.declared.made.SumOutput.{SumOutput};
 ghost use Rattle.sum_outputs.specs.Joining.{AreChildrenNow, AreOutputsNow, IsCompleteTo, IsNewOutput};
 

@@ -1,6 +1,6 @@
 // Clauses between outputs.
 ghost use Rattle.std.specs.Prelude.{◌≡◌, ◌<◌, ◌^◌, OnOk};
-ghost use Rattle.sum_outputs.specs.Adding.{seen, Always, IsReady, IsRecorded};
+ghost use Rattle.sum_outputs.specs.Adding.{Always, IsReady, IsRecorded};
 ghost use Rattle.sum_outputs.specs.Outputs.{CanImplyNow, Imply, sums};
 ghost use Rattle.sum_outputs.specs.Totals.{definitions};
 

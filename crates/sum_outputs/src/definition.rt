@@ -2,7 +2,7 @@
 ghost use Rattle.std.specs.Prelude.{◌≡◌, ◌+◌, ◌<◌, ◌≤◌, IfOk, All};
 ghost use Rattle.pb_lin.specs.Constraint.{total};
 ghost use Rattle.proof_laws.specs.State.{StateValue};
-ghost use Rattle.sum_outputs.specs.Adding.{seen, IsReached, IsReady, IsRecorded};
+ghost use Rattle.sum_outputs.specs.Adding.{IsReached, IsReady, IsRecorded};
 ghost use Rattle.sum_outputs.specs.Outputs.{IsDefinedBy, IsDefinedNext, IsInOrder, IsSumOf};
 ghost use Rattle.sum_outputs.specs.Totals.{AreWeights};
 

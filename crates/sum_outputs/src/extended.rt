@@ -3,7 +3,7 @@ ghost use Rattle.std.specs.Prelude.{◌≡◌, ℕ, ◌+◌, ◌-◌, ◌<◌, �
 ghost use Rattle.pb_lin.specs.Constraint.{total};
 ghost use Rattle.proof_laws.specs.State.{StateValue};
 ghost use Rattle.sum_outputs.specs.Totals.{definitions};
-ghost use Rattle.sum_outputs.specs.Adding.{seen, IsReached, IsReady, IsRecorded};
+ghost use Rattle.sum_outputs.specs.Adding.{IsReached, IsReady, IsRecorded};
 ghost use Rattle.sum_outputs.specs.Outputs.{AreRising, CanImplyNow, IsDefined};
 ghost use Rattle.sum_outputs.specs.Joining.{AreChildrenNow, AreOutputsNow, IsCompleteTo, SinglesImply};
 ghost use Rattle.sum_outputs.specs.Sums.{last_sum};

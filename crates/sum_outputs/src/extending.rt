@@ -2,7 +2,7 @@
 ghost use Rattle.std.specs.Prelude.{◌≡◌, ◌+◌, ◌-◌, ◌<◌, ◌≤◌, ◌^◌, ◌++◌, length, drop, slice_index_or, All, IfOk, OnOk};
 ghost use Rattle.pb_lin.specs.Constraint.{total};
 ghost use Rattle.sum_outputs.specs.Totals.{IsLeastSum, definitions};
-ghost use Rattle.sum_outputs.specs.Adding.{seen, IsReady, IsRecorded};
+ghost use Rattle.sum_outputs.specs.Adding.{IsReady, IsRecorded};
 ghost use Rattle.sum_outputs.specs.Outputs.{AreRising};
 ghost use Rattle.sum_outputs.specs.Joining.{AreChildrenNow, AreOutputsNow, IsCompleteTo, IsNewOutput};
 ghost use Rattle.sum_outputs.specs.Sums.{IsRunTo, last_sum};

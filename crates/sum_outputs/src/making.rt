@@ -1,7 +1,7 @@
 // One output of a node.
 ghost use Rattle.std.specs.Prelude.{◌≡◌, ℕ, ◌+◌, ◌<◌, [], ◌++◌, length, slice_index_or, IfOk, OnOk};
 ghost use Rattle.sum_outputs.specs.Totals.{IsLeastSum, definitions};
-ghost use Rattle.sum_outputs.specs.Adding.{seen, IsReady, IsRecorded};
+ghost use Rattle.sum_outputs.specs.Adding.{IsReady, IsRecorded};
 ghost use Rattle.sum_outputs.specs.Joining.{AreChildrenNow, AreOutputsNow, IsAboveAll, IsCompleteTo, IsNewOutput};
 
 use crate::SumOutput;

@@ -3,7 +3,7 @@ ghost use Rattle.std.specs.Prelude.{◌≡◌, ◌++◌, ◌∷◌, [], Ok, IsOk
 ghost use Rattle.proof_laws.specs.WellFormed.{IsWellFormed};
 ghost use Rattle.proof_rules.specs.Recording.{MayBeAdded, IsNextId};
 ghost use Rattle.sum_outputs.specs.Totals.{IsTotalizerLine};
-ghost use Rattle.sum_outputs.specs.Adding.{seen, IsReady, IsRecorded};
+ghost use Rattle.sum_outputs.specs.Adding.{IsReady, IsRecorded};
 
 use proof_laws::Line;
 use proof_rules::{RecordFault, Recorder};

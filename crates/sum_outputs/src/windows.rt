@@ -2,7 +2,7 @@
 ghost use Rattle.std.specs.Prelude.{◌≡◌, ℕ, ◌+◌, ◌<◌, ◌≤◌, ◌^◌, [], ◌∷◌, ◌++◌, length, slice_index_or, All, AllPairs, OnOk};
 ghost use Rattle.pb_lin.specs.Place.{IsPlace};
 ghost use Rattle.sum_outputs.specs.Totals.{definitions};
-ghost use Rattle.sum_outputs.specs.Adding.{seen, Always, IsReady, IsRecorded};
+ghost use Rattle.sum_outputs.specs.Adding.{Always, IsReady, IsRecorded};
 ghost use Rattle.sum_outputs.specs.Outputs.{AreRising, CanImplyNow, Imply};
 ghost use Rattle.sum_outputs.specs.Joining.{AreChildrenNow, AreImplying, IsLeastBetween, IsTargetNow, PairsImply, SinglesImply};
 ghost use Rattle.sum_outputs.specs.declared.made.SumOutput.{SumOutput};

@@ -8,8 +8,9 @@ use Rattle.std.proofs.lemmas.List.Elements.{All-contains}
 use Rattle.scut_base.specs.Literal.{Literal}
 use Rattle.cutting_planes.proofs.Terms.{Terms}
 use Rattle.proof_laws.specs.State.{StateValue}
+use Rattle.proof_rules.specs.Recording.{Snapshot}
 use Rattle.sum_outputs.specs.Totals.{IsLeastSum, definitions}
-use Rattle.sum_outputs.specs.Adding.{Snapshot, HasLater, IsReached, Continues}
+use Rattle.sum_outputs.specs.Adding.{HasLater, IsReached, Continues}
 use Rattle.sum_outputs.specs.Falling.{IsAsked, IsFresh, IsKept}
 use Rattle.sum_outputs.specs.MadeOutputs.{AreMadeNow, AreCompleteTo, AreGrownTo, IsNeeded, count_outputs}
 use Rattle.sum_outputs.specs.declared.node.Node.{Node}

@@ -6,8 +6,8 @@ use Rattle.std.proofs.lemmas.List.Elements.{All-contains}
 use Rattle.scut_base.specs.Literal.{Literal}
 use Rattle.cutting_planes.proofs.Terms.{Terms}
 use Rattle.proof_laws.specs.State.{StateValue}
+use Rattle.proof_rules.specs.Recording.{Snapshot}
 use Rattle.sum_outputs.specs.Totals.{IsAttainable, IsLeastSum, IsUpToLeast}
-use Rattle.sum_outputs.specs.Adding.{Snapshot}
 use Rattle.sum_outputs.specs.Joining.{IsOutputAt}
 use Rattle.sum_outputs.specs.MadeOutputs.{AreMade, AreCompleteTo}
 use Rattle.sum_outputs.specs.declared.node.Node.{Node}

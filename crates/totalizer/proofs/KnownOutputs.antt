@@ -10,8 +10,9 @@ use Rattle.scut_base.specs.Assignment.{lit_true}
 use Rattle.pb_lin.specs.Constraint.{IsVariable, term_value, total, value}
 use Rattle.cutting_planes.proofs.Terms.{Terms}
 use Rattle.proof_laws.specs.State.{StateValue}
+use Rattle.proof_rules.specs.Recording.{Snapshot}
 use Rattle.sum_outputs.specs.Totals.{AreWeights, IsAttainable, IsLeastSum}
-use Rattle.sum_outputs.specs.Adding.{Snapshot, IsReached, IsReady}
+use Rattle.sum_outputs.specs.Adding.{IsReached, IsReady}
 use Rattle.sum_outputs.specs.Outputs.{IsDefined}
 use Rattle.sum_outputs.specs.Joining.{IsOutputAt, AreOutputsAt}
 use Rattle.sum_outputs.specs.MadeOutputs.{AreMade, AreCompleteTo}

@@ -6,7 +6,8 @@ use Rattle.cutting_planes.proofs.Terms.{Terms}
 use Rattle.proof_laws.specs.State.{StateValue}
 use Rattle.proof_laws.specs.Steps.{reached_if, reached_only_if}
 use Rattle.proof_laws.proofs.Replays.{replay_once}
-use Rattle.sum_outputs.specs.Adding.{Snapshot, IsOwn, IsLater, IsReached, IsReady, KeptHold, Continues}
+use Rattle.proof_rules.specs.Recording.{Snapshot}
+use Rattle.sum_outputs.specs.Adding.{IsOwn, IsLater, IsReached, IsReady, KeptHold, Continues}
 use Rattle.sum_outputs.specs.Outputs.{IsOfLeaf, IsDefined, IsLiteralOf}
 use Rattle.sum_outputs.specs.Joining.{IsOutputAt}
 use Rattle.sum_outputs.specs.MadeOutputs.{AreMade}

@@ -10,8 +10,9 @@ use Rattle.scut_base.proofs.Lists.{Contains-nil}
 use Rattle.pb_lin.specs.Constraint.{IsVariable}
 use Rattle.cutting_planes.proofs.Terms.{Terms}
 use Rattle.proof_laws.specs.State.{StateValue}
+use Rattle.proof_rules.specs.Recording.{Snapshot}
 use Rattle.sum_outputs.specs.Totals.{AreWeights}
-use Rattle.sum_outputs.specs.Adding.{Snapshot, IsReached}
+use Rattle.sum_outputs.specs.Adding.{IsReached}
 use Rattle.sum_outputs.specs.Outputs.{IsDefined}
 use Rattle.sum_outputs.specs.Joining.{IsOutputAt, AreOutputsAt, IsCompleteTo}
 use Rattle.sum_outputs.specs.Sums.{last_sum}

@@ -2,8 +2,9 @@
 use Rattle.std.specs.Prelude.{◌≡◌, ◌⊎◌, ℕ, ◌+◌, ◌<◌, List, length, slice_index_or, Contains, ℤ, pos}
 use Rattle.scut_base.specs.Literal.{Literal}
 use Rattle.proof_laws.specs.State.{StateValue}
+use Rattle.proof_rules.specs.Recording.{Snapshot}
 use Rattle.sum_outputs.specs.Totals.{IsLeastSum, IsUpToLeast, definitions}
-use Rattle.sum_outputs.specs.Adding.{Snapshot, IsReached}
+use Rattle.sum_outputs.specs.Adding.{IsReached}
 use Rattle.sum_outputs.specs.MadeOutputs.{count_outputs}
 use Rattle.sum_outputs.specs.declared.node.Node.{Node}
 use Rattle.sum_outputs.specs.declared.made.SumOutput.{SumOutput}

@@ -7,7 +7,8 @@ use Rattle.proof_laws.specs.Replay.{IsReplay}
 use Rattle.proof_laws.specs.Earned.{IsLearnedId}
 use Rattle.proof_laws.specs.declared.line.Line.{Line}
 use Rattle.proof_laws.specs.declared.line.Line.TheVariants.{Del, Reduce}
-use Rattle.sum_outputs.specs.Adding.{Snapshot, IsReached, IsLater}
+use Rattle.proof_rules.specs.Recording.{Snapshot}
+use Rattle.sum_outputs.specs.Adding.{IsReached, IsLater}
 use Rattle.totalizer.specs.declared.bound.Bound.{Bound}
 use Rattle.totalizer.specs.Meaning.{IsBound}
 use Rattle.totalizer.specs.Totalizing.{TotalizerValue, Fits}

@@ -1,7 +1,7 @@
 // What stands for "the sum is at least k", for k above 0.
 ghost use Rattle.std.specs.Prelude.{◌≡◌, ◌<◌, ◌≤◌, length, pos, All, AllPairs, Contains, IfOk, OnOk, MatchOption};
 ghost use Rattle.pb_lin.specs.Constraint.{total};
-ghost use Rattle.sum_outputs.specs.Adding.{seen, IsReady, IsRecorded};
+ghost use Rattle.sum_outputs.specs.Adding.{IsReady, IsRecorded};
 ghost use Rattle.sum_outputs.specs.Tree.{IsTree};
 ghost use Rattle.totalizer.specs.Meaning.{IsBound};
 ghost use Rattle.totalizer.specs.Totalizing.{root_terms, Fits};

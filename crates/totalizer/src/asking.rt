@@ -1,7 +1,7 @@
 // An output of the root that isn't there.
 ghost use Rattle.std.specs.Prelude.{◌≡◌, ◌+◌, ◌-◌, ◌<◌, ◌≤◌, List, length, pos, slice_index_or, IfOk, OnOk};
 ghost use Rattle.pb_lin.specs.Constraint.{total};
-ghost use Rattle.sum_outputs.specs.Adding.{seen, IsReady, IsRecorded};
+ghost use Rattle.sum_outputs.specs.Adding.{IsReady, IsRecorded};
 ghost use Rattle.sum_outputs.specs.Totals.{definitions};
 ghost use Rattle.sum_outputs.specs.Falling.{IsAsked};
 ghost use Rattle.sum_outputs.specs.MadeOutputs.{AreCompleteTo, AreMadeNow};

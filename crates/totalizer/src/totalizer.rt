@@ -1,7 +1,8 @@
 // The totalizer of one weighted sum.
 ghost use Rattle.std.specs.Prelude.{◌≡◌, IfOk, OnOk};
+ghost use Rattle.proof_rules.specs.Recording.{Snapshot};
 ghost use Rattle.sum_outputs.specs.Totals.{AreWeights};
-ghost use Rattle.sum_outputs.specs.Adding.{Snapshot, seen, IsReady, IsRecorded};
+ghost use Rattle.sum_outputs.specs.Adding.{IsReady, IsRecorded};
 ghost use Rattle.totalizer.specs.Meaning.{IsBound};
 ghost use Rattle.totalizer.specs.Totalizing.{terms_of, Fits, HasVariables, IsBuilt};
 ghost use Rattle.totalizer.specs.Demanding.{AddsFor};

@@ -1,6 +1,5 @@
 -- A new proof is a good state, and what is on the board at the end covers what is logged.
 use Rattle.std.proofs.Common.{◌∙◌}
-use Rattle.sum_outputs.specs.Adding.{seen}
 use Rattle.certified_front.proofs.Boards.{begins_good, covers_logged}
 use Rattle.certified_front.proofs.certifying.certified_front.Goals as goal
 

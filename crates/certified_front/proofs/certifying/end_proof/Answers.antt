@@ -1,5 +1,4 @@
 -- Only the number of lines may stand against the line, and the proof has ended after it.
-use Rattle.sum_outputs.specs.Adding.{seen}
 use Rattle.certified_front.proofs.EndLines.{ended_after, may_end}
 use Rattle.certified_front.proofs.certifying.end_proof.Goals as goal
 

@@ -1,5 +1,4 @@
 -- Where no i64 is above the number, no cost is.
-use Rattle.sum_outputs.specs.Adding.{seen}
 use Rattle.sum_outputs.proofs.LaterStates.{continues_again, recorded_ok}
 use Rattle.totalizer.specs.declared.bound.Bound.TheVariants.{Never}
 use Rattle.p_minimal.proofs.question.excess_of.Goals as goal

@@ -4,7 +4,6 @@ use mir.Syntax.{w64}
 use Rattle.std.proofs.Common.{rules, None, Err, ◌<◌, length, get_or, ap, subst, sym, ◌∙◌, arith, pos}
 use Rattle.std.proofs.lemmas.Int.{to_z-of_z}
 use Rattle.std.proofs.lemmas.Result.{err_from_is_err_and}
-use Rattle.sum_outputs.specs.Adding.{seen}
 use Rattle.sum_outputs.proofs.LaterStates.{continues_again, continues_twice, handed_on, ready_later, recorded_err, recorded_ok}
 use Rattle.proof_rules.specs.declared.recorder.RecordFault.{RecordFault}
 use Rattle.proof_rules.specs.declared.recorder.RecordFault.TheVariants.{NoMemory}

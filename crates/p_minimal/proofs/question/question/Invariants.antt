@@ -1,4 +1,3 @@
-use Rattle.sum_outputs.specs.Adding.{seen}
 use Rattle.search_base.specs.CostBounds.{FitBounds}
 use Rattle.p_minimal.specs.Asking.{Asks}
 use Rattle.sum_outputs.proofs.OutputsLater.{IsUnderWay}

@@ -1,5 +1,4 @@
 use Rattle.std.proofs.Common.{take}
-use Rattle.sum_outputs.specs.Adding.{seen}
 use Rattle.search_base.specs.CostBounds.{FitBounds}
 use Rattle.search_base.specs.Cutting.{AreAnswers}
 use Rattle.sum_outputs.proofs.OutputsLater.{IsUnderWay}

@@ -5,7 +5,6 @@ use mir.Syntax.{w64, w128}
 use Rattle.std.proofs.Common.{◌≡◌, false, ℤ, pos, sym, subst}
 use Rattle.std.proofs.lemmas.Int.{to_z-of_z}
 use Rattle.pb_lin.specs.Constraint.{total}
-use Rattle.sum_outputs.specs.Adding.{seen}
 use Rattle.sum_outputs.proofs.LaterStates.{continues_again, recorded_ok}
 use Rattle.totalizer.specs.Totalizing.{terms_of}
 use Rattle.totalizer.specs.declared.bound.Bound.TheVariants.{Always, Never}

@@ -2,7 +2,6 @@
 use Rattle.std.proofs.Common.{◌≡◌, false, subst}
 use Rattle.proof_laws.specs.State.{StateValue}
 use Rattle.proof_laws.proofs.Replays.{replay_once}
-use Rattle.sum_outputs.specs.Adding.{seen}
 use Rattle.search_base.proofs.Answered.{answers_alike, answers_at}
 use Rattle.search_base.proofs.SolLines.{line_formed, line_may}
 use Rattle.search_base.proofs.ModelLines.{model_goes_on, same_goes_on}

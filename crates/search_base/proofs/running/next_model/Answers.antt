@@ -1,6 +1,5 @@
 -- Turns without a model log nothing, so what the last one finds is new since the first.
 use Rattle.std.proofs.Common.{refl}
-use Rattle.sum_outputs.specs.Adding.{seen}
 use Rattle.search_base.proofs.Turning.{no_turn, turns_more, goes_twice, finds_after, none_twice}
 use Rattle.search_base.proofs.running.next_model.Goals as goal
 

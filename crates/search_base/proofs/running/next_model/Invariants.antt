@@ -1,4 +1,3 @@
-use Rattle.sum_outputs.specs.Adding.{seen}
 use Rattle.search_base.specs.Logged.{LogsNone}
 use Rattle.search_base.proofs.Turning.{AreTurns}
 use Rattle.search_base.proofs.running.next_model.Given as goal

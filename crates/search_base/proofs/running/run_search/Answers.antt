@@ -1,5 +1,4 @@
 -- Each model lowers the number of uncovered vectors.
-use Rattle.sum_outputs.specs.Adding.{seen}
 use Rattle.search_base.proofs.Turning.{no_turn, turns_more, goes_twice, fewer_left}
 use Rattle.search_base.proofs.running.run_search.Goals as goal
 

@@ -1,4 +1,3 @@
-use Rattle.sum_outputs.specs.Adding.{seen}
 use Rattle.search_base.specs.CostBox.{uncovered}
 use Rattle.search_base.proofs.Turning.{AreTurns}
 use Rattle.search_base.proofs.running.run_search.Given as goal

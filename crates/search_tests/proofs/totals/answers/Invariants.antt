@@ -1,4 +1,3 @@
-use Rattle.sum_outputs.specs.Adding.{seen}
 use Rattle.search_tests.specs.Asked.{IsAskable}
 use Rattle.search_tests.proofs.totals.answers.Given as goal
 

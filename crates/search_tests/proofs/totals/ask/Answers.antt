@@ -1,4 +1,3 @@
-use Rattle.sum_outputs.specs.Adding.{seen}
 use Rattle.search_tests.proofs.Asking.{askable_later}
 use Rattle.search_tests.proofs.totals.ask.Goals as goal
 

@@ -3,7 +3,7 @@ use Rattle.std.specs.Prelude.{slice_get, ℕ}
 use Rattle.scut_base.specs.Literal.{Literal}
 use Rattle.pb_lin.specs.CostRow.{CostRowValue}
 use Rattle.pb_lin.specs.Problem.{ProblemValue, IsProblem}
-use Rattle.sum_outputs.specs.Adding.{Snapshot, seen}
+use Rattle.proof_rules.specs.Recording.{Snapshot}
 use Rattle.totalizer.specs.Totalizing.{Fits, HasVariables}
 use Rattle.search_tests.proofs.Asking.{askable_at_first}
 use Rattle.search_tests.proofs.totals.first_sum.Goals as goal

@@ -4,7 +4,6 @@ use Rattle.std.proofs.Math.ListN.{set}
 use Rattle.std.specs.Prelude.{slice_index_or}
 use Rattle.std.proofs.lemmas.List.{length-set}
 use Rattle.std.proofs.lemmas.Result.{IfOk-at_ok, IfOk-weaker}
-use Rattle.sum_outputs.specs.Adding.{seen}
 use Rattle.sum_outputs.specs.Totals.{IsLeastSum, definitions}
 use Rattle.sum_outputs.specs.Sums.{IsLeastOf}
 use Rattle.sum_outputs.specs.Falling.{IsAsked, asked_from}

@@ -1,6 +1,5 @@
 -- The first of the greater outputs is an output.
 use Rattle.std.proofs.Common.{List, sym, subst}
-use Rattle.sum_outputs.specs.Adding.{seen}
 use Rattle.sum_outputs.specs.Joining.{AreOutputsAt}
 use Rattle.sum_outputs.specs.declared.made.SumOutput.{SumOutput}
 use Rattle.sum_outputs.proofs.AskedLists.{first_outputs}

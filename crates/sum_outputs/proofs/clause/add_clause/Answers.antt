@@ -10,7 +10,6 @@ use Rattle.proof_rules.specs.declared.recorder.RecordFault.TheVariants.{NoMemory
 use Rattle.sum_outputs.specs.ClauseTokens.{clause_tokens}
 use Rattle.sum_outputs.proofs.TokenLists.{lowers_of}
 use Rattle.sum_outputs.specs.Totals.{definitions}
-use Rattle.sum_outputs.specs.Adding.{seen}
 use Rattle.sum_outputs.proofs.LaterStates.{continues_again, recorded_err}
 use Rattle.sum_outputs.proofs.ImplyLines.{imply_tokens, sums_small, imply_formed, imply_legal, imply_says}
 use Rattle.sum_outputs.proofs.DefinitionCounts.{definitions_push}

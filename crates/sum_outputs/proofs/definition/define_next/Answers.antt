@@ -1,6 +1,5 @@
 -- What a definition leaves of a recorder.
 use Rattle.std.proofs.Common.{refl}
-use Rattle.sum_outputs.specs.Adding.{seen}
 use Rattle.sum_outputs.proofs.DefinedLines.{defined_legal, defined_after}
 use Rattle.sum_outputs.proofs.definition.define_next.Goals as goal
 

@@ -3,7 +3,6 @@ use Rattle.std.proofs.Common.{◌≡◌, ℕ, ◌+◌, ◌-◌, ◌<◌, List, [
 use Rattle.std.proofs.lemmas.List.{length-append, length-reverse}
 use Rattle.std.proofs.lemmas.Result.{err_from_is_err_and, IfOk-at_ok, IfOk-weaker}
 use Rattle.scut_base.specs.Literal.{Literal}
-use Rattle.sum_outputs.specs.Adding.{seen}
 use Rattle.sum_outputs.specs.Totals.{AreWeights, definitions}
 use Rattle.sum_outputs.specs.Outputs.{AreRising, CanImplyNow}
 use Rattle.sum_outputs.specs.Sums.{last_sum}

@@ -7,7 +7,6 @@ use Rattle.scut_base.specs.Literal.{Literal}
 use Rattle.pb_lin.specs.Constraint.{total}
 use Rattle.proof_rules.specs.declared.recorder.RecordFault.{RecordFault}
 use Rattle.proof_rules.specs.declared.recorder.RecordFault.TheVariants.{NoMemory}
-use Rattle.sum_outputs.specs.Adding.{seen}
 use Rattle.sum_outputs.specs.Totals.{AreWeights}
 use Rattle.sum_outputs.specs.Joining.{AreOutputsAt}
 use Rattle.sum_outputs.specs.Sums.{IsLeastOf, IsRunTo}

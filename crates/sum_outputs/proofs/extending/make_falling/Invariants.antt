@@ -1,7 +1,6 @@
 -- Some sums are left, and the others are made.
 use Rattle.std.proofs.Common.{◌≡◌, ◌+◌, length}
 use Rattle.sum_outputs.specs.Totals.{definitions}
-use Rattle.sum_outputs.specs.Adding.{seen}
 use Rattle.sum_outputs.proofs.OutputsLater.{IsUnderWay}
 use Rattle.sum_outputs.proofs.FallingLines.{IsHalfWay}
 use Rattle.sum_outputs.proofs.extending.make_falling.Given as goal

@@ -1,7 +1,6 @@
 -- One node after the other.
 use Rattle.std.proofs.Common.{refl, arith}
 use Rattle.std.proofs.lemmas.Result.{err_from_is_err_and}
-use Rattle.sum_outputs.specs.Adding.{seen}
 use Rattle.sum_outputs.proofs.LaterStates.{handed_on}
 use Rattle.sum_outputs.proofs.OutputsLater.{way_starts, way_ready, way_on}
 use Rattle.sum_outputs.proofs.GrownOutputs.{grown_again, grown_twice}

@@ -1,7 +1,6 @@
 -- The nodes so far are complete.
 use Rattle.std.proofs.Common.{◌≡◌, ◌+◌}
 use Rattle.sum_outputs.specs.Totals.{definitions}
-use Rattle.sum_outputs.specs.Adding.{seen}
 use Rattle.sum_outputs.specs.MadeOutputs.{AreCompleteTo, AreGrownTo, AreMadeNow, count_outputs}
 use Rattle.sum_outputs.proofs.OutputsLater.{IsUnderWay}
 use Rattle.sum_outputs.proofs.growing.extend_all.Given as goal

@@ -1,6 +1,5 @@
 -- A leaf is complete as it is.
 use Rattle.std.proofs.Common.{◌<◌, length, sym, ◌∙◌, arith}
-use Rattle.sum_outputs.specs.Adding.{seen}
 use Rattle.sum_outputs.proofs.LaterStates.{continues_again, recorded_ok}
 use Rattle.sum_outputs.proofs.MadeLists.{complete_leaf, long_node}
 use Rattle.sum_outputs.proofs.GrownOutputs.{grown_again}

@@ -2,7 +2,6 @@
 use Rattle.std.proofs.Common.{ℕ, ◌<◌, ◌-◌, ◌^◌, ◌++◌, ap, sym, subst, ◌∙◌, arith}
 use Rattle.std.proofs.lemmas.Result.{err_from_is_err_and}
 use Rattle.proof_laws.specs.declared.line.Line.TheVariants.{Def}
-use Rattle.sum_outputs.specs.Adding.{seen}
 use Rattle.sum_outputs.specs.Totals.{IsLeastSum, definitions}
 use Rattle.sum_outputs.proofs.Glue.{value-le-total}
 use Rattle.sum_outputs.proofs.LaterStates.{handed_on, recorded_ok, ready_later, continues_twice}

@@ -2,7 +2,6 @@
 use Rattle.std.proofs.lemmas.Result.{err_from_is_err_and}
 use Rattle.sum_outputs.proofs.recording.record.Goals as goal
 use Rattle.sum_outputs.proofs.LaterStates.{continues_same, continues_more, recorded_ok, recorded_err, added_fault}
-use Rattle.sum_outputs.specs.Adding.{seen}
 
 pub returns-in_err-id-clause-recorded : goal.returns-in_err-id-clause-recorded
 returns-in_err-id-clause-recorded g c =

@@ -1,7 +1,6 @@
 -- The clauses so far are there.
 use Rattle.std.proofs.Common.{◌≡◌, ℕ, ◌<◌, ◌≤◌, slice_index_or}
 use Rattle.sum_outputs.specs.Totals.{definitions}
-use Rattle.sum_outputs.specs.Adding.{seen}
 use Rattle.sum_outputs.specs.Joining.{PairsImply}
 use Rattle.sum_outputs.specs.declared.made.SumOutput.{SumOutput}
 use Rattle.sum_outputs.proofs.OutputsLater.{IsUnderWay}

@@ -1,5 +1,4 @@
 -- Where there is no clause to add, nothing is added.
-use Rattle.sum_outputs.specs.Adding.{seen}
 use Rattle.sum_outputs.proofs.LaterStates.{continues_again, recorded_ok}
 use Rattle.sum_outputs.proofs.windows.add_single.Goals as goal
 

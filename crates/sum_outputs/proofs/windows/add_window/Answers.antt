@@ -1,7 +1,7 @@
 -- The clauses of outputs alone and then of pairs.
 use Rattle.std.proofs.Common.{[], ◌∷◌, get_or}
 use Rattle.std.proofs.lemmas.Result.{err_from_is_err_and, on_ok_weaker}
-use Rattle.sum_outputs.specs.Adding.{seen, Always}
+use Rattle.sum_outputs.specs.Adding.{Always}
 use Rattle.sum_outputs.specs.Outputs.{Imply}
 use Rattle.sum_outputs.specs.declared.made.SumOutput.{SumOutput}
 use Rattle.sum_outputs.proofs.LaterStates.{always_later, handed_on, recorded_after, ready_later, continues_twice}

@@ -2,7 +2,6 @@
 use Rattle.std.proofs.Common.{◌≡◌, ◌+◌, ◌-◌, List, length, get_or, ap, sym, ◌∙◌, arith}
 use Rattle.std.proofs.lemmas.Result.{IfOk-weaker}
 use Rattle.pb_lin.specs.Constraint.{total}
-use Rattle.sum_outputs.specs.Adding.{seen}
 use Rattle.sum_outputs.specs.Totals.{definitions}
 use Rattle.sum_outputs.specs.Falling.{IsAsked}
 use Rattle.sum_outputs.specs.declared.made.SumOutput.{SumOutput}

@@ -1,5 +1,4 @@
 -- The vector that was logged for the model is the new aim.
-use Rattle.sum_outputs.specs.Adding.{seen}
 use Rattle.search_base.proofs.Turning.{finds_after, goes_twice}
 use Rattle.p_minimal.proofs.Aims.{aims_lower, serves_after}
 use Rattle.p_minimal.proofs.p_minimal.PMinimal.advance.Goals as goal

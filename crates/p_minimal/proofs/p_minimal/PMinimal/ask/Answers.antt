@@ -4,7 +4,6 @@ use Rattle.std.proofs.lemmas.Result.{err_from_is_err_and}
 use Rattle.pb_lin.specs.Problem.{ProblemValue}
 use Rattle.oracle.specs.Solving.{AreAssumptions}
 use Rattle.oracle.specs.declared.fault.OracleFault.{OracleFault}
-use Rattle.sum_outputs.specs.Adding.{seen}
 use Rattle.sum_outputs.proofs.LaterStates.{ready_later}
 use Rattle.search_base.proofs.Turning.{goes_twice}
 use Rattle.p_minimal.specs.Asking.{Asks, Tells}

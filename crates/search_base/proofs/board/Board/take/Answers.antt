@@ -1,7 +1,6 @@
 -- The model is tightened, its costs are asked for, it is logged, and then put onto the board.
 use Rattle.std.proofs.Common.{◌≡◌, ◌≤◌, List, length, take, sym, ap, ◌∙◌, subst, ℤ}
 use Rattle.pb_lin.specs.Problem.{ProblemValue, IsProblem, IsProblemModel, problem_costs}
-use Rattle.sum_outputs.specs.Adding.{seen}
 use Rattle.sum_outputs.proofs.LaterStates.{ready_later}
 use Rattle.totalizer.specs.declared.bound.Bound.{Bound}
 use Rattle.search_base.specs.Boards.{BoardValue}

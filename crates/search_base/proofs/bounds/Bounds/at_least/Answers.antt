@@ -6,7 +6,6 @@ use Rattle.std.proofs.lemmas.Int.{ints}
 use Rattle.std.proofs.lemmas.Result.{IfOk-weaker, on_ok_weaker}
 use Rattle.std.proofs.lemmas.Slice.Zip.{AllZip-long}
 use Rattle.pb_lin.specs.CostRow.{CostRowValue}
-use Rattle.sum_outputs.specs.Adding.{seen}
 use Rattle.totalizer.specs.Meaning.{IsBound}
 use Rattle.totalizer.specs.Totalizing.{Fits, terms_of}
 use Rattle.search_base.specs.CostBounds.{BoundsRow, FitBounds, IsCostBound}

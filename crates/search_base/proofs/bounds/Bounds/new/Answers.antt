@@ -7,7 +7,7 @@ use Rattle.std.proofs.lemmas.List.{take_more, take_all}
 use Rattle.scut_base.specs.Literal.{Literal}
 use Rattle.pb_lin.specs.Constraint.{TermsUpTo}
 use Rattle.pb_lin.specs.CostRow.{CostRowValue}
-use Rattle.sum_outputs.specs.Adding.{Snapshot}
+use Rattle.proof_rules.specs.Recording.{Snapshot}
 use Rattle.totalizer.specs.Totalizing.{Fits, HasVariables, IsBuilt}
 use Rattle.search_base.specs.declared.bounds.ObjectiveBound.{ObjectiveBound}
 use Rattle.search_base.proofs.BoundRows.{FitRows, one_fits_more, all_fit}

@@ -1,5 +1,4 @@
 -- Nothing is added.
-use Rattle.sum_outputs.specs.Adding.{seen}
 use Rattle.sum_outputs.proofs.LaterStates.{continues_again, recorded_ok}
 use Rattle.totalizer.proofs.totalizer.Totalizer.output.Goals as goal
 
