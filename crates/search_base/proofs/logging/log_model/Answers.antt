@@ -53,7 +53,7 @@ returns-in_err-add_line-clause-goes_on g c =
     let a = R.seen c.args.rec.now in
     let b = R.seen c.add_line.new.self in
     let was = c.in_err-add_line.ensures in
-    same_goes_on a b was.problem was.limit was.later was.around was.kept
+    same_goes_on a b was.keeps.problem was.keeps.limit was.keeps.later was.keeps.around was.kept
 
 pub returns-clause-goes_on : goal.returns-clause-goes_on
 returns-clause-goes_on g c =
@@ -61,7 +61,7 @@ returns-clause-goes_on g c =
     let a = R.seen c.args.rec.now in
     let b = R.seen c.add_line.new.self in
     let was = c.in_ok-add_line.ensures in
-    model_goes_on a b was.problem was.limit was.later was.around c.args.model.now c.args.answers.now c.in_ok-line.line
+    model_goes_on a b was.keeps.problem was.keeps.limit was.keeps.later was.keeps.around c.args.model.now c.args.answers.now c.in_ok-line.line
     (rw c.in_ok-line.ensures.ok at c.model_line.ensures) was.added
 
 pub returns-clause-logged : goal.returns-clause-logged

@@ -29,7 +29,7 @@ returns-in_err-solve-clause-good g c =
     let call = c.in_err-solve.ensures in
     let is = err_from_is_err_and c.from_residual.result c.from_residual.ensures.1 in
     spent_stays_good c.asking_stays_good.ensures a b c.args.bounds.now
-    call.problem call.limit call.later call.around call.lines call.within
+    call.keeps.problem call.keeps.limit call.keeps.later call.keeps.around call.lines call.within
     c.from_residual.result c.in_err-solve.field-0.0 (is.1 ∙ ap (λ (f : OracleFault). Err f) is.2) call.earned call.fault
 
 pub returns-in_default-clause-good : goal.returns-in_default-clause-good
@@ -39,7 +39,7 @@ returns-in_default-clause-good g c =
     let b = R.seen c.solve.new.self in
     let call = c.in_ok-solve.ensures in
     λ order. oracle_stays_good c.asking_stays_good.ensures a b c.args.bounds.now
-    call.problem call.limit call.later call.around call.lines call.within call.whole (call.earned tt)
+    call.keeps.problem call.keeps.limit call.keeps.later call.keeps.around call.lines call.within call.whole (call.earned tt)
 
 pub returns-in_default-clause-tells : goal.returns-in_default-clause-tells
 returns-in_default-clause-tells g c =
@@ -48,7 +48,7 @@ returns-in_default-clause-tells g c =
     let b = R.seen c.solve.new.self in
     let call = c.in_ok-solve.ensures in
     subst (λ (o : Option (List ℤ)). Tells b o (Some c.in_ok-solve.field-0)) (sym c.in_default.is ∙ c.self.view_is)
-    (tells_any a b c.in_ok-solve.field-0 call.problem (call.earned tt) call.answer)
+    (tells_any a b c.in_ok-solve.field-0 call.keeps.problem (call.earned tt) call.answer)
 
 -- ---- with an aim
 
@@ -111,7 +111,7 @@ returns-in_err-solve-2-clause-good g c =
     λ order. stays_good_twice a m b c.args.bounds.now c.question.new.bounds c.question.new.bounds
     asked.recorded.continues.problem first
     (spent_stays_good c.asking_stays_good.ensures m b c.question.new.bounds
-    call.problem call.limit call.later call.around call.lines call.within c.from_residual-in_err-solve-2.result
+    call.keeps.problem call.keeps.limit call.keeps.later call.keeps.around call.lines call.within c.from_residual-in_err-solve-2.result
     c.in_err-solve-2.field-0.0 (is.1 ∙ ap (λ (f : OracleFault). Err f) is.2) call.earned call.fault order)
 
 pub returns-in_err-solve-2-clause-goes_on : goal.returns-in_err-solve-2-clause-goes_on
@@ -122,7 +122,7 @@ returns-in_err-solve-2-clause-goes_on g c =
     let b = R.seen c.solve-2.new.self in
     let call = c.in_err-solve-2.ensures in
     goes_twice a m b (bounds_go_on c.turn_lines_join.ensures a m c.in_ok-lits.ensures.recorded.continues)
-    (oracle_goes_on c.turn_lines_join.ensures m b call.problem call.limit call.later call.around call.lines)
+    (oracle_goes_on c.turn_lines_join.ensures m b call.keeps.problem call.keeps.limit call.keeps.later call.keeps.around call.lines)
 
 pub returns-clause-goes_on : goal.returns-clause-goes_on
 returns-clause-goes_on g c =
@@ -132,7 +132,7 @@ returns-clause-goes_on g c =
     let b = R.seen c.solve-2.new.self in
     let call = c.in_ok-solve-2.ensures in
     goes_twice a m b (bounds_go_on c.turn_lines_join.ensures a m c.in_ok-lits.ensures.recorded.continues)
-    (oracle_goes_on c.turn_lines_join.ensures m b call.problem call.limit call.later call.around call.lines)
+    (oracle_goes_on c.turn_lines_join.ensures m b call.keeps.problem call.keeps.limit call.keeps.later call.keeps.around call.lines)
 
 pub returns-clause-good : goal.returns-clause-good
 returns-clause-good g c =
@@ -147,7 +147,7 @@ returns-clause-good g c =
     λ order. stays_good_twice a m b c.args.bounds.now c.question.new.bounds c.question.new.bounds
     asked.recorded.continues.problem first
     (oracle_stays_good c.asking_stays_good.ensures m b c.question.new.bounds
-    call.problem call.limit call.later call.around call.lines call.within call.whole (call.earned tt))
+    call.keeps.problem call.keeps.limit call.keeps.later call.keeps.around call.lines call.within call.whole (call.earned tt))
 
 pub returns-clause-tells : goal.returns-clause-tells
 returns-clause-tells g c =
@@ -165,9 +165,9 @@ returns-clause-tells g c =
     let ready = ready_later a m front.1.ready asked.recorded.continues asked.recorded.whole in
     let asks : Asks m.problem m.lines aim (length aim) lits = rw c.in-Some-2.is at asked.asked in
     let solved = asks_solved c.bounds_stay.ensures c.turn_lines_join.ensures c.turn_lines_keep_own.ensures m b
-    ready.state aim lits ready.reached call.problem call.lines asks in
+    ready.state aim lits ready.reached call.keeps.problem call.lines asks in
     let serves : length aim ≡ length a.problem.costs = rw (sym is) at c.requires.serves in
     let long : length aim ≡ length m.problem.costs =
     serves ∙ ap (λ (p : ProblemValue). length p.costs) (sym asked.recorded.continues.problem) in
     subst (λ (o : Option (List ℤ)). Tells b o (Some answer)) is
-    (tells_below m b answer call.problem (call.earned tt) aim lits long solved (rw c.as_slice.ensures at call.answer))
+    (tells_below m b answer call.keeps.problem (call.earned tt) aim lits long solved (rw c.as_slice.ensures at call.answer))
