@@ -1,5 +1,5 @@
 -- What taking up a legal line asks for, and leaves.
-use Rattle.std.proofs.Common.{◌≡◌, ℕ, Bool, Option, None, Some, Result, Ok, Err, List, length, arith, sym, subst, ap, ◌∙◌}
+use Rattle.std.proofs.Common.{◌≡◌, ℕ, Bool, Option, None, Some, Result, Ok, Err, List, length, arith, refl, sym, subst, ap, ◌∙◌}
 use Rattle.std.specs.List.{All}
 use Rattle.std.specs.Prelude.{OnOk}
 use Rattle.scut_base.specs.Literal.{Literal}
@@ -14,7 +14,7 @@ use Rattle.proof_laws.specs.Refusal.{assignment_of, misplaced}
 use Rattle.proof_laws.specs.Legal.{IsLegal, IsNext, Makes}
 use Rattle.proof_laws.specs.Laws.{StandsBefore}
 use Rattle.proof_laws.specs.declared.line.Line.{Line}
-use Rattle.proof_laws.specs.declared.line.Line.TheVariants.{Pol, Def}
+use Rattle.proof_laws.specs.declared.line.Line.TheVariants.{Pol, Rup, Learn, Def, Red, Dom, Sol, Del, Reduce, End}
 use Rattle.proof_laws.proofs.NextCovers.{legal_parts}
 use Rattle.proof_laws.proofs.NextKept.{next_fits_law}
 use Rattle.proof_laws.proofs.Ranges.{def_parts, terms_upto}
@@ -30,16 +30,39 @@ pub fits_on_ok : {E : Type 0} (p : ProblemValue) (s : StateValue) (line : Line) 
 fits_on_ok p s line t (Ok done) problem state fits formed next = fits_after p s line t problem state fits formed next
 fits_on_ok p s line t (Err e) problem state fits formed next = tt
 
+-- tokens make the constraint of no line but `pol`
+pol_line : (s : StateValue) (line : Line) (c : ConstraintValue) → IsValueMade s line (Some c) → (tokens : List PolToken) × (line ≡ Pol tokens)
+pol_line s (Pol tokens) c made = (tokens, refl)
+pol_line s (Rup goal hints) c made = absurd cc
+pol_line s (Learn goal hints) c made = absurd cc
+pol_line s (Def var sum) c made = absurd cc
+pol_line s (Red goal w proofs) c made = absurd cc
+pol_line s (Dom goal w proofs) c made = absurd cc
+pol_line s (Sol model cut ids) c made = absurd cc
+pol_line s (Del ids) c made = absurd cc
+pol_line s (Reduce ids) c made = absurd cc
+pol_line s (End id) c made = absurd cc
+
 module _ (p : ProblemValue) (s : StateValue) (line : Line) (before : StandsBefore p s line) (legal : IsLegal p s line) where
   -- what a legal line of this form makes is a state
   pub next_state : (form : Line) (t : StateValue) → line ≡ form → Makes p s form t → IsState t
   next_state form t is makes = (next_fits_law p s line t before (record { legal = legal; makes = subst (λ (l : Line). Makes p s l t) (sym is) makes })).0
 
-  pub value_state : (tokens : List PolToken) (made : Option ConstraintValue) (c : ConstraintValue) → line ≡ Pol tokens → IsValueMade s line made → made ≡ Some c → IsState (with_line s c)
-  value_state tokens made c is value some =
-      let own = subst (λ (l : Line). IsValueMade s l made) is value in
-      let same : c ≡ own.0 = let both : Some c ≡ Some own.0 = sym some ∙ own.1 in cc in
-      next_state (Pol tokens) (with_line s c) is (own.0, own.2, ap (with_line s) same)
+  -- the constraint that tokens have made
+  module _ (made : Option ConstraintValue) (c : ConstraintValue) (value : IsValueMade s line made) (some : made ≡ Some c) where
+    pub makes_value : (t : StateValue) → t ≡ with_line s c → IsNext p s line t
+    makes_value t is =
+        let found : IsValueMade s line (Some c) = subst (λ (m : Option ConstraintValue). IsValueMade s line m) some value in
+        let form = pol_line s line c found in
+        let own = subst (λ (l : Line). IsValueMade s l (Some c)) form.1 found in
+        let same : c ≡ own.0 = let both : Some c ≡ Some own.0 = own.1 in cc in
+        record {
+          legal = legal;
+          makes = subst (λ (l : Line). Makes p s l t) (sym form.1) (own.0, own.2, is ∙ ap (with_line s) same);
+        }
+
+    pub value_state : IsState (with_line s c)
+    value_state = (next_fits_law p s line (with_line s c) before (makes_value (with_line s c) refl)).0
 
   pub sum_upto : (var : ℕ) (sum : ConstraintValue) → line ≡ Def var sum → UpTo s.vars sum
   sum_upto var sum is =

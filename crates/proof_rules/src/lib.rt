@@ -2,7 +2,7 @@
 //!
 //! Its public contract: `step` succeeds exactly where the line is legal, and then leaves the next state of
 //! the rule book; else it names the reason, and changes nothing. `advance` takes a line that is known to
-//! be legal, and judges nothing again. The trait `Recorder` says what it means to keep a proof. The rule
+//! be legal, and judges nothing again. A `Judge` judges lines on a state that somebody else keeps. The trait `Recorder` says what it means to keep a proof. The rule
 //! book itself is the crate `proof_laws`.
 #![tactic(auto)]
 
@@ -10,6 +10,7 @@ mod definition;
 mod derivation;
 mod fault;
 mod goals;
+mod judge;
 mod judging;
 mod proof_state;
 mod ranges;
@@ -22,6 +23,7 @@ mod substitution;
 mod taking_up;
 
 pub use fault::StepFault;
+pub use judge::Judge;
 pub use proof_laws::{
     Goal, GoalProof, Line, Why, ended_is_empty, next_covers, next_fits, plain_line_keeps_earned,
     replay_covers, start_covers,

@@ -110,6 +110,13 @@ impl ProofState {
         self.reached.ended
     }
 
+    // The same, as it is kept.
+    pub(crate) fn reached(&self) -> &Reached
+        ensures { result.now ≡ self.now }
+    {
+        &self.reached
+    }
+
     /// Takes a line up, where it is legal. `Refused` with the first condition that fails, in the order
     /// of the rule book, where it isn't; `NoMemory` where memory was refused; after either nothing has
     /// changed.

@@ -14,7 +14,7 @@ use crate::ranges::literals_above;
 use crate::reached::Reached;
 use pb_lin::{Constraint, CostRow, Lines, PbProblem, row_cost};
 use proof_laws::Why;
-use scut_base::{Assignment, Items, Lit, NoMemory};
+use scut_base::{Assignment, Items, Lit, NoMemory, boxed};
 use std::alloc::Global;
 
 // The literals are a model of the problem's variables in order, and the named lines bound each
@@ -144,8 +144,10 @@ fn judge_bound(
     let Some(line) = restricted_line(alloc, lines, id, truths)? else {
         return Err(StepFault::Refused(Why::NoSuchId(id)));
     };
-    let bound = bound_of(alloc, row, a)?;
-    let bound = bound.restricted(alloc, truths)?;
+    // In boxes, since the proof of each way out takes apart what is owned there.
+    let line = boxed(alloc, line)?;
+    let bound = boxed(alloc, bound_of(alloc, row, a)?)?;
+    let bound = boxed(alloc, bound.restricted(alloc, truths)?)?;
     if line.covers(&bound) {
         Ok(())
     } else {

@@ -36,11 +36,30 @@ pub(crate) fn take_up(
     ensures same { OnErr result (reached.new ≡ reached.old) }
     ensures variables { reached.new.vars ≤ length scratch.new }
 {
+    match made {
+        Some(c) => reached.add(c),
+        None => take_up_given(alloc, problem, reached, scratch, line),
+    }
+}
+
+// Takes up a legal line of another kind than `pol`.
+fn take_up_given(
+    alloc: Global,
+    problem: &PbProblem,
+    reached: &mut Reached,
+    scratch: &mut Partial,
+    line: &Line,
+) -> Result<(), NoMemory>
+    requires before { StandsBefore problem.now reached.old line.now }
+    requires legal { IsLegal problem.now reached.old line.now }
+    requires given { IsValueMade reached.old line.now None }
+    requires variables { reached.old.vars ≤ length scratch.old }
+    ensures next { OnOk result (IsNext problem.now reached.old line.now reached.new) }
+    ensures same { OnErr result (reached.new ≡ reached.old) }
+    ensures variables { reached.new.vars ≤ length scratch.new }
+{
     match line {
-        Line::Pol { .. } => match made {
-            Some(c) => reached.add(c),
-            None => unreachable!(),
-        },
+        Line::Pol { .. } => unreachable!(),
         Line::Rup { goal, .. } => reached.add(goal.copy(alloc)?),
         Line::Learn { goal, .. } => reached.learn(goal.copy(alloc)?),
         Line::Def { sum, .. } => define(alloc, reached, scratch, sum),
