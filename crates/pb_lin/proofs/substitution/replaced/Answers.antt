@@ -1,11 +1,12 @@
-use Rattle.std.proofs.Common.{ℕ, ◌<◌, Bool, if◌then◌else◌, arith, ap, subst, sym, Vec, Global}
+use Rattle.std.proofs.Common.{ℕ, ◌<◌, Bool, if◌then◌else◌, arith, ap, subst, sym, ◌∙◌, Vec, Global}
 use Rattle.std.specs.List.{All}
+use Rattle.std.proofs.lemmas.List.{take_all}
 use Rattle.std.proofs.lemmas.List.Elements.{All-push}
 use Rattle.std.proofs.lemmas.List.Sums.{sum_by_push, sum_by_more, sum_by_more_le}
 use Rattle.scut_base.specs.Literal.{Literal}
 use Rattle.pb_lin.specs.declared.witness.Image.{Image}
 use Rattle.pb_lin.specs.Constraint.{total, value, term_value}
-use Rattle.pb_lin.specs.Substitution.{image_true, true_under}
+use Rattle.pb_lin.specs.Substitution.{image_true, true_under, value_under}
 use Rattle.pb_lin.proofs.substitution.replaced.Goals as goal
 use Rattle.pb_lin.proofs.substitution.replaced.Goals.{in-Zero, in-One, in-Lit+in_ok-push-in-Lit}
 
@@ -65,3 +66,6 @@ loop-term-preserved c = record {
             subst IsPositive (sym w.replaced-is) (subst (All (λ (t : Literal × ℕ). 0 < t.1)) (sym w.in_ok-push-in-Lit.ensures.items) (All-push (λ (t : Literal × ℕ). 0 < t.1) c.loop-term.replaced.items (w.in-Lit.literal, c.term-item.result.1) c.loop-term.invariant.positive one))
       ];
 }
+
+pub returns-clause-value : goal.returns-clause-value
+returns-clause-value c = λ a. c.loop-term.invariant.value a ∙ ap (value_under c.args.w.now a) (take_all c.loop-term.term-index c.args.terms.now c.loop-term-test.false)

@@ -4,6 +4,14 @@ use Rattle.pb_lin.specs.NormalForm.{magnitude}
 use Rattle.pb_lin.proofs.Excess.{HasExcess-same}
 use Rattle.pb_lin.proofs.constraint.Constraint.normal.Goals as goal
 
+pub positive_terms-requires : goal.positive_terms-requires
+positive_terms-requires c = let small = c.is_small.ensures.0 c.if-not-is_small.false in omega arith
+
+pub returns-clause-overflow : goal.returns-clause-overflow
+returns-clause-overflow c =
+    let small = c.is_small.ensures.0 c.if-not-is_small.false in
+    ((λ error. cc), (λ above. absurd (omega (arith, ints))))
+
 pub overflow_cast-lowered : goal.overflow_cast-lowered
 overflow_cast-lowered c =
     let small = c.is_small.ensures.0 c.if-not-is_small.false in
