@@ -1,3 +1,4 @@
 pub mod FrontLaws
+pub mod Members
 pub mod Minimal
 pub mod Rising
