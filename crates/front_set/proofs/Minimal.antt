@@ -12,7 +12,7 @@ use Rattle.front_set.specs.Front.{vectors_of, AreIncomparable, IsMinimalOf, Stan
 use Rattle.front_set.specs.declared.set.Inserted.{Inserted}
 use Rattle.front_set.specs.declared.set.Inserted.TheVariants.{Covered, Added}
 use Rattle.front_set.proofs.FrontLaws.{IsBelow-refl, IsBelow-trans, IsBelow-antisym}
-use Rattle.front_set.proofs.Members.{Contains-nil, Contains-head, Contains-cons, Contains-cons_cases, Contains-from_map, Contains-map, Contains-from_filter, Contains-filter, passes_from_place, fails_from_no_place}
+use Rattle.scut_base.proofs.Lists.{Contains-nil, Contains-head, Contains-cons, Contains-cons_cases, Contains-from_map, Contains-map, Contains-from_filter, Contains-filter, passes_from_place, fails_from_no_place}
 
 -- a vector of the list, or u itself, that is below u, and below each vector of the list that is below it
 record IsLowest (us : List (List ℤ)) (u c : List ℤ) : Type 0 where

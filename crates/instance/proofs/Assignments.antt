@@ -2,7 +2,7 @@
 use Rattle.std.proofs.Common.{◌≡◌, inl, inr, ℕ, zero, suc, Bool, true, false, List, [], ◌∷◌, ◌++◌, length, map, sym, ap, ◌∙◌}
 use Rattle.std.specs.Prelude.{Contains}
 use Rattle.std.proofs.lemmas.List.Elements.{Contains-append_left, Contains-append_right, Contains-append_cases}
-use Rattle.front_set.proofs.Members.{Contains-nil, Contains-head, Contains-cons_cases, Contains-map, Contains-from_map}
+use Rattle.scut_base.proofs.Lists.{Contains-nil, Contains-head, Contains-cons_cases, Contains-map, Contains-from_map}
 
 -- every list of n truth values
 abbrev pub assignments : ℕ → List (List Bool)

@@ -6,7 +6,7 @@ use Rattle.std.proofs.lemmas.Bool.{and_parts, and_from}
 use Rattle.std.proofs.lemmas.List.{length-map}
 use Rattle.front_set.specs.declared.entry.Entry.{Entry}
 use Rattle.front_set.specs.Front.{vectors_of, IsMinimalOf}
-use Rattle.front_set.proofs.Members.{Contains-nil, Contains-head, Contains-map, Contains-from_map, Contains-filter, Contains-from_filter}
+use Rattle.scut_base.proofs.Lists.{Contains-nil, Contains-head, Contains-map, Contains-from_map, Contains-filter, Contains-from_filter}
 use Rattle.front_set.proofs.Minimal.{minimal_below}
 use Rattle.instance.specs.Shape.{InstanceValue}
 use Rattle.instance.specs.Meaning.{IsModel, costs_of, clause_true, row_holds, objective_cost}

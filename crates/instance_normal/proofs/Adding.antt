@@ -58,14 +58,6 @@ wider m n le cs all = All-weaker (Fits m) (Fits n) (λ c fits. record { upto = A
 filtered : (softs : List Soft) (s : Soft) → filter is_relaxed (softs ++ s ∷ []) ≡ filter is_relaxed softs ++ cond (needs_variable (payment s)) (s ∷ []) []
 filtered softs s = filter-append is_relaxed softs (s ∷ [])
 
--- nothing was added
-pub none_added : (old new : Draft) (softs : List Soft) → softs ≡ [] → new ≡ old → AddsRows old new softs
-none_added old new softs none same = subst (λ (d : Draft). AddsRows old d softs) (sym same) (subst (AddsRows old old) (sym none) (record {
-  vars = omega arith;
-  rows = λ ss zipped. subst (λ (rs : List RowSource). AllZip IsRowOf rs old.rows) (sym (append-nil ss)) zipped;
-  fits = λ all. all;
-}))
-
 -- what a soft clause adds was added
 pub one_added : (old mid new : Draft) (softs : List Soft) (s : Soft) (r : Relaxation) → AddsRows old mid softs → IsRelaxationOf s (mid.vars + 1) r → new.rows ≡ mid.rows ++ option_to_list r.row → new.vars ≡ mid.vars + length (option_to_list r.row) → AddsRows old new (softs ++ s ∷ [])
 one_added old mid new softs s r so_far is rows vars = by r.row (needs_variable (payment s)) refl is.relaxed is.row rows vars

@@ -1,12 +1,12 @@
 -- The distinct literals of a clause, and the row that they make.
-use Rattle.std.proofs.Common.{◌≡◌, ◌≢◌, ◌⊎◌, inl, inr, ◌↔◌, ℕ, suc, ◌+◌, ◌^◌, ◌<◌, ◌≤◌, Bool, true, false, not, List, [], ◌∷◌, ◌++◌, length, get_or, refl, sym, ap, ap₂, ◌∙◌, subst, Some, arith}
+use Rattle.std.proofs.Common.{◌≡◌, ◌≢◌, inl, inr, ◌↔◌, ℕ, suc, ◌+◌, ◌^◌, ◌<◌, ◌≤◌, Bool, true, false, not, List, [], ◌∷◌, ◌++◌, length, get_or, refl, sym, ap, ap₂, ◌∙◌, subst, Some, arith}
 use Rattle.std.specs.Prelude.{◌||◌, ◌&&◌, ◌==◌, MatchBool, All, AllPairs, Contains, slice_get}
 use Rattle.std.specs.List.{list_all}
 use Rattle.std.specs.List.Sorted.{IsPermutation}
 use Rattle.std.proofs.Math.Bool.{beq}
-use Rattle.std.proofs.lemmas.Bool.{cases_lt, and_from, eq-eqb, ne_eqb, or_from, or_left, or_right, cond-true, cond-false, false_from_ne_true}
+use Rattle.std.proofs.lemmas.Bool.{cases_lt, and_from, eq-eqb, ne_eqb, or_from, cond-true, cond-false, false_from_ne_true}
 use Rattle.std.proofs.lemmas.Option.{slice_get_within, get_or_from_slice_get}
-use Rattle.std.proofs.lemmas.List.Elements.{All-nil, All-map, All-contains, All-weaker, All-contains_itself, Contains-push, Contains-push_cases, Contains-append_left}
+use Rattle.std.proofs.lemmas.List.Elements.{All-map, All-contains, All-weaker, All-contains_itself, Contains-push, Contains-push_cases, Contains-append_left}
 use Rattle.std.proofs.lemmas.List.Quantifiers.{all_pairs_push}
 use Rattle.std.proofs.lemmas.List.Sorted.{Contains-permutation, IsPermutation-sym}
 use Rattle.front_set.proofs.Members.{Contains-nil, Contains-head, Contains-cons, Contains-cons_cases}
@@ -128,13 +128,6 @@ clause_says lits distinct c are row = by (is_tautology lits) (plain_from_distinc
     by true e = cc
     by false e = record { distinct = distinct; literals = are; row = row }
 
-pub tautology_says : (lits : List Literal) (c : ConstraintValue) → is_tautology lits ≡ true → c ≡ trivial_row → SaysWhat (Clause lits) c
-tautology_says lits c test row = by (is_tautology lits) test
-  where
-    by : (b : Bool) → b ≡ true → MatchBool b (c ≡ trivial_row) (IsClauseRow lits c)
-    by true e = row
-    by false e = cc
-
 pub clause_fits : (n : ℕ) (distinct : List Literal) (c : ConstraintValue) → c ≡ record { terms = ones distinct; degree = 1 } → length c.terms < 2 ^ 64 → ClauseUpTo n distinct → Fits n c
 clause_fits n distinct c row short upto = record {
   upto = subst (UpTo n) (sym row) (All-map (λ (t : Literal × ℕ). t.0.var ≤ n) (λ (l : Literal). (l, 1)) distinct upto);
@@ -143,12 +136,6 @@ clause_fits n distinct c row short upto = record {
 
 pub members_upto : (n : ℕ) (lits distinct : List Literal) → AreDistinct lits distinct → ClauseUpTo n lits → ClauseUpTo n distinct
 members_upto n lits distinct are upto = All-weaker (Contains distinct) (λ (l : Literal). l.var ≤ n) (λ l there. All-contains (λ (m : Literal). m.var ≤ n) lits l upto ((are.same l).0 there)) distinct (All-contains_itself distinct)
-
-pub trivial_fits : (n : ℕ) (c : ConstraintValue) → c ≡ trivial_row → Fits n c
-trivial_fits n c row = record {
-  upto = subst (UpTo n) (sym row) (All-nil (λ (t : Literal × ℕ). t.0.var ≤ n));
-  small = omega (arith, ap size row);
-}
 
 -- ---- distinct literals in another order
 
@@ -192,10 +179,6 @@ upto_last ls n k l up last at less = λ j d short. elim (cases_lt j k) [
 
 pub payment_of_clause : (s : Soft) → s.weight ≢ 0 → is_tautology s.lits ≡ false → payment s ≡ clause_payment s.lits
 payment_of_clause s some plain = cond-false (s.weight == 0 || is_tautology s.lits) Never (clause_payment s.lits) (or_from (s.weight == 0) (is_tautology s.lits) (ne_eqb s.weight 0 some) plain)
-
-pub no_payment : (s : Soft) → (s.weight ≡ 0) ⊎ (is_tautology s.lits ≡ true) → payment s ≡ Never
-no_payment s (inl none) = cond-true (s.weight == 0 || is_tautology s.lits) Never (clause_payment s.lits) (or_left (s.weight == 0) (is_tautology s.lits) (eq-eqb s.weight 0 none))
-no_payment s (inr taut) = cond-true (s.weight == 0 || is_tautology s.lits) Never (clause_payment s.lits) (or_right (s.weight == 0) (is_tautology s.lits) taut)
 
 pub empty_payment : (lits distinct : List Literal) → AreDistinct lits distinct → distinct ≡ [] → clause_payment lits ≡ Always
 empty_payment [] distinct are none = refl

@@ -236,17 +236,6 @@ distinct_more old new terms v row one own others apart = subst (AllPairs (λ (s 
     by (t ∷ []) one' own' = all_pairs_push (λ (s t : Literal × ℕ). s.0.var ≢ t.0.var) old t apart (λ k d short same. others k d short (same ∙ All-head (λ (x : Literal × ℕ). x.0.var ≡ v) t [] own'))
     by (t ∷ u ∷ ts) one' own' = absurd (omega arith)
 
-pub stand_for_none : (offset : ℤ) → StandForSums [] offset [] offset
-stand_for_none offset = record {
-  value = λ a. refl;
-  positive = All-nil (λ t. 0 < t.1);
-  from_one = All-nil (λ t. 0 < t.0.var);
-  order = tt;
-  distinct = λ i j d less short. absurd (omega arith);
-  total = omega arith;
-  low = omega arith;
-}
-
 pub stand_for_more : (done : List (ℕ × ℤ)) (s : ℕ × ℤ) (offset left constant next : ℤ) (old new : List (Literal × ℕ)) → StandForSums done offset old left → IsSignedTerm s old new constant → 0 < s.0 → All (λ v. v ≢ s.0) (variables done) → next ≡ left +ℤ constant → StandForSums (done ++ s ∷ []) offset new next
 stand_for_more done s offset left constant next old new so_far added some others moved = record {
   value = λ a.

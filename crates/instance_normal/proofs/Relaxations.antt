@@ -3,16 +3,8 @@ use Rattle.std.proofs.Common.{◌≡◌, ℕ, List, [], ◌∷◌, ◌++◌, Non
 use Rattle.scut_base.specs.Literal.{Literal}
 use Rattle.instance.specs.declared.objective.Soft.{Soft}
 use Rattle.pb_lin.specs.Constraint.{ConstraintValue}
-use Rattle.instance_normal.specs.NormalForm.{Clause, IsRowOf, Never, Always, Where, Relaxed, payment, payment_terms, payment_offset, needs_variable, positive}
+use Rattle.instance_normal.specs.NormalForm.{Clause, IsRowOf, Always, Where, Relaxed, payment, payment_terms, payment_offset, needs_variable, positive}
 use Rattle.instance_normal.specs.Fitting.{Fits, IsRelaxationOf}
-
-pub nothing_added : (s : Soft) (var : ℕ) → payment s ≡ Never → IsRelaxationOf s var (record { row = None; term = None; offset = 0 })
-nothing_added s var paid = record {
-  terms = ap (payment_terms var s.weight) (sym paid);
-  offset = ap (payment_offset s.weight) (sym paid);
-  relaxed = ap needs_variable (sym paid);
-  row = tt;
-}
 
 pub offset_added : (s : Soft) (var : ℕ) → payment s ≡ Always → IsRelaxationOf s var (record { row = None; term = None; offset = s.weight })
 offset_added s var paid = record {

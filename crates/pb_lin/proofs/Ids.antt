@@ -148,9 +148,6 @@ lists_removed es fs ids id lists updates = record {
 pub lists_longer : (es : Entries) (ids more : List ℕ) → ListsIds es ids → IsRising more → ((k : ℕ) → IsListed ids k → IsListed more k) → ListsIds es more
 lists_longer es ids more lists rising kept = record { rising = rising; listed = λ k some. kept k (lists.listed k some) }
 
-pub lists_none : ListsIds [] []
-lists_none = record { rising = λ i j d less short. absurd (omega arith); listed = λ k some. cc }
-
 -- ---- the next id
 
 none_or_some : {X : Type 0} (o : Option X) → (o ≡ None) ⊎ IsSome o

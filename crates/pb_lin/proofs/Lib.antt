@@ -13,6 +13,7 @@ pub mod Excess
 pub mod Images
 pub mod Variables
 pub mod Laws
+pub mod ClosedLengths
 pub mod LineEntries
 pub mod LineVariables
 pub mod Ids

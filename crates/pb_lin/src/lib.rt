@@ -14,6 +14,7 @@ mod lines;
 mod negation;
 mod normal;
 mod problem;
+mod propagation;
 mod restriction;
 mod size;
 mod substitution;
@@ -29,6 +30,7 @@ pub use normal::{
     add_terms, normal_form_holds, normal_form_is_unique, normal_form_variables, same_excess,
 };
 pub use problem::PbProblem;
+pub use propagation::{closed_at_any_length, conflicts_at_one_length};
 pub use restriction::restriction_holds;
 pub use size::SIZE_LIMIT;
 pub use substitution::{substitution_holds, substitution_variables};

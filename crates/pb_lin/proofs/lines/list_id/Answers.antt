@@ -4,7 +4,7 @@ use Rattle.std.proofs.lemmas.List.{get_or_default}
 use Rattle.pb_lin.specs.Place.{IsPlace}
 use Rattle.pb_lin.specs.IdList.{IsRising, IsListed}
 use Rattle.pb_lin.proofs.Places.{none_at_place}
-use Rattle.pb_lin.proofs.Ids.{rising-insert, listed-insert}
+use Rattle.pb_lin.proofs.Ids.{rising-insert, listed-insert, listed_itself}
 use Rattle.pb_lin.proofs.lines.list_id.Goals as goal
 use Rattle.pb_lin.proofs.lines.list_id.Goals.{else-place-len-via-then-place-len+else-index-id, else-place-len-via-else-place-len}
 
@@ -17,6 +17,10 @@ returns-clause-rising c =
       | else-place-len-via-else-place-len w ↦ λ d short e. omega arith
     ]) in
     subst IsRising (sym c.in_ok-insert.ensures.items) (rising-insert ids c.args.id c.place_of-place.result c.requires place apart)
+
+pub returns-clause-listed : goal.returns-clause-listed
+returns-clause-listed c =
+    subst (λ (ks : List ℕ). IsListed ks c.args.id) (sym c.in_ok-insert.ensures.items) (listed_itself c.args.ids.now.items c.args.id c.place_of-place.result)
 
 pub returns-clause-kept : goal.returns-clause-kept
 returns-clause-kept c = λ k listed.

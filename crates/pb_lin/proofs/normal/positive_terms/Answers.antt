@@ -1,14 +1,21 @@
-use Rattle.std.proofs.Common.{ℕ, ℤ, ◌<◌, arith, ap, subst, sym, unsigned_abs, Vec, Global}
+use Rattle.std.proofs.Common.{ℕ, ℤ, ◌<◌, arith, ap, subst, sym, ◌∙◌, unsigned_abs, Vec, Global}
 use Rattle.std.specs.List.{All}
 use Rattle.std.proofs.lemmas.Int.{ints}
+use Rattle.std.proofs.lemmas.List.{take_all}
 use Rattle.std.proofs.lemmas.List.Elements.{All-push}
-use Rattle.std.proofs.lemmas.List.Sums.{sum_by_push, sum_by_more}
+use Rattle.std.proofs.lemmas.List.Sums.{sum_by_push, sum_by_more, sum_by_more_le}
 use Rattle.scut_base.specs.Literal.{Literal}
 use Rattle.pb_lin.specs.Constraint.{total, value, term_value}
-use Rattle.pb_lin.specs.NormalForm.{signed_value}
+use Rattle.pb_lin.specs.NormalForm.{signed_value, sum_value}
 use Rattle.pb_lin.proofs.Sums.{sum_value_more, term_value-le}
 use Rattle.pb_lin.proofs.normal.positive_terms.Goals as goal
 use Rattle.pb_lin.proofs.normal.positive_terms.Goals.{then-term-gt0+in_ok-push, else-term-gt0}
+
+pub overflow_add-lowered : goal.overflow_add-lowered
+overflow_add-lowered c =
+    let more = sum_by_more_le (λ (t : ℤ × Literal). unsigned_abs t.0) c.args.terms.now c.loop-given.given-index c.given-item.result c.loop-given-test.true in
+    let here = ap (λ (t : ℤ × Literal). unsigned_abs t.0) c.given-item.is in
+    omega (arith, c.loop-given.invariant.lowered, c.positive_term-term.ensures.lowered, c.requires)
 
 pub loop-given-preserved : goal.loop-given-preserved
 loop-given-preserved c = record {
@@ -50,3 +57,6 @@ loop-given-preserved c = record {
       let here = ap (λ (t : ℤ × Literal). unsigned_abs t.0) c.given-item.is in
       omega arith;
 }
+
+pub returns-clause-value : goal.returns-clause-value
+returns-clause-value c = λ a. c.loop-given.invariant.value a ∙ ap (sum_value a) (take_all c.loop-given.given-index c.args.terms.now c.loop-given-test.false)

@@ -3,7 +3,7 @@ use Rattle.front_set.specs.declared.entry.Entry.{Entry}
 use Rattle.front_set.specs.declared.set.Inserted.TheVariants.{Covered, Added}
 use Rattle.front_set.specs.Vector.{is_below}
 use Rattle.front_set.specs.Front.{AreIncomparable, first_below, not_above}
-use Rattle.front_set.proofs.Members.{fails_from_no_place}
+use Rattle.scut_base.proofs.Lists.{fails_from_no_place}
 use Rattle.front_set.proofs.Minimal.{incomparable_more, stands_for_more}
 use Rattle.front_set.proofs.set.FrontSet.insert.Goals as goal
 
