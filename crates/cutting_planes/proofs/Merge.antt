@@ -1,7 +1,9 @@
 -- Two lists of terms, merged in one pass.
 use Rattle.std.specs.Prelude.{◌≡◌, ℕ, ◌+◌, ◌⊎◌, ◌-◌, ◌<◌, ◌≤◌, ◌^◌, Bool, List, [], ◌∷◌, ◌++◌, Option, Some, None, option_to_list, All, refl}
-use Rattle.std.proofs.Common.{sym, ◌∙◌, ap, subst, arith, append_assoc, length, get_or, drop, inl, inr}
+use Rattle.std.specs.List.{slice_get}
+use Rattle.std.proofs.Common.{sym, ◌∙◌, ap, subst, arith, suc, append_assoc, drop, drop-cons, inl, inr}
 use Rattle.std.proofs.lemmas.List.{append-nil}
+use Rattle.std.proofs.lemmas.Option.{slice_get_within, get_or_from_slice_get}
 use Rattle.std.proofs.lemmas.List.Elements.{All-head, All-weaker}
 use Rattle.std.proofs.lemmas.List.Sums.{sum_by-append, sum_by_push}
 use Rattle.scut_base.specs.Literal.{Literal}
@@ -65,9 +67,6 @@ merge_turned p q ms ls rs cancelled merge = record {
   small = turn_small (total p) (total q) (total ms) (total ls) (total rs) cancelled merge.small;
 }
 
-pub merge_right : (p q ms ls rs : Terms) (s t : Literal × ℕ) (cancelled : ℕ) → IsMerge p q ms (s ∷ ls) (t ∷ rs) cancelled → t.0.var < s.0.var → IsMerge p q (ms ++ t ∷ []) (s ∷ ls) rs cancelled
-merge_right p q ms ls rs s t cancelled merge before = merge_turned q p (ms ++ t ∷ []) rs (s ∷ ls) cancelled (merge_left q p ms rs ls t s cancelled (merge_turned p q ms (s ∷ ls) (t ∷ rs) cancelled merge) before)
-
 -- what is left of two terms of one variable, with what cancels
 pub record IsJoined (s t : Literal × ℕ) (left : Terms) (cancelled : ℕ) : Type 0 where
   pub same : (a : List Bool) → value a left + cancelled ≡ term_value a s + term_value a t
@@ -123,42 +122,52 @@ merge_end_right p q ms ls cancelled merge fits = record {
       end_small (total p.terms) p.degree (total q.terms) q.degree (total ms) (total ls) cancelled (total (ms ++ ls)) (2 ^ 100) merge.small both fits);
 }
 
--- ---- steps of the loop, where the next terms are read at index 0
+-- ---- steps of the loop, which stands at place i of p and at place j of q
 
-with_heads : (p q ms ls rs : Terms) (l r s t : Literal × ℕ) (cancelled : ℕ) → s ≡ l → t ≡ r → IsMerge p q ms (l ∷ ls) (r ∷ rs) cancelled → IsMerge p q ms (s ∷ ls) (t ∷ rs) cancelled
-with_heads p q ms ls rs l r s t cancelled e f merge =
-    subst (λ (x : Literal × ℕ). IsMerge p q ms (x ∷ ls) (t ∷ rs) cancelled) (sym e) (subst (λ (x : Literal × ℕ). IsMerge p q ms (l ∷ ls) (x ∷ rs) cancelled) (sym f) merge)
+-- the terms from a place on begin with the one that stands there
+pub drop_from : (ts : Terms) (i : ℕ) (t : Literal × ℕ) → slice_get ts i ≡ Some t → drop i ts ≡ t ∷ drop (i + 1) ts
+drop_from ts i t at =
+    let more : suc i ≡ i + 1 = omega arith in
+    drop-cons ts i t (slice_get_within ts i t at) ∙ ap (λ (u : Literal × ℕ). u ∷ drop (suc i) ts) (get_or_from_slice_get ts i t t at) ∙ ap (λ (k : ℕ). t ∷ drop k ts) more
 
-pub step_left : (p q ms ls rs ms' ls' : Terms) (s t : Literal × ℕ) (cancelled : ℕ) → IsMerge p q ms ls rs cancelled → 0 < length ls → 0 < length rs → s ≡ get_or ls 0 s → t ≡ get_or rs 0 t → s.0.var < t.0.var → ms' ≡ ms ++ s ∷ [] → ls' ≡ drop 1 ls → IsMerge p q ms' ls' rs cancelled
-step_left p q ms [] rs ms' ls' s t cancelled merge some_l some_r e f before pushed rest = absurd (omega arith)
-step_left p q ms (l ∷ ls) [] ms' ls' s t cancelled merge some_l some_r e f before pushed rest = absurd (omega arith)
-step_left p q ms (l ∷ ls) (r ∷ rs) ms' ls' s t cancelled merge some_l some_r e f before pushed rest =
-    let made : IsMerge p q (ms ++ s ∷ []) ls (t ∷ rs) cancelled = merge_left p q ms ls rs s t cancelled (with_heads p q ms ls rs l r s t cancelled e f merge) before in
-    subst (λ (x : Literal × ℕ). IsMerge p q ms' ls' (x ∷ rs) cancelled) f (subst (λ (xs : Terms). IsMerge p q ms' xs (t ∷ rs) cancelled) (sym rest) (subst (λ (xs : Terms). IsMerge p q xs ls (t ∷ rs) cancelled) (sym pushed) made))
+pub push_more : (ts old new whole : Terms) (i : ℕ) (t : Literal × ℕ) → slice_get ts i ≡ Some t → new ≡ old ++ t ∷ [] → old ++ drop i ts ≡ whole → new ++ drop (i + 1) ts ≡ whole
+push_more ts old new whole i t at pushed is =
+    ap (λ (xs : Terms). xs ++ drop (i + 1) ts) pushed ∙ append_assoc old (t ∷ []) (drop (i + 1) ts) ∙ ap (λ (xs : Terms). old ++ xs) (sym (drop_from ts i t at)) ∙ is
 
-pub step_right : (p q ms ls rs ms' rs' : Terms) (s t : Literal × ℕ) (cancelled : ℕ) → IsMerge p q ms ls rs cancelled → 0 < length ls → 0 < length rs → s ≡ get_or ls 0 s → t ≡ get_or rs 0 t → t.0.var < s.0.var → ms' ≡ ms ++ t ∷ [] → rs' ≡ drop 1 rs → IsMerge p q ms' ls rs' cancelled
-step_right p q ms ls rs ms' rs' s t cancelled merge some_l some_r e f before pushed rest =
-    merge_turned q p ms' rs' ls cancelled (step_left q p ms rs ls ms' rs' t s cancelled (merge_turned p q ms ls rs cancelled merge) some_r some_l f e before pushed rest)
+opened : (p q ms : Terms) (i j : ℕ) (s t : Literal × ℕ) (cancelled : ℕ) → IsMerge p q ms (drop i p) (drop j q) cancelled → slice_get p i ≡ Some s → slice_get q j ≡ Some t → IsMerge p q ms (s ∷ drop (i + 1) p) (t ∷ drop (j + 1) q) cancelled
+opened p q ms i j s t cancelled merge at_i at_j =
+    subst (λ (xs : Terms). IsMerge p q ms xs (t ∷ drop (j + 1) q) cancelled) (drop_from p i s at_i) (subst (λ (xs : Terms). IsMerge p q ms (drop i p) xs cancelled) (drop_from q j t at_j) merge)
 
-pub step_joined : (p q ms ls rs ms' ls' rs' : Terms) (s t : Literal × ℕ) (joined : Option (Literal × ℕ)) (before now : ℕ) → IsMerge p q ms ls rs before → 0 < length ls → 0 < length rs → s ≡ get_or ls 0 s → t ≡ get_or rs 0 t → IsJoined s t (option_to_list joined) now → ms' ≡ ms ++ option_to_list joined → ls' ≡ drop 1 ls → rs' ≡ drop 1 rs → IsMerge p q ms' ls' rs' (before + now)
-step_joined p q ms [] rs ms' ls' rs' s t joined before now merge some_l some_r e f is pushed rest_l rest_r = absurd (omega arith)
-step_joined p q ms (l ∷ ls) [] ms' ls' rs' s t joined before now merge some_l some_r e f is pushed rest_l rest_r = absurd (omega arith)
-step_joined p q ms (l ∷ ls) (r ∷ rs) ms' ls' rs' s t joined before now merge some_l some_r e f is pushed rest_l rest_r =
-    let heads : IsMerge p q ms (s ∷ ls) (t ∷ rs) before = with_heads p q ms ls rs l r s t before e f merge in
-    let made : IsMerge p q ms' ls rs (before + now) = subst (λ (xs : Terms). IsMerge p q xs ls rs (before + now)) (sym pushed) (merge_joined p q ms ls rs s t joined before now heads is) in
-    subst (λ (xs : Terms). IsMerge p q ms' xs rs' (before + now)) (sym rest_l) (subst (λ (xs : Terms). IsMerge p q ms' ls xs (before + now)) (sym rest_r) made)
+pub step_left : (p q ms ms' : Terms) (i j : ℕ) (s t : Literal × ℕ) (cancelled : ℕ) → IsMerge p q ms (drop i p) (drop j q) cancelled → slice_get p i ≡ Some s → slice_get q j ≡ Some t → s.0.var < t.0.var → ms' ≡ ms ++ s ∷ [] → IsMerge p q ms' (drop (i + 1) p) (drop j q) cancelled
+step_left p q ms ms' i j s t cancelled merge at_i at_j before pushed =
+    let made : IsMerge p q (ms ++ s ∷ []) (drop (i + 1) p) (t ∷ drop (j + 1) q) cancelled = merge_left p q ms (drop (i + 1) p) (drop (j + 1) q) s t cancelled (opened p q ms i j s t cancelled merge at_i at_j) before in
+    subst (λ (xs : Terms). IsMerge p q ms' (drop (i + 1) p) xs cancelled) (sym (drop_from q j t at_j)) (subst (λ (xs : Terms). IsMerge p q xs (drop (i + 1) p) (t ∷ drop (j + 1) q) cancelled) (sym pushed) made)
+
+pub step_right : (p q ms ms' : Terms) (i j : ℕ) (s t : Literal × ℕ) (cancelled : ℕ) → IsMerge p q ms (drop i p) (drop j q) cancelled → slice_get p i ≡ Some s → slice_get q j ≡ Some t → t.0.var < s.0.var → ms' ≡ ms ++ t ∷ [] → IsMerge p q ms' (drop i p) (drop (j + 1) q) cancelled
+step_right p q ms ms' i j s t cancelled merge at_i at_j before pushed =
+    merge_turned q p ms' (drop (j + 1) q) (drop i p) cancelled (step_left q p ms ms' j i t s cancelled (merge_turned p q ms (drop i p) (drop j q) cancelled merge) at_j at_i before pushed)
+
+pub step_joined : (p q ms ms' : Terms) (i j : ℕ) (s t : Literal × ℕ) (joined : Option (Literal × ℕ)) (before now : ℕ) → IsMerge p q ms (drop i p) (drop j q) before → slice_get p i ≡ Some s → slice_get q j ≡ Some t → IsJoined s t (option_to_list joined) now → ms' ≡ ms ++ option_to_list joined → IsMerge p q ms' (drop (i + 1) p) (drop (j + 1) q) (before + now)
+step_joined p q ms ms' i j s t joined before now merge at_i at_j is pushed =
+    subst (λ (xs : Terms). IsMerge p q xs (drop (i + 1) p) (drop (j + 1) q) (before + now)) (sym pushed) (merge_joined p q ms (drop (i + 1) p) (drop (j + 1) q) s t joined before now (opened p q ms i j s t before merge at_i at_j) is)
 
 -- the next terms are positive
-pub left_positive : (p q ms ls rs : Terms) (s : Literal × ℕ) (cancelled : ℕ) → IsMerge p q ms ls rs cancelled → 0 < length ls → s ≡ get_or ls 0 s → 0 < s.1
-left_positive p q ms [] rs s cancelled merge some e = absurd (omega arith)
-left_positive p q ms (l ∷ ls) rs s cancelled merge some e = subst (λ (x : Literal × ℕ). 0 < x.1) (sym e) (above_next 0 ms l ls merge.left)
+pub left_positive : (p q ms rs : Terms) (i : ℕ) (s : Literal × ℕ) (cancelled : ℕ) → IsMerge p q ms (drop i p) rs cancelled → slice_get p i ≡ Some s → 0 < s.1
+left_positive p q ms rs i s cancelled merge at =
+    above_next 0 ms s (drop (i + 1) p) (subst (λ (xs : Terms). Above 0 (ms ++ xs)) (drop_from p i s at) merge.left)
 
-pub right_positive : (p q ms ls rs : Terms) (t : Literal × ℕ) (cancelled : ℕ) → IsMerge p q ms ls rs cancelled → 0 < length rs → t ≡ get_or rs 0 t → 0 < t.1
-right_positive p q ms ls rs t cancelled merge some e = left_positive q p ms rs ls t cancelled (merge_turned p q ms ls rs cancelled merge) some e
+pub right_positive : (p q ms ls : Terms) (j : ℕ) (t : Literal × ℕ) (cancelled : ℕ) → IsMerge p q ms ls (drop j q) cancelled → slice_get q j ≡ Some t → 0 < t.1
+right_positive p q ms ls j t cancelled merge at = left_positive q p ms ls j t cancelled (merge_turned p q ms ls (drop j q) cancelled merge) at
 
-none_when_empty : (ts : Terms) → length ts ≡ 0 → ts ≡ []
-none_when_empty [] e = refl
-none_when_empty (t ∷ ts) e = absurd (omega arith)
+next_fit : (m l r c x k y i v z : ℕ) → m + l + r + c ≤ v → l ≡ x + k → r ≡ y + i → v ≤ z → c + (x + y) ≤ z
+next_fit m l r c x k y i v z whole e f fits = omega arith
+
+-- what is cancelled stays within the sizes, also if both next terms were cancelled
+pub next_small : (p q : ConstraintValue) (ms : Terms) (i j : ℕ) (s t : Literal × ℕ) (cancelled : ℕ) → IsMerge p.terms q.terms ms (drop i p.terms) (drop j q.terms) cancelled → slice_get p.terms i ≡ Some s → slice_get q.terms j ≡ Some t → size p + size q ≤ 2 ^ 100 → cancelled + (s.1 + t.1) ≤ 2 ^ 100
+next_small p q ms i j s t cancelled merge at_i at_j fits =
+    let left = drop (i + 1) p.terms in
+    let right = drop (j + 1) q.terms in
+    next_fit (total ms) (total (s ∷ left)) (total (t ∷ right)) cancelled s.1 (total left) t.1 (total right) (total p.terms + total q.terms) (2 ^ 100) (opened p.terms q.terms ms i j s t cancelled merge at_i at_j).small (total-cons s left) (total-cons t right) (omega arith)
 
 sum_turned : (r p q : ConstraintValue) → IsSum r q p → IsSum r p q
 sum_turned r p q sum = record {
@@ -168,14 +177,14 @@ sum_turned r p q sum = record {
   normal = sum.normal;
 }
 
-pub step_end : (p q : ConstraintValue) (ms ls rs ms' : Terms) (cancelled degree : ℕ) → IsMerge p.terms q.terms ms ls rs cancelled → (length ls ≡ 0) ⊎ (length rs ≡ 0) → ms' ≡ (ms ++ ls) ++ rs → size p + size q ≤ 2 ^ 100 → degree ≡ (p.degree + q.degree) - cancelled → IsSum (record { terms = ms'; degree = degree }) p q
+pub step_end : (p q : ConstraintValue) (ms ls rs ms' : Terms) (cancelled degree : ℕ) → IsMerge p.terms q.terms ms ls rs cancelled → (ls ≡ []) ⊎ (rs ≡ []) → ms' ≡ (ms ++ ls) ++ rs → size p + size q ≤ 2 ^ 100 → degree ≡ (p.degree + q.degree) - cancelled → IsSum (record { terms = ms'; degree = degree }) p q
 step_end p q ms ls rs ms' cancelled degree merge (inr none) whole fits is =
-    let end : IsMerge p.terms q.terms ms ls [] cancelled = subst (λ (xs : Terms). IsMerge p.terms q.terms ms ls xs cancelled) (none_when_empty rs none) merge in
-    let all : ms' ≡ ms ++ ls = whole ∙ ap (λ (xs : Terms). (ms ++ ls) ++ xs) (none_when_empty rs none) ∙ append-nil (ms ++ ls) in
+    let end : IsMerge p.terms q.terms ms ls [] cancelled = subst (λ (xs : Terms). IsMerge p.terms q.terms ms ls xs cancelled) none merge in
+    let all : ms' ≡ ms ++ ls = whole ∙ ap (λ (xs : Terms). (ms ++ ls) ++ xs) none ∙ append-nil (ms ++ ls) in
     subst (λ (xs : Terms). IsSum (record { terms = xs; degree = degree }) p q) (sym all) (subst (λ (n : ℕ). IsSum (record { terms = ms ++ ls; degree = n }) p q) (sym is) (merge_end_right p q ms ls cancelled end fits))
 step_end p q ms ls rs ms' cancelled degree merge (inl none) whole fits is =
-    let end : IsMerge q.terms p.terms ms rs [] cancelled = subst (λ (xs : Terms). IsMerge q.terms p.terms ms rs xs cancelled) (none_when_empty ls none) (merge_turned p.terms q.terms ms ls rs cancelled merge) in
-    let all : ms' ≡ ms ++ rs = whole ∙ ap (λ (xs : Terms). (ms ++ xs) ++ rs) (none_when_empty ls none) ∙ ap (λ (xs : Terms). xs ++ rs) (append-nil ms) in
+    let end : IsMerge q.terms p.terms ms rs [] cancelled = subst (λ (xs : Terms). IsMerge q.terms p.terms ms rs xs cancelled) none (merge_turned p.terms q.terms ms ls rs cancelled merge) in
+    let all : ms' ≡ ms ++ rs = whole ∙ ap (λ (xs : Terms). (ms ++ xs) ++ rs) none ∙ ap (λ (xs : Terms). xs ++ rs) (append-nil ms) in
     let is' : degree ≡ (q.degree + p.degree) - cancelled = omega arith in
     sum_turned (record { terms = ms'; degree = degree }) p q
     (subst (λ (xs : Terms). IsSum (record { terms = xs; degree = degree }) q p) (sym all) (subst (λ (n : ℕ). IsSum (record { terms = ms ++ rs; degree = n }) q p) (sym is') (merge_end_right q p ms rs cancelled end (omega arith))))

@@ -1,6 +1,6 @@
 -- What the tokens make is implied by what they may name.
-use Rattle.std.specs.Prelude.{◌≡◌, ℕ, ◌<◌, Bool, List, [], ◌∷◌, ℤ, pos, unsigned_abs, Option, Some, None, Ok, Err, MatchOption, IfOk, refl, option_copied}
-use Rattle.std.proofs.Common.{sym, subst, arith, negsuc, zero, suc, ◌∙◌, ap, ◌+◌, ◌≤◌, length, get_or, drop, drop-cons, Bor, ◌⊎◌, inl, inr}
+use Rattle.std.specs.Prelude.{◌≡◌, ℕ, ◌<◌, Bool, List, [], ◌∷◌, ℤ, pos, unsigned_abs, Option, Some, None, Ok, Err, MatchOption, IfOk, refl}
+use Rattle.std.proofs.Common.{sym, subst, arith, negsuc, zero, suc, ◌≤◌, length, drop, ◌⊎◌, inl, inr}
 use Rattle.std.proofs.lemmas.List.{drop_all}
 use Rattle.std.specs.FinMap.{get}
 use Rattle.scut_base.proofs.Options.{if_some}
@@ -82,36 +82,7 @@ value_from_run given tokens (Err Overflow) value = value
 abbrev pub Continues : Given → List PolToken → List ConstraintValue → ℕ → Type 0
 Continues given tokens stack n = (answer : Answer) → IsValueOn given stack (drop n tokens) answer → IsValueOn given [] tokens answer
 
-abbrev IsFault : Answer → PolFault → Type 0
-IsFault answer f = answer ≡ Err f
-
-next_token : (tokens : List PolToken) (n : ℕ) (token : PolToken) → n < length tokens → token ≡ get_or tokens n token → drop n tokens ≡ token ∷ drop (n + 1) tokens
-next_token tokens n token within is =
-    let more : suc n ≡ n + 1 = omega arith in
-    drop-cons tokens n token within ∙ ap (λ (t : PolToken). t ∷ drop (suc n) tokens) (sym is) ∙ ap (λ (k : ℕ). token ∷ drop k tokens) more
-
-pub run_more : (given : Given) (tokens : List PolToken) (stack next : List ConstraintValue) (n : ℕ) (token : PolToken) → n < length tokens → token ≡ get_or tokens n token → (token_fault given token stack ≡ None) × IsStep given token stack next → Continues given tokens stack n → Continues given tokens next (n + 1)
-run_more given tokens stack next n token within is step continues = λ answer value.
-    let on : IsValueOn given stack (token ∷ drop (n + 1) tokens) answer =
-    subst (λ (fault : Option PolFault). MatchOption fault ((new : List ConstraintValue) × IsStep given token stack new × IsValueOn given new (drop (n + 1) tokens) answer) (IsFault answer)) (sym step.0) (next, step.1, value) in
-    continues answer (subst (λ (ts : List PolToken). IsValueOn given stack ts answer) (sym (next_token tokens n token within is)) on)
-
-fault_ends : (given : Given) (tokens : List PolToken) (stack : List ConstraintValue) (n : ℕ) (token : PolToken) (f : PolFault) → n < length tokens → token ≡ get_or tokens n token → token_fault given token stack ≡ Some f → Continues given tokens stack n → IsValueOn given [] tokens (Err f)
-fault_ends given tokens stack n token f within is faulty continues =
-    let on : IsValueOn given stack (token ∷ drop (n + 1) tokens) (Err f) =
-    subst (λ (fault : Option PolFault). MatchOption fault ((new : List ConstraintValue) × IsStep given token stack new × IsValueOn given new (drop (n + 1) tokens) (Err f)) (IsFault (Err f))) (sym faulty) refl in
-    continues (Err f) (subst (λ (ts : List PolToken). IsValueOn given stack ts (Err f)) (sym (next_token tokens n token within is)) on)
-
-pub run_fault : (given : Given) (tokens : List PolToken) (stack : List ConstraintValue) (n : ℕ) (token : PolToken) (f : PolFault) → n < length tokens → token ≡ get_or tokens n token → (f ≡ NoMemory) ⊎ (token_fault given token stack ≡ Some f) → Continues given tokens stack n → IsPolValue given tokens (Err f)
-run_fault given tokens stack n token f within is (inl refused) continues = subst (λ (g : PolFault). IsPolValue given tokens (Err g)) (sym refused) tt
-run_fault given tokens stack n token f within is (inr faulty) continues = value_from_run given tokens (Err f) (fault_ends given tokens stack n token f within is faulty continues)
-
 pub run_end : (given : Given) (tokens : List PolToken) (stack : List ConstraintValue) (n : ℕ) (answer : Answer) → length tokens ≤ n → (answer ≡ Err NoMemory) ⊎ (answer ≡ final_answer stack) → Continues given tokens stack n → IsPolValue given tokens answer
 run_end given tokens stack n answer past (inl refused) continues = subst (λ (r : Answer). IsPolValue given tokens r) (sym refused) tt
 run_end given tokens stack n answer past (inr is) continues =
     value_from_run given tokens answer (continues answer (subst (λ (ts : List PolToken). IsValueOn given stack ts answer) (sym (drop_all n tokens past)) is))
-
--- a look-up that gives a reference
-pub copied_from_lookup : (found : Option (Bor ConstraintValue)) (held : Option ConstraintValue) → MatchOption found (held ≡ None) (λ c. held ≡ Some c.now) → option_copied found ≡ held
-copied_from_lookup None held e = sym e
-copied_from_lookup (Some c) held e = sym e

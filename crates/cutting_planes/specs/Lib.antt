@@ -4,3 +4,4 @@ pub use Rattle.pb_lin.specs.Given
 pub mod Rules
 pub mod Stack
 pub mod Applied
+pub mod Held

@@ -14,8 +14,9 @@ use std::alloc::Global;
 /// The constraint that the tokens make on a stack that is empty at first; `negated` and `denied` are the
 /// constraints that those two tokens push. The rules are those of Cook, Coullard and Turán (1987), with
 /// saturation and weakening, as VeriPB's `pol` has them (Gocht and Nordström 2021). Each token costs at
-/// most one pass over the terms that it reads; a pushed constraint is copied, `Add` makes one new
-/// constraint, and the others change the topmost in place.
+/// most two passes over the terms that it reads. A constraint that is named is pushed by reference, which
+/// takes no memory for its terms; `Add` makes one new constraint of two, and the other operations change
+/// the topmost in place, once it is copied if it was pushed by reference.
 ///
 /// The first token that fails decides: `NoSuchId(id)` where no line has this id, and `NoSuchId(0)` where
 /// `negated` or `denied` isn't given; `Stack` where a token finds too few constraints, which is judged

@@ -7,6 +7,7 @@
 
 mod evaluation;
 mod fault;
+mod operand;
 mod scale;
 mod stack;
 mod steps;

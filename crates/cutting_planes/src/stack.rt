@@ -3,7 +3,7 @@ ghost use Rattle.std.specs.Prelude.{◌≡◌, ◌⊎◌, [], ◌∷◌, Err, Ma
 ghost use Rattle.cutting_planes.specs.Stack.{final_answer};
 
 use crate::PolFault;
-use crate::wide::WideConstraint;
+use crate::operand::Operand;
 use pb_lin::Constraint;
 use scut_base::NoMemory;
 use std::alloc::Global;
@@ -11,11 +11,11 @@ use std::marker::Model;
 
 // The constraints that are worked on. Contracts see the topmost, the last of the `Vec`, first.
 #[derive(Debug, Drop)]
-pub(crate) struct ConstraintStack {
-    constraints: Vec<WideConstraint>,
+pub(crate) struct ConstraintStack<'a> {
+    constraints: Vec<Operand<'a>>,
 }
 
-impl Model for ConstraintStack {
+impl<'a> Model for ConstraintStack<'a> {
     ghost use Rattle.std.specs.Prelude.{List, reverse};
     ghost use Rattle.pb_lin.specs.Constraint.{ConstraintValue};
 
@@ -24,8 +24,8 @@ impl Model for ConstraintStack {
     ghost view = { λ s. reverse s.constraints.items };
 }
 
-impl ConstraintStack {
-    pub(crate) fn new(alloc: Global) -> ConstraintStack
+impl<'a> ConstraintStack<'a> {
+    pub(crate) fn new(alloc: Global) -> ConstraintStack<'a>
         ensures { result ≡ [] }
     {
         ConstraintStack {
@@ -33,15 +33,15 @@ impl ConstraintStack {
         }
     }
 
-    pub(crate) fn push(&mut self, c: WideConstraint) -> Result<(), NoMemory>
-        ensures ok { OnOk result (self.new ≡ c ∷ self.old) }
+    pub(crate) fn push(&mut self, c: Operand<'a>) -> Result<(), NoMemory>
+        ensures ok { OnOk result (self.new ≡ c.entry ∷ self.old) }
         ensures err { OnErr result (self.new ≡ self.old) }
     {
         self.constraints.push(c)?;
         Ok(())
     }
 
-    pub(crate) fn pop(&mut self) -> Option<WideConstraint>
+    pub(crate) fn pop(&mut self) -> Option<Operand<'a>>
         ensures { MatchOption result ((self.old ≡ []) × (self.new ≡ []))
             (λ c. self.old ≡ c ∷ self.new) }
     {
@@ -50,7 +50,7 @@ impl ConstraintStack {
 
     // What is left, if it is one constraint.
     pub(crate) fn into_answer(mut self, alloc: Global) -> Result<Constraint, PolFault>
-        ensures { (result ≡ Err PolFault.NoMemory) ⊎ (result ≡ final_answer self) }
+        ensures { (result ≡ Err PolFault.NoMemory) ⊎ (result ≡ final_answer self.entry) }
     {
         match self.pop() {
             Some(c) if self.constraints.is_empty() => Ok(c.to_constraint(alloc)?),

@@ -1,11 +1,12 @@
 // Sums of constraints.
-ghost use Rattle.std.specs.Prelude.{◌≡◌, ◌+◌, ◌≤◌, ◌<◌, ◌^◌, ◌++◌, Bool, List, None, IfOk, OnOk, IfErr, length, drop, option_to_list};
+ghost use Rattle.std.specs.Prelude.{◌≡◌, ◌+◌, ◌≤◌, ◌^◌, ◌++◌, Bool, List, None, IfOk, OnOk, IfErr, drop, option_to_list};
 ghost use Rattle.scut_base.specs.Fault.{IsFaultOr};
 ghost use Rattle.pb_lin.specs.Constraint.{ConstraintValue, Holds, size};
 ghost use Rattle.cutting_planes.specs.Rules.{IsSum};
 ghost use Rattle.cutting_planes.specs.Stack.{size_fault};
 
 use crate::PolFault;
+use crate::operand::Operand;
 use crate::wide::WideConstraint;
 use pb_lin::{SIZE_LIMIT, add_terms};
 use scut_base::{Items, Lit, NoMemory};
@@ -13,11 +14,7 @@ use std::alloc::Global;
 
 // The sum of two constraints, where complementary literals cancel. Its size is judged before, so that
 // the answer doesn't depend on what cancels.
-pub(crate) fn sum(
-    alloc: Global,
-    p: &WideConstraint,
-    q: &WideConstraint,
-) -> Result<WideConstraint, PolFault>
+pub(crate) fn sum(alloc: Global, p: &Operand, q: &Operand) -> Result<WideConstraint, PolFault>
     ensures value { IfOk result (λ r. IsSum r p.now q.now) }
     ensures faultless { OnOk result (size_fault (size p.now + size q.now) ≡ None) }
     ensures fault { IfErr result
@@ -36,36 +33,30 @@ pub fn sums_keep_truth()
 {}
 
 // One pass over both. What is merged so far lies below what is left of either.
-fn small_sum(
-    alloc: Global,
-    p: &WideConstraint,
-    q: &WideConstraint,
-) -> Result<WideConstraint, NoMemory>
+fn small_sum(alloc: Global, p: &Operand, q: &Operand) -> Result<WideConstraint, NoMemory>
     requires { size p.now + size q.now ≤ 2 ^ 100 }
     ensures { IfOk result (λ r. IsSum r p.now q.now) }
 {
-    let mut left = p.terms();
-    let mut right = q.terms();
-    let mut merged = Items::with_capacity(alloc, left.len() + right.len())?;
-    let mut cancelled = 0;
-    while !left.is_empty() && !right.is_empty() {
-        let (s, t) = (left[0], right[0]);
+    let (mut i, mut j, mut cancelled) = (0, 0, 0);
+    let mut merged = Items::with_capacity(alloc, p.len().saturating_add(q.len()))?;
+    while i < p.len() && j < q.len() {
+        let (s, t) = (p.term(i), q.term(j));
         if s.0.var() < t.0.var() {
             merged.push(s)?;
-            left = rest(left);
+            i += 1;
         } else if t.0.var() < s.0.var() {
             merged.push(t)?;
-            right = rest(right);
+            j += 1;
         } else {
             let joined = add_terms(s, t);
             cancelled += joined.1;
             push_some(&mut merged, joined.0)?;
-            left = rest(left);
-            right = rest(right);
+            i += 1;
+            j += 1;
         }
     }
-    merged.extend_from_slice(left)?;
-    merged.extend_from_slice(right)?;
+    push_rest(&mut merged, p, i)?;
+    push_rest(&mut merged, q, j)?;
     let degree = (p.degree() + q.degree()).saturating_sub(cancelled);
     Ok(WideConstraint::from_parts(merged, degree))
 }
@@ -80,10 +71,12 @@ fn push_some(terms: &mut Items<(Lit, u128)>, term: Option<(Lit, u128)>) -> Resul
     Ok(())
 }
 
-// The terms after the first.
-fn rest(terms: &[(Lit, u128)]) -> &[(Lit, u128)]
-    requires { 0 < length terms.now }
-    ensures { result.now ≡ drop 1 terms.now }
+// Puts the terms from a place on at the end.
+fn push_rest(terms: &mut Items<(Lit, u128)>, c: &Operand, from: usize) -> Result<(), NoMemory>
+    ensures { OnOk result (terms.new ≡ terms.old ++ drop from c.now.terms) }
 {
-    &terms[1..]
+    for at in from..c.len() {
+        terms.push(c.term(at))?;
+    }
+    Ok(())
 }

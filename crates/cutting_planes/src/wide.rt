@@ -72,7 +72,8 @@ impl WideConstraint {
 
     // The degree.
     pub(crate) fn degree(&self) -> u128
-        ensures { result ≡ self.now.degree }
+        ensures value { result ≡ self.now.degree }
+        ensures normal { IsNormal self.now.terms self.now.degree }
     {
         self.degree
     }

@@ -1,7 +1,9 @@
--- Lines that lead from state to state: to one at most, in parts, with a line more, and how many they are.
-use Rattle.std.proofs.Common.{◌≡◌, ◌+◌, List, [], ◌∷◌, ◌++◌, length, refl, arith, sym, subst, ap, ◌∙◌}
+-- Lines that lead from state to state: to one at most, in parts, with a line more, how many they are, and how many constraints they make.
+use Rattle.std.proofs.Common.{◌≡◌, ◌+◌, List, [], ◌∷◌, ◌++◌, length, sum_by, refl, arith, sym, subst, ap, ◌∙◌}
+use Rattle.std.proofs.lemmas.List.Sums.{sum_by-cons}
 use Rattle.pb_lin.specs.Problem.{ProblemValue}
 use Rattle.proof_laws.specs.State.{StateValue, start}
+use Rattle.proof_laws.specs.Steps.{made}
 use Rattle.proof_laws.specs.Legal.{IsNext, Makes}
 use Rattle.proof_laws.specs.Replay.{Leads, IsReplay}
 use Rattle.proof_laws.specs.Laws.{ReplaysGoOn}
@@ -45,16 +47,16 @@ replay_before p lines line s t replay more =
 -- ---- how many
 
 next_lines : (p : ProblemValue) (s : StateValue) (line : Line) (t : StateValue) → Makes p s line t → t.lines ≡ s.lines + 1
-next_lines p s (Pol tokens) t made = ap (λ (u : StateValue). u.lines) made.2
-next_lines p s (Rup goal hints) t made = ap (λ (u : StateValue). u.lines) made
-next_lines p s (Learn goal hints) t made = ap (λ (u : StateValue). u.lines) made
-next_lines p s (Def var sum) t made = ap (λ (u : StateValue). u.lines) made
-next_lines p s (Red goal w proofs) t made = ap (λ (u : StateValue). u.lines) made
-next_lines p s (Dom goal w proofs) t made = ap (λ (u : StateValue). u.lines) made
-next_lines p s (Sol model cut ids) t made = ap (λ (u : StateValue). u.lines) made
-next_lines p s (Del ids) t made = ap (λ (u : StateValue). u.lines) made
-next_lines p s (Reduce ids) t made = ap (λ (u : StateValue). u.lines) made
-next_lines p s (End id) t made = ap (λ (u : StateValue). u.lines) made
+next_lines p s (Pol tokens) t is = ap (λ (u : StateValue). u.lines) is.2
+next_lines p s (Rup goal hints) t is = ap (λ (u : StateValue). u.lines) is
+next_lines p s (Learn goal hints) t is = ap (λ (u : StateValue). u.lines) is
+next_lines p s (Def var sum) t is = ap (λ (u : StateValue). u.lines) is
+next_lines p s (Red goal w proofs) t is = ap (λ (u : StateValue). u.lines) is
+next_lines p s (Dom goal w proofs) t is = ap (λ (u : StateValue). u.lines) is
+next_lines p s (Sol model cut ids) t is = ap (λ (u : StateValue). u.lines) is
+next_lines p s (Del ids) t is = ap (λ (u : StateValue). u.lines) is
+next_lines p s (Reduce ids) t is = ap (λ (u : StateValue). u.lines) is
+next_lines p s (End id) t is = ap (λ (u : StateValue). u.lines) is
 
 leads_lines : (p : ProblemValue) (lines : List Line) (s t : StateValue) → Leads p s lines t → t.lines ≡ s.lines + length lines
 leads_lines p [] s t leads = let same : t.lines ≡ s.lines = ap (λ (u : StateValue). u.lines) leads in omega (arith, same)
@@ -67,10 +69,37 @@ leads_lines p (line ∷ lines) s t leads =
 pub replay_lines : (p : ProblemValue) (lines : List Line) (s : StateValue) → IsReplay p lines s → s.lines ≡ length lines
 replay_lines p lines s replay = let all = leads_lines p lines (start p) s replay in omega (arith, all)
 
+-- ---- how many constraints
+
+next_ids : (p : ProblemValue) (s : StateValue) (line : Line) (t : StateValue) → Makes p s line t → t.next_id ≡ s.next_id + made line
+next_ids p s (Pol tokens) t is = ap (λ (u : StateValue). u.next_id) is.2
+next_ids p s (Rup goal hints) t is = ap (λ (u : StateValue). u.next_id) is
+next_ids p s (Learn goal hints) t is = ap (λ (u : StateValue). u.next_id) is
+next_ids p s (Def var sum) t is = ap (λ (u : StateValue). u.next_id) is
+next_ids p s (Red goal w proofs) t is = ap (λ (u : StateValue). u.next_id) is
+next_ids p s (Dom goal w proofs) t is = ap (λ (u : StateValue). u.next_id) is
+next_ids p s (Sol model cut ids) t is = ap (λ (u : StateValue). u.next_id) is
+next_ids p s (Del ids) t is = ap (λ (u : StateValue). u.next_id) is
+next_ids p s (Reduce ids) t is = ap (λ (u : StateValue). u.next_id) is
+next_ids p s (End id) t is = ap (λ (u : StateValue). u.next_id) is
+
+leads_ids : (p : ProblemValue) (lines : List Line) (s t : StateValue) → Leads p s lines t → t.next_id ≡ s.next_id + sum_by made lines
+leads_ids p [] s t leads = let same : t.next_id ≡ s.next_id = ap (λ (u : StateValue). u.next_id) leads in omega (arith, same)
+leads_ids p (line ∷ lines) s t leads =
+    let one = next_ids p s line leads.0 leads.1.makes in
+    let rest = leads_ids p lines leads.0 t leads.2 in
+    let all : sum_by made (line ∷ lines) ≡ made line + sum_by made lines = sum_by-cons made line lines in
+    omega (arith, one, rest, all)
+
+-- the ids that the lines have taken come after those of the rows
+pub replay_ids : (p : ProblemValue) (lines : List Line) (s : StateValue) → IsReplay p lines s → s.next_id ≡ length p.rows + 1 + sum_by made lines
+replay_ids p lines s replay = leads_ids p lines (start p) s replay
+
 pub replays_law : ReplaysGoOn
 replays_law = record {
   one = replay_once;
   last = replay_before;
   next = λ p lines line s t replay step. leads_further p lines (start p) s t line replay step;
   counted = replay_lines;
+  ids = replay_ids;
 }

@@ -1,8 +1,9 @@
 -- The laws of the rule book, each as one statement.
-use Rattle.std.specs.Prelude.{◌≡◌, ◌⊎◌, ℕ, Bool, true, false, List, [], ◌∷◌, ◌++◌, length, All}
+use Rattle.std.specs.Prelude.{◌≡◌, ◌⊎◌, ℕ, Bool, true, false, List, [], ◌∷◌, ◌++◌, ◌+◌, length, sum_by, All}
 use Rattle.pb_lin.specs.Problem.{ProblemValue, IsProblem}
 use Rattle.proof_laws.specs.WellFormed.{IsWellFormed}
 use Rattle.proof_laws.specs.State.{StateValue, IsState, Fits, Satisfies, CoversAll, start}
+use Rattle.proof_laws.specs.Steps.{made}
 use Rattle.proof_laws.specs.Legal.{IsRefused, IsNext}
 use Rattle.proof_laws.specs.Replay.{IsReplay}
 use Rattle.proof_laws.specs.Earned.{IsEarned, changes_learned}
@@ -61,9 +62,10 @@ LinesAreJudgedOnce = (p : ProblemValue) (s : StateValue) (line : Line) → Judge
 abbrev pub LinesAreJudged : Type 0
 LinesAreJudged = (p : ProblemValue) (s : StateValue) (line : Line) → StandsBefore p s line → ((why : Why) × IsRefused p s line why) ⊎ ((t : StateValue) × IsNext p s line t)
 
--- lines reach one state at most, and with a line more the next one; the state counts them
+-- lines reach one state at most, and with a line more the next one; the state counts them, and gives ids first to the rows and then to each constraint that they make
 pub record ReplaysGoOn : Type 0 where
   pub one : (p : ProblemValue) (lines : List Line) (s t : StateValue) → IsReplay p lines s → IsReplay p lines t → s ≡ t
   pub last : (p : ProblemValue) (lines : List Line) (line : Line) (s t : StateValue) → IsReplay p lines s → IsReplay p (lines ++ line ∷ []) t → IsNext p s line t
   pub next : (p : ProblemValue) (lines : List Line) (line : Line) (s t : StateValue) → IsReplay p lines s → IsNext p s line t → IsReplay p (lines ++ line ∷ []) t
   pub counted : (p : ProblemValue) (lines : List Line) (s : StateValue) → IsReplay p lines s → s.lines ≡ length lines
+  pub ids : (p : ProblemValue) (lines : List Line) (s : StateValue) → IsReplay p lines s → s.next_id ≡ length p.rows + 1 + sum_by made lines

@@ -1,9 +1,11 @@
--- The next states.
+-- The next states, and how many constraints a line makes.
 use Rattle.std.specs.Prelude.{ℕ, ◌+◌, ◌-◌, ◌==◌, true, false, if◌then◌else◌, List, [], ◌∷◌, ◌++◌, map, fold, ℤ}
 use Rattle.std.specs.FinMap.{insert, remove}
 use Rattle.scut_base.specs.Literal.{Literal}
 use Rattle.pb_lin.specs.Constraint.{ConstraintValue, opposite, total}
 use Rattle.proof_laws.specs.State.{StateValue}
+use Rattle.proof_laws.specs.declared.line.Line.{Line}
+use Rattle.proof_laws.specs.declared.line.Line.TheVariants.{Def, Del, Reduce, End}
 
 -- the state after a line that makes n constraints
 abbrev pub counted : ℕ → StateValue → StateValue
@@ -59,3 +61,11 @@ without_lines s ids = counted 0 (record s { live = fold remove s.live ids })
 -- the state after the end
 abbrev pub with_end : StateValue → StateValue
 with_end s = counted 0 (record s { ended = true })
+
+-- how many constraints a line makes
+abbrev pub made : Line → ℕ
+made (Def var sum) = 2
+made (Del ids) = 0
+made (Reduce ids) = 0
+made (End id) = 0
+made line = 1

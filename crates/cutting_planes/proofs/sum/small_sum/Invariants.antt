@@ -1,9 +1,9 @@
-use Rattle.std.proofs.Common.{◌+◌, length}
+use Rattle.std.proofs.Common.{◌+◌, ◌-◌, length, drop}
 use Rattle.cutting_planes.proofs.Merge.{IsMerge}
 use Rattle.cutting_planes.proofs.sum.small_sum.Given as goal
 
-abbrev pub invariant-loop-s : goal.invariant-loop-s
-invariant-loop-s l = IsMerge l.p.terms l.q.terms l.merged l.left l.right l.cancelled
+abbrev pub invariant-loop-i : goal.invariant-loop-i
+invariant-loop-i l = IsMerge l.p.terms l.q.terms l.merged (drop l.i l.p.terms) (drop l.j l.q.terms) l.cancelled
 
-abbrev pub decreases-loop-s : goal.decreases-loop-s
-decreases-loop-s l = length l.left + length l.right
+abbrev pub decreases-loop-i : goal.decreases-loop-i
+decreases-loop-i l = (length l.p.terms - l.i) + (length l.q.terms - l.j)
