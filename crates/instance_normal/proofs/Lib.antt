@@ -11,5 +11,6 @@ pub mod Sizes
 pub mod Merging
 pub mod Objectives
 pub mod Within
+pub mod Fitted
 pub mod Tightening
 pub mod OneForm

@@ -25,7 +25,7 @@ use Rattle.instance_normal.proofs.Costs.{relaxed_of}
 
 -- ---- counts
 
-few_relaxed : (os : List Objective) → length (relaxed_of os) ≤ sum_by (λ o. length o.softs) os
+pub few_relaxed : (os : List Objective) → length (relaxed_of os) ≤ sum_by (λ o. length o.softs) os
 few_relaxed [] = omega arith
 few_relaxed (o ∷ os) = omega (arith, few_relaxed os, length-append (filter is_relaxed o.softs) (relaxed_of os), length-filter is_relaxed o.softs, count_by-le-length is_relaxed o.softs, sum_by-cons (λ (x : Objective). length x.softs) o os)
 

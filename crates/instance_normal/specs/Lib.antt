@@ -6,5 +6,6 @@ pub use Rattle.pb_lin.specs.CostRow
 pub use Rattle.pb_lin.specs.Problem
 pub mod NormalForm
 pub mod Tightened
+pub mod Within
 pub mod Fitting
 pub mod Merging

@@ -7,6 +7,7 @@ ghost use Rattle.instance.specs.ParetoFront.{problem_vector};
 ghost use Rattle.pb_lin.specs.Problem.{ProblemValue, IsProblemModel, problem_costs};
 ghost use Rattle.instance_normal.specs.NormalForm.{IsNormalFormOf};
 ghost use Rattle.instance_normal.specs.Tightened.{tightened};
+ghost use Rattle.instance_normal.specs.Within.{NormalFormsAreProblems};
 
 /// Law: each model of an instance extends to a model of its normal form with equal costs.
 pub fn models_extend()
@@ -29,4 +30,9 @@ pub fn models_restrict()
 pub fn one_normal_form()
     ensures { (i : InstanceValue) (p q : ProblemValue) → IsNormalFormOf i p → IsNormalFormOf i q
         → p ≡ q }
+{}
+
+/// Law: the normal form of an instance is a problem.
+pub fn normal_form_is_problem()
+    ensures { NormalFormsAreProblems }
 {}

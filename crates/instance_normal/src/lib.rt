@@ -18,6 +18,6 @@ mod rows;
 mod soft;
 mod tight;
 
-pub use laws::{models_extend, models_restrict, one_normal_form};
+pub use laws::{models_extend, models_restrict, normal_form_is_problem, one_normal_form};
 pub use normal::normalise;
 pub use tight::tighten;

@@ -121,7 +121,7 @@ module _ (texts : LineTexts) (p : ProblemValue) (vectors : List (List ℤ)) wher
   pub line_is_refused : (old new : ReaderValue) (s : StateValue) (bytes : List ℕ) (lines : List Line) (line : Line) (k : ℕ) (why : Why) → IsUnderway p vectors old s bytes lines → ReaderStandsFor new bytes (lines ++ line ∷ []) → IsLineFault p vectors s line why → k ≡ s.lines + 2 → IsWholeFault p vectors bytes k why
   line_is_refused old new s bytes lines line k why underway after fault number =
       let b = begins new bytes lines line after in
-      line_refused texts p vectors bytes lines line b.0 s k why (before_last bytes lines line b.0 b.1) (line_formed new bytes lines line after) underway.replay underway.covered fault (omega (arith, number, replay_lines p lines s underway.replay))
+      line_refused texts p vectors bytes lines line (printed line ++ b.0) b.0 s k why (before_last bytes lines line b.0 b.1) b.1 underway.replay underway.covered fault (omega (arith, number, replay_lines p lines s underway.replay))
 
   pub line_taken : (old new : ReaderValue) (s t : StateValue) (bytes : List ℕ) (lines : List Line) (line : Line) → IsUnderway p vectors old s bytes lines → ReaderStandsFor new bytes (lines ++ line ∷ []) → IsNext p s line t → (AreCovered vectors s → AreCovered vectors t) → IsUnderway p vectors new t bytes (lines ++ line ∷ [])
   line_taken old new s t bytes lines line underway after next covered = record { read = after; replay = leads_further p lines (start p) s t line underway.replay next; covered = covered underway.covered }
@@ -137,8 +137,9 @@ module _ (texts : LineTexts) (p : ProblemValue) (vectors : List (List ℤ)) wher
   pub end_missing : (r : ReaderValue) (s : StateValue) (bytes : List ℕ) (lines : List Line) (k : ℕ) → IsUnderway p vectors r s bytes lines → HoldsNoFurtherLine bytes lines → IsWhole bytes → s.ended ≡ false → k ≡ s.lines + 2 → IsLogFault p vectors bytes k NoEnd
   end_missing r s bytes lines k underway held whole unended number = inr (record {
     lines = lines;
+    spelled = spelled_whole bytes lines held whole;
     state = s;
-    reached = record { begins = spelled_whole bytes lines held whole; replay = underway.replay; covered = underway.covered };
+    reached = record { replay = underway.replay; covered = underway.covered };
     unended = unended;
     number = omega (arith, number, replay_lines p lines s underway.replay);
   })

@@ -8,10 +8,12 @@ use Rattle.std.proofs.lemmas.List.Elements.{All-head, All-tail, Contains-append_
 use Rattle.std.proofs.lemmas.List.Folds.{list_any_at}
 use Rattle.std.proofs.lemmas.List.Sums.{sum_by-cons, sum_by-append}
 use Rattle.scut_base.specs.Bytes.{newline}
+use Rattle.scut_base.specs.Files.{IsPrefixOf}
 use Rattle.proof_laws.specs.WellFormed.{IsWellFormed}
 use Rattle.proof_laws.specs.declared.line.Line.{Line}
 use Rattle.proof_lines.specs.LineText.{line_text, printed, SpellsLine}
-use Rattle.proof_text.specs.LogText.{header_text, header_line, log_text, BeginsWith, SpellsLog, IsOneLine, IsWholeLine, HasWrongHeader, IsWhole, newlines, IsUnfinishedAt, HoldsNoFurtherLine}
+use Rattle.proof_text.specs.LogText.{header_text, header_line, log_text, BeginsWith, SpellsLog, IsOneLine, IsWholeLine, IsWhole, newlines, IsUnfinishedAt, HoldsNoFurtherLine}
+use Rattle.proof_text.proofs.Logs.{header_part_one}
 
 -- what texts of lines have: each is that of one line alone, and holds no line feed
 pub record LineTexts : Type 0 where
@@ -76,9 +78,6 @@ body lines rest = flat_map printed lines ++ rest
 begins_is : (bytes : List ℕ) (lines : List Line) (rest : List ℕ) → BeginsWith bytes lines rest → bytes ≡ header_text ++ newline ∷ (flat_map printed lines ++ rest)
 begins_is bytes lines rest begins = begins.is ∙ append_assoc header_line (flat_map printed lines) rest ∙ append_assoc header_text (newline ∷ []) (flat_map printed lines ++ rest)
 
-pub right_header : (bytes : List ℕ) (lines : List Line) (rest : List ℕ) → BeginsWith bytes lines rest → HasWrongHeader bytes → ⊥
-right_header bytes lines rest begins wrong = wrong.wrong (whole_once wrong.text header_text wrong.after (flat_map printed lines ++ rest) wrong.line.one header_one (sym wrong.line.is ∙ begins_is bytes lines rest begins)).0
-
 pub begins_has_newline : (bytes : List ℕ) (lines : List Line) (rest : List ℕ) → BeginsWith bytes lines rest → IsOneLine bytes → ⊥
 begins_has_newline bytes lines rest begins one = one (subst (λ (t : List ℕ). Contains t newline) (sym (begins_is bytes lines rest begins)) (has_newline header_text (flat_map printed lines ++ rest)))
 
@@ -125,7 +124,7 @@ module _ (texts : LineTexts) where
 -- what is left of a whole log after its lines is nothing, where it holds no whole line
 pub spelled_whole : (bytes : List ℕ) (lines : List Line) → HoldsNoFurtherLine bytes lines → IsWhole bytes → SpellsLog bytes lines
 spelled_whole bytes lines held whole = ⊎_elim
-    (λ (one : IsOneLine bytes). absurd (one (subst (λ (t : List ℕ). Contains t newline) (sym (whole.1 ∙ append_assoc header_text (newline ∷ []) whole.0)) (has_newline header_text whole.0))))
+    (λ (part : IsPrefixOf bytes header_text). absurd (header_part_one bytes part (subst (λ (t : List ℕ). Contains t newline) (sym (whole.1 ∙ append_assoc header_text (newline ∷ []) whole.0)) (has_newline header_text whole.0))))
     (λ (rest : (r : List ℕ) × BeginsWith bytes lines r × IsOneLine r).
     let after : whole.0 ≡ flat_map printed lines ++ rest.0 = (whole_once header_text header_text whole.0 (flat_map printed lines ++ rest.0) header_one header_one
     (sym (whole.1 ∙ append_assoc header_text (newline ∷ []) whole.0) ∙ begins_is bytes lines rest.0 rest.1)).1 in

@@ -6,5 +6,6 @@ pub mod Accepted
 pub mod ListFaults
 pub mod ListJudging
 pub mod LogFaults
+pub mod NoRefusal
 pub mod Checking
 pub mod Judging

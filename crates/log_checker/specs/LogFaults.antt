@@ -1,30 +1,19 @@
 -- Why a log isn't accepted: the first line that is refused, and its reason.
-use Rattle.std.specs.Prelude.{◌≡◌, ◌⊎◌, ℕ, ◌+◌, false, List, [], ◌++◌, length, All, ℤ}
+use Rattle.std.specs.Prelude.{◌≡◌, ◌⊎◌, ℕ, ◌+◌, false, List, [], ◌∷◌, ◌++◌, length, All, ℤ}
 use Rattle.pb_lin.specs.Problem.{ProblemValue}
-use Rattle.proof_laws.specs.WellFormed.{IsWellFormed}
 use Rattle.proof_laws.specs.State.{StateValue}
 use Rattle.proof_laws.specs.Legal.{IsRefused, IsNext}
 use Rattle.proof_laws.specs.Replay.{IsReplay}
 use Rattle.proof_laws.specs.declared.line.Line.{Line}
 use Rattle.proof_laws.specs.declared.why.Why.{Why}
 use Rattle.proof_laws.specs.declared.why.Why.TheVariants.{Syntax, NoEnd, Uncovered}
-use Rattle.proof_lines.specs.LineText.{printed, SpellsNoLine}
-use Rattle.proof_text.specs.LogText.{BeginsWith, IsWholeLine, HasWrongHeader, IsUnfinishedAt}
+use Rattle.proof_text.specs.LogText.{BeginsWith, SpellsLog, IsSyntaxAt, IsUnfinishedAt}
 use Rattle.log_checker.specs.Accepted.{IsCovered}
 
--- The bytes begin with these lines, which are legal, each where it stands, lead to this state, and log covered vectors alone;
--- the rest follows.
-pub record Reaches (p : ProblemValue) (vectors : List (List ℤ)) (bytes : List ℕ) (lines : List Line) (s : StateValue) (rest : List ℕ) : Type 0 where
-  pub begins : BeginsWith bytes lines rest
+-- The lines are legal, each where it stands, lead to this state, and log covered vectors alone.
+pub record Reaches (p : ProblemValue) (vectors : List (List ℤ)) (lines : List Line) (s : StateValue) : Type 0 where
   pub replay : IsReplay p lines s
   pub covered : All (IsCovered vectors) s.sols
-
--- the rest begins with a whole line that is the text of none
-pub record HasNoLine (rest : List ℕ) : Type 0 where
-  pub text : List ℕ
-  pub after : List ℕ
-  pub whole : IsWholeLine rest text after
-  pub wrong : SpellsNoLine text
 
 -- the line is legal, and logs a solution that isn't covered: the n-th
 pub record LogsUncovered (p : ProblemValue) (vectors : List (List ℤ)) (s : StateValue) (line : Line) (n : ℕ) : Type 0 where
@@ -38,45 +27,46 @@ abbrev pub IsLineFault : ProblemValue → List (List ℤ) → StateValue → Lin
 IsLineFault p vectors s line (Uncovered n) = LogsUncovered p vectors s line n
 IsLineFault p vectors s line why = IsRefused p s line why
 
--- the rest begins with the text of a line that is refused so
-pub record HasRefusedLine (p : ProblemValue) (vectors : List (List ℤ)) (s : StateValue) (rest : List ℕ) (why : Why) : Type 0 where
+-- The bytes go on after these lines, which lead to this state, with one that is refused so.
+pub record HasRefusedLine (p : ProblemValue) (vectors : List (List ℤ)) (bytes : List ℕ) (lines : List Line) (s : StateValue) (why : Why) : Type 0 where
   pub line : Line
   pub after : List ℕ
-  pub formed : IsWellFormed line
-  pub is : rest ≡ printed line ++ after
+  pub begins : BeginsWith bytes (lines ++ line ∷ []) after
   pub refused : IsLineFault p vectors s line why
 
--- why the next whole line is refused
-abbrev pub IsNextFault : ProblemValue → List (List ℤ) → StateValue → List ℕ → Why → Type 0
-IsNextFault p vectors s rest Syntax = HasNoLine rest
-IsNextFault p vectors s rest why = HasRefusedLine p vectors s rest why
+-- why the line after these is refused
+abbrev pub IsNextFault : ProblemValue → List (List ℤ) → List ℕ → List Line → StateValue → Why → Type 0
+IsNextFault p vectors bytes lines s Syntax = IsSyntaxAt bytes (length lines + 2)
+IsNextFault p vectors bytes lines s why = HasRefusedLine p vectors bytes lines s why
 
--- Line k is the first that is refused, by the bytes up to its line feed alone.
+-- Line k is the first that is refused, by bytes that are there, whatever follows; the lines before it, and the state that they lead to.
 pub record IsRefusedAfter (p : ProblemValue) (vectors : List (List ℤ)) (bytes : List ℕ) (k : ℕ) (why : Why) : Type 0 where
   pub lines : List Line
-  pub state : StateValue
   pub rest : List ℕ
-  pub reached : Reaches p vectors bytes lines state rest
+  pub begins : BeginsWith bytes lines rest
+  pub state : StateValue
+  pub reached : Reaches p vectors lines state
   pub number : length lines + 2 ≡ k
-  pub fault : IsNextFault p vectors state rest why
+  pub fault : IsNextFault p vectors bytes lines state why
 
--- the first whole line that is refused: the header, or one after it
+-- The first line that is refused, by bytes that are there, whatever follows: the header, or one after it.
 abbrev pub IsWholeFault : ProblemValue → List (List ℤ) → List ℕ → ℕ → Why → Type 0
-IsWholeFault p vectors bytes k why = ((k ≡ 1) × (why ≡ Syntax) × HasWrongHeader bytes) ⊎ IsRefusedAfter p vectors bytes k why
+IsWholeFault p vectors bytes k why = ((k ≡ 1) × (why ≡ Syntax) × IsSyntaxAt bytes 1) ⊎ IsRefusedAfter p vectors bytes k why
 
--- no whole line is refused
+-- no line is refused by bytes that are there
 abbrev pub HasNoWholeFault : ProblemValue → List (List ℤ) → List ℕ → Type 0
 HasNoWholeFault p vectors bytes = (k : ℕ) (why : Why) → IsWholeFault p vectors bytes k why → ⊥
 
 -- all lines pass, but none ends the proof
 pub record HasNoEnd (p : ProblemValue) (vectors : List (List ℤ)) (bytes : List ℕ) (k : ℕ) : Type 0 where
   pub lines : List Line
+  pub spelled : SpellsLog bytes lines
   pub state : StateValue
-  pub reached : Reaches p vectors bytes lines state []
+  pub reached : Reaches p vectors lines state
   pub unended : state.ended ≡ false
   pub number : length lines + 2 ≡ k
 
--- No whole line is refused, and the bytes end in the midst of one, or the proof hasn't ended.
+-- No line is refused by bytes that are there, and they end in the midst of one, or the proof hasn't ended.
 abbrev pub IsEndFault : ProblemValue → List (List ℤ) → List ℕ → ℕ → Why → Type 0
 IsEndFault p vectors bytes k Syntax = HasNoWholeFault p vectors bytes × IsUnfinishedAt bytes k
 IsEndFault p vectors bytes k NoEnd = HasNoEnd p vectors bytes k

@@ -10,6 +10,7 @@ ghost use Rattle.proof_laws.specs.declared.why.Why.{Why};
 ghost use Rattle.log_checker.specs.Accepted.{IsAccepted, IsEndedProof, IsRightList};
 ghost use Rattle.log_checker.specs.ListFaults.{IsListFault};
 ghost use Rattle.log_checker.specs.LogFaults.{IsLogFault};
+ghost use Rattle.log_checker.specs.NoRefusal.{IsRefusedNowhere};
 ghost use Rattle.log_checker.specs.declared.fault.ListWhy.{ListWhy};
 
 /// Law: an accepted list is the front.
@@ -43,4 +44,10 @@ pub fn no_list_fault_where_right()
     ensures { (i : InstanceValue) (list : List ℕ) (entries : List Entry) (k : ℕ) (why : ListWhy)
         → length list < 2 ^ 64 → Spells list true entries → IsRightList i entries
         → IsListFault i list k why → ⊥ }
+{}
+
+/// Law: what is accepted, with a list of fewer than 2^64 bytes, is refused nowhere.
+pub fn no_refusal_where_accepted()
+    ensures { (i : InstanceValue) (list log : List ℕ) → length list < 2 ^ 64 → IsAccepted i list log
+        → IsRefusedNowhere i list log }
 {}

@@ -1,6 +1,7 @@
 pub mod OneLines
 pub mod Words
 pub mod Logs
+pub mod Openings
 pub mod Searched
 pub mod Readings
 pub mod Replaying

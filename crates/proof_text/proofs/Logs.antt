@@ -1,18 +1,44 @@
 -- Logs, line by line.
-use Rattle.std.proofs.Common.{◌≡◌, inl, inr, ⊎_elim, ℕ, zero, suc, ◌≤◌, List, [], ◌∷◌, ◌++◌, length, refl, sym, ap, subst, ◌∙◌, arith}
+use Rattle.std.proofs.Common.{◌≡◌, ◌⊎◌, inl, inr, ⊎_elim, ℕ, zero, suc, ◌≤◌, List, [], ◌∷◌, ◌++◌, length, refl, sym, ap, subst, ◌∙◌, arith}
 use Rattle.std.specs.List.{All, flat_map}
 use Rattle.std.proofs.lemmas.List.{append-nil, append_assoc, append_cancel_left, flat_map_more}
 use Rattle.std.proofs.lemmas.List.Elements.{All-head, All-tail}
 use Rattle.scut_base.specs.Bytes.{newline}
+use Rattle.scut_base.specs.Files.{IsPrefixOf}
+use Rattle.scut_base.proofs.Lists.{head_same, tail_same}
 use Rattle.proof_laws.specs.WellFormed.{IsWellFormed}
 use Rattle.proof_laws.specs.declared.line.Line.{Line}
 use Rattle.proof_lines.specs.LineText.{line_text, printed, SpellsLine, SpellsNoLine}
 use Rattle.proof_text.specs.LogText.{header_text, header_line, log_text, BeginsWith, SpellsLog, IsOneLine, IsWholeLine, IsWholeLines, HasWrongHeader, IsSyntaxAt, IsWhole, IsUnfinishedAt, HoldsNoFurtherLine}
-use Rattle.proof_text.proofs.OneLines.{nil_right, cons_same, same_line, not_one, not_empty, ends_one, whole_append}
+use Rattle.proof_text.proofs.OneLines.{nil_right, cons_same, same_line, one_front, not_one, not_empty, ends_one, whole_append}
 use Rattle.proof_text.proofs.Words.{one_from_plain, line_text-one}
 
 pub header_one : IsOneLine header_text
 header_one = one_from_plain header_text refl
+
+-- ---- the header
+
+-- what is of the header has no line feed
+pub header_part_one : (bytes : List ℕ) → IsPrefixOf bytes header_text → IsOneLine bytes
+header_part_one bytes part = one_front bytes part.0 (subst (λ (t : List ℕ). IsOneLine t) (sym part.1) header_one)
+
+-- Of texts that begin alike, one with this line feed behind it: this one is the beginning of the other, or the other is a beginning of it.
+cut_alike : (h bytes piece rest : List ℕ) (b : ℕ) → (h ++ b ∷ []) ++ rest ≡ bytes ++ piece → IsPrefixOf (h ++ b ∷ []) bytes ⊎ IsPrefixOf bytes h
+cut_alike h [] piece rest b e = inr (h, refl)
+cut_alike [] (c ∷ bytes) piece rest b e = inl (bytes, cons_same b c bytes bytes (head_same b c rest (bytes ++ piece) e) refl)
+cut_alike (d ∷ h) (c ∷ bytes) piece rest b e =
+    let first : d ≡ c = head_same d c ((h ++ b ∷ []) ++ rest) (bytes ++ piece) e in
+    ⊎_elim
+    (λ (whole : IsPrefixOf (h ++ b ∷ []) bytes). inl (whole.0, cons_same d c ((h ++ b ∷ []) ++ whole.0) bytes first whole.1))
+    (λ (part : IsPrefixOf bytes h). inr (part.0, cons_same c d (bytes ++ part.0) h (sym first) part.1))
+    (cut_alike h bytes piece rest b (tail_same d c ((h ++ b ∷ []) ++ rest) (bytes ++ piece) e))
+
+-- bytes that go on are no more like the header
+pub header_more : (bytes piece : List ℕ) → HasWrongHeader bytes → HasWrongHeader (bytes ++ piece)
+header_more bytes piece wrong = (
+  λ whole. ⊎_elim wrong.0 wrong.1 (cut_alike header_text bytes piece whole.0 newline whole.1),
+  λ part. wrong.1 (piece ++ part.0, sym (append_assoc bytes piece part.0) ∙ part.1),
+)
 
 -- ---- the first line of some
 
@@ -72,10 +98,8 @@ same_lines law (l ∷ lines) (m ∷ more) formed others e =
 pub spelled_once : OneLine → (bytes : List ℕ) (lines more : List Line) → SpellsLog bytes lines → SpellsLog bytes more → lines ≡ more
 spelled_once law bytes lines more spells others = same_lines law lines more spells.formed others.formed (same_bodies lines more [] [] (sym spells.is ∙ others.is))
 
-not_headless : (bytes : List ℕ) (lines : List Line) (rest : List ℕ) → BeginsWith bytes lines rest → HasWrongHeader bytes → ⊥
-not_headless bytes lines rest begins fault =
-    let same = same_line fault.text header_text fault.after (flat_map printed lines ++ rest) fault.line.one header_one (sym fault.line.is ∙ begins.is ∙ headed lines rest) in
-    fault.wrong same.0
+pub not_headless : (bytes : List ℕ) (lines : List Line) (rest : List ℕ) → BeginsWith bytes lines rest → HasWrongHeader bytes → ⊥
+not_headless bytes lines rest begins fault = fault.0 (flat_map printed lines ++ rest, sym (begins.is ∙ body lines rest))
 
 -- bytes that spell a log have no wrong line
 pub never_wrong : (bytes : List ℕ) (lines : List Line) → SpellsLog bytes lines → (k : ℕ) → IsSyntaxAt bytes k → ⊥
@@ -132,8 +156,8 @@ whole_left lines rest after e one whole =
 
 -- where no further line follows what was given, and no bytes are left, it is all
 pub spelled_whole : (bytes : List ℕ) (lines : List Line) → HoldsNoFurtherLine bytes lines → IsWhole bytes → SpellsLog bytes lines
-spelled_whole bytes lines (inl one) whole =
-    absurd (not_one header_text whole.0 (subst (λ (t : List ℕ). IsOneLine t) (whole.1 ∙ append_assoc header_text (newline ∷ []) whole.0) one))
+spelled_whole bytes lines (inl part) whole =
+    absurd (not_one header_text whole.0 (subst (λ (t : List ℕ). IsOneLine t) (whole.1 ∙ append_assoc header_text (newline ∷ []) whole.0) (header_part_one bytes part)))
 spelled_whole bytes lines (inr (rest, begins, one)) whole =
     let none : rest ≡ [] = whole_left lines rest whole.0 (sym whole.1 ∙ begins.is) one whole.2 in
     record { formed = begins.formed; is = begins.is ∙ ap (λ (t : List ℕ). log_text lines ++ t) none }

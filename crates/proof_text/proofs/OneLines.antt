@@ -29,6 +29,10 @@ pub one_append : (a b : List ℕ) → IsOneLine a → IsOneLine b → IsOneLine 
 one_append [] b one_a one_b = one_b
 one_append (c ∷ a) b one_a one_b = one_cons c (a ++ b) (one_head c a one_a) (one_append a b (one_tail c a one_a) one_b)
 
+pub one_front : (a b : List ℕ) → IsOneLine (a ++ b) → IsOneLine a
+one_front [] b one = one_nil
+one_front (c ∷ a) b one = one_cons c a (one_head c (a ++ b) one) (one_front a b (one_tail c (a ++ b) one))
+
 pub not_one : (a b : List ℕ) → IsOneLine (a ++ newline ∷ b) → ⊥
 not_one [] b one = one_head newline b one refl
 not_one (c ∷ a) b one = not_one a b (one_tail c (a ++ newline ∷ b) one)

@@ -1,19 +1,20 @@
 -- What a reader stands for after a piece more, and after a line more.
-use Rattle.std.proofs.Common.{◌≡◌, inl, inr, ℕ, zero, suc, ◌+◌, Bool, true, Option, None, Some, List, [], ◌∷◌, ◌++◌, length, take, drop, refl, sym, ap, subst, ◌∙◌, arith}
+use Rattle.std.proofs.Common.{◌≡◌, inl, inr, ℕ, zero, suc, ◌+◌, Bool, true, false, Option, None, Some, List, [], ◌∷◌, ◌++◌, length, take, drop, refl, sym, ap, subst, ◌∙◌, arith}
 use Rattle.std.specs.Option.{is_some}
 use Rattle.std.specs.List.{flat_map}
 use Rattle.std.proofs.lemmas.List.{append-nil, append_assoc, length_push}
 use Rattle.std.proofs.lemmas.List.Elements.{All-push}
 use Rattle.scut_base.specs.Bytes.{newline}
+use Rattle.scut_base.specs.Files.{IsPrefixOf}
 use Rattle.proof_laws.specs.WellFormed.{IsWellFormed}
 use Rattle.proof_laws.specs.declared.line.Line.{Line}
 use Rattle.proof_lines.specs.LineText.{line_text, printed, SpellsLine}
-use Rattle.proof_text.specs.LogText.{header_text, header_line, log_text, BeginsWith, IsWholeLine, IsWholeLines, IsSyntaxAt, IsWhole, newlines, IsUnfinishedAt}
+use Rattle.proof_text.specs.LogText.{header_text, header_line, log_text, BeginsWith, IsOneLine, IsWholeLine, IsWholeLines, IsSyntaxAt, IsWhole, newlines, IsUnfinishedAt}
 use Rattle.proof_text.specs.Cutting.{IsLineOf}
 use Rattle.proof_text.specs.Reading.{ReaderValue, HasRead, HasGiven, HasReadUpTo, StandsFor}
 use Rattle.proof_text.proofs.OneLines.{cut_last, whole_append, newlines-append, newlines-one}
 use Rattle.proof_text.proofs.Words.{line_text-one}
-use Rattle.proof_text.proofs.Logs.{header_one, log_text_push, log_whole}
+use Rattle.proof_text.proofs.Logs.{header_one, header_part_one, header_more, log_text_push, log_whole}
 
 -- ---- a piece more
 
@@ -23,7 +24,7 @@ whole_line_more rest text after piece line = record {
   is = ap (λ (t : List ℕ). t ++ piece) line.is ∙ append_assoc text (newline ∷ after) piece;
 }
 
-begins_more : (bytes rest piece : List ℕ) (lines : List Line) → BeginsWith bytes lines rest → BeginsWith (bytes ++ piece) lines (rest ++ piece)
+pub begins_more : (bytes rest piece : List ℕ) (lines : List Line) → BeginsWith bytes lines rest → BeginsWith (bytes ++ piece) lines (rest ++ piece)
 begins_more bytes rest piece lines begins = record {
   formed = begins.formed;
   is = ap (λ (t : List ℕ). t ++ piece) begins.is ∙ append_assoc (log_text lines) rest piece;
@@ -31,12 +32,7 @@ begins_more bytes rest piece lines begins = record {
 
 pub wrong_more : (bytes piece : List ℕ) (k : ℕ) → IsSyntaxAt bytes k → IsSyntaxAt (bytes ++ piece) k
 wrong_more bytes piece zero fault = fault
-wrong_more bytes piece (suc zero) fault = record {
-  text = fault.text;
-  after = fault.after ++ piece;
-  line = whole_line_more bytes fault.text fault.after piece fault.line;
-  wrong = fault.wrong;
-}
+wrong_more bytes piece (suc zero) fault = header_more bytes piece fault
 wrong_more bytes piece (suc (suc n)) fault = record {
   lines = fault.lines;
   rest = fault.rest ++ piece;
@@ -92,6 +88,20 @@ module _ (old : ReaderValue) (sound : old.wrong ≡ None) (begun : old.begun ≡
       stands_by new (right ∙ sound) (still ∙ begun) bytes (lines ++ line ∷ []) (length_push lines line ∙ ap (λ (n : ℕ). n + 1) stands.given ∙ sym count) (subst (λ (t : List ℕ). BeginsWith bytes (lines ++ line ∷ []) t) (sym rest) begins)
 
 -- ---- the end
+
+-- no more than a part of the header was fed
+pub ends_early : (r : ReaderValue) → r.wrong ≡ None → r.begun ≡ false → IsPrefixOf r.rest header_text → (bytes : List ℕ) (lines : List Line) → StandsFor r bytes lines → IsUnfinishedAt bytes 1
+ends_early r sound unbegun part bytes lines stands =
+    let read : HasRead false r.rest bytes lines = subst (λ (b : Bool). HasRead b r.rest bytes lines) unbegun (subst (λ (o : Option ℕ). HasReadUpTo o r bytes lines) sound stands.read) in
+    record {
+      before = [];
+      text = bytes;
+      is = refl;
+      whole = inl refl;
+      one = subst (λ (t : List ℕ). IsOneLine t) (sym read.1) (header_part_one r.rest part);
+      some = inr refl;
+      number = refl;
+    }
 
 printed_all : (lines : List Line) → IsWholeLines (flat_map printed lines)
 printed_all [] = inl refl

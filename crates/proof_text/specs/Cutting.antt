@@ -1,6 +1,7 @@
 -- Bytes that are taken off the front, line by line.
-use Rattle.std.specs.Prelude.{◌≡◌, ℕ, ◌+◌, ◌<◌, ◌≤◌, List, ◌++◌, length, take, drop}
-use Rattle.proof_text.specs.LogText.{header_line, IsOneLine, IsWholeLine, HasWrongHeader}
+use Rattle.std.specs.Prelude.{ℕ, ◌+◌, ◌<◌, ◌≤◌, List, length, take, drop}
+use Rattle.scut_base.specs.Files.{IsPrefixOf}
+use Rattle.proof_text.specs.LogText.{header_text, header_line, IsOneLine, IsWholeLine, HasWrongHeader}
 use Rattle.proof_text.specs.declared.opening.Opening.{Opening}
 use Rattle.proof_text.specs.declared.opening.Opening.TheVariants.{Missing, There, Wrong}
 
@@ -14,8 +15,8 @@ pub record IsSearched (bytes : List ℕ) (at n : ℕ) : Type 0 where
   pub within : at + n ≤ length bytes
   pub one : IsOneLine (take n (drop at bytes))
 
--- what was found at the front, and what is left of the bytes
-abbrev pub IsOpening : Opening → List ℕ → List ℕ → Type 0
-IsOpening Missing old new = IsOneLine old × (new ≡ old)
-IsOpening There old new = old ≡ header_line ++ new
-IsOpening Wrong old new = HasWrongHeader old × (new ≡ old)
+-- what the bytes begin with
+abbrev pub IsOpening : Opening → List ℕ → Type 0
+IsOpening Missing bytes = IsPrefixOf bytes header_text
+IsOpening There bytes = IsPrefixOf header_line bytes
+IsOpening Wrong bytes = HasWrongHeader bytes

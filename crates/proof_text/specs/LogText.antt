@@ -2,6 +2,7 @@
 use Rattle.std.specs.Prelude.{◌≡◌, ◌≢◌, ℕ, zero, suc, ◌+◌, ◌==◌, ◌⊎◌, List, [], ◌∷◌, ◌++◌, length, All, Contains, codes}
 use Rattle.std.specs.List.{flat_map, count_by}
 use Rattle.scut_base.specs.Bytes.{newline}
+use Rattle.scut_base.specs.Files.{IsPrefixOf}
 use Rattle.proof_laws.specs.WellFormed.{IsWellFormed}
 use Rattle.proof_laws.specs.declared.line.Line.{Line}
 use Rattle.proof_lines.specs.LineText.{printed, SpellsNoLine}
@@ -35,12 +36,9 @@ pub record IsWholeLine (rest text after : List ℕ) : Type 0 where
   pub one : IsOneLine text
   pub is : rest ≡ text ++ newline ∷ after
 
--- the first whole line is another than the header
-pub record HasWrongHeader (bytes : List ℕ) : Type 0 where
-  pub text : List ℕ
-  pub after : List ℕ
-  pub line : IsWholeLine bytes text after
-  pub wrong : text ≢ header_text
+-- The bytes neither begin with the header line nor are a beginning of the header: wherever they go on, it isn't the first line.
+abbrev pub HasWrongHeader : List ℕ → Type 0
+HasWrongHeader bytes = (IsPrefixOf header_line bytes → ⊥) × (IsPrefixOf bytes header_text → ⊥)
 
 -- After n lines comes a whole line that is the text of none.
 pub record GoesWrongAfter (bytes : List ℕ) (n : ℕ) : Type 0 where
@@ -53,7 +51,8 @@ pub record GoesWrongAfter (bytes : List ℕ) (n : ℕ) : Type 0 where
   pub line : IsWholeLine rest text after
   pub wrong : SpellsNoLine text
 
--- The first whole line that is neither the header, where it is the first, nor the text of a line, by its number from 1.
+-- The first line that is wrong, by its number from 1 and by bytes that are there, whatever follows: the first is another than the
+-- header, or a later one is whole and the text of none.
 abbrev pub IsSyntaxAt : List ℕ → ℕ → Type 0
 IsSyntaxAt bytes zero = ⊥
 IsSyntaxAt bytes (suc zero) = HasWrongHeader bytes
@@ -80,6 +79,6 @@ pub record IsUnfinishedAt (bytes : List ℕ) (k : ℕ) : Type 0 where
   pub some : (text ≢ []) ⊎ (before ≡ [])
   pub number : newlines before + 1 ≡ k
 
--- No whole line follows these lines; or there is no whole line at all.
+-- The header isn't whole yet; or no whole line follows these lines.
 abbrev pub HoldsNoFurtherLine : List ℕ → List Line → Type 0
-HoldsNoFurtherLine bytes lines = IsOneLine bytes ⊎ ((rest : List ℕ) × BeginsWith bytes lines rest × IsOneLine rest)
+HoldsNoFurtherLine bytes lines = IsPrefixOf bytes header_text ⊎ ((rest : List ℕ) × BeginsWith bytes lines rest × IsOneLine rest)

@@ -1,5 +1,5 @@
 // The reader of a log, piece by piece.
-ghost use Rattle.std.specs.Prelude.{◌≡◌, ◌++◌, ◌+◌, ◌⊎◌, [], ℕ, List, true, None, Some, IsOk, IfOk, OnOk, OnErr, IfSome, Ok, Err};
+ghost use Rattle.std.specs.Prelude.{◌≡◌, ◌++◌, ◌+◌, ◌⊎◌, [], ℕ, List, true, false, None, Some, IsOk, IfOk, OnOk, OnErr, IfSome, Ok, Err};
 ghost use Rattle.proof_laws.specs.declared.line.Line.{Line};
 ghost use Rattle.proof_text.specs.LogText.{IsSyntaxAt, IsUnfinishedAt, IsWhole, newlines};
 ghost use Rattle.proof_text.specs.Reading.{StandsFor, GivesNext};
@@ -7,7 +7,7 @@ ghost use Rattle.proof_text.specs.Cutting.{IsLineOf};
 
 use crate::TextFault;
 use crate::line_feeds::{count_line_feeds, ends_whole};
-use crate::opening::{Opening, take_header};
+use crate::opening::{HEADER_LEN, Opening, opening_of};
 use crate::pending::Pending;
 use proof_laws::Line;
 use proof_lines::{LineFault, read_line};
@@ -15,15 +15,15 @@ use scut_base::NoMemory;
 use std::alloc::Global;
 use std::marker::Model;
 
-/// Reads a log that comes in pieces. It keeps the bytes of lines that aren't given yet, and how the
-/// bytes were cut changes no answer.
+/// Reads a log that comes in pieces. It keeps the bytes of lines that aren't given yet, before the
+/// header is whole those of the header alone. How the bytes were cut changes no answer.
 #[derive(Debug, Drop)]
 pub struct LineReader {
     alloc: Global,
     pending: Pending,
     // How many lines were given.
     given: u64,
-    // Whether the header was there. Before that no line feed is pending.
+    // Whether the header was there. Before that no more than a part of it is pending.
     begun: bool,
     // The line that was wrong. Nothing is pending then.
     wrong: Option<u64>,
@@ -31,7 +31,8 @@ pub struct LineReader {
 
 impl Model for LineReader {
     ghost use Rattle.std.specs.Prelude.{◌≡◌, false};
-    ghost use Rattle.proof_text.specs.LogText.{IsOneLine};
+    ghost use Rattle.scut_base.specs.Files.{IsPrefixOf};
+    ghost use Rattle.proof_text.specs.LogText.{header_text};
     ghost use Rattle.proof_text.specs.Reading.{ReaderValue};
 
     ghost Value = { ReaderValue };
@@ -43,7 +44,7 @@ impl Model for LineReader {
       wrong = r.wrong;
     } };
 
-    ghost invariant = { λ r. r.begun ≡ false → IsOneLine r.pending };
+    ghost invariant = { λ r. r.begun ≡ false → IsPrefixOf r.pending header_text };
 }
 
 impl LineReader {
@@ -61,7 +62,7 @@ impl LineReader {
     }
 
     /// Takes a piece after the bytes that were fed. After `NoMemory` nothing has changed. Costs the
-    /// piece, on average over all pieces.
+    /// piece, on average over all pieces; nothing is kept of bytes after a first line that is wrong.
     pub fn feed(&mut self, piece: &[u8]) -> Result<(), NoMemory>
         ensures fed { OnOk result ((bytes : List ℕ) (lines : List Line)
             → StandsFor self.old bytes lines → StandsFor self.new (bytes ++ piece.now) lines) }
@@ -70,13 +71,25 @@ impl LineReader {
         if self.wrong.is_some() {
             return Ok(());
         }
-        self.pending.extend(piece)?;
         if self.begun {
-            return Ok(());
+            return self.pending.extend(piece);
         }
-        match take_header(&mut self.pending) {
-            Opening::Missing => Ok(()),
+        self.feed_opening(piece)
+    }
+
+    // The same where the header wasn't there.
+    fn feed_opening(&mut self, piece: &[u8]) -> Result<(), NoMemory>
+        requires sound { self.old.wrong ≡ None }
+        requires begun { self.old.begun ≡ false }
+        ensures fed { OnOk result ((bytes : List ℕ) (lines : List Line)
+            → StandsFor self.old bytes lines → StandsFor self.new (bytes ++ piece.now) lines) }
+        ensures same { OnErr result (self.new ≡ self.old) }
+    {
+        match opening_of(self.pending.as_slice(), piece) {
+            Opening::Missing => self.pending.extend(piece),
             Opening::There => {
+                self.pending.extend(piece)?;
+                self.pending.skip_line(HEADER_LEN);
                 self.begun = true;
                 Ok(())
             }
@@ -89,8 +102,9 @@ impl LineReader {
     }
 
     /// The next line, or none where no further whole line was fed. `Syntax` where the next whole line
-    /// is wrong, and the same again after it; `NoMemory` where memory was refused, or the number of
-    /// the line passes 2^64 - 1, and then nothing has changed. Costs the line.
+    /// is wrong, or the bytes go on otherwise than the header does, and the same again after it;
+    /// `NoMemory` where memory was refused, or the number of the line passes 2^64 - 1, and then nothing
+    /// has changed. Costs the line.
     pub fn next_line(&mut self) -> Result<Option<Line>, TextFault>
         ensures next { IfOk result (λ line. (bytes : List ℕ) (lines : List Line)
             → StandsFor self.old bytes lines → GivesNext self.new bytes lines line) }
@@ -145,7 +159,7 @@ impl LineReader {
         }
     }
 
-    /// Whether the bytes that were fed end where a log may end. `Syntax` where the header is missing,
+    /// Whether the bytes that were fed end where a log may end. `Syntax` where the header isn't whole,
     /// or bytes without a line feed are left, with the number of their line; and the same again where
     /// a line was wrong; `NoMemory` where that number passes 2^64 - 1. It reads no whole line that
     /// isn't given yet, and costs one pass over the bytes that aren't.

@@ -1,47 +1,42 @@
 // The first line of a log.
-ghost use Rattle.std.specs.Prelude.{◌≡◌, ◌≢◌, MatchBool};
+ghost use Rattle.std.specs.Prelude.{◌++◌, MatchBool};
+ghost use Rattle.scut_base.specs.Files.{IsPrefixOf};
 ghost use Rattle.proof_text.specs.LogText.{header_text};
-ghost use Rattle.proof_text.specs.Cutting.{IsLineOf, IsOpening};
-
-use crate::pending::Pending;
+ghost use Rattle.proof_text.specs.Cutting.{IsOpening};
 
 /// What a log begins with.
 #[derive(Clone, Copy, Debug, PartialEq, Eq)]
 pub enum Opening {
-    /// No whole line yet.
+    /// A part of the header, or the whole of it without its line feed.
     Missing,
     /// The header.
     There,
-    /// Another whole line.
+    /// Something else.
     Wrong,
 }
 
-/// Takes off the header, where it is there.
-pub fn take_header(pending: &mut Pending) -> Opening
-    ensures { IsOpening result pending.old pending.new }
+/// How many bytes the header has, without its line feed.
+pub const HEADER_LEN: usize = 23;
+
+/// What a log begins with whose first bytes are of the header, and then this piece. Compares the
+/// piece alone.
+#[tactic(auto, using(crate::proofs::Openings::header_part_short))]
+pub fn opening_of(first: &[u8], piece: &[u8]) -> Opening
+    requires { IsPrefixOf first.now header_text }
+    ensures { IsOpening result (first.now ++ piece.now) }
 {
-    match pending.line_len() {
-        Some(len) => take_line(pending, len),
-        None => Opening::Missing,
+    let header: &[u8] = b"scuttle proof version 1\n";
+    if begins_with(piece, &header[first.len()..]) {
+        return Opening::There;
     }
+    if begins_with(&header[first.len()..HEADER_LEN], piece) {
+        return Opening::Missing;
+    }
+    Opening::Wrong
 }
 
-// The same, where the first whole line has so many bytes.
-fn take_line(pending: &mut Pending, len: usize) -> Opening
-    requires { IsLineOf pending.old len }
-    ensures { IsOpening result pending.old pending.new }
+fn begins_with(bytes: &[u8], prefix: &[u8]) -> bool
+    ensures { MatchBool result (IsPrefixOf prefix.now bytes.now) (IsPrefixOf prefix.now bytes.now → ⊥) }
 {
-    if !is_header(&pending.as_slice()[..len]) {
-        return Opening::Wrong;
-    }
-    pending.skip_line(len);
-    Opening::There
-}
-
-// Whether this is the header, without its line feed.
-fn is_header(text: &[u8]) -> bool
-    ensures { MatchBool result (text.now ≡ header_text) (text.now ≢ header_text) }
-{
-    let header: &[u8] = b"scuttle proof version 1";
-    text == header
+    bytes.starts_with(prefix)
 }

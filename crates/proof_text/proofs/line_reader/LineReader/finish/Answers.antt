@@ -1,8 +1,18 @@
-use Rattle.std.proofs.Common.{◌≡◌, ◌+◌, ℕ, List, None, true, inr, subst, sym, ap, ◌∙◌, rules}
-use Rattle.proof_text.specs.LogText.{IsWholeLines, IsUnfinishedAt, newlines}
+use Rattle.std.proofs.Common.{◌≡◌, ◌+◌, ℕ, List, None, true, false, inr, subst, sym, ap, ◌∙◌, rules}
+use Rattle.scut_base.specs.Files.{IsPrefixOf}
+use Rattle.proof_text.specs.LogText.{IsWholeLines, IsUnfinishedAt, newlines, header_text}
 use Rattle.proof_text.specs.Reading.{ReaderValue}
-use Rattle.proof_text.proofs.Readings.{ends_well, ends_badly}
+use Rattle.proof_text.proofs.Readings.{ends_early, ends_well, ends_badly}
 use Rattle.proof_text.proofs.line_reader.LineReader.finish.Goals as goal
+
+pub returns-then-not-self-clause-syntax : goal.returns-then-not-self-clause-syntax
+returns-then-not-self-clause-syntax c k e bytes lines stands =
+    let r = c.args.self.now in
+    let sound : r.wrong ≡ None = search rules in
+    let unbegun : r.begun ≡ false = search rules in
+    let part : IsPrefixOf r.rest header_text = rw (← c.self.view_is) (c.self.invariant (search rules)) in
+    let number : 1 ≡ k = cc in
+    inr (subst (λ (j : ℕ). IsUnfinishedAt bytes j) number (ends_early r sound unbegun part bytes lines stands))
 
 pub returns-then-ends_whole-clause-whole : goal.returns-then-ends_whole-clause-whole
 returns-then-ends_whole-clause-whole c ok bytes lines stands =
