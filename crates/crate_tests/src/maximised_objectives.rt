@@ -60,15 +60,30 @@ static ROWS: [([bool; 2], [i64; 2], [i64; 2]); 4] = [
     ([false, true], [1, -4], [-1, -4]),
 ];
 
+// Whether an assignment has these costs, and they this vector of the problem.
+fn costs_so(
+    alloc: Global,
+    inst: &Instance,
+    values: [bool; 2],
+    costs: &[i64],
+    problem: &[i64],
+) -> Result<bool, Fail>
+    requires { inst.now.vars ≡ 2 }
+{
+    let a = assignment(alloc, values)?;
+    let found = inst.costs(alloc, &a)?;
+    let turned = inst.problem_vector(alloc, &found)?;
+    Ok(found.as_slice() == costs && turned.as_slice() == problem)
+}
+
 #[test]
 fn a_maximised_objective_costs_its_sum(rt: HostRuntime) -> Result<(), Fail> {
     let inst = instance(rt.alloc())?;
     for (values, costs, problem) in ROWS.iter() {
-        let a = assignment(rt.alloc(), *values)?;
-        let found = inst.costs(rt.alloc(), &a)?;
-        assert_eq!(rt; found.as_slice(), costs.as_slice());
-        let turned = inst.problem_vector(rt.alloc(), &found)?;
-        assert_eq!(rt; turned.as_slice(), problem.as_slice());
+        assert!(rt;
+            costs_so(rt.alloc(), &inst, *values, costs, problem)?,
+            "{values:?}"
+        );
     }
     Ok(())
 }
@@ -103,13 +118,12 @@ fn minimal_pairs(alloc: Global, inst: &Instance) -> Result<FrontSet, Fail>
     Ok(front)
 }
 
-// The two assignments that no other dominates, each with the costs that the instance gives it.
-#[test]
-fn a_list_shows_maximised_sums_and_rises(rt: HostRuntime) -> Result<(), Fail> {
-    let inst = instance(rt.alloc())?;
-    let front = minimal_pairs(rt.alloc(), &inst)?;
-    let mut text = String::new(rt.alloc());
-    for entry in listed(rt.alloc(), &inst, &front)?.as_slice() {
+// The list of the minimal pairs, in words.
+fn shown(alloc: Global) -> Result<String, Fail> {
+    let inst = instance(alloc)?;
+    let front = minimal_pairs(alloc, &inst)?;
+    let mut text = String::new(alloc);
+    for entry in listed(alloc, &inst, &front)?.as_slice() {
         write!(
             text,
             "{:?} {:?};",
@@ -117,6 +131,13 @@ fn a_list_shows_maximised_sums_and_rises(rt: HostRuntime) -> Result<(), Fail> {
             entry.model.as_slice()
         )?;
     }
+    Ok(text)
+}
+
+// The two assignments that no other dominates, each with the costs that the instance gives it.
+#[test]
+fn a_list_shows_maximised_sums_and_rises(rt: HostRuntime) -> Result<(), Fail> {
+    let text = shown(rt.alloc())?;
     assert_eq!(rt;
         text.as_str(),
         "[1, -4] [false, true];[6, -2] [true, true];"

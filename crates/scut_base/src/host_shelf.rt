@@ -296,13 +296,7 @@ impl<R: Runtime> Shelf for HostShelf<R> {
     }
 
     fn append(&mut self, name: &str, piece: &[u8]) -> Result<(), ShelfFault> {
-        let done = append_host(
-            &self.rt,
-            &mut self.standing,
-            &mut self.writing,
-            name,
-            piece,
-        );
+        let done = append_host(&self.rt, &mut self.standing, &mut self.writing, name, piece);
         counted(done, &mut self.faults)
     }
 

@@ -1,5 +1,6 @@
 // All four clauses over two variables: what each propagator forces, and which clause it names as the conflict.
-ghost use Rattle.std.specs.Prelude.{◌≡◌, IfOk};
+ghost use Rattle.std.specs.Prelude.{◌≡◌, ℕ, [], IfOk};
+ghost use Rattle.std.specs.FinMap.{empty};
 ghost use Rattle.pb_lin.specs.Constraint.{UpTo};
 
 use crate::fixture::Fixture;
@@ -39,9 +40,10 @@ fn store_clauses<P: Propagator + Drop>(
 }
 
 // Whether x2 is true after a propagation, the id of the clause that forced it, and that of the conflict.
-fn forced<P: Propagator + Drop>(
-    fixture: &mut Fixture<P>,
-) -> Result<(Option<bool>, u64, Option<u64>), NoMemory>
+type Forced = (Option<bool>, u64, Option<u64>);
+
+// What a propagation makes of the clauses.
+fn forced<P: Propagator + Drop>(fixture: &mut Fixture<P>) -> Result<Forced, NoMemory>
     requires { fixture.old ≡ 2 }
 {
     let conflict = fixture.propagate()?;
@@ -54,17 +56,21 @@ fn forced<P: Propagator + Drop>(
     Ok((trail.value(Lit::new(2, false)), reason, conflict))
 }
 
+// What a propagator makes of them.
+fn forced_by<P: Propagator + Drop>(alloc: Global, prop: P) -> Result<Forced, NoMemory>
+    requires { (n : ℕ) → P.in_step prop empty (record { vars = n; steps = [] }) }
+{
+    let mut fixture = Fixture::new(alloc, 2, prop)?;
+    store_clauses(alloc, &mut fixture)?;
+    forced(&mut fixture)
+}
+
 #[test]
 fn the_opposite_clause_is_the_conflict(rt: HostRuntime) -> Result<(), Fail> {
-    let alloc = rt.alloc();
-    let mut watch = Fixture::new(alloc, 2, WatchProp::new(alloc))?;
-    store_clauses(alloc, &mut watch)?;
-    let by_watches = forced(&mut watch)?;
-    assert!(rt; by_watches == (Some(true), 2, Some(4)) || by_watches == (Some(false), 4, Some(2)));
-
-    let mut plain = Fixture::new(alloc, 2, PlainProp)?;
-    store_clauses(alloc, &mut plain)?;
+    let watched = forced_by(rt.alloc(), WatchProp::new(rt.alloc()))?;
+    let first = (Some(true), 2, Some(4));
+    assert!(rt; watched == first || watched == (Some(false), 4, Some(2)));
     // It goes through the clauses by their ids.
-    assert!(rt; forced(&mut plain)? == (Some(true), 2, Some(4)));
+    assert!(rt; forced_by(rt.alloc(), PlainProp)? == first);
     Ok(())
 }

@@ -5,7 +5,7 @@ ghost use Rattle.pb_lin.specs.Constraint.{IsVariable, UpTo};
 
 use crate::fixture::Fixture;
 use pb_lin::{Constraint, LinFault};
-use scut_base::Lit;
+use scut_base::{Lit, NoMemory};
 use std::alloc::Global;
 use std::test::Fail;
 use watch_prop::WatchProp;
@@ -74,25 +74,45 @@ fn store_chain(alloc: Global, chain: Chain) -> Result<Fixture<WatchProp>, LinFau
     Ok(fixture)
 }
 
+// Whether a propagation finds no conflict, and leaves so many steps.
+fn goes_to(fixture: &mut Fixture<WatchProp>, steps: u64) -> Result<bool, NoMemory>
+    ensures { fixture.new ≡ fixture.old }
+{
+    let conflict = fixture.propagate()?;
+    Ok(conflict.is_none() && fixture.trail().len() == steps)
+}
+
+// Whether a propagation goes along the whole of a chain.
+fn goes_along(alloc: Global, coefficient: i128) -> Result<bool, LinFault> {
+    let first = line(alloc, &[(1, Lit::new(1, false))], 1)?;
+    let block = VARS;
+    let mut fixture = store_chain(alloc, Chain { coefficient, block })?;
+    fixture.put(VARS, &first)?;
+    Ok(goes_to(&mut fixture, VARS)?)
+}
+
+// Whether it goes along each block, and many times along the last one.
+fn goes_along_again(fixture: &mut Fixture<WatchProp>) -> Result<bool, NoMemory>
+    requires { fixture.old ≡ VARS }
+{
+    for block in 0..BLOCKS + 10_000 {
+        let before = block.min(BLOCKS - 1) * BLOCK;
+        fixture.cut(before);
+        if !fixture.decide(Lit::new(before + 1, false)) || !goes_to(fixture, before + BLOCK)? {
+            return Ok(false);
+        }
+    }
+    Ok(true)
+}
+
 // For clauses, and for lines that are counted.
 const COEFFICIENTS: [i128; 2] = [1, 2];
 
 // It takes half a second, and would take minutes if a step more made those before it be looked at again.
 #[test]
 fn a_step_is_looked_at_once(rt: HostRuntime) -> Result<(), Fail> {
-    let alloc = rt.alloc();
-    let first = line(alloc, &[(1, Lit::new(1, false))], 1)?;
     for coefficient in COEFFICIENTS {
-        let mut fixture = store_chain(
-            alloc,
-            Chain {
-                coefficient,
-                block: VARS,
-            },
-        )?;
-        fixture.put(VARS, &first)?;
-        assert!(rt; fixture.propagate()?.is_none());
-        assert!(rt; fixture.trail().len() == VARS);
+        assert!(rt; goes_along(rt.alloc(), coefficient)?, "{coefficient}");
     }
     Ok(())
 }
@@ -101,21 +121,10 @@ fn a_step_is_looked_at_once(rt: HostRuntime) -> Result<(), Fail> {
 // would take minutes if a cut made the steps of lower levels be looked at again.
 #[test]
 fn steps_of_levels_that_stay_are_not_looked_at_again(rt: HostRuntime) -> Result<(), Fail> {
+    let block = BLOCK;
     for coefficient in COEFFICIENTS {
-        let mut fixture = store_chain(
-            rt.alloc(),
-            Chain {
-                coefficient,
-                block: BLOCK,
-            },
-        )?;
-        for block in 0..BLOCKS + 10_000 {
-            let before = block.min(BLOCKS - 1) * BLOCK;
-            fixture.cut(before);
-            assert!(rt; fixture.decide(Lit::new(before + 1, false)));
-            assert!(rt; fixture.propagate()?.is_none());
-            assert!(rt; fixture.trail().len() == before + BLOCK);
-        }
+        let mut fixture = store_chain(rt.alloc(), Chain { coefficient, block })?;
+        assert!(rt; goes_along_again(&mut fixture)?, "{coefficient}");
     }
     Ok(())
 }

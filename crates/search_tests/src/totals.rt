@@ -80,6 +80,21 @@ fn answers<R: Recorder>(
     Ok(text)
 }
 
+// The answers of a totalizer of a problem's first objective.
+fn first_answers<R: Recorder>(
+    alloc: Global,
+    rec: &mut R,
+    problem: &PbProblem,
+    numbers: &[i64],
+) -> Result<String, Fail>
+    requires problem { (R.seen rec.old).problem ≡ problem.now }
+    requires begun { (R.seen rec.old).lines ≡ [] }
+    requires whole { (R.seen rec.old).broken ≡ false }
+{
+    let mut sum = first_sum(alloc, rec, problem)?;
+    answers(alloc, rec, &mut sum, numbers)
+}
+
 // The answers of a totalizer of a text's first objective, and how many variables it has defined then. The call of
 // this number of its recorder fails; none has the number 0.
 fn totalized(
@@ -90,8 +105,7 @@ fn totalized(
 ) -> Result<(String, usize), Fail> {
     let problem = problem(alloc, text)?;
     let mut recorder = MemRecorder::new(alloc, &problem, failing)?;
-    let mut sum = first_sum(alloc, &recorder, &problem)?;
-    let answers = answers(alloc, &mut recorder, &mut sum, numbers)?;
+    let answers = first_answers(alloc, &mut recorder, &problem, numbers)?;
     Ok((answers, definitions(recorder.lines())))
 }
 
@@ -113,8 +127,10 @@ static CASES: [(&str, u64, [i64; 3], &str, usize); 6] = [
 fn a_sum_is_answered_by_the_least_attainable_one(rt: HostRuntime) -> Result<(), Fail> {
     for (text, failing, numbers, expected, count) in &CASES {
         let (answers, defined) = totalized(rt.alloc(), *text, *failing, numbers)?;
-        assert_eq!(rt; answers.as_str(), *expected, "{text} {numbers:?}");
-        assert_eq!(rt; defined, *count, "{text} {numbers:?}");
+        assert!(rt;
+            answers.as_str() == *expected && defined == *count,
+            "{text} {numbers:?}"
+        );
     }
     Ok(())
 }

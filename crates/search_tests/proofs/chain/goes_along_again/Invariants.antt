@@ -1,6 +1,6 @@
 use Rattle.std.proofs.Common.{◌≡◌}
 use Rattle.search_tests.specs.declared.chain.TheConstants.{VARS}
-use Rattle.search_tests.proofs.chain.steps_of_levels_that_stay_are_not_looked_at_again.Given as goal
+use Rattle.search_tests.proofs.chain.goes_along_again.Given as goal
 
 abbrev pub invariant-loop-block : goal.invariant-loop-block
 invariant-loop-block g l = l.fixture ≡ VARS
