@@ -19,7 +19,8 @@ use Rattle.instance.specs.declared.fault.PlaceFault.TheVariants.{Bad, Limit}
 use Rattle.mcnf_reader.specs.Grammar.{SpellsLiteral, SpellsZero, SpellsObjective, SpellsWeight}
 use Rattle.mcnf_reader.specs.FirstFault.{is_natural, number_fault, objective_number_fault, objective_fault, weight_fault, literal_fault, is_zero}
 use Rattle.mcnf_reader.proofs.Clauses.{natural_sign}
-use Rattle.mcnf_reader.proofs.FaultChoice.{or_at_none, or_none, passed, failed_not, passed_last}
+use Rattle.scut_base.proofs.Options.{or_at_none, or_none}
+use Rattle.mcnf_reader.proofs.FaultChoice.{passed, failed_not, passed_last}
 
 digit_passes : (x : ℕ) → IsInRange 48 57 x → is_ascii_digit x ≡ true
 digit_passes x range = and_from (nat_le 48 x) (nat_le x 57) (le-leb 48 x range.0) (le-leb x 57 range.1)
