@@ -1,6 +1,5 @@
 -- What a clause's words spell, from left to right.
-use Rattle.std.proofs.Common.{◌≡◌, ℕ, true, false, List, [], ◌∷◌, ◌++◌, refl, sym, ap, ◌∙◌, subst, append_assoc, append-nil, Option, None, Some, MatchOption, arith}
-use Rattle.std.specs.Prelude.{is_some}
+use Rattle.std.proofs.Common.{◌≡◌, ℕ, false, List, [], ◌∷◌, ◌++◌, refl, sym, ap, ◌∙◌, subst, append_assoc, append-nil, arith}
 use Rattle.std.specs.Str.Parse.{starts_with_minus}
 use Rattle.std.specs.Int.{IsInRange}
 use Rattle.std.proofs.lemmas.Str.Parse.{digit_at}
@@ -38,13 +37,3 @@ ends_clause all words rest word lits cut none zero so_far =
     let one : words ≡ word ∷ [] = cut ∙ ap (λ (ws : List (List ℕ)). word ∷ ws) none in
     let spelled : SpellsClause words [] = subst (λ (ws : List (List ℕ)). SpellsClause ws []) (sym one) zero in
     rw append-nil at (so_far [] spelled)
-
--- what holds where there is none
-pub where_none : {X : Type 0} (o : Option X) (P : Type 0) (Q : X → Type 0) → MatchOption o P Q → is_some o ≡ false → P
-where_none None P Q fact none = fact
-where_none (Some x) P Q fact none = cc
-
--- what holds of what there is
-pub where_some : {X : Type 0} (o : Option X) (P : Type 0) (Q : X → Type 0) → MatchOption o P Q → is_some o ≡ true → (x : X) × Q x
-where_some None P Q fact some = absurd cc
-where_some (Some x) P Q fact some = (x, fact)

@@ -1,13 +1,14 @@
 -- How many clauses and lines a text has.
 use Rattle.std.proofs.Common.{◌≡◌, ◌≢◌, ℕ, zero, suc, ◌+◌, ◌<◌, ◌≤◌, Bool, true, false, cond, List, [], ◌∷◌, length, map, ⊎_elim, refl, sym, ap, subst, arith}
 use Rattle.std.specs.Prelude.{◌==◌}
-use Rattle.std.specs.List.{sum_by, range_with_len, slice_split, onto_first}
+use Rattle.std.specs.List.{sum_by, range_with_len, slice_split}
 use Rattle.std.specs.Str.Lines.{strip_carriage_return}
 use Rattle.std.proofs.lemmas.Bool.{cases_eq}
 use Rattle.std.proofs.lemmas.List.{length-append, length-map}
 use Rattle.std.proofs.lemmas.List.Splits.{length-slice_split}
 use Rattle.std.proofs.lemmas.List.Sums.{sum_by-cons, count_by-le-length}
 use Rattle.scut_base.specs.Literal.{Literal}
+use Rattle.scut_base.proofs.Lists.{total_length, split_length}
 use Rattle.instance.specs.declared.objective.Objective.{Objective}
 use Rattle.instance.specs.declared.objective.Soft.{Soft}
 use Rattle.mcnf_reader.specs.declared.statement.Statement.{Statement}
@@ -29,25 +30,6 @@ total_clauses [] = 0
 total_clauses (s ∷ statements) = clause_count s + total_clauses statements
 
 -- the clauses of a text are fewer than its bytes
-abbrev total_length : List (List ℕ) → ℕ
-total_length [] = 0
-total_length (x ∷ xs) = length x + total_length xs
-
-onto_length : (x : ℕ) (parts : List (List ℕ)) → total_length (onto_first x parts) ≤ total_length parts + 1
-onto_length x [] = omega arith
-onto_length x (part ∷ parts) = omega arith
-
-either_length : (b : Bool) (xs ys : List (List ℕ)) (n : ℕ) → total_length xs ≤ n → total_length ys ≤ n → total_length (cond b xs ys) ≤ n
-either_length true xs ys n left right = left
-either_length false xs ys n left right = right
-
-split_length : (p : ℕ → Bool) (xs : List ℕ) → total_length (slice_split p xs) ≤ length xs
-split_length p [] = omega arith
-split_length p (x ∷ xs) =
-    let rest : total_length (slice_split p xs) ≤ length xs = split_length p xs in
-    let onto : total_length (onto_first x (slice_split p xs)) ≤ total_length (slice_split p xs) + 1 = onto_length x (slice_split p xs) in
-    either_length (p x) ([] ∷ slice_split p xs) (onto_first x (slice_split p xs)) (length (x ∷ xs)) (omega (arith, rest)) (omega (arith, rest, onto))
-
 clause_fits : (part : List ℕ) (s : Statement) → SpellsStatement (words_of (strip_carriage_return part)) s → clause_count s ≤ length part
 clause_fits part Nothing says = omega arith
 clause_fits [] (Hard lits) says = absurd says

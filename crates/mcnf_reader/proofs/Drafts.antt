@@ -10,6 +10,7 @@ use Rattle.std.proofs.lemmas.List.Elements.{All-head, All-tail, All-set}
 use Rattle.std.proofs.lemmas.List.FromFn.{length-map-range_with_len, get_or-map-range_with_len}
 use Rattle.std.proofs.lemmas.List.Sums.{sum_by_push}
 use Rattle.scut_base.specs.Literal.{Literal}
+use Rattle.scut_base.proofs.Lists.{map_agree}
 use Rattle.instance.specs.declared.objective.Objective.{Objective}
 use Rattle.instance.specs.declared.objective.Soft.{Soft}
 use Rattle.instance.specs.declared.objective.Sense.TheVariants.{Min}
@@ -53,10 +54,6 @@ largest_variable_push (x ∷ xs) s = omega (arith, largest_variable_push xs s)
 pub objective_count_push : (xs : List Statement) (s : Statement) → objective_count (xs ++ s ∷ []) ≡ max (objective_count xs) (objective_of s)
 objective_count_push [] s = omega arith
 objective_count_push (x ∷ xs) s = omega (arith, objective_count_push xs s)
-
-pub map_agree : {X Y : Type 0} (f g : X → Y) → ((x : X) → f x ≡ g x) → (xs : List X) → map f xs ≡ map g xs
-map_agree f g same [] = refl
-map_agree f g same (x ∷ xs) = ap (λ y. y ∷ map f xs) (same x) ∙ ap (λ ys. g x ∷ ys) (map_agree f g same xs)
 
 abbrev objective_from : List Soft → Objective
 objective_from softs = record { sense = Min; softs = softs; terms = []; offset = pos 0 }

@@ -1,26 +1,11 @@
 -- Which of two faults is the first.
 use Rattle.std.proofs.Common.{◌≡◌, Bool, true, false, not, cond, Option, None, Some, refl, ap, ◌∙◌}
-use Rattle.std.specs.Option.{option_or, option_map}
+use Rattle.std.specs.Option.{option_or}
 use Rattle.instance.specs.declared.fault.PlaceFault.{PlaceFault}
 use Rattle.instance.specs.declared.fault.PlaceFault.TheVariants.{Bad as BadPlace, Limit as LimitThere, NoMemory as PlaceNoMemory}
 use Rattle.instance.specs.declared.fault.ReadFault.{ReadFault}
 use Rattle.instance.specs.declared.fault.ReadFault.TheVariants.{Bad, Limit, NoMemory}
 use Rattle.instance.specs.Reading.{IsFaultOf, IsPlaceFaultOf}
-
-pub or_at_none : {X : Type 0} (o p : Option X) → o ≡ None → option_or o p ≡ p
-or_at_none None p e = refl
-or_at_none (Some x) p e = cc
-
-pub or_none : {X : Type 0} (o p : Option X) → option_or o p ≡ None → (o ≡ None) × (p ≡ None)
-or_none None p e = (refl, e)
-or_none (Some x) p e = (cc, cc)
-
-pub map_at_none : {X Y : Type 0} (f : X → Y) (o : Option X) → o ≡ None → option_map f o ≡ None
-map_at_none f o e = ap (option_map f) e
-
-pub map_none : {X Y : Type 0} (f : X → Y) (o : Option X) → option_map f o ≡ None → o ≡ None
-map_none f None e = refl
-map_none f (Some x) e = cc
 
 -- a test that is passed where there is no fault
 pub passed : (b : Bool) (f : PlaceFault) (o : Option PlaceFault) → cond (not b) (Some f) o ≡ None → (b ≡ true) × (o ≡ None)

@@ -23,8 +23,9 @@ use Rattle.mcnf_reader.specs.Grammar.{SpellsLiteral, SpellsZero, SpellsClause, S
 use Rattle.mcnf_reader.specs.FirstFault.{objective_fault, weight_fault, literal_fault, is_zero, ending_fault, clause_fault, soft_fault, weight_in, weights_in, line_fault}
 use Rattle.mcnf_reader.specs.LineLimits.{IsClauseWithin, IsStatementWithin, IsSumsOf}
 use Rattle.mcnf_reader.specs.Draft.{weight_of, objective_numbers}
-use Rattle.mcnf_reader.proofs.Drafts.{map_agree}
-use Rattle.mcnf_reader.proofs.FaultChoice.{or_at_none, or_none, place_fault, place_fault_same}
+use Rattle.scut_base.proofs.Lists.{map_agree}
+use Rattle.scut_base.proofs.Options.{or_at_none, or_none}
+use Rattle.mcnf_reader.proofs.FaultChoice.{place_fault, place_fault_same}
 use Rattle.mcnf_reader.proofs.WordFaults.{objective_none, objective_from, weight_none, weight_from, literal_none, literal_from, zero_passes, zero_from, no_zero_at_literal}
 
 -- a clause after one literal

@@ -10,7 +10,7 @@ use Rattle.mcnf_reader.specs.Grammar.{Spells, SpellsStatement, largest_variable,
 use Rattle.mcnf_reader.specs.FirstFault.{line_fault, fault_after, first_fault}
 use Rattle.mcnf_reader.specs.LineLimits.{IsStatementWithin}
 use Rattle.mcnf_reader.specs.Draft.{objective_numbers, weight_of}
-use Rattle.mcnf_reader.proofs.FaultChoice.{or_none, map_none}
+use Rattle.scut_base.proofs.Options.{or_none, map_none}
 use Rattle.mcnf_reader.proofs.StatementFaults.{line_none, line_from, sums_same}
 use Rattle.mcnf_reader.proofs.Texts.{spelled_push, fault_on}
 use Rattle.mcnf_reader.proofs.Limits.{AreWithin, statement_within, within_push, statements_instance, statements_spell}

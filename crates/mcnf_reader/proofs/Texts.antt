@@ -20,7 +20,8 @@ use Rattle.mcnf_reader.specs.Reads.{IsReadAs}
 use Rattle.mcnf_reader.specs.FirstFault.{line_fault, fault_after, first_fault}
 use Rattle.mcnf_reader.specs.LineLimits.{IsStatementWithin, IsSumsOf}
 use Rattle.mcnf_reader.proofs.Clauses.{not_both}
-use Rattle.mcnf_reader.proofs.FaultChoice.{or_at_none, map_at_none, fault_first, fault_same}
+use Rattle.scut_base.proofs.Options.{or_at_none, map_at_none}
+use Rattle.mcnf_reader.proofs.FaultChoice.{fault_first, fault_same}
 use Rattle.mcnf_reader.proofs.StatementFaults.{line_none, sums_same}
 
 abbrev pub SpellAll : List (List ℕ) → List Statement → Type 0

@@ -15,7 +15,8 @@ use Rattle.instance.specs.declared.fault.PlaceFault.TheVariants.{Bad, Limit}
 use Rattle.mcnf_reader.specs.Grammar.{SpellsLiteral, SpellsZero, SpellsObjective, SpellsWeight}
 use Rattle.mcnf_reader.specs.FirstFault.{number_fault, objective_number_fault, objective_fault, weight_fault, literal_fault, is_zero}
 use Rattle.mcnf_reader.proofs.Clauses.{natural_sign}
-use Rattle.mcnf_reader.proofs.FaultChoice.{or_at_none, or_none, passed, failed_not, passed_last}
+use Rattle.scut_base.proofs.Options.{or_at_none, or_none}
+use Rattle.mcnf_reader.proofs.FaultChoice.{passed, failed_not, passed_last}
 
 -- numbers
 pub number_none : (kind : BadKind) (word : List ℕ) → IsNatural word → natural_value word < 2 ^ 63 → number_fault kind word ≡ None

@@ -2,7 +2,8 @@ use Rattle.std.proofs.Common.{◌∙◌, sym, ap, ◌≤◌, ◌^◌}
 use Rattle.std.proofs.lemmas.List.Elements.{All-push}
 use Rattle.std.proofs.lemmas.Result.{err_from_is_err_and}
 use Rattle.mcnf_reader.specs.FirstFault.{clause_fault}
-use Rattle.mcnf_reader.proofs.Clauses.{goes_on, ends_clause, where_none, where_some}
+use Rattle.scut_base.proofs.Options.{where_none, where_some}
+use Rattle.mcnf_reader.proofs.Clauses.{goes_on, ends_clause}
 use Rattle.mcnf_reader.proofs.StatementFaults.{clause_after, word_wrong, text_after}
 use Rattle.mcnf_reader.proofs.line.read_clause.Goals as goal
 
