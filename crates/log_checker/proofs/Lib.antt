@@ -7,3 +7,4 @@ pub mod Faults
 pub mod TextLaws
 pub mod Answering
 pub mod ListLaws
+pub mod Unrefused

@@ -1,20 +1,30 @@
 -- Where each command completes.
-use Rattle.std.proofs.Common.{◌≡◌, ℕ, zero, ◌<◌, ◌≤◌, ◌^◌, List, length, inl, inr, sym, ◌∙◌, ap, subst, arith}
+use Rattle.std.proofs.Common.{◌≡◌, ℕ, zero, ◌-◌, ◌<◌, ◌≤◌, ◌^◌, List, length, take, ℤ, inl, inr, sym, ◌∙◌, ap, subst, arith}
 use Rattle.std.specs.Prelude.{Option, Some, None}
 use Rattle.std.proofs.lemmas.Option.{none-some}
+use Rattle.std.proofs.lemmas.List.{take_all}
 use Rattle.scut_base.specs.Files.{Files, content}
+use Rattle.scut_base.specs.World.{World}
 use Rattle.scut_base.proofs.FileLaws.{told_by_content}
 use Rattle.scut_base.proofs.Options.{some_is}
 use Rattle.instance.specs.Shape.{InstanceValue}
 use Rattle.instance.specs.declared.fault.InstanceLimit.TheVariants.{Bytes, Vars}
 use Rattle.instance.specs.declared.fault.ReadFault.{ReadFault}
 use Rattle.instance.specs.declared.fault.ReadFault.TheVariants.{Bad, Limit}
-use Rattle.scut_base.specs.World.{World}
+use Rattle.pb_lin.specs.Problem.{ProblemValue}
+use Rattle.proof_laws.specs.declared.why.Why.{Why}
+use Rattle.log_checker.specs.Accepted.{IsAccepted, problem_vectors}
+use Rattle.log_checker.specs.ListFaults.{IsListFault}
+use Rattle.log_checker.specs.LogFaults.{IsLogFault, IsWholeFault}
+use Rattle.log_checker.specs.NoRefusal.{IsRefusedNowhere}
+use Rattle.log_checker.specs.declared.fault.CheckFault.TheVariants.{Refused as LineRefused, ListRefused, NoMemory as CheckNoMemory}
+use Rattle.log_checker.specs.declared.fault.ListWhy.{ListWhy}
+use Rattle.log_checker.proofs.Unrefused.{accepted_unrefused}
 use Rattle.scuttle_commands.specs.InstanceFile.{IsTextOf, HasFault, HasFewVariables, HasManyVariables}
 use Rattle.scuttle_commands.specs.FrontAnswers.{FrontAnswers, FrontCompletes}
 use Rattle.scuttle_commands.specs.SolveAnswers.{SolveAnswers, SolveCompletes}
 use Rattle.scuttle_commands.specs.Causes.{HasText}
-use Rattle.scuttle_commands.specs.CheckAnswers.{CheckAnswers, CheckCompletes, AreCheckable, HasLargeFile}
+use Rattle.scuttle_commands.specs.CheckAnswers.{CheckAnswers, CheckCompletes, AreCheckable, OfList, OfLog, OfRightList, IsTakenFault, HasLargeFile}
 use Rattle.scuttle_commands.specs.declared.instance_file.Format.{Format}
 use Rattle.scuttle_commands.specs.declared.status.Status.{Status}
 use Rattle.scuttle_commands.specs.declared.status.Status.TheVariants.{Complete, Incomplete, LogFull, Accepted, Refused, Usage, BadInput, TooLarge, NoMemory, ShelfFailed}
@@ -74,20 +84,52 @@ none_is_large files format input list log are (inr (inr of)) =
     let listed = found.2.2 told in
     not_larger files log are.logged (2 ^ 62) are.log_there are.log_taken (λ told'. let g = listed.2.1 told' in (g.0, g.1, g.2.holds.0))
 
+module _ (files : Option Files) (format : Format) (input list log : List ℕ) (are : AreCheckable files format input list log) where
+  -- what is said of the instance and of the files, where these are they
+  of_list : (P : InstanceValue → List ℕ → Type 0) → OfList files format input list P → P are.instance are.listed
+  of_list P of =
+      let text = of_text files input are.text (λ text. (i : InstanceValue) × IsTextOf format i text × HasText files list (λ listed. (length listed < 2 ^ 32) × P i listed)) are.there of in
+      let listed = of_text files list are.listed (λ listed. (length listed < 2 ^ 32) × P text.0 listed) are.list_there text.2 in
+      let same : text.0 ≡ are.instance = one_in format are.text text.0 are.instance text.1.spelled are.spelled.spelled in
+      subst (λ (i : InstanceValue). P i are.listed) same listed.1
+
+  of_log : (P : InstanceValue → List ℕ → List ℕ → Type 0) → OfLog files format input list log P → P are.instance are.listed are.logged
+  of_log P of = of_text files log are.logged (P are.instance are.listed) are.log_there (of_list (λ i listed. HasText files log (P i listed)) of)
+
+  module _ (accepted : IsAccepted are.instance are.listed are.logged) where
+    unrefused : IsRefusedNowhere are.instance are.listed are.logged
+    unrefused = accepted_unrefused are.instance are.listed are.logged (let short = are.list_taken in omega arith) accepted
+
+    no_entry_refused : (k : ℕ) (why : ListWhy) → OfList files format input list (λ i listed. IsListFault i listed k why) → ⊥
+    no_entry_refused k why of = unrefused.right_list k why (of_list (λ i listed. IsListFault i listed k why) of)
+
+    no_taken_fault : (k : ℕ) (why : Why) (p : ProblemValue) (vectors : List (List ℤ)) → IsTakenFault are.logged k why p vectors → IsLogFault p vectors are.logged k why
+    no_taken_fault k why p vectors (inl fault) = fault.1
+    no_taken_fault k why p vectors (inr fault) =
+        let short = are.log_taken in
+        inl (subst (λ (bytes : List ℕ). IsWholeFault p vectors bytes k why) (take_all (2 ^ 62 - 1) are.logged (omega arith)) fault)
+
+    no_line_refused : (k : ℕ) (why : Why) → OfLog files format input list log (λ i listed log. OfRightList i listed (IsTakenFault log k why)) → ⊥
+    no_line_refused k why of =
+        let right : OfRightList are.instance are.listed (IsTakenFault are.logged k why) = of_log (λ i listed bytes. OfRightList i listed (IsTakenFault bytes k why)) of in
+        unrefused.right_log right.entries right.problem k why right.spelled right.normal (no_taken_fault k why right.problem (problem_vectors are.instance right.entries) right.holds)
+
 pub check_completes : (format : Format) (input list log : List ℕ) (status : Status) (before after : World) → CheckAnswers format input list log status before after → CheckCompletes format input list log status before after
-check_completes format input list log (Complete size) before after was are quiet = was
-check_completes format input list log (Incomplete size learned) before after was are quiet = was
-check_completes format input list log (LogFull lines) before after was are quiet = was
-check_completes format input list log Accepted before after was are quiet = tt
-check_completes format input list log (Refused fault) before after was are quiet = tt
-check_completes format input list log Usage before after was are quiet = was
+check_completes format input list log (Complete size) before after was are quiet = absurd was
+check_completes format input list log (Incomplete size learned) before after was are quiet = absurd was
+check_completes format input list log (LogFull lines) before after was are quiet = absurd was
+check_completes format input list log Accepted before after was are quiet = (tt, λ accepted. tt)
+check_completes format input list log (Refused (LineRefused k why)) before after was are quiet = (tt, λ accepted. no_line_refused before.files format input list log are accepted k why was.cause)
+check_completes format input list log (Refused (ListRefused k why)) before after was are quiet = (tt, λ accepted. no_entry_refused before.files format input list log are accepted k why was.cause)
+check_completes format input list log (Refused CheckNoMemory) before after was are quiet = absurd was
+check_completes format input list log Usage before after was are quiet = absurd was
 check_completes format input list log (BadInput line kind) before after was are quiet =
-    no_fault format are.text are.instance _ are.spelled (of_text before.files input are.text (HasFault format (Bad line kind)) are.there was.cause)
-check_completes format input list log (TooLarge zero Bytes) before after was are quiet = none_is_large before.files format input list log are was.cause
+    absurd (no_fault format are.text are.instance _ are.spelled (of_text before.files input are.text (HasFault format (Bad line kind)) are.there was.cause))
+check_completes format input list log (TooLarge zero Bytes) before after was are quiet = absurd (none_is_large before.files format input list log are was.cause)
 check_completes format input list log (TooLarge line which) before after was are quiet =
-    no_fault format are.text are.instance _ are.spelled (of_text before.files input are.text (HasFault format (Limit line which)) are.there was.cause)
-check_completes format input list log NoMemory before after was are quiet = tt
-check_completes format input list log ShelfFailed before after was are quiet = quiet was.1
+    absurd (no_fault format are.text are.instance _ are.spelled (of_text before.files input are.text (HasFault format (Limit line which)) are.there was.cause))
+check_completes format input list log NoMemory before after was are quiet = (tt, λ accepted. tt)
+check_completes format input list log ShelfFailed before after was are quiet = absurd (quiet was.1)
 
 -- ---- `solve`
 

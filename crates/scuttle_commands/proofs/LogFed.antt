@@ -1,22 +1,21 @@
 -- A log file as it is fed to a checker.
-use Rattle.std.proofs.Common.{◌≡◌, ℕ, ◌+◌, ◌-◌, ◌<◌, ◌≤◌, ◌^◌, ◌++◌, ◌∷◌, List, [], length, take, drop, refl, sym, ◌∙◌, ap, subst, inl, inr, arith, append_assoc, length-append, length-take, false}
+use Rattle.std.proofs.Common.{◌≡◌, ℕ, ◌+◌, ◌-◌, ◌<◌, ◌≤◌, ◌^◌, ◌++◌, List, [], length, take, drop, refl, sym, ◌∙◌, ap, subst, inl, inr, arith, length-append, length-take, false}
 use Rattle.std.specs.Prelude.{Option, Some, ℤ}
+use Rattle.std.proofs.lemmas.List.Elements.{All-nil}
 use Rattle.std.proofs.lemmas.List.{take-append-drop, take-take, take_all, append-nil}
 use Rattle.scut_base.specs.Files.{Files, content, IsTold, IsReadAt}
-use Rattle.scut_base.specs.Bytes.{newline}
 use Rattle.scut_base.specs.Faults.{Faults}
 use Rattle.pb_lin.specs.Problem.{ProblemValue}
+use Rattle.proof_laws.specs.State.{start}
 use Rattle.proof_laws.specs.declared.why.Why.{Why}
-use Rattle.proof_lines.specs.LineText.{printed}
-use Rattle.proof_text.specs.LogText.{header_line, header_text}
-use Rattle.std.specs.List.{flat_map}
+use Rattle.proof_text.specs.LogText.{header_text}
 use Rattle.log_checker.specs.declared.fault.CheckFault.{CheckFault}
 use Rattle.log_checker.specs.declared.fault.CheckFault.TheVariants.{Refused as LineRefused, ListRefused, NoMemory as CheckNoMemory}
-use Rattle.log_checker.specs.Accepted.{IsEndedProof}
+use Rattle.log_checker.specs.Accepted.{IsCovered, IsEndedProof}
 use Rattle.log_checker.specs.LogFaults.{IsWholeFault, IsLogFault, HasNoWholeFault}
 use Rattle.log_checker.specs.Checking.{CheckerValue, StandsFor}
 use Rattle.log_checker.proofs.TextLaws.{line_texts}
-use Rattle.log_checker.proofs.Faults.{whole_fault_more}
+use Rattle.log_checker.proofs.Faults.{no_whole_fault, whole_fault_more}
 use Rattle.scuttle_commands.specs.Causes.{HasText}
 use Rattle.scuttle_commands.specs.CheckAnswers.{IsTooLarge}
 use Rattle.scuttle_commands.specs.Feeding.{IsFedSoFar, IsFedWhole}
@@ -83,16 +82,9 @@ fed_all files name old new at n into so_far read short stands passed unfinished 
 
 -- ---- the ends
 
-length-cons : (y : ℕ) (ys : List ℕ) → length (y ∷ ys) ≡ length ys + 1
-length-cons y ys = omega arith
-
-nil-not-append : (xs : List ℕ) (y : ℕ) (ys : List ℕ) → [] ≡ xs ++ y ∷ ys → ⊥
-nil-not-append xs y ys e = omega (arith, ap length e, length-append xs (y ∷ ys), length-cons y ys)
-
--- no bytes hold no whole line
+-- no bytes hold no line
 none_refused : (p : ProblemValue) (vectors : List (List ℤ)) → HasNoWholeFault p vectors []
-none_refused p vectors k why (inl h) = nil-not-append h.2.text newline h.2.after h.2.line.is
-none_refused p vectors k why (inr h) = nil-not-append header_text newline (flat_map printed h.lines ++ h.rest) (h.reached.begins.is ∙ append_assoc header_line (flat_map printed h.lines) h.rest ∙ append_assoc header_text (newline ∷ []) (flat_map printed h.lines ++ h.rest))
+none_refused p vectors = no_whole_fault line_texts p vectors [] [] (start p) refl (All-nil (IsCovered vectors)) (inl (header_text, refl))
 
 pub fed_nothing : (files : Option Files) (name : List ℕ) (c : CheckerValue) → StandsFor c [] → c.finished ≡ false → IsFedSoFar files name c 0
 fed_nothing files name c stands unfinished = record {

@@ -130,6 +130,12 @@ IsJudgedUnlessNoMemory (Refused fault) = Unit {0}
 IsJudgedUnlessNoMemory NoMemory = Unit {0}
 IsJudgedUnlessNoMemory status = ⊥
 
+-- list and log were accepted, or memory was wanted
+abbrev pub IsAcceptedUnlessNoMemory : Status → Type 0
+IsAcceptedUnlessNoMemory Accepted = Unit {0}
+IsAcceptedUnlessNoMemory NoMemory = Unit {0}
+IsAcceptedUnlessNoMemory status = ⊥
+
 -- the three files are there, IN spells an instance, and no file is too large
 pub record AreCheckable (files : Option Files) (format : Format) (input list log : List ℕ) : Type 0 where
   pub text : List ℕ
@@ -143,7 +149,8 @@ pub record AreCheckable (files : Option Files) (format : Format) (input list log
   pub log_there : content files log ≡ Some logged
   pub log_taken : length logged < 2 ^ 62
 
--- Where that is so and no own count rose, list and log are judged, unless memory is wanted.
+-- Where that is so and no own count rose, list and log are judged, unless memory is wanted; and what is to be accepted is.
 abbrev pub CheckCompletes : Format → (input list log : List ℕ) → Status → World → World → Type 0
 CheckCompletes format input list log status before after =
-    AreCheckable before.files format input list log → ¬ (OwnCountRose before.faults after.faults input list log) → IsJudgedUnlessNoMemory status
+    (are : AreCheckable before.files format input list log) → ¬ (OwnCountRose before.faults after.faults input list log)
+    → IsJudgedUnlessNoMemory status × (IsAccepted are.instance are.listed are.logged → IsAcceptedUnlessNoMemory status)
