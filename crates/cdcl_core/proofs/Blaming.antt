@@ -4,7 +4,7 @@ use Rattle.std.specs.Prelude.{Contains}
 use Rattle.std.specs.FinMap.{get}
 use Rattle.std.proofs.lemmas.List.Elements.{All-map, All-weaker, All-contains_itself}
 use Rattle.scut_base.specs.Literal.{Literal}
-use Rattle.front_set.proofs.Members.{Contains-from_map, Contains-map}
+use Rattle.scut_base.proofs.Lists.{Contains-from_map, Contains-map}
 use Rattle.pb_lin.specs.Constraint.{literals, ones, opposite}
 use Rattle.pb_lin.specs.LineMap.{LineMap}
 use Rattle.pb_lin.specs.Problem.{ProblemValue}

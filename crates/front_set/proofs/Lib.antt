@@ -1,4 +1,3 @@
 pub mod FrontLaws
-pub mod Members
 pub mod Minimal
 pub mod Rising

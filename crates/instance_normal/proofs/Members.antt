@@ -5,7 +5,7 @@ use Rattle.std.specs.List.{list_any, list_all, flat_map, filter}
 use Rattle.std.proofs.lemmas.Bool.{and_from, and_parts, and_cases, cond-false}
 use Rattle.std.proofs.lemmas.List.Elements.{All-nil, All-cons, All-head, All-tail, All-append}
 use Rattle.std.proofs.lemmas.List.Folds.{Any-from_list_any, list_any_at}
-use Rattle.front_set.proofs.Members.{Contains-head, Contains-cons}
+use Rattle.scut_base.proofs.Lists.{Contains-head, Contains-cons}
 
 pub all_split : {X : Type 0} (P : X → Type 0) (xs ys : List X) → All P (xs ++ ys) → All P xs × All P ys
 all_split P [] ys all = (All-nil P, all)

@@ -12,7 +12,7 @@ use Rattle.std.proofs.lemmas.List.Quantifiers.{all_pairs_push}
 use Rattle.std.proofs.lemmas.List.Sums.{sum_by-cons, sum_by_push, sum_by-append, fold_push}
 use Rattle.scut_base.specs.Literal.{Literal}
 use Rattle.scut_base.specs.Assignment.{value_of, lit_true}
-use Rattle.front_set.proofs.Members.{Contains-nil, Contains-cons_cases, Contains-map as member_mapped}
+use Rattle.scut_base.proofs.Lists.{Contains-nil, Contains-cons_cases, Contains-map as member_mapped}
 use Rattle.instance.specs.Meaning.{int_sum_by}
 use Rattle.pb_lin.specs.Constraint.{opposite, term_value, total, value}
 use Rattle.pb_lin.specs.CostRow.{IsCostRow}

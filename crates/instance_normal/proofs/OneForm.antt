@@ -6,9 +6,8 @@ use Rattle.std.proofs.lemmas.Int.{ints}
 use Rattle.std.proofs.lemmas.Bool.{eqb-true}
 use Rattle.std.proofs.lemmas.List.Elements.{All-head, All-tail, All-contains}
 use Rattle.std.proofs.lemmas.List.Sums.{sum_by-cons}
-use Rattle.front_set.proofs.Members.{Contains-nil, Contains-head, Contains-cons, Contains-cons_cases}
+use Rattle.scut_base.proofs.Lists.{Contains-nil, Contains-head, Contains-cons, Contains-cons_cases, sum_by_same_in}
 use Rattle.scut_base.specs.Literal.{Literal}
-use Rattle.scut_base.proofs.Lists.{sum_by_same_in}
 use Rattle.instance.specs.Shape.{InstanceValue}
 use Rattle.pb_lin.specs.Constraint.{ConstraintValue, ones, term_value, value}
 use Rattle.pb_lin.specs.CostRow.{CostRowValue}

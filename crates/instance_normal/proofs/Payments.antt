@@ -10,7 +10,7 @@ use Rattle.std.proofs.lemmas.List.Folds.{list_any-append}
 use Rattle.std.proofs.lemmas.List.Sums.{sum_by-cons}
 use Rattle.scut_base.specs.Literal.{Literal, is_same}
 use Rattle.scut_base.specs.Assignment.{value_of, lit_true}
-use Rattle.front_set.proofs.Members.{Contains-head, Contains-cons}
+use Rattle.scut_base.proofs.Lists.{Contains-head, Contains-cons}
 use Rattle.instance.specs.declared.objective.Soft.{Soft}
 use Rattle.instance.specs.Shape.{ClauseUpTo}
 use Rattle.instance.specs.Meaning.{clause_true, int_sum_by, terms_value, term_value, soft_cost}

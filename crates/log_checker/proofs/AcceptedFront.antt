@@ -9,7 +9,7 @@ use Rattle.front_set.specs.Vector.{is_below, IsBelow}
 use Rattle.front_set.specs.Front.{vectors_of}
 use Rattle.front_set.specs.ListText.{list_text}
 use Rattle.front_set.proofs.FrontLaws.{IsBelow-refl, IsBelow-trans, IsBelow-antisym}
-use Rattle.front_set.proofs.Members.{Contains-from_map, Contains-map}
+use Rattle.scut_base.proofs.Lists.{Contains-from_map, Contains-map}
 use Rattle.instance.specs.Shape.{InstanceValue, IsWithinLimits}
 use Rattle.instance.specs.Meaning.{IsModel, costs_of, objective_cost}
 use Rattle.instance.specs.ParetoFront.{WeaklyDominates, weakly_dominates, Dominates, IsOnFront, IsFront, problem_vector}

@@ -10,7 +10,7 @@ use Rattle.std.proofs.lemmas.List.{get_or-map, length-map}
 use Rattle.std.proofs.lemmas.List.Elements.{All-nil, All-cons, All-head, All-tail, All-contains}
 use Rattle.std.proofs.lemmas.List.Sums.{sum_by-le-sum_by}
 use Rattle.std.proofs.lemmas.List.Folds.{list_any_at}
-use Rattle.front_set.proofs.Members.{Contains-head, Contains-cons, Contains-map, Contains-filter}
+use Rattle.scut_base.proofs.Lists.{Contains-head, Contains-cons, Contains-map, Contains-filter}
 use Rattle.scut_base.specs.Literal.{Literal}
 use Rattle.scut_base.specs.Assignment.{lit_true}
 use Rattle.pb_lin.specs.Constraint.{ConstraintValue, Holds, literals, negation, size, total, value, term_value}

@@ -6,7 +6,7 @@ use Rattle.std.specs.Cmp.{nat_cmp_total}
 use Rattle.std.specs.FinMap.{get, insert, remove, get-insert, get-remove, get-empty}
 use Rattle.pb_lin.specs.Constraint.{ConstraintValue}
 use Rattle.pb_lin.specs.LineMap.{LineMap, lines_of}
-use Rattle.front_set.proofs.Members.{Contains-head, Contains-cons}
+use Rattle.scut_base.proofs.Lists.{Contains-head, Contains-cons}
 use Rattle.proof_laws.specs.State.{numbered}
 
 put_cases : (P : ConstraintValue → Type 0) (b : Bool) (c d : ConstraintValue) (old : Option ConstraintValue) → P c → (old ≡ Some d → P d) → cond b (Some c) old ≡ Some d → P d
