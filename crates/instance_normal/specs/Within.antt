@@ -1,5 +1,5 @@
 -- The normal form of an instance is a problem.
-use Rattle.std.specs.Prelude.{ℕ, ◌<◌, All}
+use Rattle.std.specs.Prelude.{◌<◌, All}
 use Rattle.instance.specs.declared.row.Linear.{Linear}
 use Rattle.instance.specs.Shape.{InstanceValue, IsWithinLimits}
 use Rattle.pb_lin.specs.Problem.{ProblemValue, IsProblem}

@@ -16,7 +16,7 @@ use Rattle.proof_laws.specs.declared.why.Why.TheVariants.{Syntax, NoEnd, Uncover
 use Rattle.proof_laws.proofs.Unique.{judged_once_law}
 use Rattle.proof_laws.proofs.Replays.{leads_split, replay_once}
 use Rattle.proof_lines.specs.LineText.{line_text, printed, SpellsNoLine}
-use Rattle.proof_text.specs.LogText.{header_text, log_text, BeginsWith, SpellsLog, IsOneLine, IsWholeLine, HasWrongHeader, GoesWrongAfter, IsSyntaxAt, IsUnfinishedAt, HoldsNoFurtherLine}
+use Rattle.proof_text.specs.LogText.{header_text, log_text, BeginsWith, IsOneLine, IsWholeLine, HasWrongHeader, GoesWrongAfter, IsSyntaxAt, IsUnfinishedAt, HoldsNoFurtherLine}
 use Rattle.proof_text.proofs.Logs.{header_part_one, not_headless, log_text_push}
 use Rattle.proof_text.proofs.Readings.{begins_more, wrong_more}
 use Rattle.log_checker.specs.Accepted.{IsEndedProof}

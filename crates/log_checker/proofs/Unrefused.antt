@@ -1,5 +1,5 @@
 -- What is accepted is refused nowhere.
-use Rattle.std.proofs.Common.{◌≡◌, ℕ, ◌<◌, ◌^◌, List, length, ℤ, subst}
+use Rattle.std.proofs.Common.{◌≡◌, ℕ, ◌<◌, ◌^◌, List, length, subst}
 use Rattle.front_set.specs.declared.entry.Entry.{Entry}
 use Rattle.front_text.proofs.Texts.{one_list_of}
 use Rattle.instance.specs.Shape.{InstanceValue}

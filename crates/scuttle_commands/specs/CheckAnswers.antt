@@ -57,11 +57,11 @@ pub record OfRightList (i : InstanceValue) (listed : List ℕ) (P : ProblemValue
   pub normal : IsNormalFormOf i problem
   pub holds : P problem (problem_vectors i entries)
 
--- the log's first fault, where the log is one that is taken; or a line that ends before the limit is refused
+-- the log's first fault, where the log is one that is taken; or a line is refused by the bytes before the limit
 abbrev pub IsTakenFault : List ℕ → ℕ → Why → ProblemValue → List (List ℤ) → Type 0
 IsTakenFault log k why p vectors = ((length log < 2 ^ 62) × IsLogFault p vectors log k why) ⊎ IsWholeFault p vectors (take (2 ^ 62 - 1) log) k why
 
--- the log is too large, and no line that ends before the limit is refused
+-- the log is too large, and no line is refused by the bytes before the limit
 abbrev pub IsTooLarge : List ℕ → ProblemValue → List (List ℤ) → Type 0
 IsTooLarge log p vectors = (2 ^ 62 ≤ length log) × HasNoWholeFault p vectors (take (2 ^ 62 - 1) log)
 
