@@ -23,3 +23,4 @@ pub mod Values
 pub mod Entries
 pub mod Bounds
 pub mod Judged
+pub mod NeverLong
