@@ -24,3 +24,4 @@ pub mod Entries
 pub mod Bounds
 pub mod Judged
 pub mod NeverLong
+pub mod Conditions
