@@ -84,9 +84,11 @@ module _ (p : ProblemValue) (limit : Option ℕ) (lines : List Line) (search : S
   new_clause : IsNewClause p state (clause can.lits) can.hints
   new_clause = new_law p state search.store trail can.lits can.hints work.taken.held.fits work.taken.held.is all_stored work.taken.vars closed unit hinted
 
+  formed_here : IsWellFormed (Learn (clause can.lits) can.hints)
+  formed_here = formed_law p state next search.store can.lits can.hints work.taken.held.is work.taken.held.stored can.ready.asserting.rising within hinted
+
   pub formed : IsWellFormed line
-  formed = subst IsWellFormed (sym can.learns)
-      (formed_law p state next search.store can.lits can.hints work.taken.held.is work.taken.held.stored can.ready.asserting.rising within hinted)
+  formed = subst IsWellFormed (sym can.learns) formed_here
 
   may_add : MayBeAdded p lines (Learn (clause can.lits) can.hints)
   may_add = legal_law p lines state next search.store can.lits can.hints work.taken.held.is work.taken.held.replay work.taken.unended
@@ -105,6 +107,7 @@ module _ (p : ProblemValue) (limit : Option ℕ) (lines : List Line) (search : S
         work.earned.1,
         clause can.lits,
         can.hints,
+        formed_here,
         earned_law p lines work.earned.0 state (with_learned state (clause can.lits)) (clause can.lits) can.hints
             work.earned.1 work.taken.held.replay new_clause (record { legal = legal_here; makes = refl }),
       )

@@ -53,7 +53,7 @@ contradiction_refutes given tokens why (Ok c) is e a holds =
 contradiction_refutes given tokens why (Err f) is e a holds = cc
 
 -- what a look-up finds is an entry
-found_is_entry : (es : List (ℕ × ConstraintValue)) (id : ℕ) (d : ConstraintValue) → find nat_cmp id es ≡ Some d → Contains es (id, d)
+pub found_is_entry : (es : List (ℕ × ConstraintValue)) (id : ℕ) (d : ConstraintValue) → find nat_cmp id es ≡ Some d → Contains es (id, d)
 found_is_entry [] id d is = cc
 found_is_entry (e ∷ es) id d is = ⊎_elim
     (λ (here : eq_by_cmp nat_cmp id e.0 ≡ true).

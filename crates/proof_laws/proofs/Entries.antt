@@ -14,23 +14,23 @@ use Rattle.scut_base.proofs.Lists.{Contains-nil, Contains-cons_cases}
 use Rattle.pb_lin.specs.Constraint.{ConstraintValue}
 use Rattle.pb_lin.specs.LineMap.{LineMap}
 
-both_tests : (x y : Bool) → T (x && y) → T x × T y
+pub both_tests : (x y : Bool) → T (x && y) → T x × T y
 both_tests true true test = (tt, tt)
 both_tests true false test = absurd test
 both_tests false y test = absurd test
 
-less_from_test : (o : Ordering) (x y : ℕ) → MatchOrdering o (x < y) (x ≡ y) (y < x) → T (is_lt o) → x < y
+pub less_from_test : (o : Ordering) (x y : ℕ) → MatchOrdering o (x < y) (x ≡ y) (y < x) → T (is_lt o) → x < y
 less_from_test Less x y is test = is
 less_from_test Equal x y is test = absurd test
 less_from_test Greater x y is test = absurd test
 
-ids_above : (id : ℕ) (es : List (ℕ × ConstraintValue)) → T (below_all nat_cmp id es) → All (λ e. id < e.0) es
+pub ids_above : (id : ℕ) (es : List (ℕ × ConstraintValue)) → T (below_all nat_cmp id es) → All (λ e. id < e.0) es
 ids_above id [] test = All-nil (λ e. id < e.0)
 ids_above id (e ∷ es) test =
     let tests = both_tests (is_lt (nat_cmp id e.0)) (below_all nat_cmp id es) test in
     All-cons (λ f. id < f.0) e es (less_from_test (nat_cmp id e.0) id e.0 (ranked id e.0 (nat_cmp id e.0) refl) tests.0) (ids_above id es tests.1)
 
-entry_found : (es : List (ℕ × ConstraintValue)) → T (is_sorted nat_cmp es) → (e : ℕ × ConstraintValue) → Contains es e → find nat_cmp e.0 es ≡ Some e.1
+pub entry_found : (es : List (ℕ × ConstraintValue)) → T (is_sorted nat_cmp es) → (e : ℕ × ConstraintValue) → Contains es e → find nat_cmp e.0 es ≡ Some e.1
 entry_found [] sorted e there = absurd (Contains-nil e there)
 entry_found (f ∷ es) sorted e there = ⊎_elim
     (λ (first : f ≡ e). cond-true (eq_by_cmp nat_cmp e.0 f.0) (Some f.1) (find nat_cmp e.0 es) (unsigned_tied e.0 f.0 ∙ eq-eqb e.0 f.0 (sym (ap (λ (x : ℕ × ConstraintValue). x.0) first)))

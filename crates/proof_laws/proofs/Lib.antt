@@ -23,3 +23,5 @@ pub mod Values
 pub mod Entries
 pub mod Bounds
 pub mod Judged
+pub mod NeverLong
+pub mod Conditions

@@ -10,6 +10,7 @@ use Rattle.pb_lin.specs.Problem.{ProblemValue, IsProblemModel}
 use Rattle.pb_lin.specs.Propagation.{IsClosedUnder}
 use Rattle.hint_rup.specs.declared.hint.Hint.{Hint}
 use Rattle.hint_rup.specs.declared.hint.Hint.TheVariants.{Id as IdHint}
+use Rattle.proof_laws.specs.WellFormed.{IsWellFormed}
 use Rattle.proof_laws.specs.State.{StateValue}
 use Rattle.proof_laws.specs.Refusal.{is_clause, line_or_none}
 use Rattle.proof_laws.specs.Replay.{IsReplay}
@@ -82,10 +83,10 @@ pub record IsEarned (p : ProblemValue) (lines : List Line) (n : ℕ) : Type 0 wh
   pub reductions : (before : List Line) (ids : List ℕ) (after : List Line)
       → Splits lines before (Reduce ids) after → IsReduction p before ids
 
--- the lines are earned, and so they would be with one learned clause more
+-- the lines are earned, and so they would be with one learned clause more, in a line that is well formed
 abbrev pub HasMore : ProblemValue → List Line → Type 0
 HasMore p lines = (n : ℕ) × IsEarned p lines n
-    × (goal : ConstraintValue) × (hints : List Hint) × IsEarned p (lines ++ (Learn goal hints ∷ [])) (n + 1)
+    × (goal : ConstraintValue) × (hints : List Hint) × IsWellFormed (Learn goal hints) × IsEarned p (lines ++ (Learn goal hints ∷ [])) (n + 1)
 
 -- m is the least value of the row's terms among all models
 pub record IsLeastValue (p : ProblemValue) (r : CostRowValue) (m : ℕ) : Type 0 where

@@ -4,7 +4,7 @@ use Rattle.std.specs.Prelude.{◌^◌, nat_lt}
 use Rattle.std.specs.List.{All}
 use Rattle.std.specs.List.Sorted.{IsPermutation, IsNonDecreasingBy}
 use Rattle.std.specs.FinMap.{get, insert}
-use Rattle.std.proofs.lemmas.Bool.{eq-eqb, le-ltb}
+use Rattle.std.proofs.lemmas.Bool.{eq-eqb}
 use Rattle.std.proofs.lemmas.List.Elements.{All-map}
 use Rattle.std.proofs.lemmas.List.Sorted.{sum_by-IsPermutation}
 use Rattle.std.proofs.lemmas.Map.Views.{All-map-IsPermutation}
@@ -24,7 +24,8 @@ use Rattle.proof_laws.specs.Earned.{IsLearnedId}
 use Rattle.proof_laws.specs.declared.line.Line.{Line}
 use Rattle.proof_laws.specs.declared.line.Line.TheVariants.{Def}
 use Rattle.proof_laws.specs.declared.why.Why.{Why}
-use Rattle.proof_laws.specs.declared.why.Why.TheVariants.{AfterEnd, LogLong, NotFresh, Overflow}
+use Rattle.proof_laws.specs.declared.why.Why.TheVariants.{AfterEnd, LogLong, NotFresh}
+use Rattle.proof_laws.proofs.Conditions.{no_size_fault}
 use Rattle.proof_laws.proofs.Replays.{replay_before, replay_once}
 use Rattle.proof_rules.specs.Recording.{Snapshot, MayBeAdded, IsNextId}
 use Rattle.sum_outputs.specs.Adding.{IsReached, IsReady}
@@ -36,9 +37,6 @@ use Rattle.sum_outputs.proofs.PartLines.{total_one}
 use Rattle.sum_outputs.proofs.ImplyLines.{none_found, put_live}
 
 -- ---- the line is legal
-
-no_fault : (n : ℕ) → n ≤ 2 ^ 100 → size_fault n ≡ None
-no_fault n le = ap (λ (b : Bool). fault_unless (not b) Overflow) (le-ltb (2 ^ 100) n le)
 
 all_none : (a b c d : Option Why) → a ≡ None → b ≡ None → c ≡ None → d ≡ None → first_fault a (first_fault b (first_fault c d)) ≡ None
 all_none None None None None _ _ _ _ = refl
@@ -83,8 +81,8 @@ module _ (a : Snapshot) (s : StateValue) (state : IsState s) (reached : IsReache
       all_none (fault_unless (var == s.vars + 1) (NotFresh var)) (range_fault s.vars (term_variables c.terms)) (size_fault (size (reached_if var c))) (size_fault (size (reached_only_if var c)))
       (ap (λ (b : Bool). fault_unless b (NotFresh var)) (eq-eqb var (s.vars + 1) is.next))
       (none_found s.vars (term_variables c.terms) (All-map (λ v. v ≤ s.vars) (λ t. t.0.var) c.terms is.variables))
-      (no_fault (size (reached_if var c)) (omega arith))
-      (no_fault (size (reached_only_if var c)) (omega arith))
+      (no_size_fault (size (reached_if var c)) (omega arith))
+      (no_size_fault (size (reached_only_if var c)) (omega arith))
 
   pub defined_legal : IsReady a → MayBeAdded a.problem a.lines (Def var c)
   defined_legal ready t other =
