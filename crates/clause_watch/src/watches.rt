@@ -44,7 +44,8 @@ pub fn is_watched(line: &Constraint) -> bool
 
 /// The clauses of two literals or more, each in an order of its own with two watched literals in
 /// front; for each literal the clauses that watch it; and for each step that was looked at the trail's
-/// length when that was done.
+/// length when that was done. (Watched literals: Moskewicz and others 2001. Blockers, which stand beside
+/// a clause in a list and spare reading it where they are true: Chu, Harwood and Stuckey 2008.)
 #[derive(Debug, Drop)]
 pub struct Watches {
     alloc: Global,
@@ -233,7 +234,8 @@ impl Watches {
         }
     }
 
-    // Visits an entry in the list of a literal that is false, whose blocker isn't true.
+    // Visits an entry in the list of a literal that is false, whose blocker isn't true. The false literal
+    // is put second, as in MiniSat (Eén and Sörensson 2003), so that the other one is read at a fixed place.
     fn visit(&mut self, trail: &mut Trail, lit: Lit, at: usize) -> Result<Visit, NoMemory>
         requires looking { IsAt self.old trail.old lit at }
         requires within { at < entries_of self.old lit }

@@ -1,4 +1,4 @@
--- What code answers that applies a token to a stack.
+-- What code answers that applies a token to a stack; nothing of it has to be believed.
 use Rattle.std.specs.Prelude.{◌≡◌, ℕ, List, Option, None, Result, MatchResult}
 use Rattle.scut_base.specs.Fault.{IsFaultOr}
 use Rattle.pb_lin.specs.Constraint.{ConstraintValue}

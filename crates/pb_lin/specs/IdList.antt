@@ -1,4 +1,4 @@
--- The list of ids that stands beside the lines.
+-- The list of ids that stands beside the lines; nothing of it has to be believed.
 use Rattle.std.specs.Prelude.{ℕ, ◌<◌, List, nat_eq, IsSome, IsTrue, AllPairs}
 use Rattle.std.specs.List.{list_any}
 use Rattle.std.specs.Map.{lookup}

@@ -1,4 +1,4 @@
--- What proofs tell maps of constraints apart by: the fields of their constraints.
+-- What proofs tell maps of constraints apart by: the fields of their constraints; nothing of it has to be believed.
 use Rattle.std.specs.Prelude.{ℕ, Bool, List, refl}
 use Rattle.std.specs.Coded.{Coded, code_by, coded×, coded_ℕ, coded_bool, coded_list}
 use Rattle.std.specs.FinMap.{code}

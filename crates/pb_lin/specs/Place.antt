@@ -1,4 +1,4 @@
--- Places in lists whose numbers rise.
+-- Places in lists whose numbers rise; nothing of it has to be believed.
 use Rattle.std.specs.Prelude.{ℕ, ◌<◌, ◌≤◌, List, length, slice_index_or}
 
 -- All before i have numbers below the given one, and none from i on has.

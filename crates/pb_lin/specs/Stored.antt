@@ -1,4 +1,4 @@
--- How constraints are stored: without coefficients where all are 1.
+-- How constraints are stored: without coefficients where all are 1; nothing of it has to be believed.
 use Rattle.std.specs.Prelude.{◌≡◌, ℕ, List, [], ◌∷◌}
 use Rattle.scut_base.specs.Literal.{Literal}
 use Rattle.pb_lin.specs.Constraint.{IsNormal, AreOnes}

@@ -1,4 +1,4 @@
--- The index from variables to rows, and the rows that it finds for a substitution.
+-- The index from variables to rows, and the rows that it finds for a substitution; nothing of it has to be believed.
 use Rattle.std.specs.Prelude.{◌≡◌, ℕ, ◌+◌, ◌<◌, true, Some, List, length, slice_index_or, All, AllPairs, Contains}
 use Rattle.std.specs.List.Sorted.{IsNonDecreasingBy}
 use Rattle.std.specs.FinMap.{get}

@@ -1,4 +1,4 @@
--- What proofs tell states apart by: their fields.
+-- What proofs tell states apart by: their fields; nothing of it has to be believed.
 use Rattle.std.specs.Prelude.{ℕ, Bool, List, ℤ, refl}
 use Rattle.std.specs.Coded.{Coded, code_by, coded×, coded_ℕ, coded_bool, coded_list, coded_ℤ}
 use Rattle.pb_lin.specs.LineMap.{LineMap}

@@ -1,4 +1,4 @@
--- What code answers that judges a line.
+-- What code answers that judges a line; but for `IsReason` nothing of it has to be believed.
 use Rattle.std.specs.Prelude.{◌≡◌, ◌⊎◌, ◌<◌, ◌^◌, nat_lt, not, ℕ, ℤ, All, [], ◌∷◌, ◌++◌, List, Option, None, Some, option_map, option_to_list, Result, Ok, Err}
 use Rattle.std.specs.List.{filter}
 use Rattle.std.specs.FinMap.{get}

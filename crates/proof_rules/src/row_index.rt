@@ -10,7 +10,8 @@ use pb_lin::{Constraint, Witness};
 use scut_base::{Items, Lit, NoMemory};
 use std::alloc::Global;
 
-// For each variable the places, counted from 0, of the rows that it stands in.
+// For each variable the places, counted from 0, of the rows that it stands in: a search that writes many `red` and `dom`
+// lines would else walk over all rows at each.
 #[derive(Debug, Drop)]
 pub(crate) struct RowIndex {
     // How many rows are entered.

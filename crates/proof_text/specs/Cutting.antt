@@ -1,4 +1,4 @@
--- Bytes that are taken off the front, line by line.
+-- Bytes that are taken off the front, line by line; nothing of it has to be believed.
 use Rattle.std.specs.Prelude.{ℕ, ◌+◌, ◌<◌, ◌≤◌, List, length, take, drop}
 use Rattle.scut_base.specs.Files.{IsPrefixOf}
 use Rattle.proof_text.specs.LogText.{header_text, header_line, IsOneLine, IsWholeLine, HasWrongHeader}

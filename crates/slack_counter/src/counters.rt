@@ -23,6 +23,8 @@ use std::collections::HashMap;
 
 /// Keeps of each line the sum of the coefficients of the literals that aren't false, and reads a line only
 /// where the sum falls so low that it may force a literal. A step costs the occurrences of its opposite.
+/// (Counter propagation of pseudo-Boolean constraints, as in Galena: Chai and Kuehlmann 2003.) The sum is kept
+/// and not the slack, since it is a natural number that needs no degree.
 #[derive(Debug, Drop)]
 pub struct Counters {
     alloc: Global,
