@@ -1,7 +1,7 @@
 -- The line that logs a model is legal.
-use Rattle.std.proofs.Common.{◌≡◌, ◌⊎◌, inl, inr, ℕ, ◌+◌, ◌-◌, ◌<◌, ◌≤◌, ◌^◌, Bool, true, false, not, Option, None, Some, List, [], ◌∷◌, map, sum_by, refl, sym, ap, ◌∙◌, subst, arith}
+use Rattle.std.proofs.Common.{◌≡◌, ◌⊎◌, inl, inr, ℕ, ◌+◌, ◌-◌, ◌<◌, ◌≤◌, ◌^◌, Bool, false, Option, None, Some, List, [], ◌∷◌, map, sum_by, refl, sym, ap, ◌∙◌, subst, arith}
 use Rattle.std.specs.Prelude.{nat_lt, option_map, MatchOption}
-use Rattle.std.specs.List.{All, AllZip, Contains, find, position_from}
+use Rattle.std.specs.List.{All, AllZip, Contains, position_from}
 use Rattle.std.proofs.lemmas.Bool.{cond-false, le-ltb}
 use Rattle.std.proofs.lemmas.List.Elements.{All-head, All-tail, All-map, All-weaker, All-contains_itself, All-nil, All-cons}
 use Rattle.scut_base.specs.Literal.{Literal}
@@ -12,13 +12,13 @@ use Rattle.pb_lin.specs.Problem.{ProblemValue, IsProblem, IsProblemModel}
 use Rattle.pb_lin.specs.Restriction.{met_value}
 use Rattle.proof_laws.specs.State.{StateValue, IsState}
 use Rattle.proof_laws.specs.Legal.{IsLegal, IsRefused}
-use Rattle.proof_laws.specs.Refusal.{FirstOf, IsCutFault, IsRuleFault, IsSolFault, Bounds, assignment_of, broken_row, fault_unless, line_or_none, misplaced, range_fault, written}
+use Rattle.proof_laws.specs.Refusal.{IsCutFault, IsSolFault, Bounds, assignment_of, broken_row, line_or_none, misplaced, range_fault}
 use Rattle.proof_laws.specs.Replay.{IsReplay}
 use Rattle.proof_laws.specs.WellFormed.{IsWellFormed, IsId, IsVariable as IsLogVariable}
 use Rattle.proof_laws.specs.declared.line.Line.{Line}
 use Rattle.proof_laws.specs.declared.line.Line.TheVariants.{Sol}
-use Rattle.proof_laws.specs.declared.why.Why.{Why}
-use Rattle.proof_laws.specs.declared.why.Why.TheVariants.{AfterEnd, CutOpen, LogLong, NoSuchId, SolRow, VarRange}
+use Rattle.proof_laws.specs.declared.why.Why.TheVariants.{CutOpen, LogLong, NoSuchId, SolRow, VarRange}
+use Rattle.proof_laws.proofs.Conditions.{no_first, no_range_fault, may_follow}
 use Rattle.proof_laws.proofs.Replays.{replay_once}
 use Rattle.proof_rules.proofs.Cuts.{opposites_distinct}
 use Rattle.proof_rules.specs.Recording.{MayBeAdded}
@@ -29,43 +29,6 @@ use Rattle.search_base.specs.Cutting.{IsCutOf, IsModelLine, answered_line, answe
 use Rattle.search_base.proofs.Answered.{IsAnswerAt, row_of}
 use Rattle.search_base.proofs.Cuts.{opposite_twice}
 use Rattle.search_base.proofs.ModelLiterals.{assignment_again, in_place, model_variables}
-
--- ---- conditions without a fault
-
-no_first : (o : Option Why) (Rest : Option Why → Type 0) (f : Option Why) → o ≡ None → Rest f → FirstOf o Rest f
-no_first o Rest f none rest = subst (λ (first : Option Why). FirstOf first Rest f) (sym none) rest
-
-no_fault : (test : Bool) (why : Why) → test ≡ true → fault_unless test why ≡ None
-no_fault test why passes = ap (λ (b : Bool). fault_unless b why) passes
-
-none_above : (n : ℕ) (vars : List ℕ) → All (λ v. v ≤ n) vars → find (λ v. nat_lt n v) vars ≡ None
-none_above n [] all = refl
-none_above n (v ∷ vars) all =
-    cond-false (nat_lt n v) (Some v) (find (λ u. nat_lt n u) vars) (le-ltb n v (All-head (λ u. u ≤ n) v vars all))
-    ∙ none_above n vars (All-tail (λ u. u ≤ n) v vars all)
-
--- a line whose rule has no fault may be added
-may_follow : (p : ProblemValue) (s : StateValue) (line : Line) → s.ended ≡ false →
-    range_fault s.vars (written line) ≡ None → IsRuleFault p s line None →
-    IsLegal p s line ⊎ IsRefused p s line LogLong
-may_follow p s line running range rule = by (nat_lt s.lines (2 ^ 61)) refl
-  where
-    started : fault_unless (not s.ended) AfterEnd ≡ None
-    started = no_fault (not s.ended) AfterEnd (ap not running)
-
-    last : Option Why → Type 0
-    last = FirstOf (range_fault s.vars (written line)) (IsRuleFault p s line)
-
-    long : Option Why → Type 0
-    long = FirstOf (fault_unless (nat_lt s.lines (2 ^ 61)) LogLong) last
-
-    by : (b : Bool) → nat_lt s.lines (2 ^ 61) ≡ b → IsLegal p s line ⊎ IsRefused p s line LogLong
-    by true short = inl (no_first (fault_unless (not s.ended) AfterEnd) long None started
-        (no_first (fault_unless (nat_lt s.lines (2 ^ 61)) LogLong) last None
-        (no_fault (nat_lt s.lines (2 ^ 61)) LogLong short)
-        (no_first (range_fault s.vars (written line)) (IsRuleFault p s line) None range rule)))
-    by false full = inr (no_first (fault_unless (not s.ended) AfterEnd) long (Some LogLong) started
-        (subst (λ (b : Bool). FirstOf (fault_unless b LogLong) last (Some LogLong)) (sym full) refl))
 
 -- no row is broken where all hold
 none_broken : (x : List Bool) (i : ℕ) (rows : List ConstraintValue) → All (Holds x) rows →
@@ -155,12 +118,11 @@ module _ (p : ProblemValue) (lines : List Line) (s : StateValue) (x : List Bool)
         ((exact.same (opposite l)).1 (Contains-map opposite (answered_literals answers) l there)));
   }
 
-  no_range_fault : range_fault s.vars (map (λ l. l.var) cut) ≡ None
-  no_range_fault = ap (option_map VarRange)
-      (none_above s.vars (map (λ l. l.var) cut)
+  cut_within : range_fault s.vars (map (λ l. l.var) cut) ≡ None
+  cut_within = no_range_fault s.vars (map (λ l. l.var) cut)
       (All-map (λ v. v ≤ s.vars) (λ (l : Literal). l.var) cut
       (All-weaker (λ (l : Literal). IsVariable s.vars l.var) (λ (l : Literal). l.var ≤ s.vars) (λ l is. is.1) cut
-      cut_variables)))
+      cut_variables))
 
   no_sol_fault : IsProblemModel p x → IsSolFault p s (literals_at 1 x) cut (map answered_line answers) None
   no_sol_fault model =
@@ -171,7 +133,7 @@ module _ (p : ProblemValue) (lines : List Line) (s : StateValue) (x : List Bool)
       (no_first (option_map SolRow (broken_row (assignment_of (literals_at 1 x)) p.rows)) _ None
       (ap (λ (a : List Bool). option_map SolRow (broken_row a p.rows)) again ∙ ap (option_map SolRow)
       (none_broken x 1 p.rows model.rows))
-      (no_first (range_fault s.vars (map (λ l. l.var) cut)) _ None no_range_fault
+      (no_first (range_fault s.vars (map (λ l. l.var) cut)) _ None cut_within
       (subst (λ (a : List Bool). IsCutFault s.live cut a 1 p.costs (map answered_line answers) None) (sym again)
       (no_cut_fault p lines s x cut 1 p.costs answers zip truths_with))))
 
