@@ -146,8 +146,8 @@ fn judge_bound(
     };
     // In boxes, since the proof of each way out takes apart what is owned there.
     let line = boxed(alloc, line)?;
-    let bound = boxed(alloc, bound_of(alloc, row, a)?)?;
-    let bound = boxed(alloc, bound.restricted(alloc, truths)?)?;
+    let whole = boxed(alloc, bound_of(alloc, row, a)?)?;
+    let bound = boxed(alloc, whole.restricted(alloc, truths)?)?;
     if line.covers(&bound) {
         Ok(())
     } else {
