@@ -21,7 +21,7 @@ use Rattle.proof_laws.specs.Earned.{IsLearnedId}
 use Rattle.proof_laws.specs.declared.line.Line.{Line}
 use Rattle.proof_laws.specs.declared.line.Line.TheVariants.{Pol, Rup, Learn, Def, Red, Dom, Sol, Del, Reduce, End}
 use Rattle.proof_laws.proofs.Replays.{leads_split, replay_before, replay_once}
-use Rattle.proof_rules.specs.Recording.{Snapshot, Surroundings, KeepsSurroundings, CountsLater}
+use Rattle.proof_rules.specs.Recording.{Snapshot, Surroundings, KeepsSurroundings, KeepsRecorder, CountsLater}
 use Rattle.proof_rules.specs.declared.recorder.RecordFault.{RecordFault}
 use Rattle.proof_rules.specs.declared.recorder.RecordFault.TheVariants.{Failed, Full, NoMemory}
 use Rattle.sum_outputs.specs.Totals.{IsTotalizerLine}
@@ -245,37 +245,37 @@ around_twice a b c one two = record {
 }
 
 -- nothing was added
-pub continues_same : (a b : Snapshot) → b.problem ≡ a.problem → b.limit ≡ a.limit → a.faults ≤ b.faults → KeepsSurroundings a.around b.around → b.lines ≡ a.lines → Continues a b
-continues_same a b problem limit later around lines = record {
-  problem = problem;
-  limit = limit;
-  later = later;
-  around = around;
+pub continues_same : (a b : Snapshot) → KeepsRecorder a b → b.lines ≡ a.lines → Continues a b
+continues_same a b keeps lines = record {
+  problem = keeps.problem;
+  limit = keeps.limit;
+  later = keeps.later;
+  around = keeps.around;
   more = [];
   lines = lines ∙ sym (append-nil a.lines);
   kinds = All-nil IsTotalizerLine;
   states = λ s reached. record {
     state = s;
-    reached = same_replay a b s problem lines reached;
+    reached = same_replay a b s keeps.problem lines reached;
     later = record { own = λ id c own. subst (λ (ls : List Line). IsOwn a.problem ls s id c) (sym lines) own; vars = omega arith };
     open' = λ e. e;
   };
 }
 
 pub continues_again : (a : Snapshot) → Continues a a
-continues_again a = continues_same a a refl refl (omega arith) (around_again a.around) refl
+continues_again a = continues_same a a (record { problem = refl; limit = refl; around = around_again a.around; later = omega arith }) refl
 
 -- one line was added
-pub continues_more : (a b : Snapshot) (line : Line) (s t : StateValue) → b.problem ≡ a.problem → b.limit ≡ a.limit → a.faults ≤ b.faults → KeepsSurroundings a.around b.around → b.lines ≡ a.lines ++ line ∷ [] → IsTotalizerLine line → IsReached a s → IsReached b t → Continues a b
-continues_more a b line s t problem limit later around lines kind reached more =
-    let again : IsReplay a.problem (a.lines ++ line ∷ []) t = subst (λ (ls : List Line). IsReplay a.problem ls t) lines (subst (λ (p : ProblemValue). IsReplay p b.lines t) problem more) in
+pub continues_more : (a b : Snapshot) (line : Line) (s t : StateValue) → KeepsRecorder a b → b.lines ≡ a.lines ++ line ∷ [] → IsTotalizerLine line → IsReached a s → IsReached b t → Continues a b
+continues_more a b line s t keeps lines kind reached more =
+    let again : IsReplay a.problem (a.lines ++ line ∷ []) t = subst (λ (ls : List Line). IsReplay a.problem ls t) lines (subst (λ (p : ProblemValue). IsReplay p b.lines t) keeps.problem more) in
     let next : IsNext a.problem s line t = replay_before a.problem a.lines line s t reached again in
     let after : IsLater a.problem a.lines s b.lines t = subst (λ (ls : List Line). IsLater a.problem a.lines s ls t) (sym lines) (own_later a.problem a.lines line s t reached next (plain_line line kind)) in
     record {
-      problem = problem;
-      limit = limit;
-      later = later;
-      around = around;
+      problem = keeps.problem;
+      limit = keeps.limit;
+      later = keeps.later;
+      around = keeps.around;
       more = line ∷ [];
       lines = lines;
       kinds = All-cons IsTotalizerLine line [] kind (All-nil IsTotalizerLine);
