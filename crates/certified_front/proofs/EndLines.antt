@@ -42,7 +42,7 @@ end_follows p s id live false false running = inr refl
 
 pub may_end : (a : Snapshot) (id : ℕ) → IsReady a → IsEndLine a.problem a.lines id → MayBeAdded a.problem a.lines (End id)
 may_end a id ready line s reached =
-    let running : s.ended ≡ false = subst (λ (t : StateValue). t.ended ≡ false) (replay_once a.problem a.lines ready.state s ready.reached reached) ready.open' in
+    let running : s.ended ≡ false = subst (λ (t : StateValue). t.ended ≡ false) (replay_once a.problem a.lines ready.state s ready.reached reached) ready.unended in
     end_follows a.problem s id (line s reached) s.ended (nat_lt s.lines (2 ^ 61)) running
 
 -- ---- after it

@@ -28,7 +28,7 @@ use Rattle.p_minimal.specs.Asking.{IsGoodWithSome, StaysGood}
 pub not_ended : (a : Snapshot) → IsReady a → Reaches a.problem a.lines (λ s. s.ended ≡ false)
 not_ended a ready s reached =
     subst (λ (t : StateValue). t.ended ≡ false)
-    (replay_once a.problem a.lines ready.state s ready.reached reached) ready.open'
+    (replay_once a.problem a.lines ready.state s ready.reached reached) ready.unended
 
 abbrev AreCostRows : List CostRowValue → Type 0
 AreCostRows rows = All (λ r. IsCostRow r.terms r.offset) rows

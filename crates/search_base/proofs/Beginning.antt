@@ -31,7 +31,7 @@ pub beginning_law : BeginningIsGood
 beginning_law a s bounds board is_problem none whole reached same is_board fit =
     let first : IsReplay a.problem [] s = subst (λ (ls : List Line). IsReplay a.problem ls s) none reached in
     record {
-      ready = record { whole = whole; state = s; reached = reached; open' = ap (λ (t : StateValue). t.ended) first };
+      ready = record { whole = whole; state = s; reached = reached; unended = ap (λ (t : StateValue). t.ended) first };
       problem = same;
       board = subst (λ (ls : List Line). IsBoard board (logged a.problem ls)) (sym none) is_board;
       bounds = fit;

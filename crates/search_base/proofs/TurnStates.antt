@@ -72,6 +72,6 @@ ready_after a b t ready adds problem whole reached =
       whole = whole;
       state = t;
       reached = reached;
-      open' = lines_open a.problem ready.state t adds.more never
-          (replay_after a.problem a.lines b.lines adds.more ready.state t adds.is ready.reached again) ready.open';
+      unended = lines_open a.problem ready.state t adds.more never
+          (replay_after a.problem a.lines b.lines adds.more ready.state t adds.is ready.reached again) ready.unended;
     }

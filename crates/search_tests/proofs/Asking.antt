@@ -31,7 +31,7 @@ have_variables a row is upto s reached k d short =
 ready_at_first : (a : Snapshot) (s : StateValue) → a.broken ≡ false → a.lines ≡ [] → IsReached a s → IsReady a
 ready_at_first a s whole none reached =
     let first : IsReplay a.problem [] s = subst (λ (lines : List Line). IsReplay a.problem lines s) none reached in
-    record { whole = whole; state = s; reached = reached; open' = ap (λ (t : StateValue). t.ended) first }
+    record { whole = whole; state = s; reached = reached; unended = ap (λ (t : StateValue). t.ended) first }
 
 -- a new one
 pub askable_at_first : (a : Snapshot) (s : StateValue) (row : CostRowValue) (t : TotalizerValue)

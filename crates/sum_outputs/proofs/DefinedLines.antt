@@ -46,7 +46,7 @@ all_none None None (Some w) d _ _ e _ = cc
 all_none None None None (Some w) _ _ _ e = cc
 
 def_legal : (p : ProblemValue) (s : StateValue) (var : ℕ) (c : ConstraintValue) → s.ended ≡ false → def_fault s var c ≡ None → IsLegal p s (Def var c) ⊎ IsRefused p s (Def var c) LogLong
-def_legal p s var c open' none = by s.ended (nat_lt s.lines (2 ^ 61)) open'
+def_legal p s var c unended none = by s.ended (nat_lt s.lines (2 ^ 61)) unended
   where
     by : (e long : Bool) → e ≡ false →
         FirstOf (fault_unless (not e) AfterEnd) (FirstOf (fault_unless long LogLong) (λ f. f ≡ def_fault s var c)) None ⊎ FirstOf (fault_unless (not e) AfterEnd) (FirstOf (fault_unless long LogLong) (λ f. f ≡ def_fault s var c)) (Some LogLong)
@@ -88,8 +88,8 @@ module _ (a : Snapshot) (s : StateValue) (state : IsState s) (reached : IsReache
   defined_legal ready t other =
       let same : s ≡ t = replay_once a.problem a.lines s t reached other in
       let same_ready : ready.state ≡ s = replay_once a.problem a.lines ready.state s ready.reached reached in
-      let open' : s.ended ≡ false = subst (λ (u : StateValue). u.ended ≡ false) same_ready ready.open' in
-      subst (λ (u : StateValue). IsLegal a.problem u (Def var c) ⊎ IsRefused a.problem u (Def var c) LogLong) same (def_legal a.problem s var c open' no_def_fault)
+      let unended : s.ended ≡ false = subst (λ (u : StateValue). u.ended ≡ false) same_ready ready.unended in
+      subst (λ (u : StateValue). IsLegal a.problem u (Def var c) ⊎ IsRefused a.problem u (Def var c) LogLong) same (def_legal a.problem s var c unended no_def_fault)
 
   -- what is there after it
   module _ (b : Snapshot) (o : SumOutput) (problem : b.problem ≡ a.problem) (lines : b.lines ≡ a.lines ++ Def var c ∷ []) (o_var : o.lit.var ≡ var) (o_neg : o.lit.neg ≡ false) (o_lower : IsNextId a.problem a.lines o.lower) (o_upper : o.upper ≡ o.lower + 1) where

@@ -13,17 +13,18 @@ use Rattle.proof_rules.specs.Recording.{Snapshot}
 use Rattle.sum_outputs.specs.Totals.{AreWeights, IsAttainable, IsLeastSum, IsUpToLeast}
 use Rattle.sum_outputs.specs.Adding.{IsReady, Continues}
 use Rattle.sum_outputs.specs.Outputs.{IsDefined}
-use Rattle.sum_outputs.specs.Joining.{IsOutputAt, AreOutputsAt, IsCompleteTo, AreChildrenNow, IsNewOutput}
+use Rattle.sum_outputs.specs.Joining.{IsOutputAt, AreOutputsAt, IsCompleteTo, IsInnerAt, IsNewOutput}
 use Rattle.sum_outputs.specs.Sums.{IsLeastOf, IsRun, IsRunTo}
 use Rattle.sum_outputs.specs.Falling.{AreFalling, AreAllBetween}
 use Rattle.sum_outputs.specs.declared.made.SumOutput.{SumOutput}
+use Rattle.sum_outputs.specs.declared.inner.Inner.{Inner}
 use Rattle.sum_outputs.proofs.OutputsLater.{defined_then, now_later}
 use Rattle.sum_outputs.proofs.JoinLines.{output_then}
 use Rattle.sum_outputs.proofs.SumLists.{least_is}
 use Rattle.sum_outputs.proofs.Runs.{IsLastOf, run_pop}
 
 -- outputs are complete to a number below
-pub complete_less : (terms : Terms) (os : List SumOutput) (k j : ℕ) → j ≤ k → IsCompleteTo terms os k → IsCompleteTo terms os j
+complete_less : (terms : Terms) (os : List SumOutput) (k j : ℕ) → j ≤ k → IsCompleteTo terms os k → IsCompleteTo terms os j
 complete_less terms os k j le complete m can some = ⊎_elim
     (λ (exact : (o : SumOutput) × Contains os o × (o.sum ≡ m)). inl exact)
     (λ (over : (o : SumOutput) × Contains os o × (k ≤ o.sum) × (o.sum ≤ m)). inr (over.0, over.1, (let large = over.2 in omega arith), over.3))
@@ -32,33 +33,33 @@ complete_less terms os k j le complete m can some = ⊎_elim
 -- ---- a run
 
 -- some sums of a run are left
-pub record IsHalfWay (a b : Snapshot) (terms : Terms) (firsts seconds : List SumOutput) (greatest last k : ℕ) (sums : List (ℕ × ℕ)) (os : List SumOutput) : Type 0 where
+pub record IsHalfWay (a b : Snapshot) (node : Inner) (last k : ℕ) (sums : List (ℕ × ℕ)) (os : List SumOutput) : Type 0 where
   pub middle : ℕ
   pub high : ℕ
-  pub run : IsRun firsts seconds greatest k last sums middle
-  pub are : AreFalling a b terms middle os
-  pub needed : All (λ o. IsUpToLeast terms k o.sum) os
-  pub all : AreAllBetween terms middle high os
+  pub run : IsRun node k last sums middle
+  pub are : AreFalling a b node.terms.now middle os
+  pub needed : All (λ o. IsUpToLeast node.terms.now k o.sum) os
+  pub all : AreAllBetween node.terms.now middle high os
   pub within : All (λ o. o.sum ≤ high) os
   pub below : middle ≤ high
   pub top : (high ≡ middle) ⊎ ((o : SumOutput) × Contains os o × (o.sum ≡ high))
-  pub enough : (k ≤ high) ⊎ (total terms ≤ high)
+  pub enough : (k ≤ high) ⊎ (total node.terms.now ≤ high)
 
 -- nothing is made yet
-pub halfway_starts : (a : Snapshot) (terms : Terms) (firsts seconds : List SumOutput) (last k : ℕ) (sums : List (ℕ × ℕ)) → IsRunTo firsts seconds (total terms) last k sums → IsHalfWay a a terms firsts seconds (total terms) last k sums []
-halfway_starts a terms firsts seconds last k sums run = record {
+pub halfway_starts : (a : Snapshot) (node : Inner) (last k : ℕ) (sums : List (ℕ × ℕ)) → IsRunTo node last k sums → IsHalfWay a a node last k sums []
+halfway_starts a node last k sums run = record {
   middle = run.0;
   high = run.0;
   run = run.1;
   are = record {
-    outputs = λ t reached. All-nil (IsOutputAt a t terms);
-    defined = λ t reached. All-nil (IsDefined a t terms);
+    outputs = λ t reached. All-nil (IsOutputAt a t node.terms.now);
+    defined = λ t reached. All-nil (IsDefined a t node.terms.now);
     falling = λ i j d less short. absurd (omega arith);
     above = All-nil (λ o. run.0 < o.sum);
     fresh = λ s reached. All-nil (λ o. s.vars < o.lit.var);
     apart = λ i j d less short. absurd (omega arith);
   };
-  needed = All-nil (λ o. IsUpToLeast terms k o.sum);
+  needed = All-nil (λ o. IsUpToLeast node.terms.now k o.sum);
   all = λ m can low high. absurd (omega arith);
   within = All-nil (λ o. o.sum ≤ run.0);
   below = omega arith;
@@ -66,18 +67,33 @@ halfway_starts a terms firsts seconds last k sums run = record {
   enough = run.3;
 }
 
--- the least sum that the last of a run says
-pub least_of_run : (a : Snapshot) → IsReady a → (first second terms : Terms) (firsts seconds : List SumOutput) (j k r : ℕ) → AreChildrenNow a first second firsts seconds → terms ≡ first ++ second → j ≤ k → IsCompleteTo first firsts k → IsCompleteTo second seconds k → IsLeastOf firsts seconds j (total terms) r → IsLeastSum terms j r
-least_of_run a ready first second terms firsts seconds j k r children same le left right least =
-    let are = children ready.state ready.reached in
-    subst (λ (ts : Terms). IsLeastSum ts j r) (sym same)
+-- the least sum of the children's outputs is that of the node
+pub least_of_node : (a : Snapshot) → IsReady a → (node : Inner) (j k r : ℕ) → IsInnerAt a node k → j ≤ k → IsLeastOf node.first.outputs.now node.second.outputs.now j (total node.terms.now) r → IsLeastSum node.terms.now j r
+least_of_node a ready node j k r inner le least =
+    let first = node.first.terms.now in
+    let second = node.second.terms.now in
+    let firsts = node.first.outputs.now in
+    let seconds = node.second.outputs.now in
+    let are = inner.children ready.state ready.reached in
+    subst (λ (ts : Terms). IsLeastSum ts j r) (sym node.joined)
     (least_is first second firsts seconds are.weights (λ i d short. (are.of_first.each i d short).attainable) (λ i d short. (are.of_second.each i d short).attainable) j
-    (complete_less first firsts k j le left) (complete_less second seconds k j le right) r
-    (subst (λ (ts : Terms). IsLeastOf firsts seconds j (total ts) r) same least))
+    (complete_less first firsts k j le inner.first_complete) (complete_less second seconds k j le inner.second_complete) r
+    (subst (λ (ts : Terms). IsLeastOf firsts seconds j (total ts) r) node.joined least))
 
-module _ (a b c : Snapshot) (ready : IsReady a) (ready_b : IsReady b) (before : Continues a b) (on : Continues b c) (terms : Terms) (firsts seconds : List SumOutput) (greatest last k : ℕ) (sums : List (ℕ × ℕ)) (s : ℕ × ℕ) (os : List SumOutput) (o : SumOutput) (half : IsHalfWay a b terms firsts seconds greatest last k (sums ++ s ∷ []) os) (new : IsNewOutput b c terms o) (sum : o.sum ≡ s.1) (least : IsLeastSum terms s.0 s.1) where
-  popped : IsLastOf firsts seconds greatest k last sums s half.middle
-  popped = run_pop firsts seconds greatest k last sums half.middle s half.run
+-- what may be made up to a number may be made up to one below
+pub inner_less : (a : Snapshot) (node : Inner) (k j : ℕ) → j ≤ k → IsInnerAt a node k → IsInnerAt a node j
+inner_less a node k j le inner = record {
+  children = inner.children;
+  first_complete = complete_less node.first.terms.now node.first.outputs.now k j le inner.first_complete;
+  second_complete = complete_less node.second.terms.now node.second.outputs.now k j le inner.second_complete;
+}
+
+module _ (a b c : Snapshot) (ready : IsReady a) (ready_b : IsReady b) (before : Continues a b) (on : Continues b c) (node : Inner) (last k : ℕ) (sums : List (ℕ × ℕ)) (s : ℕ × ℕ) (os : List SumOutput) (o : SumOutput) (half : IsHalfWay a b node last k (sums ++ s ∷ []) os) (new : IsNewOutput b c node.terms.now o) (sum : o.sum ≡ s.1) (least : IsLeastSum node.terms.now s.0 s.1) where
+  abbrev terms : Terms
+  terms = node.terms.now
+
+  popped : IsLastOf node k last sums s half.middle
+  popped = run_pop node k last sums half.middle s half.run
 
   old_variables : All (λ p. p.lit.var < o.lit.var) os
   old_variables i d short =
@@ -129,7 +145,7 @@ module _ (a b c : Snapshot) (ready : IsReady a) (ready_b : IsReady b) (before : 
       other)
       (cases_order m o.sum)
 
-  pub halfway_more : IsHalfWay a c terms firsts seconds greatest last k sums (os ++ o ∷ [])
+  pub halfway_more : IsHalfWay a c node last k sums (os ++ o ∷ [])
   halfway_more =
       let from = popped.from in
       let is = popped.is in

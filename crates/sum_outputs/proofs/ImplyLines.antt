@@ -218,7 +218,7 @@ tokens_plain s ids id ws degree vars small id_small within fits = All-append (Is
 
 -- a line by cutting planes that makes something is legal, unless there are too many lines
 pol_legal : (p : ProblemValue) (s : StateValue) (tokens : List PolToken) (c : ConstraintValue) → s.ended ≡ false → All (λ t. All (λ v. v ≤ s.vars) (token_variables t)) tokens → IsValueOn (given_in s None None) [] tokens (Ok c) → IsLegal p s (Pol tokens) ⊎ IsRefused p s (Pol tokens) LogLong
-pol_legal p s tokens c open' upto is = by s.ended (nat_lt s.lines (2 ^ 61)) (range_fault s.vars (flat_map token_variables tokens)) open' (none_found s.vars (flat_map token_variables tokens) (written_upto s.vars tokens upto))
+pol_legal p s tokens c unended upto is = by s.ended (nat_lt s.lines (2 ^ 61)) (range_fault s.vars (flat_map token_variables tokens)) unended (none_found s.vars (flat_map token_variables tokens) (written_upto s.vars tokens upto))
   where
     by : (e long : Bool) (range : Option Why) → e ≡ false → range ≡ None →
         FirstOf (fault_unless (not e) AfterEnd) (FirstOf (fault_unless long LogLong) (FirstOf range (IsPolFault s tokens))) None ⊎ FirstOf (fault_unless (not e) AfterEnd) (FirstOf (fault_unless long LogLong) (FirstOf range (IsPolFault s tokens))) (Some LogLong)
@@ -278,9 +278,9 @@ module _ (a : Snapshot) (s : StateValue) (state : IsState s) (reached : IsReache
       let made = imply_clause a s state parts weak target can in
       let same : s ≡ t = replay_once a.problem a.lines s t reached is in
       let same_ready : ready.state ≡ s = replay_once a.problem a.lines ready.state s ready.reached reached in
-      let open' : s.ended ≡ false = subst (λ (u : StateValue). u.ended ≡ false) same_ready ready.open' in
+      let unended : s.ended ≡ false = subst (λ (u : StateValue). u.ended ≡ false) same_ready ready.unended in
       subst (λ (u : StateValue). IsLegal a.problem u (Pol imply_tokens) ⊎ IsRefused a.problem u (Pol imply_tokens) LogLong) same
-      (pol_legal a.problem s imply_tokens made.0 open' (All-weaker (IsPlain s.vars) (λ u. All (λ v. v ≤ s.vars) (token_variables u)) (λ u plain. plain.1) imply_tokens all_plain) made.1)
+      (pol_legal a.problem s imply_tokens made.0 unended (All-weaker (IsPlain s.vars) (λ u. All (λ v. v ≤ s.vars) (token_variables u)) (λ u plain. plain.1) imply_tokens all_plain) made.1)
 
   pub imply_says : (b : Snapshot) → b.problem ≡ a.problem → b.lines ≡ a.lines ++ Pol imply_tokens ∷ [] → Always b (Imply parts target)
   imply_says b problem lines =

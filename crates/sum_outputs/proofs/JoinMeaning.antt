@@ -14,6 +14,7 @@ use Rattle.sum_outputs.specs.Totals.{IsLeastSum}
 use Rattle.sum_outputs.specs.Adding.{IsReached, KeptHold}
 use Rattle.sum_outputs.specs.Joining.{Follows, IsOutputAt, IsCompleteTo, AreChildren, AreImplying, HaveLesser, PairsImply}
 use Rattle.sum_outputs.specs.declared.made.SumOutput.{SumOutput}
+use Rattle.sum_outputs.specs.declared.inner.Inner.{Inner}
 use Rattle.sum_outputs.proofs.Attaining.{attain_first, attain_second}
 
 -- an output of exactly this sum, or one of at least k whose sum is below it
@@ -30,8 +31,21 @@ all_one x o is = All-cons (λ q. lit_true x q.lit ≡ true) o [] is (All-nil (λ
 all_two : (x : List Bool) (o p : SumOutput) → lit_true x o.lit ≡ true → lit_true x p.lit ≡ true → All (λ q. lit_true x q.lit ≡ true) (o ∷ p ∷ [])
 all_two x o p is is' = All-cons (λ q. lit_true x q.lit ≡ true) o (p ∷ []) is (all_one x p is')
 
-module _ (a : Snapshot) (s : StateValue) (reached : IsReached a s) (first second : Terms) (firsts seconds : List SumOutput) (are : AreChildren a s first second firsts seconds) (target : SumOutput) (k below : ℕ)
-    (left : IsCompleteTo first firsts k) (right : IsCompleteTo second seconds k) (least : IsLeastSum (first ++ second) k target.sum) (some : 0 < target.sum) (by : AreImplying a firsts seconds target below) where
+module _ (a : Snapshot) (s : StateValue) (reached : IsReached a s) (node : Inner) (are : AreChildren a s node.first.terms.now node.second.terms.now node.first.outputs.now node.second.outputs.now) (target : SumOutput) (k below : ℕ)
+    (left : IsCompleteTo node.first.terms.now node.first.outputs.now k) (right : IsCompleteTo node.second.terms.now node.second.outputs.now k)
+    (least : IsLeastSum (node.first.terms.now ++ node.second.terms.now) k target.sum) (some : 0 < target.sum) (by : AreImplying a node target below) where
+  abbrev first : Terms
+  first = node.first.terms.now
+
+  abbrev second : Terms
+  second = node.second.terms.now
+
+  abbrev firsts : List SumOutput
+  firsts = node.first.outputs.now
+
+  abbrev seconds : List SumOutput
+  seconds = node.second.outputs.now
+
   module _ (x : List Bool) (hold : KeptHold a.problem a.lines s x) (low : value x (first ++ second) < below) (reach : target.sum ≤ value x (first ++ second)) where
     both : value x (first ++ second) ≡ value x first + value x second
     both = sum_by-append (term_value x) first second

@@ -1,6 +1,6 @@
 -- States after lines were added.
 use Rattle.std.proofs.Common.{◌≡◌, ◌≢◌, ◌⊎◌, inl, inr, ℕ, ◌+◌, ◌<◌, ◌≤◌, Bool, true, false, Option, None, Some, List, [], ◌∷◌, ◌++◌, length, fold, refl, ap, sym, subst, ◌∙◌, ⊎_elim, arith, append_assoc, append-nil, Ok, Err}
-use Rattle.std.specs.Prelude.{◌^◌, IfOk, IfErr, IsErrOf, ◌↔◌, Result}
+use Rattle.std.specs.Prelude.{◌^◌, IfOk, IfErr, IsErrAnd, IsErrOf, ◌↔◌, Result}
 use Rattle.std.specs.List.{All}
 use Rattle.std.specs.Ordering.{nat_cmp, eq_by_cmp}
 use Rattle.std.specs.Cmp.{nat_cmp_total, unsigned_tied}
@@ -8,6 +8,7 @@ use Rattle.std.specs.FinMap.{get, insert, remove, get-insert, get-remove}
 use Rattle.std.proofs.lemmas.Bool.{cond-false, ne_eqb}
 use Rattle.std.proofs.lemmas.List.Elements.{All-nil, All-cons, All-head, All-tail, All-append}
 use Rattle.std.proofs.lemmas.List.{length-append}
+use Rattle.std.proofs.lemmas.Result.{err_from_is_err_and}
 use Rattle.scut_base.proofs.Lists.{head_same, tail_same}
 use Rattle.pb_lin.specs.Constraint.{ConstraintValue}
 use Rattle.pb_lin.specs.Problem.{ProblemValue}
@@ -21,7 +22,7 @@ use Rattle.proof_laws.specs.Earned.{IsLearnedId}
 use Rattle.proof_laws.specs.declared.line.Line.{Line}
 use Rattle.proof_laws.specs.declared.line.Line.TheVariants.{Pol, Rup, Learn, Def, Red, Dom, Sol, Del, Reduce, End}
 use Rattle.proof_laws.proofs.Replays.{leads_split, replay_before, replay_once}
-use Rattle.proof_rules.specs.Recording.{Snapshot, Surroundings, KeepsSurroundings, CountsLater}
+use Rattle.proof_rules.specs.Recording.{Snapshot, Surroundings, KeepsSurroundings, KeepsRecorder, CountsLater}
 use Rattle.proof_rules.specs.declared.recorder.RecordFault.{RecordFault}
 use Rattle.proof_rules.specs.declared.recorder.RecordFault.TheVariants.{Failed, Full, NoMemory}
 use Rattle.sum_outputs.specs.Totals.{IsTotalizerLine}
@@ -245,37 +246,37 @@ around_twice a b c one two = record {
 }
 
 -- nothing was added
-pub continues_same : (a b : Snapshot) → b.problem ≡ a.problem → b.limit ≡ a.limit → a.faults ≤ b.faults → KeepsSurroundings a.around b.around → b.lines ≡ a.lines → Continues a b
-continues_same a b problem limit later around lines = record {
-  problem = problem;
-  limit = limit;
-  later = later;
-  around = around;
+pub continues_same : (a b : Snapshot) → KeepsRecorder a b → b.lines ≡ a.lines → Continues a b
+continues_same a b keeps lines = record {
+  problem = keeps.problem;
+  limit = keeps.limit;
+  later = keeps.later;
+  around = keeps.around;
   more = [];
   lines = lines ∙ sym (append-nil a.lines);
   kinds = All-nil IsTotalizerLine;
   states = λ s reached. record {
     state = s;
-    reached = same_replay a b s problem lines reached;
+    reached = same_replay a b s keeps.problem lines reached;
     later = record { own = λ id c own. subst (λ (ls : List Line). IsOwn a.problem ls s id c) (sym lines) own; vars = omega arith };
-    open' = λ e. e;
+    unended = λ e. e;
   };
 }
 
 pub continues_again : (a : Snapshot) → Continues a a
-continues_again a = continues_same a a refl refl (omega arith) (around_again a.around) refl
+continues_again a = continues_same a a (record { problem = refl; limit = refl; around = around_again a.around; later = omega arith }) refl
 
 -- one line was added
-pub continues_more : (a b : Snapshot) (line : Line) (s t : StateValue) → b.problem ≡ a.problem → b.limit ≡ a.limit → a.faults ≤ b.faults → KeepsSurroundings a.around b.around → b.lines ≡ a.lines ++ line ∷ [] → IsTotalizerLine line → IsReached a s → IsReached b t → Continues a b
-continues_more a b line s t problem limit later around lines kind reached more =
-    let again : IsReplay a.problem (a.lines ++ line ∷ []) t = subst (λ (ls : List Line). IsReplay a.problem ls t) lines (subst (λ (p : ProblemValue). IsReplay p b.lines t) problem more) in
+pub continues_more : (a b : Snapshot) (line : Line) (s t : StateValue) → KeepsRecorder a b → b.lines ≡ a.lines ++ line ∷ [] → IsTotalizerLine line → IsReached a s → IsReached b t → Continues a b
+continues_more a b line s t keeps lines kind reached more =
+    let again : IsReplay a.problem (a.lines ++ line ∷ []) t = subst (λ (ls : List Line). IsReplay a.problem ls t) lines (subst (λ (p : ProblemValue). IsReplay p b.lines t) keeps.problem more) in
     let next : IsNext a.problem s line t = replay_before a.problem a.lines line s t reached again in
     let after : IsLater a.problem a.lines s b.lines t = subst (λ (ls : List Line). IsLater a.problem a.lines s ls t) (sym lines) (own_later a.problem a.lines line s t reached next (plain_line line kind)) in
     record {
-      problem = problem;
-      limit = limit;
-      later = later;
-      around = around;
+      problem = keeps.problem;
+      limit = keeps.limit;
+      later = keeps.later;
+      around = keeps.around;
       more = line ∷ [];
       lines = lines;
       kinds = All-cons IsTotalizerLine line [] kind (All-nil IsTotalizerLine);
@@ -283,7 +284,7 @@ continues_more a b line s t problem limit later around lines kind reached more =
         state = t;
         reached = more;
         later = after;
-        open' = stays_open a.problem s t line kind next;
+        unended = stays_open a.problem s t line kind next;
       });
     }
 
@@ -307,7 +308,7 @@ continues_twice a b c one two = record {
         state = second.state;
         reached = second.reached;
         later = later_twice a.problem a.lines b.lines c.lines s first.state second.state first.later (subst (λ (p : ProblemValue). IsLater p b.lines first.state c.lines second.state) one.problem second.later);
-        open' = λ e. second.open' (first.open' e);
+        unended = λ e. second.unended (first.unended e);
       };
 }
 
@@ -323,7 +324,7 @@ always_later a b P ready on is t reached x hold =
 pub ready_later : (a b : Snapshot) → IsReady a → Continues a b → b.broken ≡ false → IsReady b
 ready_later a b ready on whole =
     let has = on.states ready.state ready.reached in
-    record { whole = whole; state = has.state; reached = has.reached; open' = has.open' ready.open' }
+    record { whole = whole; state = has.state; reached = has.reached; unended = has.unended ready.unended }
 
 -- ---- calls
 
@@ -352,6 +353,14 @@ recorded_after a b c (Err f) on call = record { continues = continues_twice a b 
 pub memory_recorded : {T : Type 0} (a b : Snapshot) (r : Result T RecordFault) → Continues a b → b.broken ≡ false → IfErr r (λ f. f ≡ NoMemory) → IsRecorded a b r
 memory_recorded a b (Ok x) on whole fault = record { continues = on; whole = whole; fault = tt }
 memory_recorded a b (Err f) on whole fault = record { continues = on; whole = tt; fault = subst (λ (h : RecordFault). IsFaultAt a b h) (sym fault) tt }
+
+-- a want of memory, which `?` makes a fault
+pub memory_err : {T : Type 0} (a b : Snapshot) (r : Result T RecordFault) → Continues a b → IsErrAnd r (λ f. f ≡ NoMemory) → IsRecorded a b r
+memory_err a b r on is = let p = err_from_is_err_and r is in recorded_err a b NoMemory r (p.1 ∙ ap (λ (f : RecordFault). Err f) p.2) on tt
+
+-- a fault that `?` hands on
+pub handed_err : {T U : Type 0} (a b c : Snapshot) (f : RecordFault) (r : Result T RecordFault) → Continues a b → IsRecorded {T = U} b c (Err f) → IsErrAnd r (λ g. g ≡ f) → IsRecorded a c r
+handed_err {T} {U} a b c f r on call is = let p = err_from_is_err_and r is in handed_on a b c f p.0 r p.1 p.2 on call
 
 -- a fault of `add_line`
 pub added_fault : (a b : Snapshot) (f : RecordFault) → (IsErrOf {T = ℕ} (Err f) Full ↔ (length a.lines ≡ 2 ^ 61)) → (IsErrOf {T = ℕ} (Err f) Failed → Rose a.faults b.faults) → (IsErrOf {T = ℕ} (Err f) Full → b.broken ≡ false) → b.lines ≡ a.lines → IsFaultAt a b f

@@ -1,5 +1,5 @@
 -- The outputs of a tree's nodes, and those of a node's children among them.
-use Rattle.std.proofs.Common.{◌≡◌, ◌≢◌, ◌⊎◌, ⊎_elim, ℕ, ◌+◌, ◌<◌, ◌≤◌, List, ◌++◌, length, get_or, drop, refl, ap, sym, subst, ◌∙◌, arith}
+use Rattle.std.proofs.Common.{◌≡◌, ◌≢◌, ◌⊎◌, ⊎_elim, ℕ, ◌+◌, ◌<◌, ◌≤◌, List, [], ◌++◌, length, get_or, drop, refl, ap, sym, subst, ◌∙◌, arith}
 use Rattle.std.specs.List.{All}
 use Rattle.std.proofs.Math.ListN.{set}
 use Rattle.std.proofs.lemmas.Bool.{cases_order}
@@ -14,13 +14,18 @@ use Rattle.sum_outputs.specs.Adding.{IsReached, IsReady, Continues}
 use Rattle.sum_outputs.specs.Outputs.{IsDefined}
 use Rattle.sum_outputs.specs.Sums.{last_sum}
 use Rattle.sum_outputs.specs.Falling.{AreAllBetween, AreExtended}
-use Rattle.sum_outputs.specs.Joining.{AreChildren, AreOutputsAt, IsCompleteTo}
-use Rattle.sum_outputs.specs.Tree.{IsInner, IsTree}
+use Rattle.sum_outputs.specs.Joining.{AreChildren, AreDefinedNow, AreOutputsAt, IsCompleteTo, IsInnerAt}
+use Rattle.sum_outputs.specs.Tree.{IsInner, IsInnerOf, IsTree}
 use Rattle.sum_outputs.specs.MadeOutputs.{AreMade, AreCompleteTo, AreOutside}
 use Rattle.sum_outputs.proofs.OutputsLater.{defined_then, variable_then, now_later}
 use Rattle.sum_outputs.proofs.MakeLines.{outputs_later}
 use Rattle.sum_outputs.specs.declared.node.Node.{Node}
 use Rattle.sum_outputs.specs.declared.made.SumOutput.{SumOutput}
+use Rattle.sum_outputs.specs.declared.inner.Inner.{Inner}
+
+-- some node
+abbrev pub any_node : Node
+any_node = record { terms = []; total = 0; first = 0; second = 0 }
 
 module _ (nodes : List Node) (tree : IsTree nodes) (i : ℕ) (n m : Node) (short : i < length nodes) (inner : IsInner nodes i (get_or nodes i n)) where
   abbrev node : Node
@@ -170,3 +175,31 @@ long_node nodes tree i n short other d = ⊎_elim
     (λ (one : length (get_or nodes i d).terms ≡ 1). absurd (other (ap (λ (nd : Node). length nd.terms) (get_or_default nodes i n d short) ∙ one)))
     (λ (inner : IsInner nodes i (get_or nodes i d)). inner.long)
     (tree i d short).shape
+
+-- a node of the tree, as it is lent to those that make its outputs
+module _ (nodes : List Node) (tree : IsTree nodes) (made : List (List SumOutput)) (i : ℕ) (n : Node) (short : i < length nodes) (inner : IsInner nodes i (get_or nodes i n)) (node : Inner) (is : IsInnerOf nodes made (get_or nodes i n) node) where
+  pub inner_of_made : (a : Snapshot) (k : ℕ) → ((s : StateValue) → IsReached a s → AreMade a s nodes made) → AreCompleteTo nodes made i k → IsInnerAt a node k
+  inner_of_made a k are complete =
+      let first = (get_or nodes i n).first in
+      let second = (get_or nodes i n).second in
+      record {
+        children = λ s reached.
+            subst (λ (ts : Terms). AreChildren a s ts node.second.terms.now node.first.outputs.now node.second.outputs.now) (sym (is.first_terms n))
+            (subst (λ (ts : Terms). AreChildren a s (get_or nodes first n).terms ts node.first.outputs.now node.second.outputs.now) (sym (is.second_terms n))
+            (subst (λ (os : List SumOutput). AreChildren a s (get_or nodes first n).terms (get_or nodes second n).terms os node.second.outputs.now) (sym (is.firsts []))
+            (subst (λ (os : List SumOutput). AreChildren a s (get_or nodes first n).terms (get_or nodes second n).terms (get_or made first []) os) (sym (is.seconds []))
+            (children_of nodes tree i n n short inner a s made [] (are s reached)))));
+        first_complete =
+            subst (λ (ts : Terms). IsCompleteTo ts node.first.outputs.now k) (sym (is.first_terms n))
+            (subst (λ (os : List SumOutput). IsCompleteTo (get_or nodes first n).terms os k) (sym (is.firsts [])) (complete first n [] inner.first_before));
+        second_complete =
+            subst (λ (ts : Terms). IsCompleteTo ts node.second.outputs.now k) (sym (is.second_terms n))
+            (subst (λ (os : List SumOutput). IsCompleteTo (get_or nodes second n).terms os k) (sym (is.seconds [])) (complete second n [] inner.second_before));
+      }
+
+  -- its own outputs
+  pub own_outputs : (a : Snapshot) → ((s : StateValue) → IsReached a s → AreMade a s nodes made) → 1 < length (get_or nodes i n).terms → AreDefinedNow a node.terms.now (get_or made i [])
+  own_outputs a are long = subst (λ (ts : Terms). AreDefinedNow a ts (get_or made i [])) (sym is.terms) (record {
+    outputs = λ s reached. (are s reached).outputs i n [] short;
+    defined = λ s reached. (are s reached).defined i n [] short long;
+  })

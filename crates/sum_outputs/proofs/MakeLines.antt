@@ -1,5 +1,6 @@
 -- An output that is made, from its definition to the last of its clauses.
 use Rattle.std.proofs.Common.{◌≡◌, inr, ℕ, ◌<◌, ◌≤◌, ◌^◌, Bool, true, false, List, [], ◌∷◌, ◌++◌, get_or, length, sym, subst, ⊎_elim, arith}
+use Rattle.std.specs.List.{All}
 use Rattle.std.proofs.lemmas.List.Elements.{All-nil, All-cons, All-contains, Contains-get_or}
 use Rattle.scut_base.specs.Assignment.{lit_true}
 use Rattle.pb_lin.specs.Constraint.{IsVariable, total, value}
@@ -9,45 +10,62 @@ use Rattle.proof_rules.specs.Recording.{Snapshot}
 use Rattle.sum_outputs.specs.Totals.{AreWeights, IsLeastSum}
 use Rattle.sum_outputs.specs.Adding.{IsReached, IsReady, Continues, KeptHold, Always}
 use Rattle.sum_outputs.specs.Outputs.{CanImplyNow, Imply, IsDefined, IsDefinedNext}
-use Rattle.sum_outputs.specs.Joining.{Follows, IsOutputAt, SinglesImply, AreOutputsAt, AreOutputsNow, IsCompleteTo, AreChildren, AreChildrenNow, IsTarget, IsTargetNow, AreImplying, IsAboveAll, IsNewOutput}
+use Rattle.sum_outputs.specs.Joining.{Follows, IsOutputAt, SinglesImply, AreOutputsAt, AreOutputsNow, AreChildren, AreChildrenNow, IsInnerAt, IsTarget, IsTargetNow, AreImplying, IsAboveAll, IsNewOutput}
 use Rattle.sum_outputs.specs.declared.made.SumOutput.{SumOutput}
+use Rattle.sum_outputs.specs.declared.inner.Inner.{Inner}
 use Rattle.sum_outputs.proofs.Glue.{value-le-total}
 use Rattle.sum_outputs.proofs.LaterStates.{continues_twice, ready_later, always_later}
 use Rattle.sum_outputs.proofs.OutputsLater.{defined_then, variable_then, now_later}
 use Rattle.sum_outputs.proofs.JoinLines.{children_then, outputs_then, target_then, new_target, tie_can}
 use Rattle.sum_outputs.proofs.JoinMeaning.{target_follows}
 
+-- the weights of a node with children
+pub node_weights : (a : Snapshot) → IsReady a → (node : Inner) → AreChildrenNow a node → AreWeights node.terms.now
+node_weights a ready node children = subst (λ (ts : Terms). AreWeights ts) (sym node.joined) (children ready.state ready.reached).weights
+
 module _ (a b : Snapshot) (ready : IsReady a) (on : Continues a b) where
-  pub children_later : (first second : Terms) (firsts seconds : List SumOutput) → AreChildrenNow a first second firsts seconds → AreChildrenNow b first second firsts seconds
-  children_later first second firsts seconds = now_later a b (λ c s. AreChildren c s first second firsts seconds) ready on (λ s has is. children_then a b on s has first second firsts seconds is)
+  children_later : (node : Inner) → AreChildrenNow a node → AreChildrenNow b node
+  children_later node = now_later a b (λ c s. AreChildren c s node.first.terms.now node.second.terms.now node.first.outputs.now node.second.outputs.now) ready on
+      (λ s has is. children_then a b on s has node.first.terms.now node.second.terms.now node.first.outputs.now node.second.outputs.now is)
+
+  pub inner_later : (node : Inner) (k : ℕ) → IsInnerAt a node k → IsInnerAt b node k
+  inner_later node k inner = record {
+    children = children_later node inner.children;
+    first_complete = inner.first_complete;
+    second_complete = inner.second_complete;
+  }
 
   pub outputs_later : (terms : Terms) (os : List SumOutput) → AreOutputsNow a terms os → AreOutputsNow b terms os
   outputs_later terms os = now_later a b (λ c s. AreOutputsAt c s terms os) ready on (λ s has is. outputs_then a b on s has terms os is)
 
-  pub target_later : (terms : Terms) (firsts seconds : List SumOutput) (o : SumOutput) → IsTargetNow a terms firsts seconds o → IsTargetNow b terms firsts seconds o
-  target_later terms firsts seconds o = now_later a b (λ c s. IsTarget c s terms firsts seconds o) ready on (λ s has is. target_then a b on s has terms firsts seconds o is)
+  pub target_later : (node : Inner) (o : SumOutput) → IsTargetNow a node o → IsTargetNow b node o
+  target_later node o = now_later a b (λ c s. IsTarget c s (node.first.terms.now ++ node.second.terms.now) node.first.outputs.now node.second.outputs.now o) ready on
+      (λ s has is. target_then a b on s has (node.first.terms.now ++ node.second.terms.now) node.first.outputs.now node.second.outputs.now o is)
 
   -- a literal that was just defined is a target
-  pub target_now : (first second terms : Terms) (firsts seconds : List SumOutput) (o : SumOutput) → AreChildrenNow a first second firsts seconds → terms ≡ first ++ second → 0 < o.sum → IsDefinedNext a b terms o → IsTargetNow b (first ++ second) firsts seconds o
-  target_now first second terms firsts seconds o are same some new t reached =
-      new_target a ready.state first second firsts seconds (are ready.state ready.reached) b t o some (new.fresh ready.state ready.reached) (new.variable t reached)
-      (subst (λ (ts : Terms). IsDefined b t ts o) same (new.defined t reached))
+  pub target_now : (node : Inner) (o : SumOutput) → AreChildrenNow a node → 0 < o.sum → IsDefinedNext a b node.terms.now o → IsTargetNow b node o
+  target_now node o are some new t reached =
+      new_target a ready.state node.first.terms.now node.second.terms.now node.first.outputs.now node.second.outputs.now (are ready.state ready.reached) b t o some (new.fresh ready.state ready.reached) (new.variable t reached)
+      (subst (λ (ts : Terms). IsDefined b t ts o) node.joined (new.defined t reached))
 
   -- greater outputs of the node may imply it
-  pub ties_now : (first second terms : Terms) (firsts seconds next : List SumOutput) (o : SumOutput) → AreChildrenNow a first second firsts seconds → terms ≡ first ++ second → AreOutputsNow a terms next → 0 < o.sum → IsDefinedNext a b terms o →
-      (k : ℕ) (d : SumOutput) → k < length next → o.sum ≤ (get_or next k d).sum → CanImplyNow b (get_or next k d ∷ []) [] o
-  ties_now first second terms firsts seconds next o are same nexts some new k d short reach t reached =
-      let here = (outputs_later terms next nexts t reached).each k d short in
+  pub ties_now : (node : Inner) (next : List SumOutput) (o : SumOutput) → AreChildrenNow a node → AreOutputsNow a node.terms.now next → 0 < o.sum → IsDefinedNext a b node.terms.now o →
+      All (λ p. o.sum ≤ p.sum → CanImplyNow b (p ∷ []) [] o) next
+  ties_now node next o are nexts some new k d short reach t reached =
+      let here = (outputs_later node.terms.now next nexts t reached).each k d short in
       let before = (nexts ready.state ready.reached).each k d short in
       let old = before.literal.variable in
       let fresh = new.fresh ready.state ready.reached in
-      tie_can b t terms (get_or next k d) o (subst (λ (ts : Terms). AreWeights ts) (sym same) (are ready.state ready.reached).weights) (new.defined t reached) some (new.variable t reached) here.literal reach (λ e. omega arith)
+      tie_can b t node.terms.now (get_or next k d) o (node_weights a ready node are) (new.defined t reached) some (new.variable t reached) here.literal reach (λ e. omega arith)
 
 -- what the clauses give
-module _ (a b c d : Snapshot) (ready : IsReady a) (one : Continues a b) (b_whole : b.broken ≡ false) (two : Continues b c) (c_whole : c.broken ≡ false) (three : Continues c d) (first second terms : Terms) (firsts seconds next : List SumOutput) (o : SumOutput) (from below : ℕ)
-    (are : AreChildrenNow a first second firsts seconds) (same : terms ≡ first ++ second) (nexts : AreOutputsNow a terms next) (above : IsAboveAll terms next below) (greater : (k : ℕ) (e : SumOutput) → k < length next → o.sum < (get_or next k e).sum)
-    (from_one : 0 < from) (from_is : o.from ≡ from) (least : IsLeastSum terms from o.sum) (left : IsCompleteTo first firsts from) (right : IsCompleteTo second seconds from) (new : IsDefinedNext a b terms o)
-    (most : ℕ) (large : 2 ^ 63 ≤ most) (ties : SinglesImply c next o most) (by : AreImplying d firsts seconds o below) where
+module _ (a b c d : Snapshot) (ready : IsReady a) (one : Continues a b) (b_whole : b.broken ≡ false) (two : Continues b c) (c_whole : c.broken ≡ false) (three : Continues c d) (node : Inner) (next : List SumOutput) (o : SumOutput) (from below : ℕ)
+    (inner : IsInnerAt a node from) (nexts : AreOutputsNow a node.terms.now next) (above : IsAboveAll node.terms.now next below) (greater : All (λ p. o.sum < p.sum) next)
+    (from_one : 0 < from) (from_is : o.from ≡ from) (least : IsLeastSum node.terms.now from o.sum) (new : IsDefinedNext a b node.terms.now o)
+    (most : ℕ) (large : 2 ^ 63 ≤ most) (ties : SinglesImply c next o most) (by : AreImplying d node o below) where
+  abbrev terms : Terms
+  terms = node.terms.now
+
   all : Continues a d
   all = continues_twice a c d (continues_twice a b c one two) three
 
@@ -82,9 +100,9 @@ module _ (a b c d : Snapshot) (ready : IsReady a) (one : Continues a b) (b_whole
   defined_d = now_later b d (λ e s. IsDefined e s terms o × IsVariable s.vars o.lit.var) ready_b later (λ s has is. (defined_then b d later s has terms o is.0, variable_then b d later s has o.lit.var is.1)) (λ s reached. (new.defined s reached, new.variable s reached))
 
   follows_d : (t : StateValue) → IsReached d t → Follows d t terms o
-  follows_d t reached = subst (λ (ts : Terms). Follows d t ts o) (sym same)
-      (target_follows d t reached first second firsts seconds (children_later a d ready all first second firsts seconds are t reached) o from below left right (subst (λ (ts : Terms). IsLeastSum ts from o.sum) same least) some by
-      (λ x hold high. from_below t reached x hold (subst (λ (ts : Terms). below ≤ value x ts) (sym same) high)))
+  follows_d t reached = subst (λ (ts : Terms). Follows d t ts o) (sym node.joined)
+      (target_follows d t reached node (children_later a d ready all node inner.children t reached) o from below inner.first_complete inner.second_complete (subst (λ (ts : Terms). IsLeastSum ts from o.sum) node.joined least) some by
+      (λ x hold high. from_below t reached x hold (subst (λ (ts : Terms). below ≤ value x ts) (sym node.joined) high)))
 
   pub output_made : IsNewOutput a d terms o
   output_made = record {

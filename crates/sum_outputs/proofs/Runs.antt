@@ -1,23 +1,25 @@
 -- Sums in a row, one longer or one shorter at the end.
 use Rattle.std.proofs.Common.{◌≡◌, ℕ, suc, ◌+◌, ◌-◌, ◌<◌, ◌≤◌, List, [], ◌∷◌, ◌++◌, get_or, length, refl, ap, ◌∙◌, arith}
 use Rattle.sum_outputs.specs.Sums.{IsLeastOf, IsRun, last_sum}
+use Rattle.pb_lin.specs.Constraint.{total}
 use Rattle.sum_outputs.specs.declared.made.SumOutput.{SumOutput}
+use Rattle.sum_outputs.specs.declared.inner.Inner.{Inner}
 
-module _ (firsts seconds : List SumOutput) (total k : ℕ) where
-  pub run_push : (last : ℕ) (sums : List (ℕ × ℕ)) (end : ℕ) (s : ℕ × ℕ) → IsRun firsts seconds total k last sums end → s.0 ≡ end + 1 → s.0 ≤ k → IsLeastOf firsts seconds s.0 total s.1 → IsRun firsts seconds total k last (sums ++ s ∷ []) s.1
+module _ (node : Inner) (k : ℕ) where
+  pub run_push : (last : ℕ) (sums : List (ℕ × ℕ)) (end : ℕ) (s : ℕ × ℕ) → IsRun node k last sums end → s.0 ≡ end + 1 → s.0 ≤ k → IsLeastOf node.first.outputs.now node.second.outputs.now s.0 (total node.terms.now) s.1 → IsRun node k last (sums ++ s ∷ []) s.1
   run_push last [] end s run from le least = (from ∙ ap (λ (n : ℕ). n + 1) run, le, least, refl)
   run_push last (t ∷ sums) end s run from le least = (run.0, run.1, run.2, run_push t.1 sums end s run.3 from le least)
 
   -- what is known of the last
   pub record IsLastOf (last : ℕ) (sums : List (ℕ × ℕ)) (s : ℕ × ℕ) (end : ℕ) : Type 0 where
     pub middle : ℕ
-    pub run : IsRun firsts seconds total k last sums middle
+    pub run : IsRun node k last sums middle
     pub from : s.0 ≡ middle + 1
     pub most : s.0 ≤ k
-    pub least : IsLeastOf firsts seconds s.0 total s.1
+    pub least : IsLeastOf node.first.outputs.now node.second.outputs.now s.0 (total node.terms.now) s.1
     pub is : end ≡ s.1
 
-  pub run_pop : (last : ℕ) (sums : List (ℕ × ℕ)) (end : ℕ) (s : ℕ × ℕ) → IsRun firsts seconds total k last (sums ++ s ∷ []) end → IsLastOf last sums s end
+  pub run_pop : (last : ℕ) (sums : List (ℕ × ℕ)) (end : ℕ) (s : ℕ × ℕ) → IsRun node k last (sums ++ s ∷ []) end → IsLastOf last sums s end
   run_pop last [] end s run = record { middle = last; run = refl; from = run.0; most = run.1; least = run.2; is = run.3 }
   run_pop last (t ∷ sums) end s run =
       let rest = run_pop t.1 sums end s run.3 in

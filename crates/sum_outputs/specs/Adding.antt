@@ -1,5 +1,5 @@
 -- What is added to a recorder, and what stays as it was.
-use Rattle.std.specs.Prelude.{◌≡◌, ◌≤◌, ◌^◌, ℕ, Bool, false, List, ◌++◌, length, All, Option, Some, Result, OnOk, IfErr}
+use Rattle.std.specs.Prelude.{◌≡◌, ◌≤◌, ◌^◌, ℕ, ◌+◌, Bool, false, List, ◌++◌, length, All, Option, Some, Result, OnOk, IfErr}
 use Rattle.std.specs.FinMap.{get}
 use Rattle.scut_base.specs.Faults.{Rose}
 use Rattle.pb_lin.specs.Constraint.{ConstraintValue, Holds}
@@ -11,7 +11,7 @@ use Rattle.proof_laws.specs.declared.line.Line.{Line}
 use Rattle.proof_rules.specs.Recording.{Snapshot, KeepsSurroundings}
 use Rattle.proof_rules.specs.declared.recorder.RecordFault.{RecordFault}
 use Rattle.proof_rules.specs.declared.recorder.RecordFault.TheVariants.{Failed, Full, NoMemory}
-use Rattle.sum_outputs.specs.Totals.{IsKeptClause, IsTotalizerLine}
+use Rattle.sum_outputs.specs.Totals.{IsKeptClause, IsTotalizerLine, definitions}
 
 -- ---- states
 
@@ -43,14 +43,14 @@ pub record IsReady (a : Snapshot) : Type 0 where
   pub whole : a.broken ≡ false
   pub state : StateValue
   pub reached : IsReached a state
-  pub open' : state.ended ≡ false
+  pub unended : state.ended ≡ false
 
 -- a state that comes after the one
 pub record HasLater (a b : Snapshot) (s : StateValue) : Type 0 where
   pub state : StateValue
   pub reached : IsReached b state
   pub later : IsLater a.problem a.lines s b.lines state
-  pub open' : s.ended ≡ false → state.ended ≡ false
+  pub unended : s.ended ≡ false → state.ended ≡ false
 
 -- nothing but lines of a totalizer was added
 pub record Continues (a b : Snapshot) : Type 0 where
@@ -62,6 +62,10 @@ pub record Continues (a b : Snapshot) : Type 0 where
   pub lines : b.lines ≡ a.lines ++ more
   pub kinds : All IsTotalizerLine more
   pub states : (s : StateValue) → IsReached a s → HasLater a b s
+
+-- so many definitions were added
+abbrev pub DefinesMore : Snapshot → Snapshot → ℕ → Type 0
+DefinesMore a b n = definitions b.lines ≡ definitions a.lines + n
 
 -- what each fault says
 abbrev pub IsFaultAt : Snapshot → Snapshot → RecordFault → Type 0

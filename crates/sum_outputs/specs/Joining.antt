@@ -6,9 +6,10 @@ use Rattle.pb_lin.specs.Constraint.{IsVariable, total, value}
 use Rattle.proof_laws.specs.State.{StateValue}
 use Rattle.proof_rules.specs.Recording.{Snapshot}
 use Rattle.sum_outputs.specs.Totals.{AreWeights, IsAttainable}
-use Rattle.sum_outputs.specs.Adding.{IsReached, KeptHold, Always}
+use Rattle.sum_outputs.specs.Adding.{IsReached, KeptHold, Always, DefinesMore}
 use Rattle.sum_outputs.specs.Outputs.{IsDefined, IsLiteralOf, AreRising, Imply}
 use Rattle.sum_outputs.specs.declared.made.SumOutput.{SumOutput}
+use Rattle.sum_outputs.specs.declared.inner.Inner.{Inner}
 
 -- where the sum reaches the output's, its literal is true
 abbrev pub Follows : Snapshot → StateValue → List (Literal × ℕ) → SumOutput → Type 0
@@ -41,8 +42,15 @@ pub record AreChildren (a : Snapshot) (s : StateValue) (first second : List (Lit
   pub first_outside : All (λ f. All (λ t. f.lit.var ≢ t.0.var) second) firsts
   pub second_outside : All (λ g. All (λ t. g.lit.var ≢ t.0.var) first) seconds
 
-abbrev pub AreChildrenNow : Snapshot → List (Literal × ℕ) → List (Literal × ℕ) → List SumOutput → List SumOutput → Type 0
-AreChildrenNow a first second firsts seconds = (s : StateValue) → IsReached a s → AreChildren a s first second firsts seconds
+abbrev pub AreChildrenNow : Snapshot → Inner → Type 0
+AreChildrenNow a node = (s : StateValue) → IsReached a s
+    → AreChildren a s node.first.terms.now node.second.terms.now node.first.outputs.now node.second.outputs.now
+
+-- The children have what outputs of the node at sums up to the least of at least k are made of.
+pub record IsInnerAt (a : Snapshot) (node : Inner) (k : ℕ) : Type 0 where
+  pub children : AreChildrenNow a node
+  pub first_complete : IsCompleteTo node.first.terms.now node.first.outputs.now k
+  pub second_complete : IsCompleteTo node.second.terms.now node.second.outputs.now k
 
 -- a literal that was defined by a node's terms, apart from all that its children have
 pub record IsTarget (a : Snapshot) (s : StateValue) (terms : List (Literal × ℕ)) (firsts seconds : List SumOutput) (target : SumOutput) : Type 0 where
@@ -53,8 +61,9 @@ pub record IsTarget (a : Snapshot) (s : StateValue) (terms : List (Literal × �
   pub from_firsts : All (λ f. f.lit.var ≢ target.lit.var) firsts
   pub from_seconds : All (λ g. g.lit.var ≢ target.lit.var) seconds
 
-abbrev pub IsTargetNow : Snapshot → List (Literal × ℕ) → List SumOutput → List SumOutput → SumOutput → Type 0
-IsTargetNow a terms firsts seconds target = (s : StateValue) → IsReached a s → IsTarget a s terms firsts seconds target
+abbrev pub IsTargetNow : Snapshot → Inner → SumOutput → Type 0
+IsTargetNow a node target = (s : StateValue) → IsReached a s
+    → IsTarget a s (node.first.terms.now ++ node.second.terms.now) node.first.outputs.now node.second.outputs.now target
 
 -- the least output whose sum is at least one number and below another, where there is one
 abbrev pub IsLeastBetween : List SumOutput → ℕ → ℕ → Option SumOutput → Type 0
@@ -73,16 +82,21 @@ SinglesImply a parts target below = HaveLesser parts target.sum below (λ q. Alw
 abbrev pub PairsImply : Snapshot → SumOutput → List SumOutput → SumOutput → ℕ → Type 0
 PairsImply a part others target below = HaveLesser others (target.sum - part.sum) (below - part.sum) (λ q. Always a (Imply (part ∷ q ∷ []) target))
 
--- the outputs, alone or in pairs, whose sums are at least the target's and below a number imply it, by ones of no greater sums
-pub record AreImplying (a : Snapshot) (firsts seconds : List SumOutput) (target : SumOutput) (below : ℕ) : Type 0 where
-  pub by_firsts : SinglesImply a firsts target below
-  pub by_seconds : SinglesImply a seconds target below
-  pub by_pairs : (i : ℕ) (d : SumOutput) → i < length firsts → (slice_index_or firsts i d).sum < target.sum → PairsImply a (slice_index_or firsts i d) seconds target below
+-- the children's outputs, alone or in pairs, whose sums are at least the target's and below a number imply it, by ones of no greater sums
+pub record AreImplying (a : Snapshot) (node : Inner) (target : SumOutput) (below : ℕ) : Type 0 where
+  pub by_firsts : SinglesImply a node.first.outputs.now target below
+  pub by_seconds : SinglesImply a node.second.outputs.now target below
+  pub by_pairs : All (λ o. o.sum < target.sum → PairsImply a o node.second.outputs.now target below) node.first.outputs.now
 
 -- ---- one output more
 
 abbrev pub AreOutputsNow : Snapshot → List (Literal × ℕ) → List SumOutput → Type 0
 AreOutputsNow a terms os = (s : StateValue) → IsReached a s → AreOutputsAt a s terms os
+
+-- outputs of a node that its terms define
+pub record AreDefinedNow (a : Snapshot) (terms : List (Literal × ℕ)) (os : List SumOutput) : Type 0 where
+  pub outputs : AreOutputsNow a terms os
+  pub defined : (s : StateValue) → IsReached a s → All (IsDefined a s terms) os
 
 -- the number is above all sums of the terms, or is that of the first output
 abbrev pub IsAboveAll : List (Literal × ℕ) → List SumOutput → ℕ → Type 0
@@ -93,3 +107,10 @@ pub record IsNewOutput (a b : Snapshot) (terms : List (Literal × ℕ)) (o : Sum
   pub fresh : (s : StateValue) → IsReached a s → o.lit.var ≡ s.vars + 1
   pub is : (t : StateValue) → IsReached b t → IsOutputAt b t terms o
   pub defined : (t : StateValue) → IsReached b t → IsDefined b t terms o
+
+-- such an output of the sum n, and nothing else was defined; no sum of the terms is from k on and below n
+pub record IsMade (a b : Snapshot) (terms : List (Literal × ℕ)) (k n : ℕ) (o : SumOutput) : Type 0 where
+  pub sum : o.sum ≡ n
+  pub from : o.from ≡ k
+  pub new : IsNewOutput a b terms o
+  pub one : DefinesMore a b 1

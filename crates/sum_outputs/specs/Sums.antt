@@ -1,6 +1,8 @@
 -- Sums that outputs have together.
 use Rattle.std.specs.Prelude.{◌≡◌, ◌⊎◌, ℕ, ◌+◌, ◌<◌, ◌≤◌, min, List, [], ◌∷◌, Contains, Option, Some, None}
+use Rattle.pb_lin.specs.Constraint.{total}
 use Rattle.sum_outputs.specs.declared.made.SumOutput.{SumOutput}
+use Rattle.sum_outputs.specs.declared.inner.Inner.{Inner}
 
 -- 0, or the sum of an output
 abbrev pub HasSum : List SumOutput → ℕ → Type 0
@@ -32,13 +34,15 @@ IsLessOf number (Some other) r = r ≡ min number other
 -- ---- sums in a row
 
 -- From one number to another, each with the least sum that is greater than the one before; the numbers that follow those before are at most k.
-abbrev pub IsRun : List SumOutput → List SumOutput → ℕ → ℕ → ℕ → List (ℕ × ℕ) → ℕ → Type 0
-IsRun firsts seconds total k last [] end = end ≡ last
-IsRun firsts seconds total k last (s ∷ rest) end = (s.0 ≡ last + 1) × (s.0 ≤ k) × IsLeastOf firsts seconds s.0 total s.1 × IsRun firsts seconds total k s.1 rest end
+abbrev pub IsRun : Inner → ℕ → ℕ → List (ℕ × ℕ) → ℕ → Type 0
+IsRun node k last [] end = end ≡ last
+IsRun node k last (s ∷ rest) end = (s.0 ≡ last + 1) × (s.0 ≤ k)
+    × IsLeastOf node.first.outputs.now node.second.outputs.now s.0 (total node.terms.now) s.1 × IsRun node k s.1 rest end
 
 -- up to the least of at least k, or the greatest
-abbrev pub IsRunTo : List SumOutput → List SumOutput → ℕ → ℕ → ℕ → List (ℕ × ℕ) → Type 0
-IsRunTo firsts seconds total last k sums = (end : ℕ) × IsRun firsts seconds total k last sums end × (end ≤ total) × ((k ≤ end) ⊎ (total ≤ end))
+abbrev pub IsRunTo : Inner → ℕ → ℕ → List (ℕ × ℕ) → Type 0
+IsRunTo node last k sums = (end : ℕ) × IsRun node k last sums end × (end ≤ total node.terms.now)
+    × ((k ≤ end) ⊎ (total node.terms.now ≤ end))
 
 -- the sum of the last output, or 0
 abbrev pub last_sum : List SumOutput → ℕ

@@ -4,6 +4,8 @@ use Rattle.scut_base.specs.Literal.{Literal}
 use Rattle.pb_lin.specs.Constraint.{total}
 use Rattle.sum_outputs.specs.Totals.{AreWeights, first_child, second_child}
 use Rattle.sum_outputs.specs.declared.node.Node.{Node}
+use Rattle.sum_outputs.specs.declared.made.SumOutput.{SumOutput}
+use Rattle.sum_outputs.specs.declared.inner.Inner.{Inner}
 
 -- a node over the terms that its children divide among them
 pub record IsInner (nodes : List Node) (i : ℕ) (n : Node) : Type 0 where
@@ -21,6 +23,14 @@ pub record IsNode (nodes : List Node) (i : ℕ) (n : Node) : Type 0 where
 
 abbrev pub IsTree : List Node → Type 0
 IsTree nodes = (i : ℕ) (d : Node) → i < length nodes → IsNode nodes i (slice_index_or nodes i d)
+
+-- a node of the tree with its children's terms and outputs
+pub record IsInnerOf (nodes : List Node) (made : List (List SumOutput)) (n : Node) (node : Inner) : Type 0 where
+  pub terms : node.terms.now ≡ n.terms
+  pub first_terms : (d : Node) → node.first.terms.now ≡ (slice_index_or nodes n.first d).terms
+  pub second_terms : (d : Node) → node.second.terms.now ≡ (slice_index_or nodes n.second d).terms
+  pub firsts : (os : List SumOutput) → node.first.outputs.now ≡ slice_index_or made n.first os
+  pub seconds : (os : List SumOutput) → node.second.outputs.now ≡ slice_index_or made n.second os
 
 -- the node at i is a child of the node at j
 abbrev pub IsChildOf : List Node → ℕ → ℕ → Type 0

@@ -1,24 +1,23 @@
 // An output of the root, where it is asked for.
-ghost use Rattle.std.specs.Prelude.{◌≡◌, ◌≢◌, ℕ, ◌+◌, ◌<◌, ◌≤◌, ◌^◌, ◌++◌, [], ◌∷◌, true, false, length, take, drop, slice_index_or, slice_set, All, AllPairs, IfOk, OnOk};
+ghost use Rattle.std.specs.Prelude.{◌≡◌, ◌≢◌, ◌+◌, ◌<◌, ◌≤◌, ◌^◌, ◌++◌, [], ◌∷◌, true, false, length, take, drop, slice_index_or, slice_set, All, AllPairs, IfOk, OnOk};
 ghost use Rattle.pb_lin.specs.Constraint.{total};
 ghost use Rattle.sum_outputs.specs.Totals.{IsLeastSum, definitions};
 ghost use Rattle.pb_lin.specs.Place.{IsPlace};
-ghost use Rattle.proof_laws.specs.State.{StateValue};
-ghost use Rattle.sum_outputs.specs.Outputs.{CanImplyNow, IsDefined};
+ghost use Rattle.sum_outputs.specs.Outputs.{CanImplyNow};
 ghost use Rattle.sum_outputs.specs.Falling.{IsAsked, asked_from};
-ghost use Rattle.sum_outputs.specs.Adding.{IsReached, IsReady, IsRecorded};
+ghost use Rattle.sum_outputs.specs.Adding.{DefinesMore, IsReady, IsRecorded};
 ghost use Rattle.sum_outputs.specs.declared.made.SumOutput.{SumOutput};
-ghost use Rattle.sum_outputs.specs.Joining.{AreChildrenNow, AreOutputsNow, IsCompleteTo, IsNewOutput};
+ghost use Rattle.sum_outputs.specs.Joining.{AreDefinedNow, AreOutputsNow, IsInnerAt, IsMade};
 
 use crate::SumOutput;
 use crate::extended::tie;
 use crate::extending::last_of;
+use crate::inner::Inner;
 use crate::making::make_output;
-use crate::recording::in_memory;
 use crate::sums::least_sum;
-use crate::windows::{Child, place_of};
+use crate::windows::place_of;
 use proof_rules::{RecordFault, Recorder};
-use scut_base::{Items, Lit, NoMemory};
+use scut_base::{Items, NoMemory};
 use std::alloc::Global;
 
 /// The output of the root at the least sum of at least `k`, which is made where it isn't there, and all
@@ -28,39 +27,28 @@ use std::alloc::Global;
 pub fn ask<R: Recorder>(
     alloc: Global,
     rec: &mut R,
-    first: Child<'_>,
-    second: Child<'_>,
-    terms: &[(Lit, u64)],
-    greatest: u64,
+    node: &Inner<'_>,
     outputs: &[SumOutput],
     k: u64,
 ) -> Result<(SumOutput, Items<SumOutput>), RecordFault>
     requires ready { IsReady (R.seen rec.old) }
-    requires children { AreChildrenNow (R.seen rec.old)
-        first.terms.now second.terms.now first.outputs.now second.outputs.now }
-    requires terms { terms.now ≡ first.terms.now ++ second.terms.now }
-    requires greatest { greatest ≡ total terms.now }
-    requires outputs { AreOutputsNow (R.seen rec.old) terms.now outputs.now }
-    requires defined { (s : StateValue) → IsReached (R.seen rec.old) s
-        → All (IsDefined (R.seen rec.old) s terms.now) outputs.now }
+    requires inner { IsInnerAt (R.seen rec.old) node.now k }
+    requires outputs { AreDefinedNow (R.seen rec.old) node.now.terms.now outputs.now }
     requires from_one { 0 < k }
-    requires most { k ≤ greatest }
-    requires first_complete { IsCompleteTo first.terms.now first.outputs.now k }
-    requires second_complete { IsCompleteTo second.terms.now second.outputs.now k }
+    requires most { k ≤ total node.now.terms.now }
     ensures recorded { IsRecorded (R.seen rec.old) (R.seen rec.new) result }
     ensures asked { IfOk result (λ r. IsAsked (R.seen rec.old) (R.seen rec.new)
-        terms.now outputs.now k r.0 r.1) }
+        node.now.terms.now outputs.now k r.0 r.1) }
     ensures defined { IfOk result (λ r. definitions (R.seen rec.new).lines + length outputs.now
         ≡ definitions (R.seen rec.old).lines + length r.1) }
 {
-    let sum = least_sum(first.outputs, second.outputs, k, greatest);
+    let sum = least_sum(node.first.outputs, node.second.outputs, k, node.greatest);
     let place = place_of(outputs, sum);
     if has_sum(outputs, place, sum) {
-        return in_memory(asked_again(alloc, outputs, place, k));
+        let again = asked_again(alloc, outputs, place, k)?;
+        return Ok(again);
     }
-    ask_anew(
-        alloc, rec, first, second, terms, greatest, outputs, place, k, sum,
-    )
+    ask_anew(alloc, rec, node, outputs, place, k, sum)
 }
 
 // Whether the output at a place has this sum.
@@ -125,39 +113,28 @@ fn replaced(
 fn ask_anew<R: Recorder>(
     alloc: Global,
     rec: &mut R,
-    first: Child<'_>,
-    second: Child<'_>,
-    terms: &[(Lit, u64)],
-    greatest: u64,
+    node: &Inner<'_>,
     outputs: &[SumOutput],
     place: usize,
     k: u64,
     sum: u64,
 ) -> Result<(SumOutput, Items<SumOutput>), RecordFault>
     requires ready { IsReady (R.seen rec.old) }
-    requires children { AreChildrenNow (R.seen rec.old)
-        first.terms.now second.terms.now first.outputs.now second.outputs.now }
-    requires terms { terms.now ≡ first.terms.now ++ second.terms.now }
-    requires greatest { greatest ≡ total terms.now }
-    requires outputs { AreOutputsNow (R.seen rec.old) terms.now outputs.now }
-    requires defined { (s : StateValue) → IsReached (R.seen rec.old) s
-        → All (IsDefined (R.seen rec.old) s terms.now) outputs.now }
+    requires inner { IsInnerAt (R.seen rec.old) node.now k }
+    requires outputs { AreDefinedNow (R.seen rec.old) node.now.terms.now outputs.now }
     requires place { IsPlace (λ o. o.sum) outputs.now sum place }
     requires absent { All (λ o. o.sum ≢ sum) outputs.now }
     requires from_one { 0 < k }
-    requires least { IsLeastSum terms.now k sum }
-    requires first_complete { IsCompleteTo first.terms.now first.outputs.now k }
-    requires second_complete { IsCompleteTo second.terms.now second.outputs.now k }
+    requires least { IsLeastSum node.now.terms.now k sum }
     ensures recorded { IsRecorded (R.seen rec.old) (R.seen rec.new) result }
     ensures asked { IfOk result (λ r. IsAsked (R.seen rec.old) (R.seen rec.new)
-        terms.now outputs.now k r.0 r.1) }
+        node.now.terms.now outputs.now k r.0 r.1) }
     ensures defined { IfOk result (λ r. definitions (R.seen rec.new).lines + length outputs.now
         ≡ definitions (R.seen rec.old).lines + length r.1) }
 {
-    let greater = &outputs[place..];
-    let made = make_between(alloc, rec, first, second, terms, greatest, greater, k, sum)?;
+    let made = make_between(alloc, rec, node, &outputs[place..], k, sum)?;
     tie_one(alloc, rec, &made, last_of(&outputs[..place]))?;
-    let all = in_memory(inserted(alloc, outputs, place, made))?;
+    let all = inserted(alloc, outputs, place, made)?;
     Ok((made, all))
 }
 
@@ -170,11 +147,9 @@ fn tie_one<R: Recorder>(
 ) -> Result<(), RecordFault>
     requires ready { IsReady (R.seen rec.old) }
     requires small { greater.now.sum < 2 ^ 63 }
-    requires can { (i : ℕ) (d : SumOutput) → i < length smaller.now → CanImplyNow (R.seen rec.old)
-        (greater.now ∷ []) [] (slice_index_or smaller.now i d) }
+    requires can { All (CanImplyNow (R.seen rec.old) (greater.now ∷ []) []) smaller.now }
     ensures recorded { IsRecorded (R.seen rec.old) (R.seen rec.new) result }
-    ensures defines_none { OnOk result
-        (definitions (R.seen rec.new).lines ≡ definitions (R.seen rec.old).lines) }
+    ensures defines_none { OnOk result (DefinesMore (R.seen rec.old) (R.seen rec.new) 0) }
 {
     tie(alloc, rec, &[*greater], smaller)
 }
@@ -202,34 +177,23 @@ fn inserted(
 fn make_between<R: Recorder>(
     alloc: Global,
     rec: &mut R,
-    first: Child<'_>,
-    second: Child<'_>,
-    terms: &[(Lit, u64)],
-    greatest: u64,
+    node: &Inner<'_>,
     greater: &[SumOutput],
     k: u64,
     sum: u64,
 ) -> Result<SumOutput, RecordFault>
     requires ready { IsReady (R.seen rec.old) }
-    requires children { AreChildrenNow (R.seen rec.old)
-        first.terms.now second.terms.now first.outputs.now second.outputs.now }
-    requires terms { terms.now ≡ first.terms.now ++ second.terms.now }
-    requires greatest { greatest ≡ total terms.now }
-    requires outputs { AreOutputsNow (R.seen rec.old) terms.now greater.now }
+    requires inner { IsInnerAt (R.seen rec.old) node.now k }
+    requires outputs { AreOutputsNow (R.seen rec.old) node.now.terms.now greater.now }
     requires greater { All (λ o. sum < o.sum) greater.now }
     requires from_one { 0 < k }
-    requires least { IsLeastSum terms.now k sum }
-    requires first_complete { IsCompleteTo first.terms.now first.outputs.now k }
-    requires second_complete { IsCompleteTo second.terms.now second.outputs.now k }
+    requires least { IsLeastSum node.now.terms.now k sum }
     ensures recorded { IsRecorded (R.seen rec.old) (R.seen rec.new) result }
-    ensures sum { IfOk result (λ o. (o.sum ≡ sum) × (o.from ≡ k)) }
-    ensures made { IfOk result (IsNewOutput (R.seen rec.old) (R.seen rec.new) terms.now) }
-    ensures defines_one { OnOk result
-        (definitions (R.seen rec.new).lines ≡ definitions (R.seen rec.old).lines + 1) }
+    ensures made { IfOk result (IsMade (R.seen rec.old) (R.seen rec.new) node.now.terms.now k sum) }
 {
     let next = first_of(greater);
-    let below = next_sum(next, greatest + 1);
-    make_output(alloc, rec, first, second, terms, next, k, sum, below)
+    let below = next_sum(next, node.greatest + 1);
+    make_output(alloc, rec, node, next, k, sum, below)
 }
 
 // The first output alone, or none where there is none.

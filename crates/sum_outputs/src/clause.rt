@@ -1,11 +1,10 @@
 // Clauses between outputs.
 ghost use Rattle.std.specs.Prelude.{◌≡◌, ◌<◌, ◌^◌, OnOk};
-ghost use Rattle.sum_outputs.specs.Adding.{Always, IsReady, IsRecorded};
+ghost use Rattle.sum_outputs.specs.Adding.{Always, DefinesMore, IsReady, IsRecorded};
 ghost use Rattle.sum_outputs.specs.Outputs.{CanImplyNow, Imply, sums};
-ghost use Rattle.sum_outputs.specs.Totals.{definitions};
 
 use crate::SumOutput;
-use crate::recording::{in_memory, record};
+use crate::recording::record;
 use crate::tokens::clause_tokens;
 use proof_laws::Line;
 use proof_rules::{RecordFault, Recorder};
@@ -25,15 +24,14 @@ pub(crate) fn add_clause<R: Recorder>(
     requires parts { CanImplyNow (R.seen rec.old) parts.now weakened.now target }
     ensures recorded { IsRecorded (R.seen rec.old) (R.seen rec.new) result }
     ensures says { OnOk result (Always (R.seen rec.new) (Imply parts.now target)) }
-    ensures defines_none { OnOk result
-        (definitions (R.seen rec.new).lines ≡ definitions (R.seen rec.old).lines) }
+    ensures defines_none { OnOk result (DefinesMore (R.seen rec.old) (R.seen rec.new) 0) }
 {
     // Tells that the lines so far reach a state.
     let _vars = rec.state().vars();
     // The parts' terms and the target's cancel where their lines are summed; this much is left to be reached.
     let degree = sum_of(parts) + 1 - target.sum;
-    let tokens = in_memory(clause_tokens(alloc, parts, weakened, target.upper, degree))?;
-    let _id = record(rec, &Line::Pol { tokens })?;
+    let tokens = clause_tokens(alloc, parts, weakened, target.upper, degree)?;
+    let _id = record(rec, Line::Pol { tokens })?;
     Ok(())
 }
 

@@ -7,7 +7,7 @@ ghost use Rattle.sum_outputs.specs.Outputs.{IsDefinedBy, IsDefinedNext, IsInOrde
 ghost use Rattle.sum_outputs.specs.Totals.{AreWeights};
 
 use crate::SumOutput;
-use crate::recording::{in_memory, record};
+use crate::recording::record;
 use pb_lin::Constraint;
 use proof_laws::Line;
 use proof_rules::{RecordFault, Recorder};
@@ -32,7 +32,7 @@ pub(crate) fn define<R: Recorder>(
     ensures sum { IfOk result (λ o. (o.sum ≡ sum) × (o.from ≡ from)) }
     ensures defined { IfOk result (IsDefinedNext (R.seen rec.old) (R.seen rec.new) terms.now) }
 {
-    let constraint = in_memory(at_least(alloc, terms, sum))?;
+    let constraint = at_least(alloc, terms, sum)?;
     let var = rec.state().vars() + 1;
     define_next(rec, var, constraint, from, sum)
 }
@@ -55,7 +55,7 @@ fn define_next<R: Recorder>(
     let _vars = rec.state().vars();
     let lower = record(
         rec,
-        &Line::Def {
+        Line::Def {
             var,
             sum: constraint,
         },

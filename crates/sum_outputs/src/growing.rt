@@ -1,16 +1,15 @@
 // The outputs of all nodes below the root, up to a bound.
-ghost use Rattle.std.specs.Prelude.{◌≡◌, ◌+◌, ◌-◌, ◌<◌, List, length, slice_index_or, OnOk};
+ghost use Rattle.std.specs.Prelude.{◌≡◌, ◌+◌, ◌-◌, ◌<◌, length, slice_index_or, OnOk};
 ghost use Rattle.sum_outputs.specs.Adding.{IsReady, IsRecorded};
 ghost use Rattle.sum_outputs.specs.Tree.{IsTree};
 ghost use Rattle.sum_outputs.specs.Totals.{definitions};
 ghost use Rattle.sum_outputs.specs.MadeOutputs.{AreCompleteTo, AreGrownTo, AreMadeNow, count_outputs};
 ghost use Rattle.sum_outputs.specs.declared.node.Node.{Node};
-ghost use Rattle.sum_outputs.specs.declared.made.SumOutput.{SumOutput};
 
 use crate::SumOutput;
 use crate::extended::extended;
+use crate::inner::{Inner, outputs_at};
 use crate::node::Node;
-use crate::windows::Child;
 use proof_rules::{RecordFault, Recorder};
 use scut_base::Items;
 use std::alloc::Global;
@@ -94,33 +93,8 @@ fn extend_inner<R: Recorder>(
     ensures defined { OnOk result (definitions (R.seen rec.new).lines + count_outputs made.old
         ≡ definitions (R.seen rec.old).lines + count_outputs made.new) }
 {
-    let node = &nodes[at];
-    let first = child(nodes, made, node.first);
-    let second = child(nodes, made, node.second);
-    let outputs = outputs_at(made, at);
-    let terms = node.terms.as_slice();
-    let all = extended(alloc, rec, first, second, terms, node.total, outputs, k)?;
+    let node = Inner::of(nodes, made, at);
+    let all = extended(alloc, rec, &node, outputs_at(made, at), k)?;
     made.set(at, all);
     Ok(())
-}
-
-/// The terms and outputs of a node.
-pub fn child<'a>(nodes: &'a [Node], made: &'a Items<Items<SumOutput>>, at: usize) -> Child<'a>
-    requires node { at < length nodes.now }
-    requires outputs { at < length made.now }
-    ensures terms { (d : Node) → result.terms.now ≡ (slice_index_or nodes.now at d).terms }
-    ensures outputs { (e : List SumOutput) → result.outputs.now ≡ slice_index_or made.now at e }
-{
-    Child {
-        terms: nodes[at].terms.as_slice(),
-        outputs: outputs_at(made, at),
-    }
-}
-
-// The outputs of a node.
-fn outputs_at(made: &Items<Items<SumOutput>>, at: usize) -> &[SumOutput]
-    requires { at < length made.now }
-    ensures { (e : List SumOutput) → result.now ≡ slice_index_or made.now at e }
-{
-    made.at(at).as_slice()
 }

@@ -6,6 +6,10 @@
 //! all nodes below the root up to a bound, and no more; `ask` makes one output of the root, where it isn't
 //! there. Each output's literal is true where the rows and the clauses that stay hold and the sum is
 //! reached. They only add definitions, one for each new output, and lines by cutting planes.
+//!
+//! Read `node` and `inner` first: the tree, and a node with what its children have. The main function is
+//! `ask`, in `asked`; `extend_all`, in `growing`, makes what it stands on. Both make each output by
+//! `make_output`, in `making`: a definition, and the clauses of `windows`.
 #![tactic(auto)]
 
 mod asked;
@@ -14,6 +18,7 @@ mod definition;
 mod extended;
 mod extending;
 mod growing;
+mod inner;
 mod leaf;
 mod made;
 mod making;
@@ -24,9 +29,10 @@ mod tokens;
 mod windows;
 
 pub use asked::ask;
-pub use growing::{child, extend_all};
+pub use growing::extend_all;
+pub use inner::Inner;
 pub use leaf::leaf_output;
 pub use made::SumOutput;
 pub use node::{Node, push_nodes};
 pub use recording::in_memory;
-pub use windows::{Child, place_of};
+pub use windows::place_of;

@@ -10,18 +10,18 @@ use proof_rules::{RecordFault, Recorder};
 use scut_base::NoMemory;
 
 // Records a line, and answers the first id that it makes.
-pub(crate) fn record<R: Recorder>(rec: &mut R, line: &Line) -> Result<u64, RecordFault>
+pub(crate) fn record<R: Recorder>(rec: &mut R, line: Line) -> Result<u64, RecordFault>
     requires ready { IsReady (R.seen rec.old) }
-    requires formed { IsWellFormed line.now }
-    requires kind { IsTotalizerLine line.now }
-    requires legal { MayBeAdded (R.seen rec.old).problem (R.seen rec.old).lines line.now }
+    requires formed { IsWellFormed line }
+    requires kind { IsTotalizerLine line }
+    requires legal { MayBeAdded (R.seen rec.old).problem (R.seen rec.old).lines line }
     ensures recorded { IsRecorded (R.seen rec.old) (R.seen rec.new) result }
-    ensures added { OnOk result ((R.seen rec.new).lines ≡ (R.seen rec.old).lines ++ line.now ∷ []) }
+    ensures added { OnOk result ((R.seen rec.new).lines ≡ (R.seen rec.old).lines ++ line ∷ []) }
     ensures id { IfOk result (IsNextId (R.seen rec.old).problem (R.seen rec.old).lines) }
 {
     // Tells that the lines so far reach a state.
     let _vars = rec.state().vars();
-    let id = rec.add_line(line)?;
+    let id = rec.add_line(&line)?;
     // And that they still do.
     let _state = rec.state();
     Ok(id)

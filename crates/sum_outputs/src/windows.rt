@@ -1,24 +1,16 @@
 // Clauses from the outputs of a node's children to an output of the node.
-ghost use Rattle.std.specs.Prelude.{◌≡◌, ℕ, ◌+◌, ◌<◌, ◌≤◌, ◌^◌, [], ◌∷◌, ◌++◌, length, slice_index_or, All, AllPairs, OnOk};
+ghost use Rattle.std.specs.Prelude.{◌+◌, ◌<◌, ◌≤◌, [], ◌∷◌, All, AllPairs, OnOk};
 ghost use Rattle.pb_lin.specs.Place.{IsPlace};
-ghost use Rattle.sum_outputs.specs.Totals.{definitions};
-ghost use Rattle.sum_outputs.specs.Adding.{Always, IsReady, IsRecorded};
+ghost use Rattle.sum_outputs.specs.Adding.{Always, DefinesMore, IsReady, IsRecorded};
 ghost use Rattle.sum_outputs.specs.Outputs.{AreRising, CanImplyNow, Imply};
 ghost use Rattle.sum_outputs.specs.Joining.{AreChildrenNow, AreImplying, IsLeastBetween, IsTargetNow, PairsImply, SinglesImply};
-ghost use Rattle.sum_outputs.specs.declared.made.SumOutput.{SumOutput};
 
 use crate::SumOutput;
 use crate::clause::add_clause;
+use crate::inner::Inner;
 use proof_rules::{RecordFault, Recorder};
 use scut_base::Lit;
 use std::alloc::Global;
-
-/// A child of a node: its terms and outputs.
-#[derive(Clone, Copy, Debug)]
-pub struct Child<'a> {
-    pub(crate) terms: &'a [(Lit, u64)],
-    pub(crate) outputs: &'a [SumOutput],
-}
 
 /// The place of the first output whose sum isn't below a number; where there is none, their count.
 pub fn place_of(outputs: &[SumOutput], number: u64) -> usize
@@ -53,13 +45,11 @@ pub(crate) fn add_single<R: Recorder>(
 ) -> Result<(), RecordFault>
     requires ready { IsReady (R.seen rec.old) }
     requires rising { AreRising parts.now }
-    requires can { (k : ℕ) (d : SumOutput) → k < length parts.now
-        → target.now.sum ≤ (slice_index_or parts.now k d).sum → CanImplyNow (R.seen rec.old)
-        (slice_index_or parts.now k d ∷ []) weakened.now target.now }
+    requires can { All (λ o. target.now.sum ≤ o.sum → CanImplyNow (R.seen rec.old)
+        (o ∷ []) weakened.now target.now) parts.now }
     ensures recorded { IsRecorded (R.seen rec.old) (R.seen rec.new) result }
     ensures says { OnOk result (SinglesImply (R.seen rec.new) parts.now target.now below) }
-    ensures defines_none { OnOk result
-        (definitions (R.seen rec.new).lines ≡ definitions (R.seen rec.old).lines) }
+    ensures defines_none { OnOk result (DefinesMore (R.seen rec.old) (R.seen rec.new) 0) }
 {
     match least_between(parts, target.sum, below) {
         Some(least) => imply_by_one(alloc, rec, &least, weakened, target),
@@ -79,14 +69,11 @@ fn add_pair<R: Recorder>(
 ) -> Result<(), RecordFault>
     requires ready { IsReady (R.seen rec.old) }
     requires rising { AreRising others.now }
-    requires can { (k : ℕ) (d : SumOutput) → k < length others.now
-        → target.now.sum ≤ part.now.sum + (slice_index_or others.now k d).sum
-        → CanImplyNow (R.seen rec.old)
-        (part.now ∷ slice_index_or others.now k d ∷ []) [] target.now }
+    requires can { All (λ o. target.now.sum ≤ part.now.sum + o.sum → CanImplyNow (R.seen rec.old)
+        (part.now ∷ o ∷ []) [] target.now) others.now }
     ensures recorded { IsRecorded (R.seen rec.old) (R.seen rec.new) result }
     ensures says { OnOk result (PairsImply (R.seen rec.new) part.now others.now target.now below) }
-    ensures defines_none { OnOk result
-        (definitions (R.seen rec.new).lines ≡ definitions (R.seen rec.old).lines) }
+    ensures defines_none { OnOk result (DefinesMore (R.seen rec.old) (R.seen rec.new) 0) }
 {
     let rest = target.sum.saturating_sub(part.sum);
     match least_between(others, rest, below.saturating_sub(part.sum)) {
@@ -107,8 +94,7 @@ fn imply_by_one<R: Recorder>(
     requires can { CanImplyNow (R.seen rec.old) (part.now ∷ []) weakened.now target.now }
     ensures recorded { IsRecorded (R.seen rec.old) (R.seen rec.new) result }
     ensures says { OnOk result (Always (R.seen rec.new) (Imply (part.now ∷ []) target.now)) }
-    ensures defines_none { OnOk result
-        (definitions (R.seen rec.new).lines ≡ definitions (R.seen rec.old).lines) }
+    ensures defines_none { OnOk result (DefinesMore (R.seen rec.old) (R.seen rec.new) 0) }
 {
     add_clause(alloc, rec, &[*part], weakened, *target)
 }
@@ -126,8 +112,7 @@ fn imply_by_two<R: Recorder>(
     ensures recorded { IsRecorded (R.seen rec.old) (R.seen rec.new) result }
     ensures says { OnOk result (Always (R.seen rec.new)
         (Imply (first.now ∷ second.now ∷ []) target.now)) }
-    ensures defines_none { OnOk result
-        (definitions (R.seen rec.new).lines ≡ definitions (R.seen rec.old).lines) }
+    ensures defines_none { OnOk result (DefinesMore (R.seen rec.old) (R.seen rec.new) 0) }
 {
     add_clause(alloc, rec, &[*first, *second], &[], *target)
 }
@@ -135,28 +120,46 @@ fn imply_by_two<R: Recorder>(
 // Adds clauses from the outputs of a node's children to the target, by which each output, and each pair of
 // outputs, implies it whose sum is at least the target's and below a number: a clause for the least of each
 // child, and for each of the first child's below the target a clause with its least partner.
+// Greater ones imply these by the ties between neighbours, so propagation forces the same; clauses for all
+// pairs would be as many as the product of both children's outputs.
 pub(crate) fn add_window<R: Recorder>(
     alloc: Global,
     rec: &mut R,
-    first: Child<'_>,
-    second: Child<'_>,
+    node: &Inner<'_>,
     target: &SumOutput,
     below: u64,
 ) -> Result<(), RecordFault>
     requires ready { IsReady (R.seen rec.old) }
-    requires children { AreChildrenNow (R.seen rec.old)
-        first.terms.now second.terms.now first.outputs.now second.outputs.now }
-    requires target { IsTargetNow (R.seen rec.old)
-        (first.terms.now ++ second.terms.now) first.outputs.now second.outputs.now target.now }
+    requires children { AreChildrenNow (R.seen rec.old) node.now }
+    requires target { IsTargetNow (R.seen rec.old) node.now target.now }
     ensures recorded { IsRecorded (R.seen rec.old) (R.seen rec.new) result }
-    ensures says { OnOk result (AreImplying (R.seen rec.new)
-        first.entry.outputs.now second.entry.outputs.now target.now below) }
-    ensures defines_none { OnOk result
-        (definitions (R.seen rec.new).lines ≡ definitions (R.seen rec.old).lines) }
+    ensures says { OnOk result (AreImplying (R.seen rec.new) node.now target.now below) }
+    ensures defines_none { OnOk result (DefinesMore (R.seen rec.old) (R.seen rec.new) 0) }
 {
-    add_single(alloc, rec, first.outputs, second.terms, target, below)?;
-    add_single(alloc, rec, second.outputs, first.terms, target, below)?;
-    add_pairs(alloc, rec, first.outputs, second.outputs, target, below)
+    add_single(
+        alloc,
+        rec,
+        node.first.outputs,
+        node.second.terms,
+        target,
+        below,
+    )?;
+    add_single(
+        alloc,
+        rec,
+        node.second.outputs,
+        node.first.terms,
+        target,
+        below,
+    )?;
+    add_pairs(
+        alloc,
+        rec,
+        node.first.outputs,
+        node.second.outputs,
+        target,
+        below,
+    )
 }
 
 // Adds for each of the first outputs whose sum is below the target's the clause with its least partner.
@@ -171,17 +174,12 @@ fn add_pairs<R: Recorder>(
     requires ready { IsReady (R.seen rec.old) }
     requires rising { AreRising firsts.now }
     requires rising_too { AreRising seconds.now }
-    requires can { (i : ℕ) (d : SumOutput) (j : ℕ) (e : SumOutput)
-        → i < length firsts.now → j < length seconds.now
-        → target.now.sum ≤ (slice_index_or firsts.now i d).sum + (slice_index_or seconds.now j e).sum
-        → CanImplyNow (R.seen rec.old)
-        (slice_index_or firsts.now i d ∷ slice_index_or seconds.now j e ∷ []) [] target.now }
+    requires can { All (λ o. All (λ q. target.now.sum ≤ o.sum + q.sum
+        → CanImplyNow (R.seen rec.old) (o ∷ q ∷ []) [] target.now) seconds.now) firsts.now }
     ensures recorded { IsRecorded (R.seen rec.old) (R.seen rec.new) result }
-    ensures says { OnOk result ((i : ℕ) (d : SumOutput) → i < length firsts.now
-        → (slice_index_or firsts.now i d).sum < target.now.sum → PairsImply (R.seen rec.new)
-        (slice_index_or firsts.now i d) seconds.now target.now below) }
-    ensures defines_none { OnOk result
-        (definitions (R.seen rec.new).lines ≡ definitions (R.seen rec.old).lines) }
+    ensures says { OnOk result (All (λ o. o.sum < target.now.sum
+        → PairsImply (R.seen rec.new) o seconds.now target.now below) firsts.now) }
+    ensures defines_none { OnOk result (DefinesMore (R.seen rec.old) (R.seen rec.new) 0) }
 {
     for at in 0..place_of(firsts, target.sum) {
         add_pair(alloc, rec, &firsts[at], seconds, target, below)?;

@@ -24,7 +24,8 @@ use Rattle.totalizer.specs.Meaning.{IsBound, IsBoundAt}
 use Rattle.totalizer.specs.Totalizing.{root_terms}
 use Rattle.totalizer.proofs.BoundLines.{output_bound}
 use Rattle.totalizer.proofs.LaterOutputs.{made_then, later_of}
-use Rattle.totalizer.proofs.Roots.{any_node, root_is, some_nodes}
+use Rattle.sum_outputs.proofs.MadeLists.{any_node}
+use Rattle.totalizer.proofs.Roots.{root_is, some_nodes}
 
 -- what holds at one place and what holds at all others holds in a list with another element there
 set_cases : (P : ℕ → List SumOutput → Type 0) (made : List (List SumOutput)) (i : ℕ) (os : List SumOutput) →

@@ -14,7 +14,8 @@ use Rattle.sum_outputs.specs.declared.node.Node.{Node}
 use Rattle.sum_outputs.specs.declared.made.SumOutput.{SumOutput}
 use Rattle.totalizer.specs.Totalizing.{root_terms}
 use Rattle.totalizer.specs.Demanding.{IsDemanded, IsThere}
-use Rattle.totalizer.proofs.Roots.{any_node, root_is}
+use Rattle.sum_outputs.proofs.MadeLists.{any_node}
+use Rattle.totalizer.proofs.Roots.{root_is}
 
 least_once : (terms : Terms) (k m n : ℕ) → IsLeastSum terms k m → IsLeastSum terms k n → m ≡ n
 least_once terms k m n one other =

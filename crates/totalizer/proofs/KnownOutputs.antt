@@ -25,7 +25,8 @@ use Rattle.totalizer.specs.Totalizing.{TotalizerValue, root_terms, Fits}
 use Rattle.totalizer.specs.Demanding.{MakesDemanded, AddsFor}
 use Rattle.totalizer.specs.Knowing.{IsKnown}
 use Rattle.totalizer.proofs.BoundLines.{leaf_bound, output_bound}
-use Rattle.totalizer.proofs.Roots.{any_node, root_is, attain_root, alone}
+use Rattle.sum_outputs.proofs.MadeLists.{any_node}
+use Rattle.totalizer.proofs.Roots.{root_is, attain_root, alone}
 use Rattle.totalizer.proofs.DemandedOutputs.{all_there, attained}
 
 one_value : (x : List Bool) (t : Literal × ℕ) → (value x (t ∷ []) ≡ 0) ⊎ (value x (t ∷ []) ≡ total (t ∷ []))

@@ -24,11 +24,11 @@ use Rattle.sum_outputs.specs.declared.node.Node.{Node}
 use Rattle.sum_outputs.specs.declared.made.SumOutput.{SumOutput}
 use Rattle.sum_outputs.proofs.Attaining.{apart_across}
 use Rattle.sum_outputs.proofs.LeafLists.{leaf_outputs, leaf_complete}
-use Rattle.sum_outputs.proofs.MadeLists.{terms_divide}
+use Rattle.sum_outputs.proofs.MadeLists.{any_node, terms_divide}
 use Rattle.totalizer.specs.Totalizing.{first_outputs, Fits, HasVariables}
 use Rattle.totalizer.specs.Knowing.{AreNodesOf}
 use Rattle.totalizer.proofs.AskedTotalizer.{totalizer_of}
-use Rattle.totalizer.proofs.Roots.{any_node, root_is, alone}
+use Rattle.totalizer.proofs.Roots.{root_is, alone}
 
 -- ---- nodes
 

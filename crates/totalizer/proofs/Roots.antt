@@ -7,12 +7,8 @@ use Rattle.sum_outputs.specs.Totals.{AreWeights, IsAttainable}
 use Rattle.sum_outputs.specs.Tree.{IsChildOf, IsInner}
 use Rattle.sum_outputs.specs.declared.node.Node.{Node}
 use Rattle.sum_outputs.proofs.Attaining.{attain_first, attain_second}
-use Rattle.sum_outputs.proofs.MadeLists.{inner_of, terms_divide}
+use Rattle.sum_outputs.proofs.MadeLists.{any_node, inner_of, terms_divide}
 use Rattle.totalizer.specs.Totalizing.{root_terms, IsRooted}
-
--- some node
-abbrev pub any_node : Node
-any_node = record { terms = []; total = 0; first = 0; second = 0 }
 
 -- there is a node where there are terms, or weights
 pub some_nodes : (nodes : List Node) → 0 < length (root_terms nodes) → 0 < length nodes

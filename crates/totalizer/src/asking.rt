@@ -14,7 +14,7 @@ use crate::Bound;
 use proof_rules::{RecordFault, Recorder};
 use scut_base::Items;
 use std::alloc::Global;
-use sum_outputs::{Node, SumOutput, ask, child, extend_all};
+use sum_outputs::{Inner, Node, SumOutput, ask, extend_all};
 
 // Makes the output of the root at the least sum of at least `k`, and before it those below the root that it
 // stands on.
@@ -72,10 +72,6 @@ fn ask_root<R: Recorder>(
         ≡ definitions (R.seen rec.old).lines + length r.1) }
 {
     let at = nodes.len() - 1;
-    let root = &nodes[at];
-    let first = child(nodes, made, root.first);
-    let second = child(nodes, made, root.second);
-    let outputs = made.at(at).as_slice();
-    let terms = root.terms.as_slice();
-    ask(alloc, rec, first, second, terms, root.total, outputs, k)
+    let root = Inner::of(nodes, made, at);
+    ask(alloc, rec, &root, made.at(at).as_slice(), k)
 }

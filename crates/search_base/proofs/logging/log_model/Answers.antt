@@ -41,7 +41,7 @@ add_line-requires-clause-legal g c =
     let s = c.state.result.now in
     let ready = c.requires.ready in
     let same : ready.state ≡ s = replay_once p ls ready.state s ready.reached c.state.ensures in
-    let running : s.ended ≡ false = subst (λ (t : StateValue). t.ended ≡ false) same ready.open' in
+    let running : s.ended ≡ false = subst (λ (t : StateValue). t.ended ≡ false) same ready.unended in
     line_may p ls s c.args.model.now c.args.answers.now c.in_ok-line.line
     (rw c.in_ok-line.ensures.ok at c.model_line.ensures)
     (answers_at p ls s c.args.model.now c.args.answers.now c.state.ensures c.requires.answers)

@@ -9,4 +9,4 @@ pub make_output-requires-clause-next : goal.make_output-requires-clause-next
 make_output-requires-clause-next g c = λ s reached.
     let R = g.R.Recorder in
     let a = R.seen c.args.rec.now in
-    subst (λ (os : List SumOutput). AreOutputsAt a s c.args.terms.now os) (sym c.first_of-next.ensures) (first_outputs a s c.args.terms.now c.args.greater.now (c.requires.outputs s reached))
+    subst (λ (os : List SumOutput). AreOutputsAt a s c.args.node.now.terms.now os) (sym c.first_of-next.ensures) (first_outputs a s c.args.node.now.terms.now c.args.greater.now (c.requires.outputs s reached))

@@ -1,16 +1,13 @@
 -- What a clause leaves of a recorder, and what it says.
-use Rattle.std.proofs.Common.{◌≡◌, ◌++◌, ◌∷◌, [], List, ℕ, ◌+◌, ◌-◌, Err, ap, sym, subst, ◌∙◌, arith}
-use Rattle.std.proofs.lemmas.Result.{err_from_is_err_and, IfOk-at_ok}
+use Rattle.std.proofs.Common.{◌≡◌, ◌++◌, ◌∷◌, [], List, ℕ, ◌+◌, ◌-◌, ap, sym, subst, ◌∙◌, arith}
 use Rattle.cutting_planes.specs.declared.token.PolToken.{PolToken}
 use Rattle.proof_laws.specs.declared.line.Line.TheVariants.{Pol}
 use Rattle.proof_laws.specs.WellFormed.{AreTokens}
 use Rattle.proof_rules.specs.Recording.{MayBeAdded}
-use Rattle.proof_rules.specs.declared.recorder.RecordFault.{RecordFault}
-use Rattle.proof_rules.specs.declared.recorder.RecordFault.TheVariants.{NoMemory}
 use Rattle.sum_outputs.specs.ClauseTokens.{clause_tokens}
 use Rattle.sum_outputs.proofs.TokenLists.{lowers_of}
 use Rattle.sum_outputs.specs.Totals.{definitions}
-use Rattle.sum_outputs.proofs.LaterStates.{continues_again, recorded_err}
+use Rattle.sum_outputs.proofs.LaterStates.{continues_again, memory_err}
 use Rattle.sum_outputs.proofs.ImplyLines.{imply_tokens, sums_small, imply_formed, imply_legal, imply_says}
 use Rattle.sum_outputs.proofs.DefinitionCounts.{definitions_push}
 use Rattle.sum_outputs.proofs.clause.add_clause.Goals as goal
@@ -33,9 +30,7 @@ pub returns-in_err-tokens-clause-recorded : goal.returns-in_err-tokens-clause-re
 returns-in_err-tokens-clause-recorded g c =
     let R = g.R.Recorder in
     let a = R.seen c.args.rec.now in
-    let p = err_from_is_err_and c.from_residual.result c.from_residual.ensures.1 in
-    let fault : p.0 ≡ NoMemory = p.2 ∙ c.in_err-tokens.ensures.fault in
-    recorded_err a a NoMemory c.from_residual.result (p.1 ∙ ap (λ (f : RecordFault). Err f) fault) (continues_again a) tt
+    memory_err a a c.from_residual.result (continues_again a) c.from_residual.ensures.1
 
 pub record-requires-clause-formed : goal.record-requires-clause-formed
 record-requires-clause-formed g c =
@@ -43,7 +38,7 @@ record-requires-clause-formed g c =
     let a = R.seen c.args.rec.now in
     let can = c.requires.parts c.state.result.now c.state.ensures in
     let tokens_are : c.in_ok-tokens.tokens ≡ imply_tokens a c.state.result.now c.vars-vars.ensures.state c.state.ensures c.args.parts.now c.args.weakened.now c.args.target can =
-    IfOk-at_ok (λ ts. ts ≡ clause_tokens (lowers_of c.args.parts.now) c.args.target.upper c.args.weakened.now ((c.sum_of.result + 1) - c.args.target.sum)) c.in_ok-tokens.ensures.ok c.clause_tokens.ensures
+    c.in_ok-tokens.ensures
     ∙ ap (λ (n : ℕ). clause_tokens (lowers_of c.args.parts.now) c.args.target.upper c.args.weakened.now ((n + 1) - c.args.target.sum)) c.sum_of.ensures in
     subst (λ (ts : List PolToken). AreTokens ts) (sym tokens_are) (imply_formed a c.state.result.now c.vars-vars.ensures.state c.state.ensures c.args.parts.now c.args.weakened.now c.args.target can)
 
@@ -53,7 +48,7 @@ record-requires-clause-legal g c =
     let a = R.seen c.args.rec.now in
     let can = c.requires.parts c.state.result.now c.state.ensures in
     let tokens_are : c.in_ok-tokens.tokens ≡ imply_tokens a c.state.result.now c.vars-vars.ensures.state c.state.ensures c.args.parts.now c.args.weakened.now c.args.target can =
-    IfOk-at_ok (λ ts. ts ≡ clause_tokens (lowers_of c.args.parts.now) c.args.target.upper c.args.weakened.now ((c.sum_of.result + 1) - c.args.target.sum)) c.in_ok-tokens.ensures.ok c.clause_tokens.ensures
+    c.in_ok-tokens.ensures
     ∙ ap (λ (n : ℕ). clause_tokens (lowers_of c.args.parts.now) c.args.target.upper c.args.weakened.now ((n + 1) - c.args.target.sum)) c.sum_of.ensures in
     subst (λ (ts : List PolToken). MayBeAdded a.problem a.lines (Pol ts)) (sym tokens_are) (imply_legal a c.state.result.now c.vars-vars.ensures.state c.state.ensures c.args.parts.now c.args.weakened.now c.args.target can c.requires.ready)
 
@@ -63,7 +58,7 @@ returns-clause-says g c =
     let a = R.seen c.args.rec.now in
     let can = c.requires.parts c.state.result.now c.state.ensures in
     let tokens_are : c.in_ok-tokens.tokens ≡ imply_tokens a c.state.result.now c.vars-vars.ensures.state c.state.ensures c.args.parts.now c.args.weakened.now c.args.target can =
-    IfOk-at_ok (λ ts. ts ≡ clause_tokens (lowers_of c.args.parts.now) c.args.target.upper c.args.weakened.now ((c.sum_of.result + 1) - c.args.target.sum)) c.in_ok-tokens.ensures.ok c.clause_tokens.ensures
+    c.in_ok-tokens.ensures
     ∙ ap (λ (n : ℕ). clause_tokens (lowers_of c.args.parts.now) c.args.target.upper c.args.weakened.now ((n + 1) - c.args.target.sum)) c.sum_of.ensures in
     let b = R.seen c.record.new.rec in
     imply_says a c.state.result.now c.vars-vars.ensures.state c.state.ensures c.args.parts.now c.args.weakened.now c.args.target can b c.in_ok-_id.ensures.recorded.continues.problem

@@ -14,7 +14,7 @@ pub loop-at-init : goal.loop-at-init
 loop-at-init g c =
     let R = g.R.Recorder in
     let a = R.seen c.args.rec.now in
-    record { way = way_starts a c.requires.ready; defines_none = refl; done = λ k d low high. absurd (omega arith) }
+    record { way = way_starts a c.requires.ready; defines_none = omega arith; done = λ k d low high. absurd (omega arith) }
 
 pub add_single-requires-clause-ready : goal.add_single-requires-clause-ready
 add_single-requires-clause-ready g c =
@@ -30,7 +30,7 @@ add_single-requires-clause-can g c = λ k e short reach.
     let b = R.seen c.loop-at.rec in
     let x = c.index-smaller-at.result in
     can_later a b (get_or c.args.greater.now k e ∷ []) [] x c.requires.ready c.loop-at.invariant.way.on
-    (subst (λ (o : SumOutput). CanImplyNow a (get_or c.args.greater.now k e ∷ []) [] o) (sym c.index-smaller-at.is) (c.requires.can c.loop-at.at x k e (omega arith) short))
+    (subst (λ (o : SumOutput). CanImplyNow a (get_or c.args.greater.now k e ∷ []) [] o) (sym c.index-smaller-at.is) (c.requires.can c.loop-at.at x (omega arith) k e short))
 
 pub returns-in_err-add_single-clause-recorded : goal.returns-in_err-add_single-clause-recorded
 returns-in_err-add_single-clause-recorded g c =
@@ -53,7 +53,7 @@ loop-at-preserved g c =
     let most = 2 ^ 64 - 1 in
     record {
       way = way_on a b d c.loop-at.invariant.way call.recorded.continues call.recorded.whole;
-      defines_none = call.defines_none ∙ c.loop-at.invariant.defines_none;
+      defines_none = let before = c.loop-at.invariant.defines_none in let here = call.defines_none in omega arith;
       done = done_step (λ (o : SumOutput). SinglesImply d greater o most) c.args.smaller.now c.index-smaller-at.result 0 c.loop-at.at c.index-smaller-at.is (omega arith) call.says
           (λ k e low high. let o = get_or c.args.smaller.now k e in
           lesser_map greater o.sum most (λ (q : SumOutput). Always b (Imply (q ∷ []) o)) (λ (q : SumOutput). Always d (Imply (q ∷ []) o))

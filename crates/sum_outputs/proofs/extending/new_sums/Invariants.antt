@@ -5,9 +5,9 @@ use Rattle.sum_outputs.proofs.extending.new_sums.Given as goal
 
 abbrev pub invariant-loop-end : goal.invariant-loop-end
 invariant-loop-end l = record {
-  run : IsRun l.firsts l.seconds l.total l.k l.last l.sums l.end;
-  most : l.end ≤ l.total;
+  run : IsRun l.node l.k l.last l.sums l.end;
+  most : l.end ≤ l.node.greatest;
 }
 
 abbrev pub decreases-loop-end : goal.decreases-loop-end
-decreases-loop-end l = l.total - l.end
+decreases-loop-end l = l.node.greatest - l.end

@@ -14,7 +14,7 @@ pub loop-at-init : goal.loop-at-init
 loop-at-init g c =
     let R = g.R.Recorder in
     let a = R.seen c.args.rec.now in
-    record { way = way_starts a c.requires.ready; defines_none = refl; done = λ k d low high. absurd (omega arith) }
+    record { way = way_starts a c.requires.ready; defines_none = omega arith; done = λ k d low high. absurd (omega arith) }
 
 pub add_pair-requires-clause-ready : goal.add_pair-requires-clause-ready
 add_pair-requires-clause-ready g c =
@@ -33,7 +33,7 @@ add_pair-requires-clause-can g c = λ j e short reach.
     let sums : x.sum ≡ (get_or c.args.firsts.now c.loop-at.at x).sum = ap (λ (o : SumOutput). o.sum) is in
     let inside : c.loop-at.at < length c.args.firsts.now = let end = c.place_of-at-end.ensures.bound in omega arith in
     can_later a b (x ∷ get_or c.args.seconds.now j e ∷ []) [] c.args.target.now c.requires.ready c.loop-at.invariant.way.on
-    (subst (λ (o : SumOutput). CanImplyNow a (o ∷ get_or c.args.seconds.now j e ∷ []) [] c.args.target.now) (sym is) (c.requires.can c.loop-at.at x j e inside short (omega arith)))
+    (subst (λ (o : SumOutput). CanImplyNow a (o ∷ get_or c.args.seconds.now j e ∷ []) [] c.args.target.now) (sym is) (c.requires.can c.loop-at.at x inside j e short (omega arith)))
 
 pub returns-in_err-add_pair-clause-recorded : goal.returns-in_err-add_pair-clause-recorded
 returns-in_err-add_pair-clause-recorded g c =
@@ -57,7 +57,7 @@ loop-at-preserved g c =
     let inside : c.loop-at.at < length c.args.firsts.now = let end = c.place_of-at-end.ensures.bound in omega arith in
     record {
       way = way_on a b b' way call.recorded.continues call.recorded.whole;
-      defines_none = call.defines_none ∙ c.loop-at.invariant.defines_none;
+      defines_none = let before = c.loop-at.invariant.defines_none in let here = call.defines_none in omega arith;
       done = done_step (λ (o : SumOutput). PairsImply b' o c.args.seconds.now target c.args.below) c.args.firsts.now c.index-firsts-at.result 0 c.loop-at.at c.index-firsts-at.is inside call.says
           (λ k d low high. let f = get_or c.args.firsts.now k d in
           lesser_map c.args.seconds.now (target.sum - f.sum) (c.args.below - f.sum) (λ (q : SumOutput). Always b (Imply (f ∷ q ∷ []) target)) (λ (q : SumOutput). Always b' (Imply (f ∷ q ∷ []) target))

@@ -14,7 +14,7 @@ pub add_single-requires-clause-can : goal.add_single-requires-clause-can
 add_single-requires-clause-can g c = λ k d short reach s reached.
     let R = g.R.Recorder in
     let a = R.seen c.args.rec.now in
-    first_can a s c.args.first.terms.now c.args.second.terms.now c.args.first.outputs.now c.args.second.outputs.now c.args.target.now (c.requires.children s reached) (c.requires.target s reached) k d short reach
+    first_can a s c.args.node.now.first.terms.now c.args.node.now.second.terms.now c.args.node.now.first.outputs.now c.args.node.now.second.outputs.now c.args.target.now (c.requires.children s reached) (c.requires.target s reached) k d short reach
 
 pub add_single-requires-2-clause-ready : goal.add_single-requires-2-clause-ready
 add_single-requires-2-clause-ready g c =
@@ -28,8 +28,8 @@ add_single-requires-2-clause-can g c = λ k d short reach.
     let R = g.R.Recorder in
     let a = R.seen c.args.rec.now in
     let b = R.seen c.add_single.new.rec in
-    can_later a b (get_or c.args.second.outputs.now k d ∷ []) c.args.first.terms.now c.args.target.now c.requires.ready c.in_ok-add_single.ensures.recorded.continues
-    (λ s reached. second_can a s c.args.first.terms.now c.args.second.terms.now c.args.first.outputs.now c.args.second.outputs.now c.args.target.now (c.requires.children s reached) (c.requires.target s reached) k d short reach)
+    can_later a b (get_or c.args.node.now.second.outputs.now k d ∷ []) c.args.node.now.first.terms.now c.args.target.now c.requires.ready c.in_ok-add_single.ensures.recorded.continues
+    (λ s reached. second_can a s c.args.node.now.first.terms.now c.args.node.now.second.terms.now c.args.node.now.first.outputs.now c.args.node.now.second.outputs.now c.args.target.now (c.requires.children s reached) (c.requires.target s reached) k d short reach)
 
 pub returns-in_err-add_single-2-clause-recorded : goal.returns-in_err-add_single-2-clause-recorded
 returns-in_err-add_single-2-clause-recorded g c =
@@ -50,14 +50,14 @@ add_pairs-requires-clause-ready g c =
     ready_later a d c.requires.ready on c.in_ok-add_single-2.ensures.recorded.whole
 
 pub add_pairs-requires-clause-can : goal.add_pairs-requires-clause-can
-add_pairs-requires-clause-can g c = λ i m j e short short' reach.
+add_pairs-requires-clause-can g c = λ i m short j e short' reach.
     let R = g.R.Recorder in
     let a = R.seen c.args.rec.now in
     let b = R.seen c.add_single.new.rec in
     let d = R.seen c.add_single-2.new.rec in
     let on = continues_twice a b d c.in_ok-add_single.ensures.recorded.continues c.in_ok-add_single-2.ensures.recorded.continues in
-    can_later a d (get_or c.args.first.outputs.now i m ∷ get_or c.args.second.outputs.now j e ∷ []) [] c.args.target.now c.requires.ready on
-    (λ s reached. pair_can a s c.args.first.terms.now c.args.second.terms.now c.args.first.outputs.now c.args.second.outputs.now c.args.target.now (c.requires.children s reached) (c.requires.target s reached) i m j e short short' reach)
+    can_later a d (get_or c.args.node.now.first.outputs.now i m ∷ get_or c.args.node.now.second.outputs.now j e ∷ []) [] c.args.target.now c.requires.ready on
+    (λ s reached. pair_can a s c.args.node.now.first.terms.now c.args.node.now.second.terms.now c.args.node.now.first.outputs.now c.args.node.now.second.outputs.now c.args.target.now (c.requires.children s reached) (c.requires.target s reached) i m j e short short' reach)
 
 pub returns-clause-recorded : goal.returns-clause-recorded
 returns-clause-recorded g c =
@@ -83,9 +83,9 @@ returns-clause-says g c =
     let on_h = c.add_pairs.ensures.recorded.continues in
     let target = c.args.target.now in
     on_ok_weaker c.add_pairs.result (λ pairs. record {
-      by_firsts = lesser_map c.args.first.outputs.now target.sum c.args.below (λ (q : SumOutput). Always b (Imply (q ∷ []) target)) (λ (q : SumOutput). Always h (Imply (q ∷ []) target))
+      by_firsts = lesser_map c.args.node.now.first.outputs.now target.sum c.args.below (λ (q : SumOutput). Always b (Imply (q ∷ []) target)) (λ (q : SumOutput). Always h (Imply (q ∷ []) target))
           (λ q says. always_later d h (Imply (q ∷ []) target) ready_d on_h (always_later b d (Imply (q ∷ []) target) ready_b on_d says)) c.in_ok-add_single.ensures.says;
-      by_seconds = lesser_map c.args.second.outputs.now target.sum c.args.below (λ (q : SumOutput). Always d (Imply (q ∷ []) target)) (λ (q : SumOutput). Always h (Imply (q ∷ []) target))
+      by_seconds = lesser_map c.args.node.now.second.outputs.now target.sum c.args.below (λ (q : SumOutput). Always d (Imply (q ∷ []) target)) (λ (q : SumOutput). Always h (Imply (q ∷ []) target))
           (λ q says. always_later d h (Imply (q ∷ []) target) ready_d on_h says) c.in_ok-add_single-2.ensures.says;
       by_pairs = pairs;
     }) c.add_pairs.ensures.says
