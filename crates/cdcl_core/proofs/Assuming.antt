@@ -155,10 +155,10 @@ pub solution_found : {R : Type 0} (seen : R → Snapshot) (v : SolverValue R) (a
     → IsWorking seen v → length a ≡ v.search.trail.vars → IsOfSteps v.search.trail a → ((id : ℕ) (c : ConstraintValue) → get v.search.store id ≡ Some c → Holds a c) → AreMet v.search.trail assumptions
     → ((p : ProblemValue) (s : StateValue) (store : LineMap) (a : List Bool) (assumptions : List Literal) → Fits p s → IsState s → IsStored p s s.next_id store → length a ≡ s.vars
     → ((id : ℕ) (c : ConstraintValue) → get store id ≡ Some c → Holds a c) → All (λ l. lit_true a l ≡ true) assumptions → IsSolution p assumptions a s)
-    → Reaches (seen v.recorder).problem (seen v.recorder).lines (IsSolution p assumptions a)
+    → Reaches (seen v.recorder).problem (seen v.recorder).lines (IsSolution (seen v.recorder).problem assumptions a)
 solution_found seen v assumptions a work long steps holds met law t replay =
     let taken = work.taken in
     let held = taken.held in
-    subst (IsSolution p assumptions a) (replay_once (seen v.recorder).problem (seen v.recorder).lines held.state t held.replay replay)
+    subst (IsSolution (seen v.recorder).problem assumptions a) (replay_once (seen v.recorder).problem (seen v.recorder).lines held.state t held.replay replay)
     (law (seen v.recorder).problem held.state v.search.store a assumptions held.fits held.is (subst (λ (n : ℕ). IsStored (seen v.recorder).problem held.state n v.search.store) taken.all held.stored) (long ∙ taken.vars) holds
     (All-weaker (λ (l : Literal). partial_truth (partial v.search.trail) l ≡ Some true) (λ (l : Literal). lit_true a l ≡ true) steps assumptions met))

@@ -183,6 +183,10 @@ module _ {R : Type 0} (seen : R → Snapshot) where
         (subst (λ (p : ProblemValue). AddsSearchLines p (seen b.recorder).lines (seen c.recorder).lines) kept.problem steps.adds);
   }
 
+  pub steps_after : (v w b c : SolverValue R) → v ≡ w → AddsLearned (seen v.recorder).problem (seen v.recorder).lines (seen b.recorder).lines → b.limit ≡ v.limit → KeepsRecorder (seen v.recorder) (seen b.recorder)
+      → StepsFrom seen b c → StepsFrom seen w c
+  steps_after v w b c same learns limit kept steps = subst (λ (s : SolverValue R). StepsFrom seen s c) same (steps_twice v b c learns limit kept steps)
+
   -- ---- implied clauses
 
   pub implies_unchanged : (v w : SolverValue R) (new : List Line) (P : ConstraintValue → Type 0) → v ≡ w → new ≡ (seen v.recorder).lines

@@ -7,8 +7,8 @@ ghost use Rattle.oracle.specs.Solving.{AreAssumptions, IsAnswer, IsCoreClause};
 ghost use Rattle.cdcl_core.specs.Work.{Ends, ImpliesOnly, IsAnsweredCore, IsLed, IsProgress, IsWorking, StepsFrom};
 
 use crate::Solver;
-use crate::schedule::restart_due;
 use crate::progress::Progress;
+use crate::schedule::restart_due;
 use clause_prop::Propagator;
 use oracle::{Answer, OracleFault};
 use proof_rules::Recorder;

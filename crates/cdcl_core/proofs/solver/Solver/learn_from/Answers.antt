@@ -10,7 +10,7 @@ use Rattle.cdcl_core.specs.Work.{SolverValue, IsLed}
 use Rattle.cdcl_core.proofs.Endings.{nearer_after}
 use Rattle.cdcl_core.proofs.ImpliedLines.{none_implied}
 use Rattle.cdcl_core.proofs.Turns.{undecided_at_zero}
-use Rattle.cdcl_core.proofs.Working.{implies_unchanged, steps_none, steps_on, steps_twice}
+use Rattle.cdcl_core.proofs.Working.{implies_unchanged, steps_after, steps_none}
 use Rattle.cdcl_core.proofs.solver.Solver.learn_from.Goals as goal
 
 pub refute-requires-clause-undecided : goal.refute-requires-clause-undecided
@@ -30,8 +30,7 @@ returns-in_err-learn-clause-implied g c = rw (← c.self.view_is) (none_implied 
 pub returns-in_err-reduce_where_due-clause-steps : goal.returns-in_err-reduce_where_due-clause-steps
 returns-in_err-reduce_where_due-clause-steps g c =
     let learned = c.in_ok-learn.ensures in
-    let both = steps_twice g.R.Recorder.seen _ _ _ learned.learns learned.steps.limit learned.steps.kept c.reduce_where_due.ensures.steps in
-    steps_on g.R.Recorder.seen _ _ _ _ c.self.view_is both refl refl
+    steps_after g.R.Recorder.seen _ _ _ _ c.self.view_is learned.learns learned.steps.limit learned.steps.kept c.reduce_where_due.ensures.steps
 
 pub returns-in_err-reduce_where_due-clause-implied : goal.returns-in_err-reduce_where_due-clause-implied
 returns-in_err-reduce_where_due-clause-implied g c =
@@ -42,8 +41,7 @@ returns-in_err-reduce_where_due-clause-implied g c =
 pub returns-clause-steps : goal.returns-clause-steps
 returns-clause-steps g c =
     let learned = c.in_ok-learn.ensures in
-    let both = steps_twice g.R.Recorder.seen _ _ _ learned.learns learned.steps.limit learned.steps.kept c.reduce_where_due.ensures.steps in
-    steps_on g.R.Recorder.seen _ _ _ _ c.self.view_is both refl refl
+    steps_after g.R.Recorder.seen _ _ _ _ c.self.view_is learned.learns learned.steps.limit learned.steps.kept c.reduce_where_due.ensures.steps
 
 pub returns-clause-implied : goal.returns-clause-implied
 returns-clause-implied g c =

@@ -5,7 +5,7 @@ use Rattle.search_trail.specs.SearchTrail.{IsSearchTrail}
 use Rattle.search_lines.specs.SearchLines.{AddsLearned}
 use Rattle.search_lines.proofs.SearchLines.{none_law, joined_law}
 use Rattle.cdcl_core.specs.Ledgers.{left}
-use Rattle.cdcl_core.specs.Work.{SolverValue, IsLed, IsOn, LearnsAlone}
+use Rattle.cdcl_core.specs.Work.{SolverValue, IsAnsweredCore, IsLed, LearnsAlone}
 use Rattle.cdcl_core.proofs.Turns.{led_back, vars_back, led_undecided, turn_on}
 use Rattle.cdcl_core.proofs.Endings.{fewer_law, nearer_law}
 use Rattle.cdcl_core.proofs.ImpliedLines.{implied_later}
@@ -56,7 +56,8 @@ returns-in_err-answer-clause-steps g c =
     steps_twice g.R.Recorder.seen _ _ _ inv.learns inv.limit inv.kept c.turn.ensures.steps
 
 pub returns-in_err-answer-clause-implied : goal.returns-in_err-answer-clause-implied
-returns-in_err-answer-clause-implied g c = implied_later _ _ _ _ _ _ c.loop-since.invariant.learns c.turn.ensures.steps.adds c.in_err-answer.ensures.implied
+returns-in_err-answer-clause-implied g c first after goal hints is =
+    absurd (implied_later _ _ _ _ _ (λ none. ⊥) c.loop-since.invariant.learns c.turn.ensures.steps.adds c.in_err-answer.ensures.implied first after goal hints is)
 
 pub returns-in-Answered-clause-steps : goal.returns-in-Answered-clause-steps
 returns-in-Answered-clause-steps g c =
@@ -64,7 +65,9 @@ returns-in-Answered-clause-steps g c =
     steps_twice g.R.Recorder.seen _ _ _ inv.learns inv.limit inv.kept c.turn.ensures.steps
 
 pub returns-in-Answered-clause-implied : goal.returns-in-Answered-clause-implied
-returns-in-Answered-clause-implied g c = implied_later _ _ _ _ _ _ c.loop-since.invariant.learns c.turn.ensures.steps.adds c.in_ok-answer.ensures.implied
+returns-in-Answered-clause-implied g c first after goal hints is =
+    subst (IsAnsweredCore goal) c.in-Answered.is
+    (implied_later _ _ _ _ _ _ c.loop-since.invariant.learns c.turn.ensures.steps.adds c.in_ok-answer.ensures.implied first after goal hints is)
 
 pub loop-since-smaller : goal.loop-since-smaller
 loop-since-smaller g c =
