@@ -26,11 +26,11 @@ use Rattle.search_trail.proofs.Truths.{false_before, open_before}
 use Rattle.conflict_analysis.specs.Analysis.{IsDecided, IsForcedFalse}
 use Rattle.conflict_analysis.proofs.TrailSteps.{IsBefore, false_before as found_false, whole_cut}
 use Rattle.search_lines.specs.StoredLines.{IsStored}
-use Rattle.search_lines.proofs.SearchLines.{none_law}
 use Rattle.search_state.specs.Searching.{SearchValue}
-use Rattle.cdcl_core.specs.Ledgers.{LedgerValue, left}
-use Rattle.cdcl_core.specs.Work.{IsAtWork, IsLed, IsOn}
-use Rattle.cdcl_core.proofs.Turns.{work_same as work_kept}
+use Rattle.cdcl_core.specs.Ledgers.{left}
+use Rattle.cdcl_core.specs.Work.{SolverValue, IsLed, IsOn, IsWorking}
+use Rattle.cdcl_core.proofs.Working.{learns_unchanged, with_search, working_searched}
+use Rattle.proof_rules.specs.Recording.{Snapshot}
 
 -- all assumptions are true
 abbrev pub AreMet : TrailValue → List Literal → Type 0
@@ -121,29 +121,26 @@ led_on t assumptions l led may q s at zero_reason = elim (at_push t.steps (decis
     whole : (q : ℕ) → q ≡ length t.steps → t ≡ cut (with_step t (decision t l)) q
     whole q is = sym (cut_whole t) ∙ ap (cut t) (sym is) ∙ cut_of_longer t (decision t l ∷ []) q (omega (arith, is))
 
-pub work_same : (p : ProblemValue) (limit : Option ℕ) (lines : List Line) (search now : SearchValue) (next rows : ℕ) (ledger : LedgerValue) → now.store ≡ search.store → now.trail ≡ search.trail → IsAtWork p limit lines search next rows ledger → IsAtWork p limit lines now next rows ledger
-work_same p limit lines search now next rows ledger store trail work = work_kept p limit lines search now next rows ledger store (ap (λ (t : TrailValue). t.vars) trail) work
-
-pub work_decided : (p : ProblemValue) (limit : Option ℕ) (lines : List Line) (search now : SearchValue) (next rows : ℕ) (ledger : LedgerValue) (l : Literal) → now.store ≡ search.store → now.trail ≡ with_step search.trail (decision search.trail l) → IsAtWork p limit lines search next rows ledger → IsAtWork p limit lines now next rows ledger
-work_decided p limit lines search now next rows ledger l store trail work = work_kept p limit lines search now next rows ledger store (ap (λ (t : TrailValue). t.vars) trail) work
-
 -- the parts of a search that has decided a literal
 pub decided_parts : (search now : SearchValue) (l : Literal) → now ≡ record { store = search.store; trail = with_step search.trail (decision search.trail l) } → (now.store ≡ search.store) × (now.trail ≡ with_step search.trail (decision search.trail l))
 decided_parts search now l is = (ap (λ (s : SearchValue). s.store) is, ap (λ (s : SearchValue). s.trail) is)
 
 -- the search goes on from a decision
-pub goes_on : (p : ProblemValue) (limit : Option ℕ) (assumptions : List Literal) (broken : Bool) (lines : List Line) (search now : SearchValue) (next rows : ℕ) (ledger : LedgerValue) (l : Literal)
-    → IsAtWork p limit lines search next rows ledger → IsLed assumptions search.trail → broken ≡ false → now.store ≡ search.store → now.trail ≡ with_step search.trail (decision search.trail l)
-    → Contains assumptions l ⊎ AreMet search.trail assumptions → IsOn p limit assumptions broken lines lines search now next rows ledger (left ledger.reductions)
-goes_on p limit assumptions broken lines search now next rows ledger l work led whole store trail may =
-    record {
-      whole = whole;
-      work = work_decided p limit lines search now next rows ledger l store trail work;
-      led = subst (IsLed assumptions) (sym trail) (led_on search.trail assumptions l led may);
-      adds = none_law p lines;
-      nearer = inr (refl, subst (λ (t : TrailValue). rank search.trail < rank t) (sym trail) (push_raises search.trail (decision search.trail l)));
-      vars = ap (λ (t : TrailValue). t.vars) trail;
-    }
+pub goes_on : {R : Type 0} (seen : R → Snapshot) (v w b : SolverValue R) (assumptions : List Literal) (l : Literal) → v ≡ w → b ≡ with_search seen v b.search → IsWorking seen w → IsLed assumptions w.search.trail
+    → b.search.store ≡ v.search.store → b.search.trail ≡ with_step v.search.trail (decision v.search.trail l) → Contains assumptions l ⊎ AreMet v.search.trail assumptions → IsOn seen assumptions w b
+goes_on {R} seen v w b assumptions l same is working led store trail may =
+    let vars : b.search.trail.vars ≡ v.search.trail.vars = ap (λ (t : TrailValue). t.vars) trail in
+    let led_here : IsLed assumptions v.search.trail = subst (λ (s : SolverValue R). IsLed assumptions s.search.trail) (sym same) led in
+    subst (λ (s : SolverValue R). IsOn seen assumptions s b) same (record {
+      working = working_searched seen v w b same is store vars working;
+      led = subst (IsLed assumptions) (sym trail) (led_on v.search.trail assumptions l led_here may);
+      learns = learns_unchanged seen v v (seen b.recorder).lines refl (ap (λ (s : SolverValue R). (seen s.recorder).lines) is);
+      nearer = inr (
+        ap (λ (s : SolverValue R). left s.ledger.reductions) is,
+        subst (λ (t : TrailValue). rank v.search.trail < rank t) (sym trail) (push_raises v.search.trail (decision v.search.trail l)),
+      );
+      vars = vars;
+    })
 
 -- ---- answers
 
@@ -154,14 +151,14 @@ core_among p lines assumptions lits id among core s replay =
     record { among = among; line = is.line; live = is.live; against = is.against }
 
 -- a full trail on which nothing is left to force gives a solution
-pub solution_found : (p : ProblemValue) (limit : Option ℕ) (lines : List Line) (search : SearchValue) (next rows : ℕ) (ledger : LedgerValue) (assumptions : List Literal) (a : List Bool)
-    → IsAtWork p limit lines search next rows ledger → length a ≡ search.trail.vars → IsOfSteps search.trail a → ((id : ℕ) (c : ConstraintValue) → get search.store id ≡ Some c → Holds a c) → AreMet search.trail assumptions
+pub solution_found : {R : Type 0} (seen : R → Snapshot) (v : SolverValue R) (assumptions : List Literal) (a : List Bool)
+    → IsWorking seen v → length a ≡ v.search.trail.vars → IsOfSteps v.search.trail a → ((id : ℕ) (c : ConstraintValue) → get v.search.store id ≡ Some c → Holds a c) → AreMet v.search.trail assumptions
     → ((p : ProblemValue) (s : StateValue) (store : LineMap) (a : List Bool) (assumptions : List Literal) → Fits p s → IsState s → IsStored p s s.next_id store → length a ≡ s.vars
     → ((id : ℕ) (c : ConstraintValue) → get store id ≡ Some c → Holds a c) → All (λ l. lit_true a l ≡ true) assumptions → IsSolution p assumptions a s)
-    → Reaches p lines (IsSolution p assumptions a)
-solution_found p limit lines search next rows ledger assumptions a work long steps holds met law t replay =
+    → Reaches (seen v.recorder).problem (seen v.recorder).lines (IsSolution (seen v.recorder).problem assumptions a)
+solution_found seen v assumptions a work long steps holds met law t replay =
     let taken = work.taken in
     let held = taken.held in
-    subst (IsSolution p assumptions a) (replay_once p lines held.state t held.replay replay)
-    (law p held.state search.store a assumptions held.fits held.is (subst (λ (n : ℕ). IsStored p held.state n search.store) taken.all held.stored) (long ∙ taken.vars) holds
-    (All-weaker (λ (l : Literal). partial_truth (partial search.trail) l ≡ Some true) (λ (l : Literal). lit_true a l ≡ true) steps assumptions met))
+    subst (IsSolution (seen v.recorder).problem assumptions a) (replay_once (seen v.recorder).problem (seen v.recorder).lines held.state t held.replay replay)
+    (law (seen v.recorder).problem held.state v.search.store a assumptions held.fits held.is (subst (λ (n : ℕ). IsStored (seen v.recorder).problem held.state n v.search.store) taken.all held.stored) (long ∙ taken.vars) holds
+    (All-weaker (λ (l : Literal). partial_truth (partial v.search.trail) l ≡ Some true) (λ (l : Literal). lit_true a l ≡ true) steps assumptions met))

@@ -18,9 +18,10 @@ use Rattle.proof_laws.specs.declared.line.Line.TheVariants.{Pol, Rup, Learn, Def
 use Rattle.proof_laws.proofs.Replays.{replay_before}
 use Rattle.search_lines.specs.StoredLines.{IsStored, deleted}
 use Rattle.search_lines.proofs.Stored.{deleting_law}
-use Rattle.search_state.specs.Searching.{SearchValue}
 use Rattle.cdcl_core.specs.Ledgers.{LedgerValue, IsLedger, ledger_after}
-use Rattle.cdcl_core.specs.Work.{IsHeld}
+use Rattle.proof_rules.specs.Recording.{Snapshot}
+use Rattle.search_lines.proofs.Fitting.{fits_law}
+use Rattle.cdcl_core.specs.Work.{SolverValue, IsHeld}
 use Rattle.cdcl_core.proofs.LedgerLines.{ledger_added}
 
 same_vars : (s t u : StateValue) → t ≡ u → u.vars ≡ s.vars → s.vars ≤ t.vars
@@ -44,40 +45,65 @@ none_at_zero s is None found = found
 none_at_zero s is (Some c) found = absurd (let ids = is.ids 0 c found in omega arith)
 
 -- at first nothing is held
-pub held_nothing : (p : ProblemValue) (lines : List Line) (s : StateValue) (rows : ℕ) (search : SearchValue) (ledger : LedgerValue)
-    → IsReplay p lines s → Fits p s → IsState s → rows ≡ length p.rows → search.store ≡ empty → search.trail.vars ≡ 0 → IsLedger p lines 1 ledger
+pub held_nothing : {R : Type 0} (seen : R → Snapshot) (v : SolverValue R) (s : StateValue)
+    → IsReplay (seen v.recorder).problem (seen v.recorder).lines s → IsState s → v.rows ≡ length (seen v.recorder).problem.rows → v.search.store ≡ empty → v.search.trail.vars ≡ 0 → v.next ≡ 1
+    → IsLedger (seen v.recorder).problem (seen v.recorder).lines 1 v.ledger
     → ((p : ProblemValue) (s : StateValue) (next : ℕ) (store : LineMap) → IsStored p s next store → get s.live next ≡ None → next < s.next_id → IsStored p s (next + 1) store)
-    → ((p : ProblemValue) (s : StateValue) → IsStored p s 0 empty) → IsHeld p lines search 1 rows ledger
-held_nothing p lines s rows search ledger replay fits is count none vars told passed nothing = record {
-  state = s;
-  replay = replay;
-  fits = fits;
-  is = is;
-  row_count = count;
-  positive = omega arith;
-  stored = subst (IsStored p s 1) (sym none) (passed p s 0 empty (nothing p s) (none_at_zero s is (get s.live 0) refl) is.first_id);
-  vars = omega (arith, vars);
-  listed = told;
-}
+    → ((p : ProblemValue) (s : StateValue) → IsStored p s 0 empty) → IsHeld seen v
+held_nothing seen v s replay is count none vars first told passed nothing =
+    let p = (seen v.recorder).problem in
+    record {
+      state = s;
+      replay = replay;
+      fits = fits_law p (seen v.recorder).lines s replay;
+      is = is;
+      row_count = count;
+      positive = omega (arith, first);
+      stored = subst (λ (n : ℕ). IsStored p s n v.search.store) (sym first)
+          (subst (IsStored p s 1) (sym none) (passed p s 0 empty (nothing p s) (none_at_zero s is (get s.live 0) refl) is.first_id));
+      vars = omega (arith, vars);
+      listed = subst (λ (n : ℕ). IsLedger p (seen v.recorder).lines n v.ledger) (sym first) told;
+    }
 
 -- after a line
-pub held_added : (p : ProblemValue) (lines new : List Line) (line : Line) (t : StateValue) (search now : SearchValue) (next rows : ℕ) (ledger : LedgerValue)
-    → IsHeld p lines search next rows ledger → new ≡ lines ++ line ∷ [] → IsReplay p new t → Fits p t → IsState t
-    → now.store ≡ fold remove search.store (deleted line) → now.trail.vars ≡ search.trail.vars → IsHeld p new now next rows (ledger_after ledger line)
-held_added p lines new line t search now next rows ledger held added replay fits is store vars =
-    let step = replay_before p lines line held.state t held.replay (subst (λ (ls : List Line). IsReplay p ls t) added replay) in
+pub held_added : {R : Type 0} (seen : R → Snapshot) (a b : SolverValue R) (line : Line) (t : StateValue)
+    → IsHeld seen a → (seen b.recorder).problem ≡ (seen a.recorder).problem → (seen b.recorder).lines ≡ (seen a.recorder).lines ++ line ∷ []
+    → IsReplay (seen b.recorder).problem (seen b.recorder).lines t → IsState t → b.next ≡ a.next → b.rows ≡ a.rows
+    → b.search.store ≡ fold remove a.search.store (deleted line) → b.search.trail.vars ≡ a.search.trail.vars → b.ledger ≡ ledger_after a.ledger line → IsHeld seen b
+held_added seen a b line t held same added replay is next rows store vars ledger =
+    let p = (seen a.recorder).problem in
+    let new = (seen b.recorder).lines in
+    let replayed : IsReplay p ((seen a.recorder).lines ++ line ∷ []) t = subst (λ (ls : List Line). IsReplay p ls t) added (subst (λ (r : ProblemValue). IsReplay r new t) same replay) in
+    let step = replay_before p (seen a.recorder).lines line held.state t held.replay replayed in
     let rise = vars_rise p held.state t line step in
     record {
       state = t;
       replay = replay;
-      fits = fits;
+      fits = fits_law (seen b.recorder).problem new t replay;
       is = is;
-      row_count = held.row_count;
-      positive = held.positive;
-      stored = subst (IsStored p t next) (sym store) (deleting_law p held.state t line next search.store held.is held.stored step);
+      row_count = rows ∙ held.row_count ∙ ap (λ (r : ProblemValue). length r.rows) (sym same);
+      positive = let old = held.positive in omega (arith, old, next);
+      stored = subst (λ (r : ProblemValue). IsStored r t b.next b.search.store) (sym same) (subst (λ (n : ℕ). IsStored p t n b.search.store) (sym next)
+          (subst (IsStored p t a.next) (sym store) (deleting_law p held.state t line a.next a.search.store held.is held.stored step)));
       vars = let old = held.vars in omega (arith, old, rise, vars);
-      listed = ledger_added p lines new line next ledger added held.listed;
+      listed = subst (λ (r : ProblemValue). IsLedger r new b.next b.ledger) (sym same) (subst (λ (n : ℕ). IsLedger p new n b.ledger) (sym next)
+          (subst (IsLedger p new a.next) (sym ledger) (ledger_added p (seen a.recorder).lines new line a.next a.ledger added held.listed)));
     }
+
+-- by a solver that is seen as before
+pub held_seen : {R : Type 0} (seen : R → Snapshot) (a b : SolverValue R) → IsHeld seen a → seen b.recorder ≡ seen a.recorder
+    → b ≡ record { recorder = b.recorder; limit = b.limit; broken = b.broken; search = a.search; next = a.next; rows = a.rows; ledger = a.ledger } → IsHeld seen b
+held_seen seen a b held same is = subst (IsHeld seen) (sym is) (record {
+  state = held.state;
+  replay = subst (λ (x : Snapshot). IsReplay x.problem x.lines held.state) (sym same) held.replay;
+  fits = subst (λ (x : Snapshot). Fits x.problem held.state) (sym same) held.fits;
+  is = held.is;
+  row_count = held.row_count ∙ ap (λ (x : Snapshot). length x.problem.rows) (sym same);
+  positive = held.positive;
+  stored = subst (λ (x : Snapshot). IsStored x.problem held.state a.next a.search.store) (sym same) held.stored;
+  vars = held.vars;
+  listed = subst (λ (x : Snapshot). IsLedger x.problem x.lines a.next a.ledger) (sym same) held.listed;
+})
 
 ones_tested : (terms : List (Literal × ℕ)) → AreOnes terms → list_all (λ t. t.1 == 1) terms ≡ true
 ones_tested [] ones = refl
@@ -90,11 +116,6 @@ pub clause_test : (c : ConstraintValue) (b : Bool) → (b ≡ true ↔ (AreOnes 
 clause_test c b told test =
     let is = told.0 test in
     ap (λ (b : Bool). b && (c.degree == 1)) (ones_tested c.terms is.0) ∙ eq-eqb c.degree 1 is.1
-
--- over the same lines
-pub held_moved : (p q : ProblemValue) (lines new : List Line) (search : SearchValue) (next rows : ℕ) (ledger : LedgerValue) → p ≡ q → lines ≡ new → IsHeld p lines search next rows ledger → IsHeld q new search next rows ledger
-held_moved p q lines new search next rows ledger same is held =
-    subst (λ (r : ProblemValue). IsHeld r new search next rows ledger) same (subst (λ (ls : List Line). IsHeld p ls search next rows ledger) is held)
 
 ones_literals : (terms : List (Literal × ℕ)) → AreOnes terms → ones (literals terms) ≡ terms
 ones_literals [] all = refl

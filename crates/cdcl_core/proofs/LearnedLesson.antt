@@ -18,12 +18,12 @@ use Rattle.search_trail.specs.Learning.{AreHints}
 use Rattle.conflict_analysis.specs.Analysis.{IsLesson}
 use Rattle.conflict_analysis.specs.declared.lesson.Lesson.{Lesson}
 use Rattle.search_state.specs.Searching.{SearchValue, IsBackTo}
-use Rattle.cdcl_core.specs.Ledgers.{LedgerValue}
-use Rattle.cdcl_core.specs.Work.{SolverValue, IsAtWork, HasCause, GoesOn}
+use Rattle.cdcl_core.specs.Work.{SolverValue, IsDone, IsWorking, Stops}
+use Rattle.proof_rules.specs.Recording.{Snapshot}
 use Rattle.cdcl_core.specs.Learnable.{IsLearnable, MayLearn}
 use Rattle.cdcl_core.proofs.LineCounts.{full_lines}
 use Rattle.cdcl_core.proofs.LearnedLine.{has_more}
-use Rattle.cdcl_core.proofs.Turns.{work_same}
+use Rattle.cdcl_core.proofs.Working.{done_working}
 
 pub learnable : (old new : SearchValue) (lesson : Lesson) (line : Line) → IsSearchTrail old.store old.trail → IsLesson old.store old.trail lesson → new.store ≡ old.store
     → IsBackTo lesson.level old.trail new.trail → line ≡ Learn (clause lesson.lits) lesson.hints → IsLearnable new lesson.level lesson.lit line
@@ -45,48 +45,29 @@ learnable old new lesson line search is store back learns =
 
 -- ---- where no more may be learned
 
-pub spent_cause : (p : ProblemValue) (limit : Option ℕ) (lines : List Line) (search : SearchValue) (next rows : ℕ) (ledger : LedgerValue) (level : ℕ) (l : Literal) (line : Line)
-    → IsAtWork p limit lines search next rows ledger → IsLearnable search level l line → (s : StateValue) (f : OracleFault) (learned : ℕ) (Rose : Type 0)
-    → IsReplay p lines s → (2 ^ 61 ≤ s.lines → f ≡ Full) → (s.lines < 2 ^ 61 → f ≡ Spent learned) → limit ≡ Some learned → learned ≡ s.learned → HasCause f limit p lines Rose
-spent_cause p limit lines search next rows ledger level l line work can s f learned Rose replay full spent reached count =
+pub spent_stops : {R : Type 0} (seen : R → Snapshot) (v : SolverValue R) (level : ℕ) (l : Literal) (line : Line) → IsWorking seen v → IsLearnable v.search level l line
+    → (s : StateValue) (f : OracleFault) (learned faults : ℕ) → IsReplay (seen v.recorder).problem (seen v.recorder).lines s → (2 ^ 61 ≤ s.lines → f ≡ Full) → (s.lines < 2 ^ 61 → f ≡ Spent learned)
+    → v.limit ≡ Some learned → learned ≡ s.learned → Stops v.limit faults (seen v.recorder) (IsDone seen v) f
+spent_stops seen v level l line work can s f learned faults replay full spent reached count =
+    let p = (seen v.recorder).problem in
+    let lines = (seen v.recorder).lines in
     let same : work.taken.held.state ≡ s = replay_once p lines work.taken.held.state s work.taken.held.replay replay in
     ⊎_elim
-    (λ (room : s.lines < 2 ^ 61). subst (λ (f : OracleFault). HasCause f limit p lines Rose) (sym (spent room)) (record {
-      limit = reached;
-      reached = λ t other. ap (λ (u : StateValue). u.learned) (replay_once p lines t s other replay) ∙ sym count;
-      more = has_more p limit lines search next rows ledger level l line work can s replay room;
-    }))
-    (λ (none : 2 ^ 61 ≤ s.lines). subst (λ (f : OracleFault). HasCause f limit p lines Rose) (sym (full none))
+    (λ (room : s.lines < 2 ^ 61). subst (Stops v.limit faults (seen v.recorder) (IsDone seen v)) (sym (spent room)) (
+      record {
+        limit = reached;
+        reached = λ t other. ap (λ (u : StateValue). u.learned) (replay_once p lines t s other replay) ∙ sym count;
+        more = has_more seen v level l line work can s replay room;
+      },
+      done_working seen v work,
+    ))
+    (λ (none : 2 ^ 61 ≤ s.lines). subst (Stops v.limit faults (seen v.recorder) (IsDone seen v)) (sym (full none))
     (full_lines p lines s replay (subst IsState same work.taken.held.is) none))
     (cases_lt s.lines (2 ^ 61))
-
-pub goes_on_with : (f : OracleFault) (P : Type 0) → P → GoesOn f P
-goes_on_with (Spent learned) P p = p
-goes_on_with Failed P p = tt
-goes_on_with Full P p = tt
-goes_on_with NoMemory P p = tt
 
 pub may_learn : (p : ProblemValue) (limit : Option ℕ) (lines : List Line) (s : StateValue) (learned : ℕ) → IsReplay p lines s → learned ≡ s.learned → limit ≢ Some learned → MayLearn limit p lines
 may_learn p limit lines s learned replay count other t reached same =
     other (same ∙ ap (λ (u : StateValue). Some u.learned) (replay_once p lines t s reached replay) ∙ ap Some (sym count))
-
--- ---- the solver's two views
-
-pub record IsTaught {R : Type 0} (problem : R → ProblemValue) (lines : R → List Line) (broken : R → Bool) (s : SolverValue R) (lesson : Lesson) : Type 0 where
-  pub work : IsAtWork (problem s.recorder) s.limit (lines s.recorder) s.search s.next s.rows s.ledger
-  pub lesson_is : IsLesson s.search.store s.search.trail lesson
-  pub whole : broken s.recorder ≡ false
-
-pub taught_inside : {R : Type 0} (problem : R → ProblemValue) (lines : R → List Line) (broken : R → Bool) (a b : SolverValue R) (lesson : Lesson) → a ≡ b
-    → IsAtWork (problem b.recorder) b.limit (lines b.recorder) b.search b.next b.rows b.ledger → IsLesson b.search.store b.search.trail lesson → broken b.recorder ≡ false
-    → IsTaught problem lines broken a lesson
-taught_inside problem lines broken a b lesson same work is whole =
-    subst (λ (s : SolverValue _). IsTaught problem lines broken s lesson) (sym same) (record { work = work; lesson_is = is; whole = whole })
-
--- after the jump
-pub work_back : (p : ProblemValue) (limit : Option ℕ) (lines : List Line) (old new : SearchValue) (next rows : ℕ) (ledger : LedgerValue) (level : ℕ) → new.store ≡ old.store → IsBackTo level old.trail new.trail
-    → IsAtWork p limit lines old next rows ledger → IsAtWork p limit lines new next rows ledger
-work_back p limit lines old new next rows ledger level store back work = work_same p limit lines old new next rows ledger store (ap (λ (t : TrailValue). t.vars) back.is) work
 
 -- ---- results
 

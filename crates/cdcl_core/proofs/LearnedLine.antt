@@ -1,5 +1,5 @@
 -- The line of a learned clause: it is legal, it is new, and what is so after it.
-use Rattle.std.proofs.Common.{◌≡◌, ◌≢◌, ℕ, ◌+◌, ◌^◌, ◌<◌, ◌≤◌, Option, Some, None, List, [], ◌∷◌, ◌++◌, All, refl, arith, sym, ap, ◌∙◌, subst, inl, inr}
+use Rattle.std.proofs.Common.{◌≡◌, ◌≢◌, ℕ, ◌+◌, ◌^◌, ◌<◌, ◌≤◌, Option, Some, None, List, [], ◌∷◌, ◌++◌, false, length, All, refl, arith, sym, ap, ◌∙◌, subst, inl, inr}
 use Rattle.std.specs.FinMap.{insert}
 use Rattle.scut_base.specs.Literal.{Literal}
 use Rattle.pb_lin.specs.Problem.{ProblemValue}
@@ -13,7 +13,7 @@ use Rattle.proof_laws.specs.WellFormed.{IsWellFormed}
 use Rattle.proof_laws.specs.declared.line.Line.{Line}
 use Rattle.proof_laws.specs.declared.line.Line.TheVariants.{Learn}
 use Rattle.proof_laws.proofs.Replays.{replay_before, replay_once}
-use Rattle.proof_rules.specs.Recording.{MayBeAdded}
+use Rattle.proof_rules.specs.Recording.{MayBeAdded, Snapshot}
 use Rattle.oracle.specs.Solving.{IsWithin}
 use Rattle.clause_prop.specs.Steps.{TrailValue, AreSteps, partial, last_level, with_step}
 use Rattle.clause_prop.specs.Propagating.{IsClosedFor}
@@ -30,8 +30,8 @@ use Rattle.search_lines.proofs.SearchLines.{learned_law as adds_law}
 use Rattle.search_lines.proofs.Stored.{learned_law as stored_law}
 use Rattle.search_lines.proofs.Fitting.{fits_law}
 use Rattle.search_state.specs.Searching.{SearchValue}
-use Rattle.cdcl_core.specs.Ledgers.{LedgerValue, IsLedger, with_id}
-use Rattle.cdcl_core.specs.Work.{IsAtWork}
+use Rattle.cdcl_core.specs.Ledgers.{IsLedger, with_id}
+use Rattle.cdcl_core.specs.Work.{SolverValue, IsWorking}
 use Rattle.cdcl_core.specs.Learnable.{IsLearnable, MayLearn}
 use Rattle.cdcl_core.proofs.LedgerLines.{ledger_learned}
 
@@ -52,10 +52,18 @@ asserting_within t top level lits l steps asserting = λ k d short. elim (assert
 
 -- ---- before the line, and after it
 
-module _ (p : ProblemValue) (limit : Option ℕ) (lines : List Line) (search : SearchValue) (next rows : ℕ) (ledger : LedgerValue) (level : ℕ) (l : Literal) (line : Line)
-    (work : IsAtWork p limit lines search next rows ledger) (can : IsLearnable search level l line) where
+module _ {R : Type 0} (seen : R → Snapshot) (v : SolverValue R) (level : ℕ) (l : Literal) (line : Line) (work : IsWorking seen v) (can : IsLearnable v.search level l line) where
+  abbrev p : ProblemValue
+  p = (seen v.recorder).problem
+
+  abbrev lines : List Line
+  lines = (seen v.recorder).lines
+
   abbrev state : StateValue
   state = work.taken.held.state
+
+  abbrev search : SearchValue
+  search = v.search
 
   abbrev trail : TrailValue
   trail = search.trail
@@ -85,13 +93,13 @@ module _ (p : ProblemValue) (limit : Option ℕ) (lines : List Line) (search : S
   new_clause = new_law p state search.store trail can.lits can.hints work.taken.held.fits work.taken.held.is all_stored work.taken.vars closed unit hinted
 
   formed_here : IsWellFormed (Learn (clause can.lits) can.hints)
-  formed_here = formed_law p state next search.store can.lits can.hints work.taken.held.is work.taken.held.stored can.ready.asserting.rising within hinted
+  formed_here = formed_law p state v.next search.store can.lits can.hints work.taken.held.is work.taken.held.stored can.ready.asserting.rising within hinted
 
   pub formed : IsWellFormed line
   formed = subst IsWellFormed (sym can.learns) formed_here
 
   may_add : MayBeAdded p lines (Learn (clause can.lits) can.hints)
-  may_add = legal_law p lines state next search.store can.lits can.hints work.taken.held.is work.taken.held.replay work.taken.unended
+  may_add = legal_law p lines state v.next search.store can.lits can.hints work.taken.held.is work.taken.held.replay work.taken.unended
       work.taken.held.stored can.ready.asserting.rising within hinted
 
   pub legal : MayBeAdded p lines line
@@ -122,8 +130,8 @@ module _ (p : ProblemValue) (limit : Option ℕ) (lines : List Line) (search : S
     pub adds : AddsLearned p lines new
     adds = subst (λ (ls : List Line). AddsLearned p lines ls) (sym same_lines) (adds_law p lines (clause can.lits) can.hints)
 
-    pub still_within : MayLearn limit p lines → IsWithin limit p new
-    still_within may = within_after limit work.within may
+    pub still_within : MayLearn v.limit p lines → IsWithin v.limit p new
+    still_within may = within_after v.limit work.within may
       where
         within_after : (most : Option ℕ) → IsWithin most p lines → MayLearn most p lines → IsWithin most p new
         within_after None old may = tt
@@ -133,30 +141,37 @@ module _ (p : ProblemValue) (limit : Option ℕ) (lines : List Line) (search : S
             let other : m ≢ state.learned = λ same. may state work.taken.held.replay (ap Some same) in
             omega (arith, count, low, other)
 
-    pub at_work : (t : StateValue) (id : ℕ) (now : SearchValue) (kept : LedgerValue) → IsReplay p new t → IsState t → id ≡ state.next_id → MayLearn limit p lines
-        → now ≡ record { store = insert search.store id (clause can.lits); trail = with_step search.trail (asserted l level id) } → kept ≡ with_id ledger id → IsAtWork p limit new now (id + 1) rows kept
-    at_work t id now kept replay is named may made entered =
+    pub at_work : (b : SolverValue R) (t : StateValue) (id : ℕ) → (seen b.recorder).broken ≡ false → (seen b.recorder).problem ≡ p → (seen b.recorder).lines ≡ new
+        → IsReplay (seen b.recorder).problem (seen b.recorder).lines t → IsState t → id ≡ state.next_id → MayLearn v.limit p lines
+        → b.search ≡ record { store = insert search.store id (clause can.lits); trail = with_step search.trail (asserted l level id) } → b.ledger ≡ with_id v.ledger id
+        → b ≡ record { recorder = b.recorder; limit = v.limit; broken = v.broken; search = b.search; next = id + 1; rows = v.rows; ledger = b.ledger } → IsWorking seen b
+    at_work b t id whole same now replayed is named may made entered is_b =
+        let replay : IsReplay p new t = subst (λ (ls : List Line). IsReplay p ls t) now (subst (λ (r : ProblemValue). IsReplay r (seen b.recorder).lines t) same replayed) in
         let step = step_to t replay in
         let held = work.taken.held in
         let next_is : t.next_id ≡ state.next_id + 1 = ap (λ (u : StateValue). u.next_id) step.makes in
         let vars_are : t.vars ≡ state.vars = ap (λ (u : StateValue). u.vars) step.makes in
-        let same_vars : now.trail.vars ≡ search.trail.vars = ap (λ (x : SearchValue). x.trail.vars) made in
+        let same_vars : b.search.trail.vars ≡ search.trail.vars = ap (λ (x : SearchValue). x.trail.vars) made in
         let old_vars = work.taken.vars in
         let stored = stored_law p state t (clause can.lits) can.hints search.store held.is held.fits all_stored step in
-        record {
+        let earned = earned_law p lines work.earned.0 state t (clause can.lits) can.hints work.earned.1 held.replay new_clause step in
+        let listed = ledger_learned p lines new state (clause can.lits) can.hints v.next id v.ledger same_lines held.replay held.fits held.is work.taken.all named held.listed in
+        subst (IsWorking seen) (sym is_b) (record {
+          begun = work.begun;
+          whole = whole;
           taken = record {
             held = record {
               state = t;
-              replay = replay;
-              fits = fits_law p new t replay;
+              replay = replayed;
+              fits = fits_law (seen b.recorder).problem (seen b.recorder).lines t replayed;
               is = is;
-              row_count = held.row_count;
+              row_count = held.row_count ∙ ap (λ (r : ProblemValue). length r.rows) (sym same);
               positive = omega arith;
-              stored = subst (λ n. IsStored p t n now.store) (omega (arith, next_is, named))
-                  (subst (λ (m : LineMap). IsStored p t t.next_id m) (ap (λ n. insert search.store n (clause can.lits)) (sym named) ∙ sym (ap (λ (x : SearchValue). x.store) made)) stored);
+              stored = subst (λ (r : ProblemValue). IsStored r t (id + 1) b.search.store) (sym same) (subst (λ n. IsStored p t n b.search.store) (omega (arith, next_is, named))
+                  (subst (λ (m : LineMap). IsStored p t t.next_id m) (ap (λ n. insert search.store n (clause can.lits)) (sym named) ∙ sym (ap (λ (x : SearchValue). x.store) made)) stored));
               vars = omega (arith, vars_are, same_vars, old_vars);
-              listed = subst (IsLedger p new (id + 1)) (sym entered)
-                  (ledger_learned p lines new state (clause can.lits) can.hints next id ledger same_lines held.replay held.fits held.is work.taken.all named held.listed);
+              listed = subst (λ (r : ProblemValue). IsLedger r (seen b.recorder).lines (id + 1) b.ledger) (sym same)
+                  (subst (λ (ls : List Line). IsLedger p ls (id + 1) b.ledger) (sym now) (subst (IsLedger p new (id + 1)) (sym entered) listed));
             };
             all = omega (arith, next_is, named);
             vars = omega (arith, vars_are, same_vars, old_vars);
@@ -164,8 +179,8 @@ module _ (p : ProblemValue) (limit : Option ℕ) (lines : List Line) (search : S
           };
           earned = (
             work.earned.0 + 1,
-            subst (λ (ls : List Line). IsEarned p ls (work.earned.0 + 1)) (sym same_lines)
-                (earned_law p lines work.earned.0 state t (clause can.lits) can.hints work.earned.1 held.replay new_clause step),
+            subst (λ (r : ProblemValue). IsEarned r (seen b.recorder).lines (work.earned.0 + 1)) (sym same)
+                (subst (λ (ls : List Line). IsEarned p ls (work.earned.0 + 1)) (sym (now ∙ same_lines)) earned),
           );
-          within = still_within may;
-        }
+          within = subst (λ (r : ProblemValue). IsWithin v.limit r (seen b.recorder).lines) (sym same) (subst (λ (ls : List Line). IsWithin v.limit p ls) (sym now) (still_within may));
+        })

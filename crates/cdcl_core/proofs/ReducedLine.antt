@@ -19,22 +19,18 @@ use Rattle.proof_laws.specs.declared.line.Line.TheVariants.{Reduce}
 use Rattle.proof_laws.specs.declared.why.Why.{Why}
 use Rattle.proof_laws.specs.declared.why.Why.TheVariants.{AfterEnd, LogLong, NoSuchId}
 use Rattle.proof_laws.proofs.Replays.{replay_before, replay_once}
-use Rattle.proof_rules.specs.Recording.{MayBeAdded}
+use Rattle.proof_rules.specs.Recording.{MayBeAdded, Snapshot}
 use Rattle.oracle.specs.Solving.{IsWithin, Reaches}
 use Rattle.search_lines.specs.SearchLines.{AddsLearned}
 use Rattle.search_lines.proofs.Earned.{reduction_law}
-use Rattle.search_lines.proofs.Fitting.{fits_law}
 use Rattle.search_lines.proofs.Counts.{counted_law}
-use Rattle.search_lines.proofs.SearchLines.{joined_law, reduced_law}
+use Rattle.search_lines.proofs.SearchLines.{reduced_law}
 use Rattle.search_state.specs.Searching.{SearchValue}
-use Rattle.cdcl_core.specs.Ledgers.{LedgerValue, EndsLearned, IsDue, IsPart, ledger_after}
-use Rattle.cdcl_core.specs.Work.{IsAtWork, IsHeld}
+use Rattle.cdcl_core.specs.Ledgers.{LedgerValue, EndsLearned, IsDue, IsPart, ledger_after, with_ids}
+use Rattle.cdcl_core.specs.Work.{SolverValue, IsHeld, IsWorking}
 use Rattle.cdcl_core.proofs.HeldLines.{held_added}
-use Rattle.cdcl_core.proofs.LedgerLines.{part_all}
-
--- lines that follow lines, over the same problem
-pub added_twice : (p q : ProblemValue) (a b c : List Line) → q ≡ p → AddsLearned p a b → AddsLearned q b c → AddsLearned p a c
-added_twice p q a b c same one other = joined_law p a b c one (subst (λ (r : ProblemValue). AddsLearned r b c) same other)
+use Rattle.cdcl_core.proofs.LedgerLines.{ledger_part, part_all}
+use Rattle.cdcl_core.proofs.Working.{with_ledger, working_listed}
 
 -- ---- conditions without a fault
 
@@ -69,22 +65,34 @@ value_of_some (Some c) some = (c, refl)
 
 -- ---- before the line
 
-module _ (p : ProblemValue) (limit : Option ℕ) (lines : List Line) (search : SearchValue) (next rows : ℕ) (ledger : LedgerValue) (named : List ℕ)
-    (work : IsAtWork p limit lines search next rows ledger) (part : IsPart named ledger.ids) (live : All (λ id. IsSome (get search.store id)) named) where
+module _ {R : Type 0} (seen : R → Snapshot) (v : SolverValue R) (named : List ℕ)
+    (work : IsWorking seen v) (part : IsPart named v.ledger.ids) (live : All (λ id. IsSome (get v.search.store id)) named) where
+  abbrev p : ProblemValue
+  p = (seen v.recorder).problem
+
+  abbrev lines : List Line
+  lines = (seen v.recorder).lines
+
   abbrev state : StateValue
   state = work.taken.held.state
 
-  between : All (λ id. (length p.rows < id) × (id < next)) named
-  between = part_all (λ id. (length p.rows < id) × (id < next)) named ledger.ids part work.taken.held.listed.between
+  abbrev search : SearchValue
+  search = v.search
+
+  abbrev ledger : LedgerValue
+  ledger = v.ledger
+
+  between : All (λ id. (length p.rows < id) × (id < v.next)) named
+  between = part_all (λ id. (length p.rows < id) × (id < v.next)) named ledger.ids part work.taken.held.listed.between
 
   ids_small : All IsId named
-  ids_small = All-weaker (λ (id : ℕ). (length p.rows < id) × (id < next)) IsId
+  ids_small = All-weaker (λ (id : ℕ). (length p.rows < id) × (id < v.next)) IsId
       (λ id within. let held = work.taken.held in omega (arith, within.1, held.stored.within, held.is.next_id, held.is.lines)) named between
 
   pub formed : named ≢ [] → IsWellFormed (Reduce named)
   formed some = (some, ids_small, part.rising work.taken.held.listed.rising)
 
-  deletable : (id : ℕ) → (length p.rows < id) × (id < next) → IsSome (get search.store id) → is_deletable p state id ≡ true
+  deletable : (id : ℕ) → (length p.rows < id) × (id < v.next) → IsSome (get search.store id) → is_deletable p state id ≡ true
   deletable id within some =
       let line = value_of_some (get search.store id) some in
       let there : get state.live id ≡ Some line.0 = (work.taken.held.stored.live id line.0 line.1).1 in
@@ -100,7 +108,7 @@ module _ (p : ProblemValue) (limit : Option ℕ) (lines : List Line) (search : S
   pub is_reduction : EndsLearned lines → Reaches p lines (λ s. IsDue ledger.reductions s.learned) → IsReduction p lines named
   is_reduction last due = by ledger.reductions refl
     where
-      held : IsHeld p lines search next rows ledger
+      held : IsHeld seen v
       held = work.taken.held
 
       by : (o : Option ℕ) → ledger.reductions ≡ o → IsReduction p lines named
@@ -124,8 +132,8 @@ module _ (p : ProblemValue) (limit : Option ℕ) (lines : List Line) (search : S
     step_to : (t : StateValue) → IsReplay p new t → IsNext p state (Reduce named) t
     step_to t replay = replay_before p lines (Reduce named) state t work.taken.held.replay (subst (λ (ls : List Line). IsReplay p ls t) added replay)
 
-    pub still_within : IsWithin limit p new
-    still_within = within_after limit work.within
+    pub still_within : IsWithin v.limit p new
+    still_within = within_after v.limit work.within
       where
         within_after : (most : Option ℕ) → IsWithin most p lines → IsWithin most p new
         within_after None old = tt
@@ -134,18 +142,27 @@ module _ (p : ProblemValue) (limit : Option ℕ) (lines : List Line) (search : S
             let low = old state work.taken.held.replay in
             omega (arith, count, low)
 
-    pub at_work : EndsLearned lines → Reaches p lines (λ s. IsDue ledger.reductions s.learned) → (t : StateValue) (now : SearchValue) → IsReplay p new t → IsState t
-        → now.store ≡ fold remove search.store named → now.trail.vars ≡ search.trail.vars → IsAtWork p limit new now next rows (ledger_after ledger (Reduce named))
-    at_work last due t now replay is store vars =
+    -- the ledger keeps these clauses alone
+    pub at_work : EndsLearned lines → Reaches p lines (λ s. IsDue ledger.reductions s.learned) → (b : SolverValue R) (t : StateValue) (kept : List ℕ)
+        → (seen b.recorder).broken ≡ false → (seen b.recorder).problem ≡ p → (seen b.recorder).lines ≡ new → IsReplay (seen b.recorder).problem (seen b.recorder).lines t → IsState t
+        → b.search.store ≡ fold remove search.store named → b.search.trail.vars ≡ search.trail.vars → IsPart kept ledger.ids → b.ledger ≡ with_ids (ledger_after ledger (Reduce named)) kept
+        → b ≡ record { recorder = b.recorder; limit = v.limit; broken = v.broken; search = b.search; next = v.next; rows = v.rows; ledger = b.ledger } → IsWorking seen b
+    at_work last due b t kept whole same now replayed is store vars among ledger_is is_b =
+        let noted_ledger : LedgerValue = ledger_after ledger (Reduce named) in
+        let noted_solver : SolverValue R = record { recorder = b.recorder; limit = v.limit; broken = v.broken; search = b.search; next = v.next; rows = v.rows; ledger = noted_ledger } in
+        let replay : IsReplay p new t = subst (λ (ls : List Line). IsReplay p ls t) now (subst (λ (r : ProblemValue). IsReplay r (seen b.recorder).lines t) same replayed) in
         let step = step_to t replay in
-        let held = held_added p lines new (Reduce named) t search now next rows ledger work.taken.held added replay (fits_law p new t replay) is store vars in
-        let same : held.state ≡ t = replay_once p new held.state t held.replay replay in
-        let makes : held.state ≡ without_lines state named = same ∙ step.makes in
+        let held = held_added seen v noted_solver (Reduce named) t work.taken.held same (now ∙ added) replayed is refl refl store vars refl in
+        let same_state : held.state ≡ t = replay_once (seen b.recorder).problem (seen b.recorder).lines held.state t held.replay replayed in
+        let makes : held.state ≡ without_lines state named = same_state ∙ step.makes in
         let next_is : held.state.next_id ≡ state.next_id + 0 = ap (λ (u : StateValue). u.next_id) makes in
         let vars_are : held.state.vars ≡ state.vars = ap (λ (u : StateValue). u.vars) makes in
         let all = work.taken.all in
         let old_vars = work.taken.vars in
-        record {
+        let earned = reduction_law p lines work.earned.0 state t named work.earned.1 work.taken.held.replay (is_reduction last due) step in
+        let working : IsWorking seen noted_solver = record {
+          begun = work.begun;
+          whole = whole;
           taken = record {
             held = held;
             all = omega (arith, next_is, all);
@@ -154,8 +171,11 @@ module _ (p : ProblemValue) (limit : Option ℕ) (lines : List Line) (search : S
           };
           earned = (
             work.earned.0,
-            subst (λ (ls : List Line). IsEarned p ls work.earned.0) (sym added)
-                (reduction_law p lines work.earned.0 state t named work.earned.1 work.taken.held.replay (is_reduction last due) step),
+            subst (λ (r : ProblemValue). IsEarned r (seen b.recorder).lines work.earned.0) (sym same)
+                (subst (λ (ls : List Line). IsEarned p ls work.earned.0) (sym (now ∙ added)) earned),
           );
-          within = still_within;
-        }
+          within = subst (λ (r : ProblemValue). IsWithin v.limit r (seen b.recorder).lines) (sym same) (subst (λ (ls : List Line). IsWithin v.limit p ls) (sym now) still_within);
+        } in
+        let listed = ledger_part (seen b.recorder).problem (seen b.recorder).lines v.next noted_ledger kept among held.listed in
+        subst (IsWorking seen) (sym (is_b ∙ ap (λ (l : LedgerValue). with_ledger seen noted_solver l) ledger_is))
+        (working_listed seen noted_solver (with_ids noted_ledger kept) listed working)

@@ -1,13 +1,16 @@
--- What holds between two turns of a search that writes its proof.
-use Rattle.std.specs.Prelude.{◌≡◌, ℕ, ◌^◌, ◌<◌, ◌≤◌, ◌⊎◌, Bool, true, false, List, length, All, Contains, Option, Some, Result, Ok, Err}
+-- What holds while a solver works, and what each step of the work keeps.
+use Rattle.std.specs.Prelude.{◌≡◌, ℕ, ◌^◌, ◌<◌, ◌≤◌, ◌++◌, ◌∷◌, ◌⊎◌, Bool, true, false, List, length, All, Contains, Option, Some, Result, Ok, Err}
+use Rattle.scut_base.specs.Faults.{Rose}
 use Rattle.scut_base.specs.Literal.{Literal}
 use Rattle.scut_base.specs.Assignment.{partial_truth}
-use Rattle.pb_lin.specs.Problem.{ProblemValue}
+use Rattle.pb_lin.specs.Constraint.{ConstraintValue}
+use Rattle.hint_rup.specs.declared.hint.Hint.{Hint}
 use Rattle.proof_laws.specs.State.{StateValue, IsState, Fits}
 use Rattle.proof_laws.specs.Replay.{IsReplay}
 use Rattle.proof_laws.specs.declared.line.Line.{Line}
-use Rattle.proof_rules.specs.Recording.{Surroundings, KeepsSurroundings}
-use Rattle.oracle.specs.Solving.{AreEarned, IsSpent, IsWithin}
+use Rattle.proof_laws.specs.declared.line.Line.TheVariants.{Rup}
+use Rattle.proof_rules.specs.Recording.{Snapshot, KeepsRecorder}
+use Rattle.oracle.specs.Solving.{AddsSearchLines, AreEarned, IsAnswer, IsCoreClause, IsSpent, IsWithin}
 use Rattle.oracle.specs.declared.fault.OracleFault.{OracleFault}
 use Rattle.oracle.specs.declared.fault.OracleFault.TheVariants.{Spent, Failed, Full, NoMemory}
 use Rattle.clause_prop.specs.Steps.{TrailValue, partial, cut}
@@ -17,10 +20,9 @@ use Rattle.search_lines.specs.StoredLines.{IsStored}
 use Rattle.search_trail.specs.Rank.{rank}
 use Rattle.search_lines.specs.SearchLines.{AddsLearned}
 use Rattle.search_state.specs.Searching.{SearchValue}
-use Rattle.oracle.specs.declared.answer.Answer.{Answer}
 use Rattle.cdcl_core.specs.Ledgers.{LedgerValue, IsLedger, left}
-use Rattle.cdcl_core.specs.declared.turn.Turn.{Turn}
-use Rattle.cdcl_core.specs.declared.turn.Turn.TheVariants.{Answered, Learned, Decided}
+use Rattle.cdcl_core.specs.declared.progress.Progress.{Progress}
+use Rattle.cdcl_core.specs.declared.progress.Progress.TheVariants.{Answered, Learned, Decided}
 
 -- a solver over a recorder
 pub record SolverValue (R : Type 0) : Type 0 where
@@ -33,85 +35,110 @@ pub record SolverValue (R : Type 0) : Type 0 where
   pub rows : ℕ
   pub ledger : LedgerValue
 
+-- ---- what a solver holds
+
 -- The lines reach a state of which the search holds the rows and the clauses up to an id; its ledger is of these lines.
-pub record IsHeld (p : ProblemValue) (lines : List Line) (search : SearchValue) (next rows : ℕ) (ledger : LedgerValue) : Type 0 where
+pub record IsHeld {R : Type 0} (seen : R → Snapshot) (s : SolverValue R) : Type 0 where
   pub state : StateValue
-  pub replay : IsReplay p lines state
-  pub fits : Fits p state
+  pub replay : IsReplay (seen s.recorder).problem (seen s.recorder).lines state
+  pub fits : Fits (seen s.recorder).problem state
   pub is : IsState state
-  pub row_count : rows ≡ length p.rows
-  pub positive : 0 < next
-  pub stored : IsStored p state next search.store
-  pub vars : search.trail.vars ≤ state.vars
-  pub listed : IsLedger p lines next ledger
+  pub row_count : s.rows ≡ length (seen s.recorder).problem.rows
+  pub positive : 0 < s.next
+  pub stored : IsStored (seen s.recorder).problem state s.next s.search.store
+  pub vars : s.search.trail.vars ≤ state.vars
+  pub listed : IsLedger (seen s.recorder).problem (seen s.recorder).lines s.next s.ledger
 
 -- the same, with all lines and variables
-pub record IsTakenUp (p : ProblemValue) (lines : List Line) (search : SearchValue) (next rows : ℕ) (ledger : LedgerValue) : Type 0 where
-  pub held : IsHeld p lines search next rows ledger
-  pub all : next ≡ held.state.next_id
-  pub vars : search.trail.vars ≡ held.state.vars
+pub record IsTakenUp {R : Type 0} (seen : R → Snapshot) (s : SolverValue R) : Type 0 where
+  pub held : IsHeld seen s
+  pub all : s.next ≡ held.state.next_id
+  pub vars : s.search.trail.vars ≡ held.state.vars
   pub unended : held.state.ended ≡ false
+
+-- The work is done in good order: the recorder is whole, and the lines have earned their clauses.
+pub record IsDone {R : Type 0} (seen : R → Snapshot) (s : SolverValue R) : Type 0 where
+  pub whole : (seen s.recorder).broken ≡ false
+  pub earned : AreEarned (seen s.recorder).problem (seen s.recorder).lines
+  pub held : IsHeld seen s
+
+-- The solver is at work: nothing is promised of it, its recorder is whole, all lines are taken up and have earned their clauses, within the limit.
+pub record IsWorking {R : Type 0} (seen : R → Snapshot) (s : SolverValue R) : Type 0 where
+  pub begun : s.broken ≡ true
+  pub whole : (seen s.recorder).broken ≡ false
+  pub taken : IsTakenUp seen s
+  pub earned : AreEarned (seen s.recorder).problem (seen s.recorder).lines
+  pub within : IsWithin s.limit (seen s.recorder).problem (seen s.recorder).lines
+
+-- ---- what a step of the work keeps, and how it ends
+
+-- What every step of the work keeps, however it ends.
+pub record StepsFrom {R : Type 0} (seen : R → Snapshot) (old new : SolverValue R) : Type 0 where
+  pub begun : new.broken ≡ true
+  pub limit : new.limit ≡ old.limit
+  pub kept : KeepsRecorder (seen old.recorder) (seen new.recorder)
+  pub within : IsWithin old.limit (seen old.recorder).problem (seen new.recorder).lines
+  pub adds : AddsSearchLines (seen old.recorder).problem (seen old.recorder).lines (seen new.recorder).lines
+
+-- a step that implies no clause
+abbrev pub LearnsAlone : {R : Type 0} → (R → Snapshot) → SolverValue R → SolverValue R → Type 0
+LearnsAlone seen old new = AddsLearned (seen old.recorder).problem (seen old.recorder).lines (seen new.recorder).lines
+
+-- P of each clause that a step implies
+abbrev pub ImpliesOnly : {R : Type 0} → (R → Snapshot) → SolverValue R → SolverValue R → (ConstraintValue → Type 0) → Type 0
+ImpliesOnly seen old new P = (first after : List Line) (goal : ConstraintValue) (hints : List Hint)
+    → (seen new.recorder).lines ≡ (seen old.recorder).lines ++ (first ++ (Rup goal hints ∷ after)) → P goal
+
+-- why a line wasn't recorded
+abbrev pub IsRecordCause : Snapshot → Snapshot → OracleFault → Type 0
+IsRecordCause before now (Spent learned) = ⊥
+IsRecordCause before now Failed = Rose before.faults now.faults
+IsRecordCause before now Full = length now.lines ≡ 2 ^ 61
+IsRecordCause before now NoMemory = Unit {0}
+
+-- why the work stops without an answer: where all clauses are spent it is done in good order, with D
+abbrev pub Stops : Option ℕ → ℕ → Snapshot → Type 0 → OracleFault → Type 0
+Stops limit faults now D (Spent learned) = IsSpent limit now.problem now.lines learned × D
+Stops limit faults now D Failed = Rose faults now.faults
+Stops limit faults now D Full = length now.lines ≡ 2 ^ 61
+Stops limit faults now D NoMemory = Unit {0}
+
+-- how a step of the work ends
+abbrev pub Ends : {R A : Type 0} → (R → Snapshot) → SolverValue R → SolverValue R → Result A OracleFault → Type 0
+Ends seen old new (Ok a) = IsDone seen new
+Ends seen old new (Err fault) = Stops old.limit (seen old.recorder).faults (seen new.recorder) (IsDone seen new) fault
+
+-- ---- the turns of a search
 
 -- each decision is an assumption, or all assumptions were true before it
 abbrev pub IsLed : List Literal → TrailValue → Type 0
 IsLed assumptions t = (q : ℕ) (s : Step) → IsStepAt t q s → s.reason ≡ 0
     → Contains assumptions s.lit ⊎ All (λ l. partial_truth (partial (cut t q)) l ≡ Some true) assumptions
 
--- All lines are taken up, and have earned their clauses, no more than may be learned.
-pub record IsAtWork (p : ProblemValue) (limit : Option ℕ) (lines : List Line) (search : SearchValue) (next rows : ℕ) (ledger : LedgerValue) : Type 0 where
-  pub taken : IsTakenUp p lines search next rows ledger
-  pub earned : AreEarned p lines
-  pub within : IsWithin limit p lines
-
--- the recorder keeps what no call changes
-pub record KeepsRecorder (p q : ProblemValue) (limit limit_now : Option ℕ) (around now : Surroundings) (faults faults_now : ℕ) : Type 0 where
-  pub problem : q ≡ p
-  pub same_limit : limit_now ≡ limit
-  pub surroundings : KeepsSurroundings around now
-  pub later : faults ≤ faults_now
-
--- why a search stops without an answer
-abbrev pub HasCause : OracleFault → Option ℕ → ProblemValue → List Line → Type 0 → Type 0
-HasCause (Spent learned) limit p lines Rose = IsSpent limit p lines learned
-HasCause Failed limit p lines Rose = Rose
-HasCause Full limit p lines Rose = length lines ≡ 2 ^ 61
-HasCause NoMemory limit p lines Rose = Unit {0}
-
--- a turn may be followed by another: all is taken up and earned, over a recorder that isn't broken
-abbrev pub GoesOn : OracleFault → Type 0 → Type 0
-GoesOn (Spent learned) P = P
-GoesOn fault P = Unit {0}
-
--- why a line wasn't recorded
-abbrev pub IsRecordCause : OracleFault → List Line → Type 0 → Type 0
-IsRecordCause (Spent learned) lines Rose = ⊥
-IsRecordCause Failed lines Rose = Rose
-IsRecordCause Full lines Rose = length lines ≡ 2 ^ 61
-IsRecordCause NoMemory lines Rose = Unit {0}
-
--- what a turn of a search ends in
-pub record IsDone (p : ProblemValue) (broken : Bool) (lines : List Line) (search : SearchValue) (next rows : ℕ) (ledger : LedgerValue) : Type 0 where
-  pub whole : broken ≡ false
-  pub earned : AreEarned p lines
-  pub held : IsHeld p lines search next rows ledger
+-- whatever led to the decisions still does
+abbrev pub KeepsLed : TrailValue → TrailValue → Type 0
+KeepsLed old new = (assumptions : List Literal) → IsLed assumptions old → IsLed assumptions new
 
 -- What brings a search nearer to its end: fewer reductions are left, or as many, and the trail ranks higher.
 abbrev pub IsNearer : TrailValue → TrailValue → ℕ → ℕ → Type 0
 IsNearer before after was now = (now < was) ⊎ ((now ≡ was) × (rank before < rank after))
 
--- What a turn leaves where the search goes on: more learned lines, or more steps. So many reductions were left before.
-pub record IsOn (p : ProblemValue) (limit : Option ℕ) (assumptions : List Literal) (broken : Bool) (old lines : List Line)
-    (before search : SearchValue) (next rows : ℕ) (ledger : LedgerValue) (was : ℕ) : Type 0 where
-  pub whole : broken ≡ false
-  pub work : IsAtWork p limit lines search next rows ledger
-  pub led : IsLed assumptions search.trail
-  pub adds : AddsLearned p old lines
-  pub nearer : IsNearer before.trail search.trail was (left ledger.reductions)
-  pub vars : search.trail.vars ≡ before.trail.vars
+-- What a turn leaves where the search goes on: more learned lines, or more steps.
+pub record IsOn {R : Type 0} (seen : R → Snapshot) (assumptions : List Literal) (old new : SolverValue R) : Type 0 where
+  pub working : IsWorking seen new
+  pub led : IsLed assumptions new.search.trail
+  pub learns : LearnsAlone seen old new
+  pub nearer : IsNearer old.search.trail new.search.trail (left old.ledger.reductions) (left new.ledger.reductions)
+  pub vars : new.search.trail.vars ≡ old.search.trail.vars
 
--- P of the answer of a turn, and Q where there is none yet
-abbrev pub IsTurn : Result Turn OracleFault → (Answer → Type 0) → Type 0 → Type 0
-IsTurn (Ok (Answered answer)) P Q = P answer
-IsTurn (Ok Learned) P Q = Q
-IsTurn (Ok Decided) P Q = Q
-IsTurn (Err fault) P Q = Unit {0}
+-- what a turn comes to: an answer, or the search goes on
+abbrev pub IsProgress : {R : Type 0} → (R → Snapshot) → List Literal → SolverValue R → SolverValue R → Progress → Type 0
+IsProgress seen assumptions old new (Answered answer) = IsAnswer (seen new.recorder).problem (seen new.recorder).lines assumptions answer
+IsProgress seen assumptions old new Learned = IsOn seen assumptions old new
+IsProgress seen assumptions old new Decided = IsOn seen assumptions old new
+
+-- the clause of the core that a turn answers
+abbrev pub IsAnsweredCore : ConstraintValue → Progress → Type 0
+IsAnsweredCore goal (Answered answer) = IsCoreClause (Ok answer) goal
+IsAnsweredCore goal Learned = ⊥
+IsAnsweredCore goal Decided = ⊥

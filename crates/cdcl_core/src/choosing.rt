@@ -1,4 +1,4 @@
-// Which learned clauses a reduction names.
+// Which learned clauses a reduction names: half of them, those that join the most levels first (Audemard and Simon 2009).
 ghost use Rattle.std.specs.Prelude.{◌↔◌, All, IfOk, IsSome, IsTrue, map};
 ghost use Rattle.std.specs.FinMap.{get};
 ghost use Rattle.cdcl_core.specs.Ledgers.{IsPart};
@@ -30,7 +30,8 @@ struct Merit {
     id: u64,
 }
 
-// The distance up to which a clause stays where enough others may go.
+// The distance up to which a clause stays where enough others may go: a clause of two levels, a glue clause, joins what
+// a decision forces to what is forced before it (Audemard and Simon 2009).
 const NEAR: u64 = 2;
 
 fn merit_of(clause: &LearnedClause) -> Merit {

@@ -1,14 +1,10 @@
 // What a search learns from a conflict.
-ghost use Rattle.std.specs.Prelude.{◌≡◌, ◌<◌, ◌≤◌, ◌^◌, List, true, false, Some, IfErr, OnOk};
-ghost use Rattle.scut_base.specs.Faults.{Rose};
-ghost use Rattle.scut_base.specs.Literal.{Literal};
+ghost use Rattle.std.specs.Prelude.{◌≡◌, ◌<◌, ◌≤◌, ◌^◌, OnOk};
 ghost use Rattle.search_trail.specs.Rank.{rank};
 ghost use Rattle.conflict_analysis.specs.Analysis.{IsLesson};
 ghost use Rattle.oracle.specs.declared.fault.OracleFault.TheVariants.{Spent, Full};
-ghost use Rattle.oracle.specs.Solving.{IsWithin};
-ghost use Rattle.search_lines.specs.SearchLines.{AddsLearned};
 ghost use Rattle.cdcl_core.specs.Ledgers.{EndsLearned};
-ghost use Rattle.cdcl_core.specs.Work.{GoesOn, HasCause, IsAtWork, IsLed, IsRecordCause, KeepsRecorder};
+ghost use Rattle.cdcl_core.specs.Work.{Ends, IsWorking, KeepsLed, LearnsAlone, StepsFrom};
 ghost use Rattle.cdcl_core.specs.Learnable.{IsForcedBySome, IsLearnable, MayLearn};
 
 use crate::Solver;
@@ -26,37 +22,15 @@ impl<R: Recorder + Drop, P: Propagator + Drop> Solver<R, P> {
     // Jumps back to where the clause of a lesson forces its literal, records and stores the clause, and adds the step.
     // `Spent` where no clause may be learned any more; then only the trail was cut.
     pub(crate) fn learn(&mut self, lesson: Lesson) -> Result<(), OracleFault>
-        requires begun { self.old.broken ≡ true }
-        requires whole { (R.seen self.old.recorder).broken ≡ false }
-        requires work { IsAtWork (R.seen self.old.recorder).problem self.old.limit
-            (R.seen self.old.recorder).lines self.old.search self.old.next self.old.rows
-            self.old.ledger }
+        requires working { IsWorking R.seen self.old }
         requires lesson { IsLesson self.old.search.store self.old.search.trail lesson }
-        ensures whole { OnOk result ((R.seen self.new.recorder).broken ≡ false) }
-        ensures work { OnOk result (IsAtWork (R.seen self.new.recorder).problem self.new.limit
-            (R.seen self.new.recorder).lines self.new.search self.new.next self.new.rows
-            self.new.ledger) }
-        ensures cause { IfErr result (λ f. HasCause f self.old.limit (R.seen self.new.recorder).problem
-            (R.seen self.new.recorder).lines
-            (Rose (R.seen self.old.recorder).faults (R.seen self.new.recorder).faults)) }
-        ensures goes_on { IfErr result (λ f. GoesOn f (((R.seen self.new.recorder).broken ≡ false)
-            × IsAtWork (R.seen self.new.recorder).problem self.new.limit
-            (R.seen self.new.recorder).lines self.new.search self.new.next self.new.rows
-            self.new.ledger)) }
-        ensures adds { AddsLearned (R.seen self.old.recorder).problem (R.seen self.old.recorder).lines
-            (R.seen self.new.recorder).lines }
-        ensures within { IsWithin self.old.limit (R.seen self.old.recorder).problem
-            (R.seen self.new.recorder).lines }
+        ensures working { OnOk result (IsWorking R.seen self.new) }
+        ensures ends { Ends R.seen self.old self.new result }
+        ensures steps { StepsFrom R.seen self.old self.new }
+        ensures learns { LearnsAlone R.seen self.old self.new }
         ensures rises { OnOk result (rank self.old.search.trail < rank self.new.search.trail) }
         ensures vars { self.new.search.trail.vars ≡ self.old.search.trail.vars }
-        ensures led { OnOk result ((assumptions : List Literal)
-            → IsLed assumptions self.old.search.trail → IsLed assumptions self.new.search.trail) }
-        ensures limit { self.new.limit ≡ self.old.limit }
-        ensures kept { KeepsRecorder (R.seen self.old.recorder).problem (R.seen self.new.recorder).problem
-            (R.seen self.old.recorder).limit (R.seen self.new.recorder).limit (R.seen self.old.recorder).around
-            (R.seen self.new.recorder).around (R.seen self.old.recorder).faults
-            (R.seen self.new.recorder).faults }
-        ensures begun { self.new.broken ≡ true }
+        ensures led { OnOk result (KeepsLed self.old.search.trail self.new.search.trail) }
         ensures last { OnOk result (EndsLearned (R.seen self.new.recorder).lines) }
         ensures number { self.new.ledger.reductions ≡ self.old.ledger.reductions }
     {
@@ -84,6 +58,7 @@ impl<R: Recorder + Drop, P: Propagator + Drop> Solver<R, P> {
     }
 
     // Records the line of a learned clause after the jump back, stores the clause, and adds the step that it forces.
+    #[tactic(auto, using(crate::proofs::Working::record_stops))]
     fn add_learned(
         &mut self,
         line: &Line,
@@ -91,33 +66,17 @@ impl<R: Recorder + Drop, P: Propagator + Drop> Solver<R, P> {
         level: u64,
         distance: u64,
     ) -> Result<(), OracleFault>
-        requires begun { self.old.broken ≡ true }
-        requires whole { (R.seen self.old.recorder).broken ≡ false }
-        requires work { IsAtWork (R.seen self.old.recorder).problem self.old.limit
-            (R.seen self.old.recorder).lines self.old.search self.old.next self.old.rows
-            self.old.ledger }
+        requires working { IsWorking R.seen self.old }
         requires learnable { IsLearnable self.old.search level lit line.now }
         requires more { MayLearn self.old.limit (R.seen self.old.recorder).problem
             (R.seen self.old.recorder).lines }
-        ensures begun { self.new.broken ≡ true }
-        ensures whole { OnOk result ((R.seen self.new.recorder).broken ≡ false) }
-        ensures work { OnOk result (IsAtWork (R.seen self.new.recorder).problem self.new.limit
-            (R.seen self.new.recorder).lines self.new.search self.new.next self.new.rows
-            self.new.ledger) }
-        ensures cause { IfErr result (λ f. IsRecordCause f (R.seen self.new.recorder).lines
-            (Rose (R.seen self.old.recorder).faults (R.seen self.new.recorder).faults)) }
-        ensures adds { AddsLearned (R.seen self.old.recorder).problem (R.seen self.old.recorder).lines
-            (R.seen self.new.recorder).lines }
-        ensures within { IsWithin self.old.limit (R.seen self.old.recorder).problem
-            (R.seen self.new.recorder).lines }
+        ensures working { OnOk result (IsWorking R.seen self.new) }
+        ensures ends { Ends R.seen self.old self.new result }
+        ensures steps { StepsFrom R.seen self.old self.new }
+        ensures learns { LearnsAlone R.seen self.old self.new }
         ensures forced { OnOk result
             (IsForcedBySome self.old.search.trail self.new.search.trail lit level) }
         ensures vars { self.new.search.trail.vars ≡ self.old.search.trail.vars }
-        ensures limit { self.new.limit ≡ self.old.limit }
-        ensures kept { KeepsRecorder (R.seen self.old.recorder).problem (R.seen self.new.recorder).problem
-            (R.seen self.old.recorder).limit (R.seen self.new.recorder).limit (R.seen self.old.recorder).around
-            (R.seen self.new.recorder).around (R.seen self.old.recorder).faults
-            (R.seen self.new.recorder).faults }
         ensures last { OnOk result (EndsLearned (R.seen self.new.recorder).lines) }
         ensures number { self.new.ledger.reductions ≡ self.old.ledger.reductions }
     {

@@ -7,17 +7,18 @@
 
 mod answering;
 mod choosing;
+mod cores;
 mod deciding;
 mod distance;
 mod learning;
 mod ledger;
+mod progress;
 mod recording;
 mod reducing;
 mod schedule;
 mod solver;
 mod solving;
 mod taking;
-mod turn;
 
 pub use schedule::{reduce_due, restart_due};
 pub use solver::{NoRoom, Solver};

@@ -1,12 +1,11 @@
 // Lines that a search records.
 ghost use Rattle.std.specs.Prelude.{◌≡◌, ◌++◌, ◌∷◌, [], List, false, IfOk, IfErr, OnOk, OnErr};
-ghost use Rattle.scut_base.specs.Faults.{Rose};
 ghost use Rattle.pb_lin.specs.Constraint.{ConstraintValue};
 ghost use Rattle.hint_rup.specs.declared.hint.Hint.{Hint};
 ghost use Rattle.proof_laws.specs.WellFormed.{IsWellFormed};
 ghost use Rattle.proof_laws.specs.declared.line.Line.TheVariants.{Learn};
-ghost use Rattle.proof_rules.specs.Recording.{MayBeAdded, IsNextId};
-ghost use Rattle.cdcl_core.specs.Work.{IsRecordCause, KeepsRecorder};
+ghost use Rattle.proof_rules.specs.Recording.{KeepsRecorder, MayBeAdded, IsNextId};
+ghost use Rattle.cdcl_core.specs.Work.{IsRecordCause};
 
 use oracle::OracleFault;
 use pb_lin::Constraint;
@@ -23,11 +22,8 @@ pub(crate) fn record<R: Recorder>(recorder: &mut R, line: &Line) -> Result<u64, 
     ensures id { IfOk result (IsNextId (R.seen recorder.old).problem (R.seen recorder.old).lines) }
     ensures whole { OnOk result ((R.seen recorder.new).broken ≡ false) }
     ensures same { OnErr result ((R.seen recorder.new).lines ≡ (R.seen recorder.old).lines) }
-    ensures cause { IfErr result (λ f. IsRecordCause f (R.seen recorder.old).lines
-        (Rose (R.seen recorder.old).faults (R.seen recorder.new).faults)) }
-    ensures kept { KeepsRecorder (R.seen recorder.old).problem (R.seen recorder.new).problem
-        (R.seen recorder.old).limit (R.seen recorder.new).limit (R.seen recorder.old).around
-        (R.seen recorder.new).around (R.seen recorder.old).faults (R.seen recorder.new).faults }
+    ensures cause { IfErr result (IsRecordCause (R.seen recorder.old) (R.seen recorder.new)) }
+    ensures keeps { KeepsRecorder (R.seen recorder.old) (R.seen recorder.new) }
 {
     match recorder.add_line(line) {
         Ok(id) => Ok(id),

@@ -1,4 +1,7 @@
-// When a search restarts, and when it lets go of learned clauses.
+// When a search restarts, and when it lets go of learned clauses. The format of the log fixes where reductions may
+// stand, so that a checker knows the places, and with them 40 and 1000: the places lie ever farther apart, and the last
+// one is past what a run can learn. Restarts leave no line in the log; 50 of them, at 100 times the powers of two, give
+// a call a number of turns that is bounded.
 ghost use Rattle.std.specs.Prelude.{◌≡◌, ◌↔◌, ◌+◌, ◌-◌, ◌*◌, ◌^◌, ◌<◌, ◌≤◌, IsTrue};
 
 /// How often a call of `solve` restarts at most.

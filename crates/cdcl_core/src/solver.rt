@@ -55,8 +55,15 @@ impl<R: Recorder + Drop, P: Propagator + Drop> Model for Solver<R, P> {
     } };
 
     ghost invariant = { λ s. s.broken ≡ false → ((R.seen s.recorder).broken ≡ false)
-        × IsHeld (R.seen s.recorder).problem (R.seen s.recorder).lines s.search s.next s.rows
-        s.ledger };
+        × IsHeld R.seen (record {
+          recorder = s.recorder;
+          limit = s.limit;
+          broken = s.broken;
+          search = s.search;
+          next = s.next;
+          rows = s.rows;
+          ledger = s.ledger;
+        }) };
 }
 
 /// Memory was refused, and the recorder is handed back.
@@ -129,17 +136,14 @@ impl<R: Recorder + Drop, P: Propagator + Drop> Solver<R, P> {
 }
 
 impl<R: Recorder + Drop, P: Propagator + Drop> Recorder for Solver<R, P> {
-    ghost problem = { λ s. (R.seen s.recorder).problem };
-
-    ghost limit = { λ s. s.limit };
-
-    ghost lines = { λ s. (R.seen s.recorder).lines };
-
-    ghost faults = { λ s. (R.seen s.recorder).faults };
-
-    ghost broken = { λ s. s.broken };
-
-    ghost around = { λ s. (R.seen s.recorder).around };
+    ghost seen = { λ s. record {
+      problem = (R.seen s.recorder).problem;
+      limit = s.limit;
+      lines = (R.seen s.recorder).lines;
+      faults = (R.seen s.recorder).faults;
+      broken = s.broken;
+      around = (R.seen s.recorder).around;
+    } };
 
     /// The line is taken up by the next call of `solve`; what it deletes is dropped at once.
     fn add_line(&mut self, line: &Line) -> Result<u64, RecordFault> {

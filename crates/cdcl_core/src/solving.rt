@@ -1,16 +1,14 @@
 // The search: turns of propagation, learning and decisions.
-ghost use Rattle.std.specs.Prelude.{◌≡◌, ◌<◌, true, false, None, Some, IfOk, IfErr, OnOk};
-ghost use Rattle.scut_base.specs.Faults.{Rose};
+ghost use Rattle.std.specs.Prelude.{List, IfOk, IsOkAnd};
+ghost use Rattle.scut_base.specs.Literal.{Literal};
 ghost use Rattle.clause_prop.specs.Propagating.{IsConflict};
 ghost use Rattle.search_trail.specs.SearchTrail.{IsUndecided};
-ghost use Rattle.search_trail.specs.Rank.{rank};
-ghost use Rattle.oracle.specs.Solving.{AddsSearchLines, AreAssumptions, IsAnswer, IsWithin};
-ghost use Rattle.cdcl_core.specs.Ledgers.{left};
-ghost use Rattle.cdcl_core.specs.Work.{GoesOn, HasCause, IsAtWork, IsDone, IsLed, IsOn, IsTurn, KeepsRecorder};
+ghost use Rattle.oracle.specs.Solving.{AreAssumptions, IsAnswer, IsCoreClause};
+ghost use Rattle.cdcl_core.specs.Work.{Ends, ImpliesOnly, IsAnsweredCore, IsLed, IsProgress, IsWorking, StepsFrom};
 
 use crate::Solver;
+use crate::progress::Progress;
 use crate::schedule::restart_due;
-use crate::turn::Turn;
 use clause_prop::Propagator;
 use oracle::{Answer, OracleFault};
 use proof_rules::Recorder;
@@ -21,34 +19,14 @@ impl<R: Recorder + Drop, P: Propagator + Drop> Solver<R, P> {
     // places are fixed). It ends because the steps of the trail, level by level, are a number that
     // rises between restarts and reductions, of which there are only so many.
     pub(crate) fn run(&mut self, assumptions: &[Lit]) -> Result<Answer, OracleFault>
-        requires begun { self.old.broken ≡ true }
-        requires whole { (R.seen self.old.recorder).broken ≡ false }
-        requires work { IsAtWork (R.seen self.old.recorder).problem self.old.limit
-            (R.seen self.old.recorder).lines self.old.search self.old.next self.old.rows
-            self.old.ledger }
+        requires working { IsWorking R.seen self.old }
         requires undecided { IsUndecided self.old.search.trail }
         requires assumptions { AreAssumptions self.old.search.trail.vars assumptions.now }
-        ensures answer { IfOk result
-            (IsAnswer (R.seen self.new.recorder).problem (R.seen self.new.recorder).lines assumptions.now) }
-        ensures done { OnOk result (IsDone (R.seen self.new.recorder).problem
-            (R.seen self.new.recorder).broken (R.seen self.new.recorder).lines self.new.search
-            self.new.next self.new.rows self.new.ledger) }
-        ensures cause { IfErr result (λ f. HasCause f self.old.limit (R.seen self.new.recorder).problem
-            (R.seen self.new.recorder).lines
-            (Rose (R.seen self.old.recorder).faults (R.seen self.new.recorder).faults)) }
-        ensures goes_on { IfErr result (λ f. GoesOn f (IsDone (R.seen self.new.recorder).problem
-            (R.seen self.new.recorder).broken (R.seen self.new.recorder).lines self.new.search
-            self.new.next self.new.rows self.new.ledger)) }
-        ensures adds { AddsSearchLines (R.seen self.old.recorder).problem (R.seen self.old.recorder).lines
-            (R.seen self.new.recorder).lines }
-        ensures within { IsWithin self.old.limit (R.seen self.old.recorder).problem
-            (R.seen self.new.recorder).lines }
-        ensures begun { self.new.broken ≡ true }
-        ensures limit { self.new.limit ≡ self.old.limit }
-        ensures kept { KeepsRecorder (R.seen self.old.recorder).problem (R.seen self.new.recorder).problem
-            (R.seen self.old.recorder).limit (R.seen self.new.recorder).limit (R.seen self.old.recorder).around
-            (R.seen self.new.recorder).around (R.seen self.old.recorder).faults
-            (R.seen self.new.recorder).faults }
+        ensures answer { IfOk result (IsAnswer (R.seen self.new.recorder).problem
+            (R.seen self.new.recorder).lines assumptions.now) }
+        ensures ends { Ends R.seen self.old self.new result }
+        ensures steps { StepsFrom R.seen self.old self.new }
+        ensures implied { ImpliesOnly R.seen self.old self.new (IsCoreClause result) }
     {
         let mut restarts = 0;
         let mut since = 0u64;
@@ -60,9 +38,9 @@ impl<R: Recorder + Drop, P: Propagator + Drop> Solver<R, P> {
                 continue;
             }
             match self.turn(assumptions)? {
-                Turn::Answered(answer) => return Ok(answer),
-                Turn::Learned => since = since.saturating_add(1),
-                Turn::Decided => {}
+                Progress::Answered(answer) => return Ok(answer),
+                Progress::Learned => since = since.saturating_add(1),
+                Progress::Decided => {}
             }
             // Tells that the trail is a search's, whose rank has a limit.
             let _level = self.search.level();
@@ -70,92 +48,42 @@ impl<R: Recorder + Drop, P: Propagator + Drop> Solver<R, P> {
     }
 
     // Propagates, and then learns from a conflict or decides a literal, or answers.
-    fn turn(&mut self, assumptions: &[Lit]) -> Result<Turn, OracleFault>
-        requires begun { self.old.broken ≡ true }
-        requires whole { (R.seen self.old.recorder).broken ≡ false }
-        requires work { IsAtWork (R.seen self.old.recorder).problem self.old.limit
-            (R.seen self.old.recorder).lines self.old.search self.old.next self.old.rows
-            self.old.ledger }
+    fn turn(&mut self, assumptions: &[Lit]) -> Result<Progress, OracleFault>
+        requires working { IsWorking R.seen self.old }
         requires led { IsLed assumptions.now self.old.search.trail }
         requires assumptions { AreAssumptions self.old.search.trail.vars assumptions.now }
-        ensures turn { IsTurn result
-            (IsAnswer (R.seen self.new.recorder).problem (R.seen self.new.recorder).lines assumptions.now)
-            (IsOn (R.seen self.new.recorder).problem self.new.limit assumptions.now
-            (R.seen self.new.recorder).broken (R.seen self.old.recorder).lines
-            (R.seen self.new.recorder).lines self.old.search self.new.search self.new.next
-            self.new.rows self.new.ledger
-            (left self.old.ledger.reductions)) }
-        ensures done { OnOk result (IsDone (R.seen self.new.recorder).problem
-            (R.seen self.new.recorder).broken (R.seen self.new.recorder).lines self.new.search
-            self.new.next self.new.rows self.new.ledger) }
-        ensures cause { IfErr result (λ f. HasCause f self.old.limit (R.seen self.new.recorder).problem
-            (R.seen self.new.recorder).lines
-            (Rose (R.seen self.old.recorder).faults (R.seen self.new.recorder).faults)) }
-        ensures goes_on { IfErr result (λ f. GoesOn f (IsDone (R.seen self.new.recorder).problem
-            (R.seen self.new.recorder).broken (R.seen self.new.recorder).lines self.new.search
-            self.new.next self.new.rows self.new.ledger)) }
-        ensures adds { AddsSearchLines (R.seen self.old.recorder).problem (R.seen self.old.recorder).lines
-            (R.seen self.new.recorder).lines }
-        ensures within { IsWithin self.old.limit (R.seen self.old.recorder).problem
-            (R.seen self.new.recorder).lines }
-        ensures begun { self.new.broken ≡ true }
-        ensures limit { self.new.limit ≡ self.old.limit }
-        ensures kept { KeepsRecorder (R.seen self.old.recorder).problem (R.seen self.new.recorder).problem
-            (R.seen self.old.recorder).limit (R.seen self.new.recorder).limit (R.seen self.old.recorder).around
-            (R.seen self.new.recorder).around (R.seen self.old.recorder).faults
-            (R.seen self.new.recorder).faults }
+        ensures progress { IfOk result (IsProgress R.seen assumptions.now self.old self.new) }
+        ensures ends { Ends R.seen self.old self.new result }
+        ensures steps { StepsFrom R.seen self.old self.new }
+        ensures implied { ImpliesOnly R.seen self.old self.new
+            (λ goal. IsOkAnd result (IsAnsweredCore goal)) }
     {
         match self.search.propagate()? {
-            Some(conflict) => self.meet(conflict, assumptions),
+            Some(conflict) => self.learn_from(conflict),
             None => self.decide(assumptions),
         }
     }
 
     // Learns from a conflict, and makes the reduction that is due directly after that; or answers
     // where nothing is decided.
-    fn meet(&mut self, conflict: u64, _assumptions: &[Lit]) -> Result<Turn, OracleFault>
-        requires begun { self.old.broken ≡ true }
-        requires whole { (R.seen self.old.recorder).broken ≡ false }
-        requires work { IsAtWork (R.seen self.old.recorder).problem self.old.limit
-            (R.seen self.old.recorder).lines self.old.search self.old.next self.old.rows
-            self.old.ledger }
-        requires led { IsLed _assumptions.now self.old.search.trail }
+    fn learn_from(&mut self, conflict: u64) -> Result<Progress, OracleFault>
+        requires working { IsWorking R.seen self.old }
         requires conflict { IsConflict self.old.search.store self.old.search.trail conflict }
-        ensures turn { IsTurn result
-            (IsAnswer (R.seen self.new.recorder).problem (R.seen self.new.recorder).lines _assumptions.now)
-            (IsOn (R.seen self.new.recorder).problem self.new.limit _assumptions.now
-            (R.seen self.new.recorder).broken (R.seen self.old.recorder).lines
-            (R.seen self.new.recorder).lines self.old.search self.new.search self.new.next
-            self.new.rows self.new.ledger
-            (left self.old.ledger.reductions)) }
-        ensures done { OnOk result (IsDone (R.seen self.new.recorder).problem
-            (R.seen self.new.recorder).broken (R.seen self.new.recorder).lines self.new.search
-            self.new.next self.new.rows self.new.ledger) }
-        ensures cause { IfErr result (λ f. HasCause f self.old.limit (R.seen self.new.recorder).problem
-            (R.seen self.new.recorder).lines
-            (Rose (R.seen self.old.recorder).faults (R.seen self.new.recorder).faults)) }
-        ensures goes_on { IfErr result (λ f. GoesOn f (IsDone (R.seen self.new.recorder).problem
-            (R.seen self.new.recorder).broken (R.seen self.new.recorder).lines self.new.search
-            self.new.next self.new.rows self.new.ledger)) }
-        ensures adds { AddsSearchLines (R.seen self.old.recorder).problem (R.seen self.old.recorder).lines
-            (R.seen self.new.recorder).lines }
-        ensures within { IsWithin self.old.limit (R.seen self.old.recorder).problem
-            (R.seen self.new.recorder).lines }
-        ensures begun { self.new.broken ≡ true }
-        ensures limit { self.new.limit ≡ self.old.limit }
-        ensures kept { KeepsRecorder (R.seen self.old.recorder).problem (R.seen self.new.recorder).problem
-            (R.seen self.old.recorder).limit (R.seen self.new.recorder).limit (R.seen self.old.recorder).around
-            (R.seen self.new.recorder).around (R.seen self.old.recorder).faults
-            (R.seen self.new.recorder).faults }
+        ensures progress { (assumptions : List Literal) → IsLed assumptions self.old.search.trail
+            → IfOk result (IsProgress R.seen assumptions self.old self.new) }
+        ensures ends { Ends R.seen self.old self.new result }
+        ensures steps { StepsFrom R.seen self.old self.new }
+        ensures implied { ImpliesOnly R.seen self.old self.new
+            (λ goal. IsOkAnd result (IsAnsweredCore goal)) }
     {
         if self.search.level() == 0 {
             let core = self.refute(conflict)?;
-            return Ok(Turn::Answered(Answer::Unsat(core)));
+            return Ok(Progress::Answered(Answer::Unsat(core)));
         }
         let lesson = self.search.lesson(conflict)?;
         self.ledger.use_all(lesson.hints.as_slice());
         self.learn(lesson)?;
         self.reduce_where_due()?;
-        Ok(Turn::Learned)
+        Ok(Progress::Learned)
     }
 }

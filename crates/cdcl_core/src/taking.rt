@@ -104,13 +104,10 @@ impl<R: Recorder + Drop, P: Propagator + Drop> Solver<R, P> {
     // Takes up the lines and variables that came since the last call, over a trail without decisions.
     pub(crate) fn take_up(&mut self) -> Result<(), NoMemory>
         requires begun { self.old.broken ≡ true }
-        requires held { IsHeld (R.seen self.old.recorder).problem (R.seen self.old.recorder).lines
-            self.old.search self.old.next self.old.rows self.old.ledger }
+        requires held { IsHeld R.seen self.old }
         requires unended { Reaches (R.seen self.old.recorder).problem (R.seen self.old.recorder).lines
             (λ s. s.ended ≡ false) }
-        ensures taken { OnOk result (IsTakenUp (R.seen self.new.recorder).problem
-            (R.seen self.new.recorder).lines self.new.search self.new.next self.new.rows
-            self.new.ledger) }
+        ensures taken { OnOk result (IsTakenUp R.seen self.new) }
         ensures undecided { OnOk result (IsUndecided self.new.search.trail) }
         ensures recorder { self.new.recorder ≡ self.old.recorder }
         ensures limit { self.new.limit ≡ self.old.limit }

@@ -1,35 +1,34 @@
-use Rattle.std.proofs.Common.{◌≡◌, sym, ap, ◌∙◌, subst, ℕ}
+use Rattle.std.proofs.Common.{◌≡◌, sym, ap, ◌∙◌, subst, refl}
 use Rattle.clause_prop.specs.Steps.{TrailValue}
 use Rattle.search_state.specs.Searching.{SearchValue}
 use Rattle.oracle.specs.Solving.{Reaches}
-use Rattle.cdcl_core.specs.Work.{SolverValue, IsHeld, IsTakenUp}
+use Rattle.cdcl_core.specs.Work.{SolverValue, IsHeld}
 use Rattle.cdcl_core.proofs.Turns.{undecided_back, undecided_steps, vars_back, held_state, taken_up, grown_vars}
 use Rattle.cdcl_core.proofs.solver.Solver.take_up.Goals as goal
 
 pub take_lines-requires-clause-vars : goal.take_lines-requires-clause-vars
 take_lines-requires-clause-vars g c =
-    let held = subst (λ (v : SolverValue _). IsHeld (g.R.Recorder.seen v.recorder).problem (g.R.Recorder.seen v.recorder).lines v.search v.next v.rows v.ledger) (sym c.self.view_is) c.requires.held in
+    let held = subst (IsHeld g.R.Recorder.seen) (sym c.self.view_is) c.requires.held in
     grown_vars c.grow.new.self.trail.vars c.vars.result c.back_to.new.self.trail.vars c.self.inside.search.trail.vars c.state-state.result.now.vars
     (ap (λ (s : SearchValue). s.trail.vars) c.in_ok-grow.ensures.ok) (vars_back 0 c.self.inside.search.trail c.back_to.new.self.trail c.back_to.ensures.trail) c.vars.ensures.value
-    (held_state _ _ c.self.inside.search c.state-state.result.now c.self.inside.next c.self.inside.rows c.self.inside.ledger held c.state-state.ensures).1
+    (held_state g.R.Recorder.seen _ c.state-state.result.now held c.state-state.ensures).1
 
 pub take_lines-requires-clause-within : goal.take_lines-requires-clause-within
 take_lines-requires-clause-within g c =
-    let held = subst (λ (v : SolverValue _). IsHeld (g.R.Recorder.seen v.recorder).problem (g.R.Recorder.seen v.recorder).lines v.search v.next v.rows v.ledger) (sym c.self.view_is) c.requires.held in
-    (held_state _ _ c.self.inside.search c.state-state.result.now c.self.inside.next c.self.inside.rows c.self.inside.ledger held c.state-state.ensures).0
+    let held = subst (IsHeld g.R.Recorder.seen) (sym c.self.view_is) c.requires.held in
+    (held_state g.R.Recorder.seen _ c.state-state.result.now held c.state-state.ensures).0
 
 pub returns-clause-taken : goal.returns-clause-taken
 returns-clause-taken g c =
-    let rec = g.R.Recorder in
-    let held = subst (λ (v : SolverValue _). IsHeld (rec.seen v.recorder).problem (rec.seen v.recorder).lines v.search v.next v.rows v.ledger) (sym c.self.view_is) c.requires.held in
-    let unended = subst (λ (v : SolverValue _). Reaches (rec.seen v.recorder).problem (rec.seen v.recorder).lines (λ s. s.ended ≡ _)) (sym c.self.view_is) c.requires.unended in
-    let known = held_state _ _ c.self.inside.search c.state-state.result.now c.self.inside.next c.self.inside.rows c.self.inside.ledger held c.state-state.ensures in
-    subst (λ (n : ℕ). IsTakenUp (rec.seen c.self.inside.recorder).problem (rec.seen c.self.inside.recorder).lines c.take_lines.new.search n c.self.inside.rows c.self.inside.ledger) (sym c.next_id-self-inside.ensures)
-    (taken_up _ _ c.self.inside.search c.grow.new.self c.take_lines.new.search c.state-state.result.now c.self.inside.next c.self.inside.rows c.self.inside.ledger held unended c.state-state.ensures
+    let seen = g.R.Recorder.seen in
+    let held = subst (IsHeld seen) (sym c.self.view_is) c.requires.held in
+    let unended = subst (λ (v : SolverValue _). Reaches (seen v.recorder).problem (seen v.recorder).lines (λ s. s.ended ≡ _)) (sym c.self.view_is) c.requires.unended in
+    let known = held_state seen _ c.state-state.result.now held c.state-state.ensures in
+    taken_up seen _ _ c.grow.new.self c.state-state.result.now held unended c.state-state.ensures refl c.next_id-self-inside.ensures
     (ap (λ (s : SearchValue). s.store) c.in_ok-grow.ensures.ok ∙ c.back_to.ensures.store) c.in_ok-take_lines.ensures.trail
     (grown_vars c.grow.new.self.trail.vars c.vars.result c.back_to.new.self.trail.vars c.self.inside.search.trail.vars c.state-state.result.now.vars
     (ap (λ (s : SearchValue). s.trail.vars) c.in_ok-grow.ensures.ok) (vars_back 0 c.self.inside.search.trail c.back_to.new.self.trail c.back_to.ensures.trail) c.vars.ensures.value known.1)
-    c.in_ok-take_lines.ensures.stored)
+    c.in_ok-take_lines.ensures.stored
 
 pub returns-clause-undecided : goal.returns-clause-undecided
 returns-clause-undecided g c = undecided_steps c.back_to.new.self.trail c.take_lines.new.search.trail

@@ -1,19 +1,16 @@
-use Rattle.std.proofs.Common.{sym, subst, rules}
-use Rattle.pb_lin.specs.Problem.{ProblemValue}
-use Rattle.cdcl_core.specs.Ledgers.{LedgerValue}
-use Rattle.cdcl_core.specs.Work.{IsHeld}
-use Rattle.cdcl_core.proofs.HeldLines.{held_added, held_moved}
+use Rattle.std.proofs.Common.{refl, rules, ap, ◌∙◌}
+use Rattle.proof_rules.specs.Recording.{Snapshot}
+use Rattle.cdcl_core.proofs.HeldLines.{held_added, held_seen}
 use Rattle.cdcl_core.proofs.solver.SolverRecorder.add_line.Goals as goal
 
 pub invariant_of-self : goal.invariant_of-self
-invariant_of-self g c whole =
-    let old = subst (λ (p : ProblemValue). IsHeld p (g.R.Recorder.seen c.self.inside.recorder).lines c.self.inside.search c.self.inside.next c.self.inside.rows c.self.inside.ledger) (sym c.in-Ok.ensures.problem) (c.self.invariant whole).1 in (
-      c.in-Ok.ensures.whole,
-      subst (λ (ledger : LedgerValue). IsHeld (g.R.Recorder.seen c.add_line.new.self).problem (g.R.Recorder.seen c.add_line.new.self).lines c.drop_deleted.new.search c.self.inside.next c.self.inside.rows ledger) (sym c.note.ensures) (held_added _ _ _ c.args.line.now c.state.result.now c.self.inside.search c.drop_deleted.new.search c.self.inside.next c.self.inside.rows c.self.inside.ledger
-          old c.in-Ok.ensures.added c.state.ensures (c.reached_state_fits.ensures _ _ _ c.state.ensures) c.vars-vars.ensures.state c.drop_deleted.ensures.store c.drop_deleted.ensures.vars),
-    )
+invariant_of-self g c whole = (
+  c.in-Ok.ensures.whole,
+  held_added g.R.Recorder.seen _ _ c.args.line.now c.state.result.now (c.self.invariant whole).1 c.in-Ok.ensures.keeps.problem c.in-Ok.ensures.added c.state.ensures c.vars-vars.ensures.state refl refl
+      c.drop_deleted.ensures.store c.drop_deleted.ensures.vars c.note.ensures,
+)
 
 pub invariant_of-self-in-Err-Full : goal.invariant_of-self-in-Err-Full
 invariant_of-self-in-Err-Full g c whole =
-    let ensures = c.in-Err-Full.ensures in
-    (ensures.full_whole (search rules), held_moved _ _ _ _ c.self.inside.search c.self.inside.next c.self.inside.rows c.self.inside.ledger (sym ensures.problem) (sym ensures.kept) (c.self.invariant whole).1)
+    let same = c.in-Err-Full.ensures.full_same (search rules) in
+    (ap (λ (x : Snapshot). x.broken) same ∙ (c.self.invariant whole).0, held_seen g.R.Recorder.seen _ _ (c.self.invariant whole).1 same refl)

@@ -1,9 +1,9 @@
-// What a turn of a search does.
+// What one turn of a search comes to.
 use oracle::Answer;
 
-/// What a turn of a search did.
+/// What one turn of a search, propagation and then a conflict or a decision, came to.
 #[derive(Debug, Drop)]
-pub enum Turn {
+pub enum Progress {
     /// It found an answer.
     Answered(Answer),
     /// It learned a clause.
