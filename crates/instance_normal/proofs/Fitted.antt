@@ -1,5 +1,5 @@
 -- Each row of a normal form is within the limits of problems.
-use Rattle.std.proofs.Common.{◌≡◌, ℕ, ◌+◌, ◌^◌, ◌<◌, ◌≤◌, Bool, true, false, List, [], ◌∷◌, ◌++◌, length, map, sym, subst, ℤ, neg_ℤ, unsigned_abs, arith}
+use Rattle.std.proofs.Common.{◌≡◌, ℕ, ◌+◌, ◌^◌, ◌<◌, ◌≤◌, Bool, true, false, List, [], ◌∷◌, ◌++◌, length, map, sym, subst, ap, ℤ, neg_ℤ, unsigned_abs, arith}
 use Rattle.std.specs.Prelude.{All, AllPairs, MatchBool}
 use Rattle.std.specs.List.{AllZip, flat_map}
 use Rattle.std.proofs.lemmas.Int.{ints}
@@ -10,20 +10,26 @@ use Rattle.instance.specs.declared.row.Rel.{Rel}
 use Rattle.instance.specs.declared.row.Rel.TheVariants.{AtLeast, AtMost, Equal}
 use Rattle.instance.specs.declared.objective.Soft.{Soft}
 use Rattle.instance.specs.Shape.{InstanceValue, IsWithinLimits, IsRowWithin, ClauseUpTo, TermsUpTo}
-use Rattle.pb_lin.specs.Constraint.{ConstraintValue, UpTo}
+use Rattle.pb_lin.specs.Constraint.{ConstraintValue, UpTo, size}
 use Rattle.pb_lin.specs.NormalForm.{magnitude}
 use Rattle.pb_lin.specs.Problem.{ProblemValue, IsProblem}
 use Rattle.pb_lin.proofs.Merges.{rising_head, rising_tail}
 use Rattle.instance_normal.specs.NormalForm.{RowSource, Clause, Sum, IsRowOf, IsClauseRow, trivial_row, is_tautology, positive, at_least, at_most, sources_by, linear_sources, relaxed_clauses, relaxed_softs, row_sources, IsNormalFormOf}
 use Rattle.instance_normal.specs.Within.{IsFromOne}
 use Rattle.instance_normal.specs.Fitting.{Fits}
-use Rattle.instance_normal.proofs.Distinct.{clause_fits, members_upto, trivial_fits}
+use Rattle.instance_normal.proofs.Distinct.{clause_fits, members_upto}
 use Rattle.instance_normal.proofs.Members.{all_both, all_flattened}
 use Rattle.instance_normal.proofs.Models.{relaxed_upto}
 use Rattle.instance_normal.proofs.Sizes.{sum_fits, negated_magnitude, negated_upto}
 use Rattle.instance_normal.proofs.Within.{few_relaxed, problem_within}
 
 -- ---- one row
+
+trivial_fits : (n : ℕ) (c : ConstraintValue) → c ≡ trivial_row → Fits n c
+trivial_fits n c row = record {
+  upto = subst (UpTo n) (sym row) (All-nil (λ (t : Literal × ℕ). t.0.var ≤ n));
+  small = omega (arith, ap size row);
+}
 
 -- of rising variables from v to n there are no more than numbers
 few_rising : (n v : ℕ) (ts : List (Literal × ℕ)) → v ≤ n + 1 → All (λ t. v ≤ t.0.var) ts → AllPairs (λ s t. s.0.var < t.0.var) ts → All (λ t. t.0.var ≤ n) ts → length ts + v ≤ n + 1
