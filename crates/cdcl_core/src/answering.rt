@@ -25,7 +25,8 @@ impl<R: Recorder + Drop, P: Propagator + Drop> Solver<R, P> {
         requires begun { self.old.broken ≡ true }
         requires done { IsDone R.seen self.old }
         requires unended { Reached R.seen self.old (λ s. s.ended ≡ false) }
-        requires assumptions { Reached R.seen self.old (λ s. AreAssumptions s.vars assumptions.now) }
+        requires assumptions { Reached R.seen self.old
+            (λ s. AreAssumptions s.vars assumptions.now) }
         requires within { IsWithin self.old.limit (R.seen self.old.recorder).problem
             (R.seen self.old.recorder).lines }
         ensures answer { IfOk result (Answers R.seen self.new assumptions.now) }
