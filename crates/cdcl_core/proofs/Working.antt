@@ -156,17 +156,7 @@ module _ {R : Type 0} (seen : R → Snapshot) where
       steps_unchanged v w b same limit broken (subst (λ (r : R). KeepsRecorder (seen v.recorder) (seen r)) (sym recorder) (kept_none (seen v.recorder)))
       (ap (λ (r : R). (seen r).lines) recorder) working
 
-  -- steps from a solver over the same recorder
-  pub steps_on : (v w b c : SolverValue R) → v ≡ w → StepsFrom seen b c → b.recorder ≡ v.recorder → b.limit ≡ v.limit → StepsFrom seen w c
-  steps_on v w b c same steps recorder limit = subst (λ (s : SolverValue R). StepsFrom seen s c) same (record {
-    begun = steps.begun;
-    limit = steps.limit ∙ limit;
-    kept = subst (λ (r : R). KeepsRecorder (seen r) (seen c.recorder)) recorder steps.kept;
-    within = subst (λ (r : R). IsWithin v.limit (seen r).problem (seen c.recorder).lines) recorder
-        (subst (λ (l : Option ℕ). IsWithin l (seen b.recorder).problem (seen c.recorder).lines) limit steps.within);
-    adds = subst (λ (r : R). AddsSearchLines (seen r).problem (seen r).lines (seen c.recorder).lines) recorder steps.adds;
-  })
-
+  -- no clause was learned either
   pub learns_unchanged : (v w : SolverValue R) (new : List Line) → v ≡ w → new ≡ (seen v.recorder).lines → AddsLearned (seen w.recorder).problem (seen w.recorder).lines new
   learns_unchanged v w new same lines = subst (λ (s : SolverValue R). AddsLearned (seen s.recorder).problem (seen s.recorder).lines new) same
       (subst (λ (ls : List Line). AddsLearned (seen v.recorder).problem (seen v.recorder).lines ls) (sym lines) (none_law (seen v.recorder).problem (seen v.recorder).lines))
@@ -183,6 +173,7 @@ module _ {R : Type 0} (seen : R → Snapshot) where
         (subst (λ (p : ProblemValue). AddsSearchLines p (seen b.recorder).lines (seen c.recorder).lines) kept.problem steps.adds);
   }
 
+  -- the same of a solver that is seen in two ways
   pub steps_after : (v w b c : SolverValue R) → v ≡ w → AddsLearned (seen v.recorder).problem (seen v.recorder).lines (seen b.recorder).lines → b.limit ≡ v.limit → KeepsRecorder (seen v.recorder) (seen b.recorder)
       → StepsFrom seen b c → StepsFrom seen w c
   steps_after v w b c same learns limit kept steps = subst (λ (s : SolverValue R). StepsFrom seen s c) same (steps_twice v b c learns limit kept steps)

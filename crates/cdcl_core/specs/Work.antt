@@ -1,5 +1,5 @@
 -- What holds while a solver works, and what each step of the work keeps.
-use Rattle.std.specs.Prelude.{◌≡◌, ℕ, ◌^◌, ◌<◌, ◌≤◌, ◌++◌, ◌∷◌, ◌⊎◌, Bool, true, false, List, length, All, Contains, Option, Some, Result, Ok, Err}
+use Rattle.std.specs.Prelude.{◌≡◌, ℕ, ◌^◌, ◌<◌, ◌≤◌, ◌++◌, ◌∷◌, ◌⊎◌, Bool, true, false, List, length, All, Contains, Option, Some, Result, Ok, Err, IsOkAnd}
 use Rattle.scut_base.specs.Faults.{Rose}
 use Rattle.scut_base.specs.Literal.{Literal}
 use Rattle.scut_base.specs.Assignment.{partial_truth}
@@ -10,7 +10,7 @@ use Rattle.proof_laws.specs.Replay.{IsReplay}
 use Rattle.proof_laws.specs.declared.line.Line.{Line}
 use Rattle.proof_laws.specs.declared.line.Line.TheVariants.{Rup}
 use Rattle.proof_rules.specs.Recording.{Snapshot, KeepsRecorder}
-use Rattle.oracle.specs.Solving.{AddsSearchLines, AreEarned, IsAnswer, IsCoreClause, IsSpent, IsWithin}
+use Rattle.oracle.specs.Solving.{AddsSearchLines, AreEarned, IsAnswer, IsClauseAgainst, IsCoreClause, IsSpent, IsWithin, Reaches}
 use Rattle.oracle.specs.declared.fault.OracleFault.{OracleFault}
 use Rattle.oracle.specs.declared.fault.OracleFault.TheVariants.{Spent, Failed, Full, NoMemory}
 use Rattle.clause_prop.specs.Steps.{TrailValue, partial, cut}
@@ -20,6 +20,8 @@ use Rattle.search_lines.specs.StoredLines.{IsStored}
 use Rattle.search_trail.specs.Rank.{rank}
 use Rattle.search_lines.specs.SearchLines.{AddsLearned}
 use Rattle.search_state.specs.Searching.{SearchValue}
+use Rattle.oracle.specs.declared.answer.Answer.{Answer}
+use Rattle.oracle.specs.declared.answer.Core.{Core}
 use Rattle.cdcl_core.specs.Ledgers.{LedgerValue, IsLedger, left}
 use Rattle.cdcl_core.specs.declared.progress.Progress.{Progress}
 use Rattle.cdcl_core.specs.declared.progress.Progress.TheVariants.{Answered, Learned, Decided}
@@ -70,6 +72,14 @@ pub record IsWorking {R : Type 0} (seen : R → Snapshot) (s : SolverValue R) : 
   pub earned : AreEarned (seen s.recorder).problem (seen s.recorder).lines
   pub within : IsWithin s.limit (seen s.recorder).problem (seen s.recorder).lines
 
+-- the lines reach some state, of which P holds
+abbrev pub Reached : {R : Type 0} → (R → Snapshot) → SolverValue R → (StateValue → Type 0) → Type 0
+Reached seen s P = Reaches (seen s.recorder).problem (seen s.recorder).lines P
+
+-- the answer is true of the lines
+abbrev pub Answers : {R : Type 0} → (R → Snapshot) → SolverValue R → List Literal → Answer → Type 0
+Answers seen s assumptions answer = IsAnswer (seen s.recorder).problem (seen s.recorder).lines assumptions answer
+
 -- ---- what a step of the work keeps, and how it ends
 
 -- What every step of the work keeps, however it ends.
@@ -88,6 +98,10 @@ LearnsAlone seen old new = AddsLearned (seen old.recorder).problem (seen old.rec
 abbrev pub ImpliesOnly : {R : Type 0} → (R → Snapshot) → SolverValue R → SolverValue R → (ConstraintValue → Type 0) → Type 0
 ImpliesOnly seen old new P = (first after : List Line) (goal : ConstraintValue) (hints : List Hint)
     → (seen new.recorder).lines ≡ (seen old.recorder).lines ++ (first ++ (Rup goal hints ∷ after)) → P goal
+
+-- the clause of the core that is answered
+abbrev pub IsOfCore : Result Core OracleFault → ConstraintValue → Type 0
+IsOfCore result goal = IsOkAnd result (λ core. IsClauseAgainst core.lits goal)
 
 -- why a line wasn't recorded
 abbrev pub IsRecordCause : Snapshot → Snapshot → OracleFault → Type 0
@@ -137,8 +151,11 @@ IsProgress seen assumptions old new (Answered answer) = IsAnswer (seen new.recor
 IsProgress seen assumptions old new Learned = IsOn seen assumptions old new
 IsProgress seen assumptions old new Decided = IsOn seen assumptions old new
 
+abbrev IsOfProgress : ConstraintValue → Progress → Type 0
+IsOfProgress goal (Answered answer) = IsCoreClause (Ok answer) goal
+IsOfProgress goal Learned = ⊥
+IsOfProgress goal Decided = ⊥
+
 -- the clause of the core that a turn answers
-abbrev pub IsAnsweredCore : ConstraintValue → Progress → Type 0
-IsAnsweredCore goal (Answered answer) = IsCoreClause (Ok answer) goal
-IsAnsweredCore goal Learned = ⊥
-IsAnsweredCore goal Decided = ⊥
+abbrev pub IsAnsweredCore : Result Progress OracleFault → ConstraintValue → Type 0
+IsAnsweredCore result goal = IsOkAnd result (IsOfProgress goal)

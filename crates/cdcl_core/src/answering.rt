@@ -1,7 +1,7 @@
 // The solver as an oracle: it answers under assumptions, or with a core of them (Eén and Sörensson 2003).
 ghost use Rattle.std.specs.Prelude.{◌≡◌, true, false, IfOk};
-ghost use Rattle.oracle.specs.Solving.{AreAssumptions, IsAnswer, IsCoreClause, IsOrderly, IsWithin, Reaches};
-ghost use Rattle.cdcl_core.specs.Work.{Ends, ImpliesOnly, IsDone, StepsFrom};
+ghost use Rattle.oracle.specs.Solving.{AreAssumptions, IsCoreClause, IsOrderly, IsWithin};
+ghost use Rattle.cdcl_core.specs.Work.{Answers, Ends, ImpliesOnly, IsDone, Reached, StepsFrom};
 
 use crate::Solver;
 use clause_prop::Propagator;
@@ -24,14 +24,12 @@ impl<R: Recorder + Drop, P: Propagator + Drop> Solver<R, P> {
     fn answer(&mut self, assumptions: &[Lit]) -> Result<Answer, OracleFault>
         requires begun { self.old.broken ≡ true }
         requires done { IsDone R.seen self.old }
-        requires unended { Reaches (R.seen self.old.recorder).problem (R.seen self.old.recorder).lines
-            (λ s. s.ended ≡ false) }
-        requires assumptions { Reaches (R.seen self.old.recorder).problem
-            (R.seen self.old.recorder).lines (λ s. AreAssumptions s.vars assumptions.now) }
+        requires unended { Reached R.seen self.old (λ s. s.ended ≡ false) }
+        requires assumptions { Reached R.seen self.old
+            (λ s. AreAssumptions s.vars assumptions.now) }
         requires within { IsWithin self.old.limit (R.seen self.old.recorder).problem
             (R.seen self.old.recorder).lines }
-        ensures answer { IfOk result (IsAnswer (R.seen self.new.recorder).problem
-            (R.seen self.new.recorder).lines assumptions.now) }
+        ensures answer { IfOk result (Answers R.seen self.new assumptions.now) }
         ensures ends { Ends R.seen self.old self.new result }
         ensures steps { StepsFrom R.seen self.old self.new }
         ensures implied { ImpliesOnly R.seen self.old self.new (IsCoreClause result) }

@@ -7,8 +7,8 @@ ghost use Rattle.clause_prop.specs.Propagating.{IsConflict};
 ghost use Rattle.search_trail.specs.SearchTrail.{IsUndecided};
 ghost use Rattle.search_trail.specs.Learning.{AreHints};
 ghost use Rattle.conflict_analysis.specs.Analysis.{IsDecided, IsForcedFalse};
-ghost use Rattle.oracle.specs.Solving.{IsClauseAgainst, IsCore, Reaches};
-ghost use Rattle.cdcl_core.specs.Work.{Ends, ImpliesOnly, IsWorking, StepsFrom};
+ghost use Rattle.oracle.specs.Solving.{IsCore};
+ghost use Rattle.cdcl_core.specs.Work.{Ends, ImpliesOnly, IsOfCore, IsWorking, Reached, StepsFrom};
 
 use crate::Solver;
 use crate::recording::record;
@@ -76,8 +76,8 @@ impl<R: Recorder + Drop, P: Propagator + Drop> Solver<R, P> {
         requires rising { AllPairs (λ l m. l.var < m.var) lits }
         requires within { All (λ l. (0 < l.var) × (l.var ≤ self.old.search.trail.vars)) lits }
         requires hints { AreHints self.old.search.store self.old.search.trail.vars lits hints }
-        ensures named { IfOk result (λ id. Reaches (R.seen self.new.recorder).problem
-            (R.seen self.new.recorder).lines (λ s. get s.live id ≡ Some (clause lits))) }
+        ensures named { IfOk result
+            (λ id. Reached R.seen self.new (λ s. get s.live id ≡ Some (clause lits))) }
         ensures ends { Ends R.seen self.old self.new result }
         ensures steps { StepsFrom R.seen self.old self.new }
         ensures implied { ImpliesOnly R.seen self.old self.new
@@ -100,14 +100,13 @@ impl<R: Recorder + Drop, P: Propagator + Drop> Solver<R, P> {
     pub(crate) fn blame(&mut self, lit: Lit) -> Result<Core, OracleFault>
         requires working { IsWorking R.seen self.old }
         requires falsified { IsForcedFalse self.old.search.trail lit }
-        ensures core { IfOk result (λ core. Reaches (R.seen self.new.recorder).problem
-            (R.seen self.new.recorder).lines (IsCore core.lits core.lits core.id)) }
+        ensures core { IfOk result
+            (λ core. Reached R.seen self.new (IsCore core.lits core.lits core.id)) }
         ensures among { IfOk result
             (λ core. All (λ m. (m ≡ lit) ⊎ IsDecided self.old.search.trail m) core.lits) }
         ensures ends { Ends R.seen self.old self.new result }
         ensures steps { StepsFrom R.seen self.old self.new }
-        ensures implied { ImpliesOnly R.seen self.old self.new
-            (λ goal. IsOkAnd result (λ core. IsClauseAgainst core.lits goal)) }
+        ensures implied { ImpliesOnly R.seen self.old self.new (IsOfCore result) }
     {
         // Tells that the trail is one of a search.
         let _level = self.search.level();
@@ -122,13 +121,11 @@ impl<R: Recorder + Drop, P: Propagator + Drop> Solver<R, P> {
         requires working { IsWorking R.seen self.old }
         requires conflict { IsConflict self.old.search.store self.old.search.trail conflict }
         requires undecided { IsUndecided self.old.search.trail }
-        ensures core { IfOk result (λ core. Reaches (R.seen self.new.recorder).problem
-            (R.seen self.new.recorder).lines (IsCore [] core.lits core.id)) }
+        ensures core { IfOk result (λ core. Reached R.seen self.new (IsCore [] core.lits core.id)) }
         ensures none { IfOk result (λ core. core.lits ≡ []) }
         ensures ends { Ends R.seen self.old self.new result }
         ensures steps { StepsFrom R.seen self.old self.new }
-        ensures implied { ImpliesOnly R.seen self.old self.new
-            (λ goal. IsOkAnd result (λ core. IsClauseAgainst core.lits goal)) }
+        ensures implied { ImpliesOnly R.seen self.old self.new (IsOfCore result) }
     {
         let hints = self.search.refute(conflict)?;
         let id = self.name_clause(Items::new(self.alloc), hints)?;

@@ -1,5 +1,5 @@
 // What a search does where nothing is left to propagate: it decides a literal, or answers.
-ghost use Rattle.std.specs.Prelude.{◌≡◌, ◌≢◌, ◌≤◌, true, false, Some, All, Contains, IfOk, IfSome, IfNone, IsOkAnd};
+ghost use Rattle.std.specs.Prelude.{◌≡◌, ◌≢◌, ◌≤◌, true, false, Some, All, Contains, IfOk, IfSome, IfNone};
 ghost use Rattle.scut_base.specs.Assignment.{partial_truth};
 ghost use Rattle.clause_prop.specs.Steps.{partial};
 ghost use Rattle.clause_prop.specs.Propagating.{IsClosedFor};
@@ -54,8 +54,7 @@ impl<R: Recorder + Drop, P: Propagator + Drop> Solver<R, P> {
         ensures progress { IfOk result (IsProgress R.seen assumptions.now self.old self.new) }
         ensures ends { Ends R.seen self.old self.new result }
         ensures steps { StepsFrom R.seen self.old self.new }
-        ensures implied { ImpliesOnly R.seen self.old self.new
-            (λ goal. IsOkAnd result (IsAnsweredCore goal)) }
+        ensures implied { ImpliesOnly R.seen self.old self.new (IsAnsweredCore result) }
     {
         // Tells that the trail is one of a search.
         let _level = self.search.level();

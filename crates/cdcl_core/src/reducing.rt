@@ -1,8 +1,7 @@
 // Reductions: a search lets go of about half of its learned clauses.
 ghost use Rattle.std.specs.Prelude.{◌≡◌, ◌<◌, ◌⊎◌, OnOk};
-ghost use Rattle.oracle.specs.Solving.{Reaches};
 ghost use Rattle.cdcl_core.specs.Ledgers.{EndsLearned, IsDue, left};
-ghost use Rattle.cdcl_core.specs.Work.{Ends, IsWorking, KeepsLed, LearnsAlone, StepsFrom};
+ghost use Rattle.cdcl_core.specs.Work.{Ends, IsWorking, KeepsLed, LearnsAlone, Reached, StepsFrom};
 
 use crate::Solver;
 use crate::choosing::Choice;
@@ -43,8 +42,7 @@ impl<R: Recorder + Drop, P: Propagator + Drop> Solver<R, P> {
     fn reduce(&mut self) -> Result<(), OracleFault>
         requires working { IsWorking R.seen self.old }
         requires last { EndsLearned (R.seen self.old.recorder).lines }
-        requires due { Reaches (R.seen self.old.recorder).problem (R.seen self.old.recorder).lines
-            (λ s. IsDue self.old.ledger.reductions s.learned) }
+        requires due { Reached R.seen self.old (λ s. IsDue self.old.ledger.reductions s.learned) }
         ensures working { OnOk result (IsWorking R.seen self.new) }
         ensures ends { Ends R.seen self.old self.new result }
         ensures steps { StepsFrom R.seen self.old self.new }

@@ -1,10 +1,10 @@
 // The search: turns of propagation, learning and decisions.
-ghost use Rattle.std.specs.Prelude.{List, IfOk, IsOkAnd};
+ghost use Rattle.std.specs.Prelude.{List, IfOk};
 ghost use Rattle.scut_base.specs.Literal.{Literal};
 ghost use Rattle.clause_prop.specs.Propagating.{IsConflict};
 ghost use Rattle.search_trail.specs.SearchTrail.{IsUndecided};
-ghost use Rattle.oracle.specs.Solving.{AreAssumptions, IsAnswer, IsCoreClause};
-ghost use Rattle.cdcl_core.specs.Work.{Ends, ImpliesOnly, IsAnsweredCore, IsLed, IsProgress, IsWorking, StepsFrom};
+ghost use Rattle.oracle.specs.Solving.{AreAssumptions, IsCoreClause};
+ghost use Rattle.cdcl_core.specs.Work.{Answers, Ends, ImpliesOnly, IsAnsweredCore, IsLed, IsProgress, IsWorking, StepsFrom};
 
 use crate::Solver;
 use crate::progress::Progress;
@@ -22,8 +22,7 @@ impl<R: Recorder + Drop, P: Propagator + Drop> Solver<R, P> {
         requires working { IsWorking R.seen self.old }
         requires undecided { IsUndecided self.old.search.trail }
         requires assumptions { AreAssumptions self.old.search.trail.vars assumptions.now }
-        ensures answer { IfOk result (IsAnswer (R.seen self.new.recorder).problem
-            (R.seen self.new.recorder).lines assumptions.now) }
+        ensures answer { IfOk result (Answers R.seen self.new assumptions.now) }
         ensures ends { Ends R.seen self.old self.new result }
         ensures steps { StepsFrom R.seen self.old self.new }
         ensures implied { ImpliesOnly R.seen self.old self.new (IsCoreClause result) }
@@ -55,8 +54,7 @@ impl<R: Recorder + Drop, P: Propagator + Drop> Solver<R, P> {
         ensures progress { IfOk result (IsProgress R.seen assumptions.now self.old self.new) }
         ensures ends { Ends R.seen self.old self.new result }
         ensures steps { StepsFrom R.seen self.old self.new }
-        ensures implied { ImpliesOnly R.seen self.old self.new
-            (λ goal. IsOkAnd result (IsAnsweredCore goal)) }
+        ensures implied { ImpliesOnly R.seen self.old self.new (IsAnsweredCore result) }
     {
         match self.search.propagate()? {
             Some(conflict) => self.learn_from(conflict),
@@ -73,8 +71,7 @@ impl<R: Recorder + Drop, P: Propagator + Drop> Solver<R, P> {
             → IfOk result (IsProgress R.seen assumptions self.old self.new) }
         ensures ends { Ends R.seen self.old self.new result }
         ensures steps { StepsFrom R.seen self.old self.new }
-        ensures implied { ImpliesOnly R.seen self.old self.new
-            (λ goal. IsOkAnd result (IsAnsweredCore goal)) }
+        ensures implied { ImpliesOnly R.seen self.old self.new (IsAnsweredCore result) }
     {
         if self.search.level() == 0 {
             let core = self.refute(conflict)?;

@@ -4,8 +4,7 @@ ghost use Rattle.std.specs.FinMap.{get, remove};
 ghost use Rattle.pb_lin.specs.Problem.{ProblemValue};
 ghost use Rattle.proof_laws.specs.Earned.{is_reduce};
 ghost use Rattle.search_trail.specs.SearchTrail.{IsUndecided};
-ghost use Rattle.oracle.specs.Solving.{Reaches};
-ghost use Rattle.cdcl_core.specs.Work.{IsHeld, IsTakenUp};
+ghost use Rattle.cdcl_core.specs.Work.{IsHeld, IsTakenUp, Reached};
 ghost use Rattle.search_lines.specs.StoredLines.{IsStored, deleted};
 ghost use Rattle.proof_laws.specs.WellFormed.{IsWellFormed};
 
@@ -105,8 +104,7 @@ impl<R: Recorder + Drop, P: Propagator + Drop> Solver<R, P> {
     pub(crate) fn take_up(&mut self) -> Result<(), NoMemory>
         requires begun { self.old.broken ≡ true }
         requires held { IsHeld R.seen self.old }
-        requires unended { Reaches (R.seen self.old.recorder).problem (R.seen self.old.recorder).lines
-            (λ s. s.ended ≡ false) }
+        requires unended { Reached R.seen self.old (λ s. s.ended ≡ false) }
         ensures taken { OnOk result (IsTakenUp R.seen self.new) }
         ensures undecided { OnOk result (IsUndecided self.new.search.trail) }
         ensures recorder { self.new.recorder ≡ self.old.recorder }

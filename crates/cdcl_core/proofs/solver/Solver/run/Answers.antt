@@ -1,10 +1,11 @@
-use Rattle.std.proofs.Common.{◌≡◌, ◌-◌, ◌+◌, sym, ap, ◌∙◌, subst, refl, arith, inl, inr}
+use Rattle.std.proofs.Common.{Ok, ◌≡◌, ◌-◌, ◌+◌, sym, ap, ◌∙◌, subst, refl, arith, inl, inr}
 use Rattle.pb_lin.specs.Problem.{ProblemValue}
 use Rattle.proof_rules.specs.Recording.{KeepsRecorder}
 use Rattle.search_trail.specs.SearchTrail.{IsSearchTrail}
 use Rattle.search_lines.specs.SearchLines.{AddsLearned}
 use Rattle.search_lines.proofs.SearchLines.{none_law, joined_law}
 use Rattle.cdcl_core.specs.Ledgers.{left}
+use Rattle.cdcl_core.specs.declared.progress.Progress.{Progress}
 use Rattle.cdcl_core.specs.Work.{SolverValue, IsAnsweredCore, IsLed, LearnsAlone}
 use Rattle.cdcl_core.proofs.Turns.{led_back, vars_back, led_undecided, turn_on}
 use Rattle.cdcl_core.proofs.Endings.{fewer_law, nearer_law}
@@ -66,7 +67,7 @@ returns-in-Answered-clause-steps g c =
 
 pub returns-in-Answered-clause-implied : goal.returns-in-Answered-clause-implied
 returns-in-Answered-clause-implied g c first after goal hints is =
-    subst (IsAnsweredCore goal) c.in-Answered.is
+    subst (λ (p : Progress). IsAnsweredCore (Ok p) goal) c.in-Answered.is
     (implied_later _ _ _ _ _ _ c.loop-since.invariant.learns c.turn.ensures.steps.adds c.in_ok-answer.ensures.implied first after goal hints is)
 
 pub loop-since-smaller : goal.loop-since-smaller
