@@ -9,7 +9,8 @@ use proof_laws::Line;
 use proof_rules::{RecordFault, Recorder};
 use scut_base::NoMemory;
 
-// Records a line, and answers the first id that it makes.
+// Records a line, and answers the first id that it makes. It owns the line, so that its callers, which leave
+// by `?`, own none.
 pub(crate) fn record<R: Recorder>(rec: &mut R, line: Line) -> Result<u64, RecordFault>
     requires ready { IsReady (R.seen rec.old) }
     requires formed { IsWellFormed line }
@@ -19,9 +20,22 @@ pub(crate) fn record<R: Recorder>(rec: &mut R, line: Line) -> Result<u64, Record
     ensures added { OnOk result ((R.seen rec.new).lines ≡ (R.seen rec.old).lines ++ line ∷ []) }
     ensures id { IfOk result (IsNextId (R.seen rec.old).problem (R.seen rec.old).lines) }
 {
+    record_lent(rec, &line)
+}
+
+// The same of a line that is lent.
+fn record_lent<R: Recorder>(rec: &mut R, line: &Line) -> Result<u64, RecordFault>
+    requires ready { IsReady (R.seen rec.old) }
+    requires formed { IsWellFormed line.now }
+    requires kind { IsTotalizerLine line.now }
+    requires legal { MayBeAdded (R.seen rec.old).problem (R.seen rec.old).lines line.now }
+    ensures recorded { IsRecorded (R.seen rec.old) (R.seen rec.new) result }
+    ensures added { OnOk result ((R.seen rec.new).lines ≡ (R.seen rec.old).lines ++ line.now ∷ []) }
+    ensures id { IfOk result (IsNextId (R.seen rec.old).problem (R.seen rec.old).lines) }
+{
     // Tells that the lines so far reach a state.
     let _vars = rec.state().vars();
-    let id = rec.add_line(&line)?;
+    let id = rec.add_line(line)?;
     // And that they still do.
     let _state = rec.state();
     Ok(id)

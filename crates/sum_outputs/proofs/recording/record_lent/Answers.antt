@@ -2,7 +2,7 @@
 use Rattle.std.proofs.Common.{ap, ◌∙◌}
 use Rattle.std.proofs.lemmas.Result.{err_from_is_err_and}
 use Rattle.proof_rules.specs.Recording.{Snapshot}
-use Rattle.sum_outputs.proofs.recording.record.Goals as goal
+use Rattle.sum_outputs.proofs.recording.record_lent.Goals as goal
 use Rattle.sum_outputs.proofs.LaterStates.{continues_same, continues_more, recorded_ok, recorded_err, added_fault}
 
 pub returns-in_err-id-clause-recorded : goal.returns-in_err-id-clause-recorded
@@ -23,5 +23,5 @@ returns-clause-recorded g c =
     let b = R.seen c.add_line.new.self in
     let was = c.in_ok-id.ensures in
     recorded_ok a b c.in_ok-id.id
-    (continues_more a b c.args.line c.state.result.now c.state-state.result.now was.keeps was.added c.requires.kind c.state.ensures c.state-state.ensures)
+    (continues_more a b c.args.line.now c.state.result.now c.state-state.result.now was.keeps was.added c.requires.kind c.state.ensures c.state-state.ensures)
     was.whole
