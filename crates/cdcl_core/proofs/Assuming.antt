@@ -16,17 +16,17 @@ use Rattle.proof_laws.proofs.Replays.{replay_once}
 use Rattle.clause_prop.specs.Steps.{TrailValue, cut, partial, with_step}
 use Rattle.clause_prop.specs.declared.step.Step.{Step}
 use Rattle.oracle.specs.Solving.{AreAssumptions, IsCore, IsSolution, Reaches}
-use Rattle.search_trail.specs.SearchTrail.{IsOfSteps, IsSearchTrail, IsStepAt, decision}
-use Rattle.search_trail.specs.Rank.{rank}
-use Rattle.search_trail.proofs.Moves.{cut_of_longer}
-use Rattle.search_trail.proofs.Places.{at_push}
-use Rattle.search_trail.proofs.Pushes.{cut_whole}
-use Rattle.search_trail.proofs.Ranks.{push_raises}
-use Rattle.search_trail.proofs.Truths.{false_before, open_before}
-use Rattle.conflict_analysis.specs.Analysis.{IsDecided, IsForcedFalse}
-use Rattle.conflict_analysis.proofs.TrailSteps.{IsBefore, false_before as found_false, whole_cut}
-use Rattle.search_lines.specs.StoredLines.{IsStored}
-use Rattle.search_state.specs.Searching.{SearchValue}
+use Rattle.cdcl_trail.specs.SearchTrail.{IsOfSteps, IsSearchTrail, IsStepAt, decision}
+use Rattle.cdcl_trail.specs.Rank.{rank}
+use Rattle.cdcl_trail.proofs.Moves.{cut_of_longer}
+use Rattle.cdcl_trail.proofs.Places.{at_push}
+use Rattle.cdcl_trail.proofs.Pushes.{cut_whole}
+use Rattle.cdcl_trail.proofs.Ranks.{push_raises}
+use Rattle.cdcl_trail.proofs.Truths.{false_before, open_before}
+use Rattle.cdcl_analysis.specs.Analysis.{IsDecided, IsForcedFalse}
+use Rattle.cdcl_analysis.proofs.TrailSteps.{IsBefore, false_before as found_false, whole_cut}
+use Rattle.cdcl_laws.specs.StoredLines.{IsStored}
+use Rattle.cdcl_state.specs.Searching.{SearchValue}
 use Rattle.cdcl_core.specs.Ledgers.{left}
 use Rattle.cdcl_core.specs.Work.{SolverValue, IsLed, IsOn, IsWorking}
 use Rattle.cdcl_core.proofs.Working.{learns_unchanged, with_search, working_searched}

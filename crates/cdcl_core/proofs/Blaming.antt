@@ -13,11 +13,11 @@ use Rattle.proof_laws.specs.Steps.{clause}
 use Rattle.proof_laws.specs.declared.line.Line.{Line}
 use Rattle.oracle.specs.Solving.{IsClauseAgainst, IsCore, Reaches}
 use Rattle.clause_prop.specs.Steps.{TrailValue}
-use Rattle.search_trail.specs.SearchTrail.{IsSearchTrail}
-use Rattle.search_trail.proofs.Truths.{var_within}
-use Rattle.conflict_analysis.specs.Analysis.{IsBlame, IsDecided, IsForcedFalse}
-use Rattle.conflict_analysis.specs.declared.lesson.Blame.{Blame}
-use Rattle.conflict_analysis.proofs.TrailSteps.{opposite_twice}
+use Rattle.cdcl_trail.specs.SearchTrail.{IsSearchTrail}
+use Rattle.cdcl_trail.proofs.Truths.{var_within}
+use Rattle.cdcl_analysis.specs.Analysis.{IsBlame, IsDecided, IsForcedFalse}
+use Rattle.cdcl_analysis.specs.declared.lesson.Blame.{Blame}
+use Rattle.cdcl_analysis.proofs.TrailSteps.{opposite_twice}
 use Rattle.cdcl_core.proofs.NamedLines.{clause_tested}
 
 -- ---- the clause is over the trail's variables

@@ -3,9 +3,9 @@ use Rattle.std.proofs.Common.{◌≡◌, ◌⊎◌, inl, inr, ⊎_elim, ℕ, ◌
 use Rattle.std.proofs.Math.Nat.{mul-le-mul_right}
 use Rattle.pb_lin.specs.LineMap.{LineMap}
 use Rattle.clause_prop.specs.Steps.{TrailValue}
-use Rattle.search_trail.specs.SearchTrail.{IsSearchTrail}
-use Rattle.search_trail.specs.Rank.{rank, rank_limit, rest}
-use Rattle.search_trail.proofs.Ranks.{higher_law, restarted_law}
+use Rattle.cdcl_trail.specs.SearchTrail.{IsSearchTrail}
+use Rattle.cdcl_trail.specs.Rank.{rank, rank_limit, rest}
+use Rattle.cdcl_trail.proofs.Ranks.{higher_law, restarted_law}
 use Rattle.cdcl_core.specs.Ledgers.{left}
 use Rattle.cdcl_core.specs.Work.{IsNearer}
 

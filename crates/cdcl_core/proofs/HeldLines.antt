@@ -16,11 +16,11 @@ use Rattle.proof_laws.specs.Replay.{IsReplay}
 use Rattle.proof_laws.specs.declared.line.Line.{Line}
 use Rattle.proof_laws.specs.declared.line.Line.TheVariants.{Pol, Rup, Learn, Def, Red, Dom, Sol, Del, Reduce, End}
 use Rattle.proof_laws.proofs.Replays.{replay_before}
-use Rattle.search_lines.specs.StoredLines.{IsStored, deleted}
-use Rattle.search_lines.proofs.Stored.{deleting_law}
+use Rattle.cdcl_laws.specs.StoredLines.{IsStored, deleted}
+use Rattle.cdcl_laws.proofs.Stored.{deleting_law}
 use Rattle.cdcl_core.specs.Ledgers.{LedgerValue, IsLedger, ledger_after}
 use Rattle.proof_rules.specs.Recording.{Snapshot}
-use Rattle.search_lines.proofs.Fitting.{fits_law}
+use Rattle.cdcl_laws.proofs.Fitting.{fits_law}
 use Rattle.cdcl_core.specs.Work.{SolverValue, IsHeld}
 use Rattle.cdcl_core.proofs.LedgerLines.{ledger_added}
 

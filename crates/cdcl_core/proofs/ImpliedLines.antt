@@ -8,7 +8,7 @@ use Rattle.hint_rup.specs.declared.hint.Hint.{Hint}
 use Rattle.proof_laws.specs.declared.line.Line.{Line}
 use Rattle.proof_laws.specs.declared.line.Line.TheVariants.{Rup}
 use Rattle.oracle.specs.Solving.{AddsSearchLines, is_rup}
-use Rattle.search_lines.specs.SearchLines.{AddsLearned}
+use Rattle.cdcl_laws.specs.SearchLines.{AddsLearned}
 
 -- lists that begin alike go on alike
 tails_same : (a xs ys : List Line) → a ++ xs ≡ a ++ ys → xs ≡ ys

@@ -13,11 +13,11 @@ use Rattle.proof_laws.proofs.Replays.{replay_once}
 use Rattle.oracle.specs.declared.fault.OracleFault.{OracleFault}
 use Rattle.oracle.specs.declared.fault.OracleFault.TheVariants.{Spent, Failed, Full, NoMemory}
 use Rattle.clause_prop.specs.Steps.{TrailValue}
-use Rattle.search_trail.specs.SearchTrail.{IsSearchTrail}
-use Rattle.search_trail.specs.Learning.{AreHints}
-use Rattle.conflict_analysis.specs.Analysis.{IsLesson}
-use Rattle.conflict_analysis.specs.declared.lesson.Lesson.{Lesson}
-use Rattle.search_state.specs.Searching.{SearchValue, IsBackTo}
+use Rattle.cdcl_trail.specs.SearchTrail.{IsSearchTrail}
+use Rattle.cdcl_trail.specs.Learning.{AreHints}
+use Rattle.cdcl_analysis.specs.Analysis.{IsLesson}
+use Rattle.cdcl_analysis.specs.declared.lesson.Lesson.{Lesson}
+use Rattle.cdcl_state.specs.Searching.{SearchValue, IsBackTo}
 use Rattle.cdcl_core.specs.Work.{SolverValue, IsDone, IsWorking, Stops}
 use Rattle.proof_rules.specs.Recording.{Snapshot}
 use Rattle.cdcl_core.specs.Learnable.{IsLearnable, MayLearn}

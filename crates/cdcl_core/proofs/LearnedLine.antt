@@ -18,18 +18,18 @@ use Rattle.oracle.specs.Solving.{IsWithin}
 use Rattle.clause_prop.specs.Steps.{TrailValue, AreSteps, partial, last_level, with_step}
 use Rattle.clause_prop.specs.Propagating.{IsClosedFor}
 use Rattle.clause_prop.specs.declared.step.Step.{Step}
-use Rattle.search_trail.specs.Learning.{AreHints, IsAsserting, IsFalseBy, asserted}
-use Rattle.search_trail.proofs.Jumps.{shorter_law, closed_law, unit_law}
-use Rattle.search_trail.proofs.Truths.{var_within}
-use Rattle.search_lines.specs.StoredLines.{IsStored}
-use Rattle.search_lines.specs.SearchLines.{AddsLearned}
-use Rattle.search_lines.proofs.Earned.{new_law, learned_law as earned_law}
-use Rattle.search_lines.proofs.Hinted.{formed_law, learned_law as legal_law}
-use Rattle.search_lines.proofs.NeverLong.{short_law}
-use Rattle.search_lines.proofs.SearchLines.{learned_law as adds_law}
-use Rattle.search_lines.proofs.Stored.{learned_law as stored_law}
-use Rattle.search_lines.proofs.Fitting.{fits_law}
-use Rattle.search_state.specs.Searching.{SearchValue}
+use Rattle.cdcl_trail.specs.Learning.{AreHints, IsAsserting, IsFalseBy, asserted}
+use Rattle.cdcl_trail.proofs.Jumps.{shorter_law, closed_law, unit_law}
+use Rattle.cdcl_trail.proofs.Truths.{var_within}
+use Rattle.cdcl_laws.specs.StoredLines.{IsStored}
+use Rattle.cdcl_laws.specs.SearchLines.{AddsLearned}
+use Rattle.cdcl_laws.proofs.Earned.{new_law, learned_law as earned_law}
+use Rattle.cdcl_laws.proofs.Hinted.{formed_law, learned_law as legal_law}
+use Rattle.cdcl_laws.proofs.NeverLong.{short_law}
+use Rattle.cdcl_laws.proofs.SearchLines.{learned_law as adds_law}
+use Rattle.cdcl_laws.proofs.Stored.{learned_law as stored_law}
+use Rattle.cdcl_laws.proofs.Fitting.{fits_law}
+use Rattle.cdcl_state.specs.Searching.{SearchValue}
 use Rattle.cdcl_core.specs.Ledgers.{IsLedger, with_id}
 use Rattle.cdcl_core.specs.Work.{SolverValue, IsWorking}
 use Rattle.cdcl_core.specs.Learnable.{IsLearnable, MayLearn}

@@ -3,7 +3,7 @@ use Rattle.std.proofs.Common.{◌≡◌, ℕ, ◌++◌, ◌∷◌, [], List, sym
 use Rattle.scut_base.specs.Literal.{Literal}
 use Rattle.proof_laws.specs.declared.line.Line.{Line}
 use Rattle.proof_rules.specs.Recording.{KeepsRecorder, Snapshot}
-use Rattle.search_lines.specs.SearchLines.{AddsLearned}
+use Rattle.cdcl_laws.specs.SearchLines.{AddsLearned}
 use Rattle.cdcl_core.specs.Work.{SolverValue, IsWorking, StepsFrom}
 use Rattle.cdcl_core.specs.Learnable.{IsLearnable, MayLearn}
 use Rattle.cdcl_core.proofs.LearnedLine.{adds, still_within}

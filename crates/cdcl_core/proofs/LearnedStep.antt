@@ -5,13 +5,13 @@ use Rattle.scut_base.specs.Assignment.{partial_truth}
 use Rattle.pb_lin.specs.LineMap.{LineMap}
 use Rattle.clause_prop.specs.Steps.{TrailValue, cut, partial, with_step}
 use Rattle.clause_prop.specs.declared.step.Step.{Step}
-use Rattle.search_trail.specs.SearchTrail.{IsSearchTrail}
-use Rattle.search_trail.specs.Learning.{IsAsserting, asserted}
-use Rattle.search_trail.specs.Rank.{rank}
-use Rattle.search_trail.proofs.Moves.{cut_of_cut, cut_of_longer}
-use Rattle.search_trail.proofs.Places.{at_front, at_push}
-use Rattle.search_trail.proofs.Ranks.{learning_raises}
-use Rattle.search_state.specs.Searching.{IsBackTo}
+use Rattle.cdcl_trail.specs.SearchTrail.{IsSearchTrail}
+use Rattle.cdcl_trail.specs.Learning.{IsAsserting, asserted}
+use Rattle.cdcl_trail.specs.Rank.{rank}
+use Rattle.cdcl_trail.proofs.Moves.{cut_of_cut, cut_of_longer}
+use Rattle.cdcl_trail.proofs.Places.{at_front, at_push}
+use Rattle.cdcl_trail.proofs.Ranks.{learning_raises}
+use Rattle.cdcl_state.specs.Searching.{IsBackTo}
 use Rattle.cdcl_core.specs.Work.{IsLed}
 use Rattle.cdcl_core.specs.Learnable.{IsForcedBySome}
 

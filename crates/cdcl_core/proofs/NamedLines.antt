@@ -20,11 +20,11 @@ use Rattle.proof_laws.proofs.Replays.{replay_before, replay_once}
 use Rattle.proof_rules.specs.Recording.{IsNextId, KeepsRecorder, MayBeAdded, Snapshot}
 use Rattle.oracle.specs.Solving.{AddsSearchLines, IsWithin, Reaches}
 use Rattle.clause_prop.specs.Steps.{TrailValue}
-use Rattle.search_trail.specs.Learning.{AreHints}
-use Rattle.search_trail.proofs.Stores.{get_new}
-use Rattle.search_lines.proofs.Hinted.{formed_law, implied_law as legal_law}
-use Rattle.search_lines.proofs.SearchLines.{implied_law}
-use Rattle.search_state.specs.Searching.{SearchValue}
+use Rattle.cdcl_trail.specs.Learning.{AreHints}
+use Rattle.cdcl_trail.proofs.Stores.{get_new}
+use Rattle.cdcl_laws.proofs.Hinted.{formed_law, implied_law as legal_law}
+use Rattle.cdcl_laws.proofs.SearchLines.{implied_law}
+use Rattle.cdcl_state.specs.Searching.{SearchValue}
 use Rattle.cdcl_core.specs.Work.{SolverValue, IsDone, IsWorking, StepsFrom}
 use Rattle.cdcl_core.proofs.HeldLines.{clause_test, held_added}
 use Rattle.cdcl_core.proofs.ImpliedLines.{one_implied}

@@ -21,11 +21,11 @@ use Rattle.proof_laws.specs.declared.why.Why.TheVariants.{AfterEnd, LogLong, NoS
 use Rattle.proof_laws.proofs.Replays.{replay_before, replay_once}
 use Rattle.proof_rules.specs.Recording.{MayBeAdded, Snapshot}
 use Rattle.oracle.specs.Solving.{IsWithin, Reaches}
-use Rattle.search_lines.specs.SearchLines.{AddsLearned}
-use Rattle.search_lines.proofs.Earned.{reduction_law}
-use Rattle.search_lines.proofs.Counts.{counted_law}
-use Rattle.search_lines.proofs.SearchLines.{reduced_law}
-use Rattle.search_state.specs.Searching.{SearchValue}
+use Rattle.cdcl_laws.specs.SearchLines.{AddsLearned}
+use Rattle.cdcl_laws.proofs.Earned.{reduction_law}
+use Rattle.cdcl_laws.proofs.Counts.{counted_law}
+use Rattle.cdcl_laws.proofs.SearchLines.{reduced_law}
+use Rattle.cdcl_state.specs.Searching.{SearchValue}
 use Rattle.cdcl_core.specs.Ledgers.{LedgerValue, EndsLearned, IsDue, IsPart, ledger_after, with_ids}
 use Rattle.cdcl_core.specs.Work.{SolverValue, IsHeld, IsWorking}
 use Rattle.cdcl_core.proofs.HeldLines.{held_added}

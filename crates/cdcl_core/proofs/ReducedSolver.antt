@@ -6,7 +6,7 @@ use Rattle.proof_laws.specs.declared.line.Line.{Line}
 use Rattle.proof_laws.specs.declared.line.Line.TheVariants.{Reduce}
 use Rattle.proof_rules.specs.Recording.{KeepsRecorder, Snapshot}
 use Rattle.oracle.specs.Solving.{Reaches}
-use Rattle.search_lines.specs.SearchLines.{AddsLearned}
+use Rattle.cdcl_laws.specs.SearchLines.{AddsLearned}
 use Rattle.cdcl_core.specs.Ledgers.{EndsLearned, IsDue, IsPart}
 use Rattle.cdcl_core.specs.Work.{SolverValue, IsWorking, StepsFrom}
 use Rattle.cdcl_core.proofs.ReducedLine.{adds, still_within}

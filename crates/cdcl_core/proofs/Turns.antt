@@ -13,25 +13,25 @@ use Rattle.proof_laws.specs.declared.line.Line.{Line}
 use Rattle.clause_prop.specs.Steps.{TrailValue, cut, partial, last_level}
 use Rattle.clause_prop.specs.Propagating.{Extends}
 use Rattle.clause_prop.specs.declared.step.Step.{Step}
-use Rattle.search_trail.specs.SearchTrail.{IsSearchTrail, IsUndecided}
-use Rattle.search_trail.specs.Rank.{rank}
-use Rattle.search_trail.proofs.Moves.{cut_of_longer, cut_of_cut}
-use Rattle.search_trail.proofs.Stores.{never_decided}
-use Rattle.search_trail.proofs.Places.{all_places, at_front}
-use Rattle.search_trail.proofs.Pushes.{last_top}
-use Rattle.search_lines.proofs.Stored.{normal_law}
+use Rattle.cdcl_trail.specs.SearchTrail.{IsSearchTrail, IsUndecided}
+use Rattle.cdcl_trail.specs.Rank.{rank}
+use Rattle.cdcl_trail.proofs.Moves.{cut_of_longer, cut_of_cut}
+use Rattle.cdcl_trail.proofs.Stores.{never_decided}
+use Rattle.cdcl_trail.proofs.Places.{all_places, at_front}
+use Rattle.cdcl_trail.proofs.Pushes.{last_top}
+use Rattle.cdcl_laws.proofs.Stored.{normal_law}
 use Rattle.proof_laws.specs.State.{StateValue, IsState, Fits}
 use Rattle.proof_laws.specs.Replay.{IsReplay}
 use Rattle.proof_laws.proofs.Replays.{replay_once}
 use Rattle.oracle.specs.Solving.{Reaches, IsOrderly}
-use Rattle.search_lines.specs.StoredLines.{IsStored}
-use Rattle.search_state.specs.Searching.{SearchValue, IsBackTo}
+use Rattle.cdcl_laws.specs.StoredLines.{IsStored}
+use Rattle.cdcl_state.specs.Searching.{SearchValue, IsBackTo}
 use Rattle.oracle.specs.declared.answer.Answer.{Answer}
 use Rattle.oracle.specs.declared.fault.OracleFault.{OracleFault}
 use Rattle.oracle.specs.declared.fault.OracleFault.TheVariants.{Spent, Failed, Full, NoMemory}
 use Rattle.cdcl_core.specs.declared.progress.Progress.{Progress}
 use Rattle.cdcl_core.specs.declared.progress.Progress.TheVariants.{Answered, Learned, Decided}
-use Rattle.search_lines.specs.SearchLines.{AddsLearned}
+use Rattle.cdcl_laws.specs.SearchLines.{AddsLearned}
 use Rattle.cdcl_core.specs.Ledgers.{LedgerValue, IsLedger, left}
 use Rattle.cdcl_core.specs.Work.{SolverValue, Ends, IsDone, IsHeld, IsLed, IsNearer, IsOn, IsProgress, IsTakenUp, IsWorking}
 use Rattle.cdcl_core.proofs.LedgerLines.{ledger_later}

@@ -10,10 +10,10 @@ use Rattle.proof_rules.specs.Recording.{CountsLater, KeepsRecorder, Snapshot}
 use Rattle.oracle.specs.Solving.{AddsSearchLines, IsWithin}
 use Rattle.oracle.specs.declared.fault.OracleFault.{OracleFault}
 use Rattle.oracle.specs.declared.fault.OracleFault.TheVariants.{Spent, Failed, Full, NoMemory}
-use Rattle.search_lines.specs.SearchLines.{AddsLearned}
-use Rattle.search_lines.specs.StoredLines.{IsStored}
-use Rattle.search_lines.proofs.SearchLines.{none_law, then_law}
-use Rattle.search_state.specs.Searching.{SearchValue}
+use Rattle.cdcl_laws.specs.SearchLines.{AddsLearned}
+use Rattle.cdcl_laws.specs.StoredLines.{IsStored}
+use Rattle.cdcl_laws.proofs.SearchLines.{none_law, then_law}
+use Rattle.cdcl_state.specs.Searching.{SearchValue}
 use Rattle.cdcl_core.specs.Ledgers.{LedgerValue, IsLedger}
 use Rattle.cdcl_core.specs.Work.{SolverValue, IsDone, IsHeld, IsRecordCause, IsWorking, LearnsAlone, StepsFrom, Stops}
 use Rattle.cdcl_core.proofs.ImpliedLines.{none_implied}

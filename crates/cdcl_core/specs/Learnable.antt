@@ -8,8 +8,8 @@ use Rattle.proof_laws.specs.declared.line.Line.{Line}
 use Rattle.proof_laws.specs.declared.line.Line.TheVariants.{Learn}
 use Rattle.oracle.specs.Solving.{Reaches}
 use Rattle.clause_prop.specs.Steps.{TrailValue, last_level, with_step}
-use Rattle.search_trail.specs.Learning.{AreHints, asserted}
-use Rattle.search_state.specs.Searching.{SearchValue, IsReadyToLearn}
+use Rattle.cdcl_trail.specs.Learning.{AreHints, asserted}
+use Rattle.cdcl_state.specs.Searching.{SearchValue, IsReadyToLearn}
 
 -- The line learns a clause that stored lines prove, and the trail was cut back from a conflict to where the clause forces the literal.
 pub record IsLearnable (search : SearchValue) (level : ℕ) (l : Literal) (line : Line) : Type 0 where

@@ -2,7 +2,7 @@
 use Rattle.std.specs.Prelude.{◌≡◌, ℕ, ◌<◌, List, length, All, AllPairs, Contains}
 use Rattle.scut_base.specs.Literal.{Literal}
 use Rattle.clause_prop.specs.Steps.{TrailValue}
-use Rattle.search_state.specs.Searching.{IsLevelOf}
+use Rattle.cdcl_state.specs.Searching.{IsLevelOf}
 
 -- these are the levels of the literals' steps
 pub record AreLevels (t : TrailValue) (lits : List Literal) (levels : List ℕ) : Type 0 where

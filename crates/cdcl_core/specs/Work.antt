@@ -15,11 +15,11 @@ use Rattle.oracle.specs.declared.fault.OracleFault.{OracleFault}
 use Rattle.oracle.specs.declared.fault.OracleFault.TheVariants.{Spent, Failed, Full, NoMemory}
 use Rattle.clause_prop.specs.Steps.{TrailValue, partial, cut}
 use Rattle.clause_prop.specs.declared.step.Step.{Step}
-use Rattle.search_trail.specs.SearchTrail.{IsStepAt}
-use Rattle.search_lines.specs.StoredLines.{IsStored}
-use Rattle.search_trail.specs.Rank.{rank}
-use Rattle.search_lines.specs.SearchLines.{AddsLearned}
-use Rattle.search_state.specs.Searching.{SearchValue}
+use Rattle.cdcl_trail.specs.SearchTrail.{IsStepAt}
+use Rattle.cdcl_laws.specs.StoredLines.{IsStored}
+use Rattle.cdcl_trail.specs.Rank.{rank}
+use Rattle.cdcl_laws.specs.SearchLines.{AddsLearned}
+use Rattle.cdcl_state.specs.Searching.{SearchValue}
 use Rattle.oracle.specs.declared.answer.Answer.{Answer}
 use Rattle.oracle.specs.declared.answer.Core.{Core}
 use Rattle.cdcl_core.specs.Ledgers.{LedgerValue, IsLedger, left}

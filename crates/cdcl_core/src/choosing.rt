@@ -4,9 +4,9 @@ ghost use Rattle.std.specs.FinMap.{get};
 ghost use Rattle.cdcl_core.specs.Ledgers.{IsPart};
 
 use crate::ledger::LearnedClause;
+use cdcl_state::Search;
 use clause_prop::Propagator;
 use scut_base::{Items, NoMemory};
-use search_state::Search;
 use std::alloc::Global;
 use std::cmp::Reverse;
 

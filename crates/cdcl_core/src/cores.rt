@@ -4,23 +4,23 @@ ghost use Rattle.std.specs.FinMap.{get};
 ghost use Rattle.pb_lin.specs.Constraint.{opposite};
 ghost use Rattle.proof_laws.specs.Steps.{clause};
 ghost use Rattle.clause_prop.specs.Propagating.{IsConflict};
-ghost use Rattle.search_trail.specs.SearchTrail.{IsUndecided};
-ghost use Rattle.search_trail.specs.Learning.{AreHints};
-ghost use Rattle.conflict_analysis.specs.Analysis.{IsDecided, IsForcedFalse};
+ghost use Rattle.cdcl_trail.specs.SearchTrail.{IsUndecided};
+ghost use Rattle.cdcl_trail.specs.Learning.{AreHints};
+ghost use Rattle.cdcl_analysis.specs.Analysis.{IsDecided, IsForcedFalse};
 ghost use Rattle.oracle.specs.Solving.{IsCore};
 ghost use Rattle.cdcl_core.specs.Work.{Ends, ImpliesOnly, IsOfCore, IsWorking, Reached, StepsFrom};
 
 use crate::Solver;
 use crate::recording::record;
+use cdcl_analysis::Blame;
+use cdcl_state::Search;
 use clause_prop::Propagator;
-use conflict_analysis::Blame;
 use hint_rup::Hint;
 use oracle::{Core, OracleFault};
 use pb_lin::Constraint;
 use proof_laws::Line;
 use proof_rules::Recorder;
 use scut_base::{Items, Lit, NoMemory};
-use search_state::Search;
 use std::alloc::Global;
 
 /// The opposite of each literal.

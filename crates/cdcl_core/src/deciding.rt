@@ -8,12 +8,12 @@ ghost use Rattle.cdcl_core.specs.Work.{Ends, ImpliesOnly, IsAnsweredCore, IsLed,
 
 use crate::Solver;
 use crate::progress::Progress;
+use cdcl_laws::stored_model_is_solution;
+use cdcl_state::Search;
 use clause_prop::Propagator;
 use oracle::{Answer, OracleFault};
 use proof_rules::Recorder;
 use scut_base::Lit;
-use search_lines::stored_model_is_solution;
-use search_state::Search;
 
 /// The first of the literals that isn't true.
 fn first_unmet<P: Propagator + Drop>(search: &Search<P>, lits: &[Lit]) -> Option<Lit>

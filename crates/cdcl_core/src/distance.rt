@@ -2,9 +2,9 @@
 ghost use Rattle.std.specs.Prelude.{◌≤◌, All, IfOk};
 ghost use Rattle.cdcl_core.specs.Levels.{AreLevels, IsLevelCount};
 
+use cdcl_state::Search;
 use clause_prop::Propagator;
 use scut_base::{Lit, NoMemory};
-use search_state::Search;
 use std::alloc::Global;
 
 /// The number of levels among the literals: the fewer there are, the more useful is a learned clause

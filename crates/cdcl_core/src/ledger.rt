@@ -5,11 +5,11 @@ ghost use Rattle.cdcl_core.specs.Ledgers.{IsDue, IsPart, ledger_after, number_af
 
 use crate::choosing::{Choice, choose};
 use crate::schedule::{REDUCTIONS, reduce_due};
+use cdcl_state::Search;
 use clause_prop::Propagator;
 use hint_rup::Hint;
 use proof_laws::Line;
 use scut_base::{Items, NoMemory};
-use search_state::Search;
 use std::alloc::Global;
 use std::marker::Model;
 

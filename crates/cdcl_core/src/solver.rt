@@ -5,16 +5,16 @@ ghost use Rattle.oracle.specs.Solving.{IsWithin};
 
 use crate::ledger::Ledger;
 use crate::taking::drop_deleted;
+use cdcl_laws::{
+    deleting_line_keeps_stored, first_line_is_no_reduction, line_is_passed, nothing_is_stored,
+    reached_state_fits,
+};
+use cdcl_state::Search;
 use clause_prop::Propagator;
 use pb_lin::PbProblem;
 use proof_laws::Line;
 use proof_rules::{ProofState, RecordFault, Recorder};
 use scut_base::NoMemory;
-use search_lines::{
-    deleting_line_keeps_stored, first_line_is_no_reduction, line_is_passed, nothing_is_stored,
-    reached_state_fits,
-};
-use search_state::Search;
 use std::alloc::Global;
 use std::marker::Model;
 

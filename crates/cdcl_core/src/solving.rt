@@ -2,7 +2,7 @@
 ghost use Rattle.std.specs.Prelude.{List, IfOk};
 ghost use Rattle.scut_base.specs.Literal.{Literal};
 ghost use Rattle.clause_prop.specs.Propagating.{IsConflict};
-ghost use Rattle.search_trail.specs.SearchTrail.{IsUndecided};
+ghost use Rattle.cdcl_trail.specs.SearchTrail.{IsUndecided};
 ghost use Rattle.oracle.specs.Solving.{AreAssumptions, IsCoreClause};
 ghost use Rattle.cdcl_core.specs.Work.{Answers, Ends, ImpliesOnly, IsAnsweredCore, IsLed, IsProgress, IsWorking, StepsFrom};
 

@@ -3,18 +3,18 @@ ghost use Rattle.std.specs.Prelude.{◌≡◌, ◌<◌, ◌≤◌, ◌+◌, [], 
 ghost use Rattle.std.specs.FinMap.{get, remove};
 ghost use Rattle.pb_lin.specs.Problem.{ProblemValue};
 ghost use Rattle.proof_laws.specs.Earned.{is_reduce};
-ghost use Rattle.search_trail.specs.SearchTrail.{IsUndecided};
+ghost use Rattle.cdcl_trail.specs.SearchTrail.{IsUndecided};
 ghost use Rattle.cdcl_core.specs.Work.{IsHeld, IsTakenUp, Reached};
-ghost use Rattle.search_lines.specs.StoredLines.{IsStored, deleted};
+ghost use Rattle.cdcl_laws.specs.StoredLines.{IsStored, deleted};
 ghost use Rattle.proof_laws.specs.WellFormed.{IsWellFormed};
 
 use crate::Solver;
+use cdcl_laws::{line_is_passed, line_is_taken};
+use cdcl_state::Search;
 use clause_prop::Propagator;
 use proof_laws::Line;
 use proof_rules::{ProofState, Recorder};
 use scut_base::NoMemory;
-use search_lines::{line_is_passed, line_is_taken};
-use search_state::Search;
 
 /// Drops the lines that this one deletes. Nothing stays on the trail then, since they may be reasons. Takes no memory.
 pub(crate) fn drop_deleted<P: Propagator + Drop>(search: &mut Search<P>, line: &Line)

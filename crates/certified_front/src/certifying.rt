@@ -16,6 +16,7 @@ ghost use Rattle.certified_front.specs.Certified.{CoversLogged, IsEnding};
 ghost use Rattle.certified_front.specs.Stopping.{IsStop, StaysWith};
 
 use crate::{Ending, Found};
+use cdcl_laws::learned_is_counted;
 use front_set::Entry;
 use instance::{Instance, listed};
 use oracle::{Oracle, OracleFault};
@@ -25,7 +26,6 @@ use proof_laws::Line;
 use proof_rules::RecordFault;
 use scut_base::NoMemory;
 use search_base::{Board, Bounds, beginning_is_good, logged_is_reached, run_search};
-use search_lines::learned_is_counted;
 use std::alloc::Global;
 use sum_outputs::in_memory;
 

@@ -4,7 +4,7 @@ use Rattle.pb_lin.specs.Problem.{ProblemValue}
 use Rattle.proof_laws.specs.State.{start}
 use Rattle.proof_laws.specs.declared.line.Line.TheVariants.{Learn, Del, Reduce}
 use Rattle.oracle.specs.Solving.{AreEarned}
-use Rattle.search_lines.proofs.Places.{not_empty}
+use Rattle.cdcl_laws.proofs.Places.{not_empty}
 
 module _ (p : ProblemValue) where
   pub nothing_earned : AreEarned p []

@@ -3,9 +3,9 @@ use Rattle.std.specs.FinMap.{get}
 use Rattle.pb_lin.specs.Constraint.{ConstraintValue}
 use Rattle.pb_lin.specs.LineMap.{LineMap}
 use Rattle.proof_laws.specs.Refusal.{is_clause}
-use Rattle.search_trail.proofs.Stores.{get_other}
-use Rattle.search_lines.specs.StoredLines.{IsStored}
-use Rattle.search_state.specs.Searching.{SearchValue}
+use Rattle.cdcl_trail.proofs.Stores.{get_other}
+use Rattle.cdcl_laws.specs.StoredLines.{IsStored}
+use Rattle.cdcl_state.specs.Searching.{SearchValue}
 use Rattle.cdcl_core.proofs.HeldLines.{clause_test}
 use Rattle.cdcl_core.proofs.taking.take_line.Goals as goal
 use Rattle.cdcl_core.proofs.taking.take_line.Goals.{then-id-rows-via-then-id-rows, then-id-rows-via-else-id-rows+then-is_clause}

@@ -1,7 +1,7 @@
 use Rattle.std.proofs.Common.{◌≡◌, ◌≤◌, ℕ, length, None}
 use Rattle.std.specs.FinMap.{get}
 use Rattle.pb_lin.specs.Problem.{ProblemValue}
-use Rattle.search_lines.specs.StoredLines.{IsStored}
+use Rattle.cdcl_laws.specs.StoredLines.{IsStored}
 use Rattle.cdcl_core.proofs.taking.take_lines.Given as goal
 
 abbrev pub invariant-loop-id : goal.invariant-loop-id

@@ -2,8 +2,8 @@ use Rattle.std.proofs.Common.{refl, ap, ◌∙◌}
 use Rattle.std.specs.FinMap.{insert}
 use Rattle.pb_lin.specs.Constraint.{ConstraintValue}
 use Rattle.clause_prop.specs.Steps.{with_step}
-use Rattle.search_trail.specs.Learning.{asserted}
-use Rattle.search_state.specs.Searching.{SearchValue}
+use Rattle.cdcl_trail.specs.Learning.{asserted}
+use Rattle.cdcl_state.specs.Searching.{SearchValue}
 use Rattle.cdcl_core.proofs.LearnedLine.{at_work, formed, legal}
 use Rattle.cdcl_core.proofs.LearnedSolver.{given_inside, learns_line, steps_line}
 use Rattle.cdcl_core.proofs.Working.{done_working, learns_unchanged, steps_unchanged}

@@ -1,7 +1,7 @@
 use Rattle.std.proofs.Common.{refl, sym, ap, subst}
 use Rattle.proof_rules.specs.Recording.{KeepsRecorder}
 use Rattle.oracle.specs.Solving.{AddsSearchLines, IsWithin}
-use Rattle.search_lines.proofs.SearchLines.{none_law}
+use Rattle.cdcl_laws.proofs.SearchLines.{none_law}
 use Rattle.cdcl_core.proofs.Working.{implies_unchanged, kept_none}
 use Rattle.cdcl_core.proofs.solver.Solver.answer.Goals as goal
 

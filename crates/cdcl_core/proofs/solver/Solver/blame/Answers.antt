@@ -4,8 +4,8 @@ use Rattle.pb_lin.specs.Constraint.{opposite}
 use Rattle.oracle.specs.Solving.{IsClauseAgainst}
 use Rattle.proof_laws.specs.Steps.{clause}
 use Rattle.clause_prop.specs.Steps.{TrailValue}
-use Rattle.conflict_analysis.specs.Analysis.{IsForcedFalse}
-use Rattle.search_state.specs.Searching.{SearchValue}
+use Rattle.cdcl_analysis.specs.Analysis.{IsForcedFalse}
+use Rattle.cdcl_state.specs.Searching.{SearchValue}
 use Rattle.cdcl_core.proofs.NamedLines.{trail_inside}
 use Rattle.cdcl_core.proofs.Working.{implies_unchanged, steps_none}
 use Rattle.cdcl_core.proofs.Blaming.{blame_within, blame_rising, clause_against, core_named}

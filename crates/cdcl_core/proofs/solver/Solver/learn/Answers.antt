@@ -1,7 +1,7 @@
 use Rattle.std.proofs.Common.{◌≡◌, ◌≢◌, ◌<◌, ap, sym, subst, Some, refl, rules}
-use Rattle.search_trail.specs.Rank.{rank}
-use Rattle.search_lines.proofs.SearchLines.{none_law}
-use Rattle.conflict_analysis.specs.Analysis.{IsLesson}
+use Rattle.cdcl_trail.specs.Rank.{rank}
+use Rattle.cdcl_laws.proofs.SearchLines.{none_law}
+use Rattle.cdcl_analysis.specs.Analysis.{IsLesson}
 use Rattle.cdcl_core.specs.Work.{SolverValue, IsLed, KeepsLed}
 use Rattle.cdcl_core.specs.Learnable.{IsForcedBySome}
 use Rattle.cdcl_core.proofs.LearnedStep.{rises, led_after}

@@ -1,10 +1,10 @@
 use Rattle.std.proofs.Common.{◌≡◌, ◌<◌, sym, ap, ◌∙◌, subst, refl}
 use Rattle.pb_lin.specs.Problem.{ProblemValue}
-use Rattle.search_trail.specs.SearchTrail.{IsUndecided}
-use Rattle.search_trail.specs.Rank.{rank}
-use Rattle.search_lines.specs.SearchLines.{AddsLearned}
-use Rattle.search_lines.proofs.SearchLines.{joined_law}
-use Rattle.search_state.specs.Searching.{SearchValue}
+use Rattle.cdcl_trail.specs.SearchTrail.{IsUndecided}
+use Rattle.cdcl_trail.specs.Rank.{rank}
+use Rattle.cdcl_laws.specs.SearchLines.{AddsLearned}
+use Rattle.cdcl_laws.proofs.SearchLines.{joined_law}
+use Rattle.cdcl_state.specs.Searching.{SearchValue}
 use Rattle.cdcl_core.specs.Ledgers.{LedgerValue}
 use Rattle.cdcl_core.specs.Work.{SolverValue, IsLed}
 use Rattle.cdcl_core.proofs.Endings.{nearer_after}

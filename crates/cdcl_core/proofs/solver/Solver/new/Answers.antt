@@ -1,6 +1,6 @@
 use Rattle.std.proofs.Common.{ap, sym, ◌∙◌, length, eqb-true, refl}
 use Rattle.pb_lin.specs.Problem.{ProblemValue}
-use Rattle.search_state.specs.Searching.{SearchValue}
+use Rattle.cdcl_state.specs.Searching.{SearchValue}
 use Rattle.cdcl_core.proofs.HeldLines.{held_nothing}
 use Rattle.cdcl_core.proofs.LedgerLines.{ledger_nothing}
 use Rattle.cdcl_core.proofs.solver.Solver.new.Goals as goal

@@ -1,9 +1,9 @@
 use Rattle.std.proofs.Common.{Ok, ◌≡◌, ◌-◌, ◌+◌, sym, ap, ◌∙◌, subst, refl, arith, inl, inr}
 use Rattle.pb_lin.specs.Problem.{ProblemValue}
 use Rattle.proof_rules.specs.Recording.{KeepsRecorder}
-use Rattle.search_trail.specs.SearchTrail.{IsSearchTrail}
-use Rattle.search_lines.specs.SearchLines.{AddsLearned}
-use Rattle.search_lines.proofs.SearchLines.{none_law, joined_law}
+use Rattle.cdcl_trail.specs.SearchTrail.{IsSearchTrail}
+use Rattle.cdcl_laws.specs.SearchLines.{AddsLearned}
+use Rattle.cdcl_laws.proofs.SearchLines.{none_law, joined_law}
 use Rattle.cdcl_core.specs.Ledgers.{left}
 use Rattle.cdcl_core.specs.declared.progress.Progress.{Progress}
 use Rattle.cdcl_core.specs.Work.{SolverValue, IsAnsweredCore, IsLed, LearnsAlone}

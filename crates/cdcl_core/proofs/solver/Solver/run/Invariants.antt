@@ -1,5 +1,5 @@
 use Rattle.std.proofs.Common.{◌≡◌, ◌≤◌, ◌+◌, ◌-◌}
-use Rattle.search_trail.specs.Rank.{rest}
+use Rattle.cdcl_trail.specs.Rank.{rest}
 use Rattle.proof_rules.specs.Recording.{KeepsRecorder}
 use Rattle.cdcl_core.specs.Ledgers.{left}
 use Rattle.cdcl_core.specs.Work.{IsLed, IsWorking, LearnsAlone}

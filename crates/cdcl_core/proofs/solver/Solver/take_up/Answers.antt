@@ -1,6 +1,6 @@
 use Rattle.std.proofs.Common.{◌≡◌, sym, ap, ◌∙◌, subst, refl}
 use Rattle.clause_prop.specs.Steps.{TrailValue}
-use Rattle.search_state.specs.Searching.{SearchValue}
+use Rattle.cdcl_state.specs.Searching.{SearchValue}
 use Rattle.oracle.specs.Solving.{Reaches}
 use Rattle.cdcl_core.specs.Work.{SolverValue, IsHeld}
 use Rattle.cdcl_core.proofs.Turns.{undecided_back, undecided_steps, vars_back, held_state, taken_up, grown_vars}

@@ -1,5 +1,5 @@
 use Rattle.std.proofs.Common.{refl}
-use Rattle.search_trail.proofs.Ranks.{propagation_raises}
+use Rattle.cdcl_trail.proofs.Ranks.{propagation_raises}
 use Rattle.cdcl_core.proofs.Turns.{led_longer, progress_longer}
 use Rattle.cdcl_core.proofs.Working.{implies_unchanged, steps_none, working_searched}
 use Rattle.cdcl_core.proofs.solver.Solver.turn.Goals as goal

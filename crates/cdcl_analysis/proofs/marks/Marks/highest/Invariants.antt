@@ -1,0 +1,6 @@
+use Rattle.std.proofs.Common.{take}
+use Rattle.cdcl_analysis.specs.Walking.{IsHighest}
+use Rattle.cdcl_analysis.proofs.marks.Marks.highest.Given as goal
+
+abbrev pub invariant-loop-place : goal.invariant-loop-place
+invariant-loop-place l = IsHighest l.trail (take l.place-index l.self.places) l.top l.best

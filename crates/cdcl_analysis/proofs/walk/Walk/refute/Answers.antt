@@ -1,0 +1,18 @@
+use Rattle.std.specs.Prelude.{[], ◌+◌, List}
+use Rattle.std.proofs.lemmas.Result.{IfOk-weaker}
+use Rattle.hint_rup.specs.declared.hint.Hint.{Hint}
+use Rattle.cdcl_trail.specs.Learning.{AreHints}
+use Rattle.cdcl_analysis.specs.declared.reach.Reach.TheVariants.{Decisions}
+use Rattle.cdcl_analysis.specs.Walking.{IsClosing, spare}
+use Rattle.cdcl_analysis.proofs.Outcomes.{refuting_hints}
+use Rattle.cdcl_analysis.proofs.walk.Walk.refute.Goals as goal
+
+pub returns-clause-hints : goal.returns-clause-hints
+returns-clause-hints c =
+    let store = c.args.store.now in
+    let t = c.args.trail.now in
+    let marks = c.trace-hints.new.self.on.items in
+    let least = c.trace-hints.new.self.least in
+    IfOk-weaker c.trace-hints.result (λ (hints : List Hint). IsClosing store t Decisions marks (least + spare Decisions) [] hints) (λ (hints : List Hint). AreHints store t.vars [] hints)
+    (λ hints closing. refuting_hints store t marks c.trace-hints.new.self.places least hints c.requires.undecided c.trace-hints.ensures.walk closing)
+    c.trace-hints.ensures.closing

@@ -1,6 +1,0 @@
-use Rattle.std.proofs.Common.{take}
-use Rattle.conflict_analysis.specs.Walking.{AreAside}
-use Rattle.conflict_analysis.proofs.marks.Marks.aside.Given as goal
-
-abbrev pub invariant-loop-place : goal.invariant-loop-place
-invariant-loop-place l = AreAside l.trail l.reach (take l.place-index l.self.places) l.lits.items

@@ -1,6 +1,0 @@
-use Rattle.std.proofs.Common.{take}
-use Rattle.conflict_analysis.specs.Walking.{IsHighest}
-use Rattle.conflict_analysis.proofs.marks.Marks.highest.Given as goal
-
-abbrev pub invariant-loop-place : goal.invariant-loop-place
-invariant-loop-place l = IsHighest l.trail (take l.place-index l.self.places) l.top l.best

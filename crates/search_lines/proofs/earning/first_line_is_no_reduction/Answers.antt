@@ -1,5 +1,0 @@
-use Rattle.search_lines.proofs.Counts.{first_law}
-use Rattle.search_lines.proofs.earning.first_line_is_no_reduction.Goals as goal
-
-pub returns : goal.returns
-returns c = first_law

@@ -1,5 +1,0 @@
-use Rattle.search_state.proofs.PutBack.{IsPutBack}
-use Rattle.search_state.proofs.waiting.put_back.Given as goal
-
-abbrev pub invariant-loop-place : goal.invariant-loop-place
-invariant-loop-place l = IsPutBack l.order l.trail l.keep l.place

@@ -1,5 +1,0 @@
-use Rattle.search_trail.proofs.Models.{model_law}
-use Rattle.search_trail.proofs.laws.closed_full_trail_is_a_model.Goals as goal
-
-pub returns : goal.returns
-returns c = model_law

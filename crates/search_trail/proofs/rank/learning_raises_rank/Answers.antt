@@ -1,5 +1,0 @@
-use Rattle.search_trail.proofs.Ranks.{learning_raises}
-use Rattle.search_trail.proofs.rank.learning_raises_rank.Goals as goal
-
-pub returns : goal.returns
-returns c = learning_raises
