@@ -16,7 +16,7 @@ use Rattle.sum_outputs.specs.Totals.{AreWeights, IsLeastSum}
 use Rattle.sum_outputs.specs.Adding.{IsReached, IsReady, Continues}
 use Rattle.sum_outputs.specs.Outputs.{AreRising, CanImplyNow, IsDefined}
 use Rattle.sum_outputs.specs.Joining.{IsOutputAt, AreOutputsAt, AreOutputsNow, IsNewOutput}
-use Rattle.sum_outputs.specs.declared.made.SumOutput.{SumOutput}
+use Rattle.sum_outputs.specs.declared.sum_output.SumOutput.{SumOutput}
 use Rattle.sum_outputs.proofs.OutputsLater.{defined_then, now_later}
 use Rattle.sum_outputs.proofs.MakeLines.{outputs_later}
 use Rattle.sum_outputs.specs.Falling.{IsAsked, IsFresh, IsKept, asked_from}

@@ -31,7 +31,7 @@ use Rattle.proof_rules.specs.Recording.{Snapshot, MayBeAdded, IsNextId}
 use Rattle.sum_outputs.specs.Adding.{IsReached, IsReady}
 use Rattle.sum_outputs.specs.Outputs.{IsDefinedBy, IsDefinedNext, IsInOrder, IsSumOf}
 use Rattle.sum_outputs.specs.Totals.{AreWeights}
-use Rattle.sum_outputs.specs.declared.made.SumOutput.{SumOutput}
+use Rattle.sum_outputs.specs.declared.sum_output.SumOutput.{SumOutput}
 use Rattle.sum_outputs.proofs.LaterStates.{get_other, replay_vars, after_not_learned}
 use Rattle.sum_outputs.proofs.PartLines.{total_one}
 use Rattle.sum_outputs.proofs.ImplyLines.{none_found, put_live}

@@ -14,7 +14,7 @@ use Rattle.sum_outputs.specs.Outputs.{IsDefined, AreRising, CanImplyNow}
 use Rattle.sum_outputs.specs.Joining.{IsOutputAt, AreOutputsNow, IsCompleteTo}
 use Rattle.sum_outputs.specs.Sums.{last_sum}
 use Rattle.sum_outputs.specs.Falling.{AreFallingTo, AreAllBetween, AreExtended}
-use Rattle.sum_outputs.specs.declared.made.SumOutput.{SumOutput}
+use Rattle.sum_outputs.specs.declared.sum_output.SumOutput.{SumOutput}
 use Rattle.sum_outputs.proofs.Glue.{value-le-total}
 use Rattle.sum_outputs.proofs.OutputsLater.{defined_then, now_later}
 use Rattle.sum_outputs.proofs.MakeLines.{outputs_later}

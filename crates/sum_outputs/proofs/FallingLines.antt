@@ -16,7 +16,7 @@ use Rattle.sum_outputs.specs.Outputs.{IsDefined}
 use Rattle.sum_outputs.specs.Joining.{IsOutputAt, AreOutputsAt, IsCompleteTo, IsInnerAt, IsNewOutput}
 use Rattle.sum_outputs.specs.Sums.{IsLeastOf, IsRun, IsRunTo}
 use Rattle.sum_outputs.specs.Falling.{AreFalling, AreAllBetween}
-use Rattle.sum_outputs.specs.declared.made.SumOutput.{SumOutput}
+use Rattle.sum_outputs.specs.declared.sum_output.SumOutput.{SumOutput}
 use Rattle.sum_outputs.specs.declared.inner.Inner.{Inner}
 use Rattle.sum_outputs.proofs.OutputsLater.{defined_then, now_later}
 use Rattle.sum_outputs.proofs.JoinLines.{output_then}

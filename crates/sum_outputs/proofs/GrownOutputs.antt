@@ -10,7 +10,7 @@ use Rattle.sum_outputs.specs.Adding.{Continues}
 use Rattle.sum_outputs.specs.Falling.{AreExtended}
 use Rattle.sum_outputs.specs.MadeOutputs.{AreGrownTo, IsNeeded}
 use Rattle.sum_outputs.specs.declared.node.Node.{Node}
-use Rattle.sum_outputs.specs.declared.made.SumOutput.{SumOutput}
+use Rattle.sum_outputs.specs.declared.sum_output.SumOutput.{SumOutput}
 use Rattle.sum_outputs.proofs.MadeLists.{set_cases}
 
 -- the same outputs, read with another default

@@ -38,7 +38,7 @@ use Rattle.proof_rules.specs.Recording.{Snapshot, MayBeAdded}
 use Rattle.sum_outputs.specs.Adding.{IsReached, IsReady, Always}
 use Rattle.sum_outputs.specs.ClauseTokens.{added, summed, weakens, cuts, named, clause_tokens}
 use Rattle.sum_outputs.specs.Outputs.{AreLiteralsOf, sums, CanImply, Imply}
-use Rattle.sum_outputs.specs.declared.made.SumOutput.{SumOutput}
+use Rattle.sum_outputs.specs.declared.sum_output.SumOutput.{SumOutput}
 use Rattle.sum_outputs.proofs.LaterStates.{new_not_learned}
 use Rattle.sum_outputs.proofs.Glue.{AreApart, apart_from_rising, bound, bound_within, none_true}
 use Rattle.sum_outputs.proofs.Chains.{AreLines, is_of, MakesClause, has_clause}

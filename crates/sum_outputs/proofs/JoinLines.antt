@@ -15,7 +15,7 @@ use Rattle.sum_outputs.specs.Totals.{AreWeights}
 use Rattle.sum_outputs.specs.Adding.{HasLater, Continues}
 use Rattle.sum_outputs.specs.Outputs.{CanImply, IsDefined, IsLiteralOf}
 use Rattle.sum_outputs.specs.Joining.{Follows, IsOutputAt, AreOutputsAt, AreChildren, IsTarget}
-use Rattle.sum_outputs.specs.declared.made.SumOutput.{SumOutput}
+use Rattle.sum_outputs.specs.declared.sum_output.SumOutput.{SumOutput}
 use Rattle.sum_outputs.proofs.OutputsLater.{literal_then, variable_then, defined_then}
 
 one_apart : (o : SumOutput) → AllPairs (λ p q. p.lit.var ≢ q.lit.var) (o ∷ [])

@@ -13,7 +13,7 @@ use Rattle.proof_rules.specs.Recording.{Snapshot}
 use Rattle.sum_outputs.specs.Totals.{IsLeastSum}
 use Rattle.sum_outputs.specs.Adding.{IsReached, KeptHold}
 use Rattle.sum_outputs.specs.Joining.{Follows, IsOutputAt, IsCompleteTo, AreChildren, AreImplying, HaveLesser, PairsImply}
-use Rattle.sum_outputs.specs.declared.made.SumOutput.{SumOutput}
+use Rattle.sum_outputs.specs.declared.sum_output.SumOutput.{SumOutput}
 use Rattle.sum_outputs.specs.declared.inner.Inner.{Inner}
 use Rattle.sum_outputs.proofs.Attaining.{attain_first, attain_second}
 

@@ -20,7 +20,7 @@ use Rattle.sum_outputs.specs.MadeOutputs.{AreMade, AreCompleteTo, AreOutside}
 use Rattle.sum_outputs.proofs.OutputsLater.{defined_then, variable_then, now_later}
 use Rattle.sum_outputs.proofs.MakeLines.{outputs_later}
 use Rattle.sum_outputs.specs.declared.node.Node.{Node}
-use Rattle.sum_outputs.specs.declared.made.SumOutput.{SumOutput}
+use Rattle.sum_outputs.specs.declared.sum_output.SumOutput.{SumOutput}
 use Rattle.sum_outputs.specs.declared.inner.Inner.{Inner}
 
 -- some node

@@ -11,7 +11,7 @@ use Rattle.sum_outputs.specs.Totals.{AreWeights, IsLeastSum}
 use Rattle.sum_outputs.specs.Adding.{IsReached, IsReady, Continues, KeptHold, Always}
 use Rattle.sum_outputs.specs.Outputs.{CanImplyNow, Imply, IsDefined, IsDefinedNext}
 use Rattle.sum_outputs.specs.Joining.{Follows, IsOutputAt, SinglesImply, AreOutputsAt, AreOutputsNow, AreChildren, AreChildrenNow, IsInnerAt, IsTarget, IsTargetNow, AreImplying, IsAboveAll, IsNewOutput}
-use Rattle.sum_outputs.specs.declared.made.SumOutput.{SumOutput}
+use Rattle.sum_outputs.specs.declared.sum_output.SumOutput.{SumOutput}
 use Rattle.sum_outputs.specs.declared.inner.Inner.{Inner}
 use Rattle.sum_outputs.proofs.Glue.{value-le-total}
 use Rattle.sum_outputs.proofs.LaterStates.{continues_twice, ready_later, always_later}

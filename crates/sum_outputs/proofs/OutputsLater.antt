@@ -12,7 +12,7 @@ use Rattle.proof_laws.proofs.Replays.{replay_once}
 use Rattle.proof_rules.specs.Recording.{Snapshot}
 use Rattle.sum_outputs.specs.Adding.{IsOwn, IsReached, IsReady, HasLater, Continues}
 use Rattle.sum_outputs.specs.Outputs.{IsOfLeaf, IsDefined, IsLiteralOf, AreLiteralsOf, CanImply, CanImplyNow}
-use Rattle.sum_outputs.specs.declared.made.SumOutput.{SumOutput}
+use Rattle.sum_outputs.specs.declared.sum_output.SumOutput.{SumOutput}
 use Rattle.sum_outputs.proofs.LaterStates.{continues_again, continues_twice, ready_later}
 
 module _ (a b : Snapshot) (on : Continues a b) (s : StateValue) (has : HasLater a b s) where

@@ -14,7 +14,7 @@ use Rattle.proof_laws.specs.Refusal.{given_in}
 use Rattle.proof_rules.specs.Recording.{Snapshot}
 use Rattle.sum_outputs.specs.ClauseTokens.{named}
 use Rattle.sum_outputs.specs.Outputs.{IsOfLeaf, IsDefined, AreLiteralsOf, sums}
-use Rattle.sum_outputs.specs.declared.made.SumOutput.{SumOutput}
+use Rattle.sum_outputs.specs.declared.sum_output.SumOutput.{SumOutput}
 use Rattle.sum_outputs.proofs.Chains.{values, degrees, sizes, LowAt, AreLines}
 use Rattle.sum_outputs.proofs.TokenLists.{lowers_of}
 

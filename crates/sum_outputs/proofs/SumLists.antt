@@ -15,7 +15,7 @@ use Rattle.sum_outputs.specs.Totals.{AreWeights, IsAttainable, IsLeastSum}
 use Rattle.sum_outputs.specs.Outputs.{AreRising}
 use Rattle.sum_outputs.specs.Joining.{IsCompleteTo}
 use Rattle.sum_outputs.specs.Sums.{HasSum, NoneWith, IsLeastWith, IsLeastOf, IsLessOf}
-use Rattle.sum_outputs.specs.declared.made.SumOutput.{SumOutput}
+use Rattle.sum_outputs.specs.declared.sum_output.SumOutput.{SumOutput}
 use Rattle.sum_outputs.proofs.OutputsLater.{from_place}
 use Rattle.sum_outputs.proofs.Attaining.{attain_both, attain_none, attain_total, weights_left, weights_right}
 use Rattle.sum_outputs.proofs.JoinMeaning.{HasSide}

@@ -3,7 +3,7 @@ use Rattle.std.proofs.Common.{◌≡◌, ℕ, List, [], ◌∷◌, ◌++◌, map
 use Rattle.cutting_planes.specs.declared.token.PolToken.{PolToken}
 use Rattle.cutting_planes.specs.declared.token.PolToken.TheVariants.{Id, Add}
 use Rattle.sum_outputs.specs.ClauseTokens.{added, summed}
-use Rattle.sum_outputs.specs.declared.made.SumOutput.{SumOutput}
+use Rattle.sum_outputs.specs.declared.sum_output.SumOutput.{SumOutput}
 
 added_more : (ids : List ℕ) (id : ℕ) → added (ids ++ id ∷ []) ≡ added ids ++ (Id id ∷ Add ∷ [])
 added_more [] id = refl

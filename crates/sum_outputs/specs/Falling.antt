@@ -9,7 +9,7 @@ use Rattle.sum_outputs.specs.Adding.{IsReached}
 use Rattle.sum_outputs.specs.Outputs.{IsDefined}
 use Rattle.sum_outputs.specs.Joining.{IsOutputAt, AreOutputsAt, IsCompleteTo}
 use Rattle.sum_outputs.specs.Sums.{last_sum}
-use Rattle.sum_outputs.specs.declared.made.SumOutput.{SumOutput}
+use Rattle.sum_outputs.specs.declared.sum_output.SumOutput.{SumOutput}
 
 -- outputs of new variables, of which the last has the least sum, above a number
 pub record AreFalling (a b : Snapshot) (terms : List (Literal × ℕ)) (low : ℕ) (os : List SumOutput) : Type 0 where

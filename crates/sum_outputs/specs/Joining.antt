@@ -8,7 +8,7 @@ use Rattle.proof_rules.specs.Recording.{Snapshot}
 use Rattle.sum_outputs.specs.Totals.{AreWeights, IsAttainable}
 use Rattle.sum_outputs.specs.Adding.{IsReached, KeptHold, Always, DefinesMore}
 use Rattle.sum_outputs.specs.Outputs.{IsDefined, IsLiteralOf, AreRising, Imply}
-use Rattle.sum_outputs.specs.declared.made.SumOutput.{SumOutput}
+use Rattle.sum_outputs.specs.declared.sum_output.SumOutput.{SumOutput}
 use Rattle.sum_outputs.specs.declared.inner.Inner.{Inner}
 
 -- where the sum reaches the output's, its literal is true

@@ -1,7 +1,7 @@
 -- The output of a node of one term.
 use Rattle.std.specs.Prelude.{ℕ}
 use Rattle.scut_base.specs.Literal.{Literal}
-use Rattle.sum_outputs.specs.declared.made.SumOutput.{SumOutput}
+use Rattle.sum_outputs.specs.declared.sum_output.SumOutput.{SumOutput}
 
 -- the literal stands for its weight, and has no line
 abbrev pub leaf_output : Literal × ℕ → SumOutput

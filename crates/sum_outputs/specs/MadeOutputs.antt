@@ -12,7 +12,7 @@ use Rattle.sum_outputs.specs.Totals.{IsUpToLeast}
 use Rattle.sum_outputs.specs.Falling.{AreAllBetween, IsFresh}
 use Rattle.sum_outputs.specs.Tree.{IsInner}
 use Rattle.sum_outputs.specs.declared.node.Node.{Node}
-use Rattle.sum_outputs.specs.declared.made.SumOutput.{SumOutput}
+use Rattle.sum_outputs.specs.declared.sum_output.SumOutput.{SumOutput}
 
 -- the variables of these outputs are none of the terms'
 abbrev pub AreOutside : List SumOutput → List (Literal × ℕ) → Type 0

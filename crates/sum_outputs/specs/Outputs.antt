@@ -10,7 +10,7 @@ use Rattle.proof_laws.specs.declared.line.Line.TheVariants.{Def}
 use Rattle.proof_rules.specs.Recording.{Snapshot}
 use Rattle.sum_outputs.specs.Totals.{Defines}
 use Rattle.sum_outputs.specs.Adding.{IsOwn, IsReached}
-use Rattle.sum_outputs.specs.declared.made.SumOutput.{SumOutput}
+use Rattle.sum_outputs.specs.declared.sum_output.SumOutput.{SumOutput}
 
 -- the only term of a leaf is the literal, with the sum as its weight, and there is no line
 abbrev pub IsOfLeaf : List (Literal × ℕ) → SumOutput → Type 0

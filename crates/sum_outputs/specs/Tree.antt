@@ -4,7 +4,7 @@ use Rattle.scut_base.specs.Literal.{Literal}
 use Rattle.pb_lin.specs.Constraint.{total}
 use Rattle.sum_outputs.specs.Totals.{AreWeights, first_child, second_child}
 use Rattle.sum_outputs.specs.declared.node.Node.{Node}
-use Rattle.sum_outputs.specs.declared.made.SumOutput.{SumOutput}
+use Rattle.sum_outputs.specs.declared.sum_output.SumOutput.{SumOutput}
 use Rattle.sum_outputs.specs.declared.inner.Inner.{Inner}
 
 -- a node over the terms that its children divide among them

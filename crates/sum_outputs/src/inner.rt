@@ -2,7 +2,7 @@
 ghost use Rattle.std.specs.Prelude.{◌≡◌, ◌<◌, ◌++◌, List, length, slice_index_or};
 ghost use Rattle.pb_lin.specs.Constraint.{total};
 ghost use Rattle.sum_outputs.specs.declared.node.Node.{Node};
-ghost use Rattle.sum_outputs.specs.declared.made.SumOutput.{SumOutput};
+ghost use Rattle.sum_outputs.specs.declared.sum_output.SumOutput.{SumOutput};
 
 use crate::SumOutput;
 use crate::node::Node;

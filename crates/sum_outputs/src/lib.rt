@@ -8,31 +8,31 @@
 //! reached. They only add definitions, one for each new output, and lines by cutting planes.
 //!
 //! Read `node` and `inner` first: the tree, and a node with what its children have. The main function is
-//! `ask`, in `asked`; `extend_all`, in `growing`, makes what it stands on. Both make each output by
-//! `make_output`, in `making`: a definition, and the clauses of `windows`.
+//! `ask`, in `root`; `extend_all`, in `below_root`, makes what it stands on. Both make each output by
+//! `make_output`, in `output`: a definition, and the clauses of `clauses`.
 #![tactic(auto)]
 
-mod asked;
+mod below_root;
 mod clause;
+mod clauses;
 mod definition;
-mod extended;
-mod extending;
-mod growing;
+mod falling;
 mod inner;
 mod leaf;
-mod made;
-mod making;
 mod node;
+mod node_outputs;
+mod output;
 mod recording;
+mod root;
+mod sum_output;
 mod sums;
 mod tokens;
-mod windows;
 
-pub use asked::ask;
-pub use growing::extend_all;
+pub use below_root::extend_all;
+pub use clauses::place_of;
 pub use inner::Inner;
 pub use leaf::leaf_output;
-pub use made::SumOutput;
 pub use node::{Node, push_nodes};
 pub use recording::in_memory;
-pub use windows::place_of;
+pub use root::ask;
+pub use sum_output::SumOutput;

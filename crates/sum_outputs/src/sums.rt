@@ -4,7 +4,7 @@ ghost use Rattle.sum_outputs.specs.Outputs.{AreRising};
 ghost use Rattle.sum_outputs.specs.Sums.{IsLeastOf, IsLeastWith, IsLessOf, NoneWith};
 
 use crate::SumOutput;
-use crate::windows::place_of;
+use crate::clauses::place_of;
 
 // The least sum of at least `k`, of an output or none of the one child and an output or none of the other;
 // `total` is the greatest. One binary search in the second for each of the first.

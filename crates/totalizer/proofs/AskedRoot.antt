@@ -18,7 +18,7 @@ use Rattle.sum_outputs.specs.Sums.{last_sum}
 use Rattle.sum_outputs.specs.Falling.{AreAllBetween, IsAsked, IsFresh, IsKept}
 use Rattle.sum_outputs.specs.MadeOutputs.{AreMade, AreMadeNow, AreCompleteTo, AreOutside, count_outputs}
 use Rattle.sum_outputs.specs.declared.node.Node.{Node}
-use Rattle.sum_outputs.specs.declared.made.SumOutput.{SumOutput}
+use Rattle.sum_outputs.specs.declared.sum_output.SumOutput.{SumOutput}
 use Rattle.totalizer.specs.declared.bound.Bound.TheVariants.{At}
 use Rattle.totalizer.specs.Meaning.{IsBound, IsBoundAt}
 use Rattle.totalizer.specs.Totalizing.{root_terms}

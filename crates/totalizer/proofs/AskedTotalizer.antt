@@ -14,7 +14,7 @@ use Rattle.sum_outputs.specs.Adding.{HasLater, IsReached, Continues}
 use Rattle.sum_outputs.specs.Falling.{IsAsked, IsFresh, IsKept}
 use Rattle.sum_outputs.specs.MadeOutputs.{AreMadeNow, AreCompleteTo, AreGrownTo, IsNeeded, count_outputs}
 use Rattle.sum_outputs.specs.declared.node.Node.{Node}
-use Rattle.sum_outputs.specs.declared.made.SumOutput.{SumOutput}
+use Rattle.sum_outputs.specs.declared.sum_output.SumOutput.{SumOutput}
 use Rattle.totalizer.specs.Totalizing.{TotalizerValue, root_terms, Fits}
 use Rattle.totalizer.specs.Demanding.{IsDemanded, IsThere, MakesDemanded}
 use Rattle.totalizer.proofs.AskedRoot.{IsAskedRoot, made_asked, complete_stays, count_more}

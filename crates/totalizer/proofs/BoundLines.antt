@@ -16,7 +16,7 @@ use Rattle.proof_rules.specs.Recording.{Snapshot}
 use Rattle.sum_outputs.specs.Totals.{IsLeastSum}
 use Rattle.sum_outputs.specs.Outputs.{IsDefined}
 use Rattle.sum_outputs.specs.Joining.{IsOutputAt}
-use Rattle.sum_outputs.specs.declared.made.SumOutput.{SumOutput}
+use Rattle.sum_outputs.specs.declared.sum_output.SumOutput.{SumOutput}
 use Rattle.totalizer.specs.Meaning.{FollowsSum, AreTruthsWith, BoundsSum, IsDefinedFor, IsOutput, IsBoundAt}
 use Rattle.totalizer.proofs.Restricted.{leaf_covers, defined_covers}
 

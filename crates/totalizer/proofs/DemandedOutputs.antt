@@ -11,7 +11,7 @@ use Rattle.sum_outputs.specs.Totals.{IsAttainable, IsLeastSum, IsUpToLeast}
 use Rattle.sum_outputs.specs.Joining.{IsOutputAt}
 use Rattle.sum_outputs.specs.MadeOutputs.{AreMade, AreCompleteTo}
 use Rattle.sum_outputs.specs.declared.node.Node.{Node}
-use Rattle.sum_outputs.specs.declared.made.SumOutput.{SumOutput}
+use Rattle.sum_outputs.specs.declared.sum_output.SumOutput.{SumOutput}
 use Rattle.totalizer.specs.Totalizing.{root_terms}
 use Rattle.totalizer.specs.Demanding.{IsDemanded, IsThere}
 use Rattle.sum_outputs.proofs.MadeLists.{any_node}

@@ -12,7 +12,7 @@ use Rattle.sum_outputs.specs.Outputs.{IsOfLeaf, IsDefined, IsLiteralOf}
 use Rattle.sum_outputs.specs.Joining.{IsOutputAt}
 use Rattle.sum_outputs.specs.MadeOutputs.{AreMade}
 use Rattle.sum_outputs.specs.declared.node.Node.{Node}
-use Rattle.sum_outputs.specs.declared.made.SumOutput.{SumOutput}
+use Rattle.sum_outputs.specs.declared.sum_output.SumOutput.{SumOutput}
 
 module _ (a b : Snapshot) (problem : b.problem ≡ a.problem) (s t : StateValue)
     (later : IsLater a.problem a.lines s b.lines t) where

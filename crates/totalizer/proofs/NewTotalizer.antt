@@ -21,7 +21,7 @@ use Rattle.sum_outputs.specs.Leaves.{leaf_output}
 use Rattle.sum_outputs.specs.Tree.{IsInner, IsGrown}
 use Rattle.sum_outputs.specs.MadeOutputs.{AreMadeNow, AreCompleteTo, AreOutside}
 use Rattle.sum_outputs.specs.declared.node.Node.{Node}
-use Rattle.sum_outputs.specs.declared.made.SumOutput.{SumOutput}
+use Rattle.sum_outputs.specs.declared.sum_output.SumOutput.{SumOutput}
 use Rattle.sum_outputs.proofs.Attaining.{apart_across}
 use Rattle.sum_outputs.proofs.LeafLists.{leaf_outputs, leaf_complete}
 use Rattle.sum_outputs.proofs.MadeLists.{any_node, terms_divide}

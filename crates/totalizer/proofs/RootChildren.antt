@@ -10,7 +10,7 @@ use Rattle.sum_outputs.specs.Tree.{IsInner, IsInnerOf}
 use Rattle.sum_outputs.specs.MadeOutputs.{AreMadeNow, AreCompleteTo}
 use Rattle.sum_outputs.specs.declared.inner.Inner.{Inner}
 use Rattle.sum_outputs.specs.declared.node.Node.{Node}
-use Rattle.sum_outputs.specs.declared.made.SumOutput.{SumOutput}
+use Rattle.sum_outputs.specs.declared.sum_output.SumOutput.{SumOutput}
 use Rattle.sum_outputs.proofs.MadeLists.{any_node, inner_of, inner_of_made, own_outputs}
 use Rattle.totalizer.specs.Totalizing.{root_terms, IsRooted}
 use Rattle.totalizer.proofs.Roots.{root_is, some_nodes}

@@ -7,7 +7,7 @@ use Rattle.sum_outputs.specs.Totals.{IsLeastSum, IsUpToLeast, definitions}
 use Rattle.sum_outputs.specs.Adding.{IsReached}
 use Rattle.sum_outputs.specs.MadeOutputs.{count_outputs}
 use Rattle.sum_outputs.specs.declared.node.Node.{Node}
-use Rattle.sum_outputs.specs.declared.made.SumOutput.{SumOutput}
+use Rattle.sum_outputs.specs.declared.sum_output.SumOutput.{SumOutput}
 use Rattle.totalizer.specs.declared.bound.Bound.{Bound}
 use Rattle.totalizer.specs.declared.bound.Bound.TheVariants.{At}
 use Rattle.totalizer.specs.Totalizing.{TotalizerValue}

@@ -3,7 +3,7 @@ use Rattle.std.specs.Prelude.{◌≡◌, ◌⊎◌, ℕ, ◌<◌, ◌≤◌, Lis
 use Rattle.scut_base.specs.Literal.{Literal}
 use Rattle.sum_outputs.specs.Tree.{AreLeavesApart}
 use Rattle.sum_outputs.specs.declared.node.Node.{Node}
-use Rattle.sum_outputs.specs.declared.made.SumOutput.{SumOutput}
+use Rattle.sum_outputs.specs.declared.sum_output.SumOutput.{SumOutput}
 use Rattle.totalizer.specs.declared.bound.Bound.{Bound}
 use Rattle.totalizer.specs.declared.bound.Bound.TheVariants.{At}
 use Rattle.totalizer.specs.Totalizing.{root_terms, IsRooted}

@@ -9,7 +9,7 @@ use Rattle.sum_outputs.specs.Tree.{IsChildOf, IsTree}
 use Rattle.sum_outputs.specs.Leaves.{leaf_output}
 use Rattle.sum_outputs.specs.MadeOutputs.{AreCompleteTo, AreMadeNow}
 use Rattle.sum_outputs.specs.declared.node.Node.{Node}
-use Rattle.sum_outputs.specs.declared.made.SumOutput.{SumOutput}
+use Rattle.sum_outputs.specs.declared.sum_output.SumOutput.{SumOutput}
 
 -- the nodes of the tree, and the outputs of each
 pub record TotalizerValue : Type 0 where

@@ -5,7 +5,7 @@ ghost use Rattle.sum_outputs.specs.Adding.{IsReady, IsRecorded};
 ghost use Rattle.sum_outputs.specs.Totals.{definitions};
 ghost use Rattle.sum_outputs.specs.Falling.{IsAsked};
 ghost use Rattle.sum_outputs.specs.MadeOutputs.{AreCompleteTo, AreMadeNow};
-ghost use Rattle.sum_outputs.specs.declared.made.SumOutput.{SumOutput};
+ghost use Rattle.sum_outputs.specs.declared.sum_output.SumOutput.{SumOutput};
 ghost use Rattle.totalizer.specs.Meaning.{IsBound};
 ghost use Rattle.totalizer.specs.Totalizing.{root_terms, Fits, IsRooted};
 ghost use Rattle.totalizer.specs.Demanding.{AddsFor};

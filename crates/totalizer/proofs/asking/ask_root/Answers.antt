@@ -4,7 +4,7 @@ use Rattle.std.proofs.lemmas.Result.{IfOk-weaker}
 use Rattle.pb_lin.specs.Constraint.{total}
 use Rattle.sum_outputs.specs.Totals.{definitions}
 use Rattle.sum_outputs.specs.Falling.{IsAsked}
-use Rattle.sum_outputs.specs.declared.made.SumOutput.{SumOutput}
+use Rattle.sum_outputs.specs.declared.sum_output.SumOutput.{SumOutput}
 use Rattle.totalizer.specs.Totalizing.{root_terms}
 use Rattle.totalizer.proofs.RootChildren.{in_nodes, long_root, root_terms_are, root_inner, root_outputs, asked_of, counted_of}
 use Rattle.totalizer.proofs.asking.ask_root.Goals as goal

@@ -1,7 +1,7 @@
 -- The nodes below the root are extended, and then it is asked.
 use Rattle.std.proofs.Common.{List, refl, sym, subst}
 use Rattle.std.proofs.lemmas.Result.{err_from_is_err_and}
-use Rattle.sum_outputs.specs.declared.made.SumOutput.{SumOutput}
+use Rattle.sum_outputs.specs.declared.sum_output.SumOutput.{SumOutput}
 use Rattle.sum_outputs.proofs.LaterStates.{continues_twice, handed_on, ready_later, recorded_ok}
 use Rattle.totalizer.specs.Totalizing.{Fits}
 use Rattle.totalizer.specs.Demanding.{MakesDemanded}

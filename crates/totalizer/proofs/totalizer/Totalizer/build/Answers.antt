@@ -1,7 +1,7 @@
 -- Its outputs are those of its leaves.
 use Rattle.std.proofs.Common.{◌≡◌, List, map, ap, sym, subst, ◌∙◌}
 use Rattle.sum_outputs.specs.declared.node.Node.{Node}
-use Rattle.sum_outputs.specs.declared.made.SumOutput.{SumOutput}
+use Rattle.sum_outputs.specs.declared.sum_output.SumOutput.{SumOutput}
 use Rattle.totalizer.specs.Totalizing.{first_outputs, Fits}
 use Rattle.totalizer.proofs.AskedTotalizer.{totalizer_of}
 use Rattle.totalizer.proofs.NewTotalizer.{new_fits}
