@@ -349,11 +349,6 @@ pub recorded_after : {T : Type 0} (a b c : Snapshot) (r : Result T RecordFault) 
 recorded_after a b c (Ok x) on call = record { continues = continues_twice a b c on call.continues; whole = call.whole; fault = tt }
 recorded_after a b c (Err f) on call = record { continues = continues_twice a b c on call.continues; whole = tt; fault = fault_later a b c f on call.fault }
 
--- a want of memory after calls, or none
-pub memory_recorded : {T : Type 0} (a b : Snapshot) (r : Result T RecordFault) → Continues a b → b.broken ≡ false → IfErr r (λ f. f ≡ NoMemory) → IsRecorded a b r
-memory_recorded a b (Ok x) on whole fault = record { continues = on; whole = whole; fault = tt }
-memory_recorded a b (Err f) on whole fault = record { continues = on; whole = tt; fault = subst (λ (h : RecordFault). IsFaultAt a b h) (sym fault) tt }
-
 -- a want of memory, which `?` makes a fault
 pub memory_err : {T : Type 0} (a b : Snapshot) (r : Result T RecordFault) → Continues a b → IsErrAnd r (λ f. f ≡ NoMemory) → IsRecorded a b r
 memory_err a b r on is = let p = err_from_is_err_and r is in recorded_err a b NoMemory r (p.1 ∙ ap (λ (f : RecordFault). Err f) p.2) on tt
