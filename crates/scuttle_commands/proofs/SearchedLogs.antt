@@ -11,6 +11,7 @@ use Rattle.std.proofs.Math.Bool.{true≢false}
 use Rattle.scut_base.specs.Files.{Files, content, with_file, IsTold, IsTouched}
 use Rattle.scut_base.specs.Faults.{Faults, NoneFell, Rose, WritingFailed, count}
 use Rattle.scut_base.specs.declared.shelf.ShelfCall.TheVariants.{Append}
+use Rattle.scut_base.specs.World.{World}
 use Rattle.scut_base.proofs.FileLaws.{content-same, content-other, tied_is, tied_same, with_file-untold}
 use Rattle.instance.specs.Shape.{InstanceValue}
 use Rattle.pb_lin.specs.Problem.{ProblemValue}
@@ -103,50 +104,50 @@ module _ (old begun new : Option Files) (name : List ℕ) (p : ProblemValue) (li
 
 -- ---- the recorder, as it was begun and as it was handed back
 
-module _ {H : Type 0} (files : H → Option Files) (old : Option Files) (name : List ℕ) (p : ProblemValue) (first last : Held H) (end : H)
+module _ {H : Type 0} (world : H → World) (old : Option Files) (name : List ℕ) (p : ProblemValue) (first last : Held H) (end : H)
     (named : first.name ≡ name) (same_name : last.name ≡ first.name)
     (of_problem : first.problem ≡ p) (same_problem : last.problem ≡ first.problem)
-    (begun : files first.shelf.now ≡ with_file old name header_line)
-    (others : without_file (files last.shelf.now) last.name ≡ without_file (files first.shelf.now) first.name)
+    (begun : (world first.shelf.now).files ≡ with_file old name header_line)
+    (others : without_file (world last.shelf.now).files last.name ≡ without_file (world first.shelf.now).files first.name)
     (same : end ≡ last.shelf.now)
-    (log : IsLogFile (files end) last.name last.problem last.lines last.broken) (kept : IsKept last.problem last.lines last.state) where
+    (log : IsLogFile (world end).files last.name last.problem last.lines last.broken) (kept : IsKept last.problem last.lines last.state) where
   names : last.name ≡ name
   names = same_name ∙ named
 
   problems : last.problem ≡ p
   problems = same_problem ∙ of_problem
 
-  log_here : IsLogFile (files end) name p last.lines last.broken
-  log_here = subst (λ (n : List ℕ). IsLogFile (files end) n p last.lines last.broken) names
-      (subst (λ (q : ProblemValue). IsLogFile (files end) last.name q last.lines last.broken) problems log)
+  log_here : IsLogFile (world end).files name p last.lines last.broken
+  log_here = subst (λ (n : List ℕ). IsLogFile (world end).files n p last.lines last.broken) names
+      (subst (λ (q : ProblemValue). IsLogFile (world end).files last.name q last.lines last.broken) problems log)
 
   kept_here : IsKept p last.lines last.state
   kept_here = subst (λ (q : ProblemValue). IsKept q last.lines last.state) problems kept
 
-  others_here : without_file (files end) name ≡ without_file (files first.shelf.now) name
-  others_here = ap (λ (h : H). without_file (files h) name) same
-      ∙ sym (ap (without_file (files last.shelf.now)) names)
+  others_here : without_file (world end).files name ≡ without_file (world first.shelf.now).files name
+  others_here = ap (λ (h : H). without_file (world h).files name) same
+      ∙ sym (ap (without_file (world last.shelf.now).files) names)
       ∙ others
-      ∙ ap (without_file (files first.shelf.now)) named
+      ∙ ap (without_file (world first.shelf.now).files) named
 
-  pub part_handed : IsTouched old (files end) name (IsPartOfLog p)
-  part_handed = part_left old (files first.shelf.now) (files end) name p last.lines last.state last.broken begun others_here log_here kept_here
+  pub part_handed : IsTouched old (world end).files name (IsPartOfLog p)
+  part_handed = part_left old (world first.shelf.now).files (world end).files name p last.lines last.state last.broken begun others_here log_here kept_here
 
-  pub full_handed : length last.lines ≡ 2 ^ 61 → IsFull old (files end) p name
-  full_handed full = full_left old (files first.shelf.now) (files end) name p last.lines last.state last.broken begun others_here log_here kept_here full
+  pub full_handed : length last.lines ≡ 2 ^ 61 → IsFull old (world end).files p name
+  full_handed full = full_left old (world first.shelf.now).files (world end).files name p last.lines last.state last.broken begun others_here log_here kept_here full
 
-  pub logged_handed : (i : InstanceValue) (limit : Option ℕ) (found : Found) → last.broken ≡ false → CoversLogged i p last.lines found.entries.items → IsEnding limit p last.lines found.ending → IsLogged old (files end) i p name limit found
-  logged_handed i limit found unbroken covers ending = logged old (files first.shelf.now) (files end) name p last.lines last.state last.broken begun others_here log_here kept_here i limit found unbroken covers ending
+  pub logged_handed : (i : InstanceValue) (limit : Option ℕ) (found : Found) → last.broken ≡ false → CoversLogged i p last.lines found.entries.items → IsEnding limit p last.lines found.ending → IsLogged old (world end).files i p name limit found
+  logged_handed i limit found unbroken covers ending = logged old (world first.shelf.now).files (world end).files name p last.lines last.state last.broken begun others_here log_here kept_here i limit found unbroken covers ending
 
-  rose_here : (faults : H → Faults) (began : Faults) → NoneFell began (faults first.shelf.now) → Rose (count (faults first.shelf.now) Append first.name) (count (faults last.shelf.now) Append last.name) → WritingFailed began (faults end) name
-  rose_here faults began later rose = inr (rose_at_last _ _ _ (later Append name)
-      (subst (λ (h : H). Rose (count (faults first.shelf.now) Append name) (count (faults h) Append name)) (sym same)
-      (subst (λ (n : List ℕ). Rose (count (faults first.shelf.now) Append name) (count (faults last.shelf.now) Append n)) names
-      (subst (λ (n : List ℕ). Rose (count (faults first.shelf.now) Append n) (count (faults last.shelf.now) Append last.name)) named rose))))
+  rose_here : (began : Faults) → NoneFell began (world first.shelf.now).faults → Rose (count (world first.shelf.now).faults Append first.name) (count (world last.shelf.now).faults Append last.name) → WritingFailed began (world end).faults name
+  rose_here began later rose = inr (rose_at_last _ _ _ (later Append name)
+      (subst (λ (h : H). Rose (count (world first.shelf.now).faults Append name) (count (world h).faults Append name)) (sym same)
+      (subst (λ (n : List ℕ). Rose (count (world first.shelf.now).faults Append name) (count (world last.shelf.now).faults Append n)) names
+      (subst (λ (n : List ℕ). Rose (count (world first.shelf.now).faults Append n) (count (world last.shelf.now).faults Append last.name)) named rose))))
 
-  pub stopped_handed : (faults : H → Faults) (began : Faults) → NoneFell began (faults first.shelf.now) → (f : RecordFault)
-      → (f ≡ Failed → Rose (count (faults first.shelf.now) Append first.name) (count (faults last.shelf.now) Append last.name))
-      → (f ≡ Full → length last.lines ≡ 2 ^ 61) → IsLogStopped (status_of_recording f) old (files end) p name began (faults end)
-  stopped_handed faults began later Failed rose full = (part_handed, rose_here faults began later (rose refl))
-  stopped_handed faults began later Full rose full = (refl, full_handed (full refl))
-  stopped_handed faults began later NoMemory rose full = part_handed
+  pub stopped_handed : (began : Faults) → NoneFell began (world first.shelf.now).faults → (f : RecordFault)
+      → (f ≡ Failed → Rose (count (world first.shelf.now).faults Append first.name) (count (world last.shelf.now).faults Append last.name))
+      → (f ≡ Full → length last.lines ≡ 2 ^ 61) → IsLogStopped (status_of_recording f) old (world end).files p name began (world end).faults
+  stopped_handed began later Failed rose full = (part_handed, rose_here began later (rose refl))
+  stopped_handed began later Full rose full = (refl, full_handed (full refl))
+  stopped_handed began later NoMemory rose full = part_handed

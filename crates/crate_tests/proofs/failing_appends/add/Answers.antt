@@ -16,12 +16,12 @@ add_line-requires-clause-legal g c =
 
 pub returns-in-Ok-clause-kept : goal.returns-in-Ok-clause-kept
 returns-in-Ok-clause-kept g c =
-    let lines = (λ r. (g.R.Recorder.seen r).lines) in
-    let old = lines c.args.rec.now in
+    let seen = g.R.Recorder.seen in
+    let old = (seen c.args.rec.now).lines in
     let line = c.args.line.now in
     let p = c.args.problem.now in
     let t = c.step.new.self in
     on_ok_weaker c.add_line.result
-    (λ (added : lines c.add_line.new.self ≡ old ++ line ∷ []). subst (λ (ls : List Line). IsKept p ls t) (sym added)
+    (λ (added : (seen c.add_line.new.self).lines ≡ old ++ line ∷ []). subst (λ (ls : List Line). IsKept p ls t) (sym added)
     (kept_more p old c.args.state.now line t c.requires.kept c.requires.formed c.in-Ok.ensures.next c.in-Ok.ensures.fits))
     c.add_line.ensures.added
