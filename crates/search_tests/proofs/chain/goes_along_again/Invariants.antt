@@ -3,4 +3,4 @@ use Rattle.search_tests.specs.declared.chain.TheConstants.{VARS}
 use Rattle.search_tests.proofs.chain.goes_along_again.Given as goal
 
 abbrev pub invariant-loop-block : goal.invariant-loop-block
-invariant-loop-block g l = l.fixture ≡ VARS
+invariant-loop-block l = l.fixture ≡ VARS
