@@ -145,17 +145,28 @@ static APPENDS: [(u64, u64, &str, usize); 13] = [
     (5, 0, "2 3 4  3", 81),
 ];
 
-// What is answered for the lines by a recorder in the file `log`, and the number of its lines after that.
+// What is answered for the lines by a recorder, and the number of its lines after that.
+fn answers_and_lines(
+    alloc: Global,
+    recorder: &mut FileRecorder<'_, MemShelf>,
+    problem: &PbProblem,
+) -> Result<String, Fail>
+    requires problem { recorder.old.problem ≡ problem.now }
+    requires begun { recorder.old.lines ≡ [] }
+    requires whole { recorder.old.broken ≡ false }
+{
+    let text = answers(alloc, recorder, problem)?;
+    Ok(format!(in alloc; "{text} {}", recorder.lines().len())?)
+}
+
+// The same of one in the file `log`.
 fn answers_in_file(
     alloc: Global,
     shelf: &mut MemShelf,
     problem: &PbProblem,
 ) -> Result<String, Fail> {
     match FileRecorder::new(alloc, shelf, "log", problem) {
-        Ok(mut recorder) => {
-            let text = answers(alloc, &mut recorder, problem)?;
-            Ok(format!(in alloc; "{text} {}", recorder.lines().len())?)
-        }
+        Ok(mut recorder) => answers_and_lines(alloc, &mut recorder, problem),
         Err(refused) => Ok(format!(in alloc; "{:?}", refused.fault)?),
     }
 }
