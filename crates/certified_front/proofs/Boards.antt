@@ -19,7 +19,7 @@ use Rattle.search_base.specs.CostBounds.{FitBounds}
 use Rattle.search_base.specs.Good.{IsGood}
 use Rattle.search_base.specs.Laws.{BeginningIsGood, LoggedIsReached}
 use Rattle.search_base.specs.Logged.{logged}
-use Rattle.search_base.specs.declared.bounds.ObjectiveBound.{ObjectiveBound}
+use Rattle.search_base.specs.declared.objective_bound.ObjectiveBound.{ObjectiveBound}
 use Rattle.certified_front.specs.Certified.{CoversLogged}
 use Rattle.certified_front.proofs.ListedModels.{all_covered, listed_vectors, right_list}
 

@@ -19,7 +19,7 @@ use Rattle.search_base.specs.CostBounds.{FitBounds}
 use Rattle.search_base.specs.Good.{GoesOn}
 use Rattle.search_base.specs.Laws.{AskingStaysGood, BoundingStaysGood, TurnLinesJoin}
 use Rattle.search_base.specs.Turns.{IsInOrder}
-use Rattle.search_base.specs.declared.bounds.ObjectiveBound.{ObjectiveBound}
+use Rattle.search_base.specs.declared.objective_bound.ObjectiveBound.{ObjectiveBound}
 use Rattle.search_base.proofs.Turning.{none_twice}
 use Rattle.p_minimal.specs.Asking.{IsGoodWithSome, StaysGood}
 

@@ -17,7 +17,7 @@ use Rattle.search_base.specs.Boards.{BoardValue}
 use Rattle.search_base.specs.Good.{IsGood}
 use Rattle.search_base.specs.Turns.{IsEndLine, IsRemaining, IsTakable}
 use Rattle.p_minimal.specs.Aiming.{GivesUp}
-use Rattle.search_base.specs.declared.bounds.ObjectiveBound.{ObjectiveBound}
+use Rattle.search_base.specs.declared.objective_bound.ObjectiveBound.{ObjectiveBound}
 
 -- ---- the question
 

@@ -1,5 +1,5 @@
 // Who keeps a proof, line by line.
-ghost use Rattle.std.specs.Prelude.{◌≡◌, ◌↔◌, ◌^◌, ◌++◌, ◌∷◌, [], true, false, length, IfOk, OnOk, OnErr, IsErrOf};
+ghost use Rattle.std.specs.Prelude.{◌≡◌, ◌↔◌, ◌^◌, ◌++◌, ◌∷◌, [], true, false, length, All, IfOk, OnOk, OnErr, IsErrOf};
 ghost use Rattle.scut_base.specs.Faults.{Rose};
 ghost use Rattle.proof_laws.specs.WellFormed.{IsWellFormed};
 ghost use Rattle.proof_laws.specs.Replay.{IsReplay};
@@ -60,7 +60,8 @@ pub trait Recorder {
         ensures short_broken { IsErrOf result RecordFault.NoMemory → (seen self.new).broken ≡ true }
         ensures keeps { KeepsRecorder (seen self.old) (seen self.new) };
 
-    /// The state that the lines reach.
+    /// The state that the lines reach. Each of them is a line that a log can spell.
     fn state(&self) -> &ProofState
-        ensures { IsReplay (seen self.now).problem (seen self.now).lines result.now };
+        ensures replays { IsReplay (seen self.now).problem (seen self.now).lines result.now }
+        ensures formed { All IsWellFormed (seen self.now).lines };
 }

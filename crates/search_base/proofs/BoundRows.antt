@@ -23,7 +23,7 @@ use Rattle.totalizer.specs.Meaning.{IsBound}
 use Rattle.totalizer.specs.declared.bound.Bound.{Bound}
 use Rattle.totalizer.specs.Totalizing.{TotalizerValue, Fits, HasVariables, IsBuilt, root_terms, terms_of}
 use Rattle.search_base.specs.CostBounds.{BoundsRow, FitBounds, IsCostBound}
-use Rattle.search_base.specs.declared.bounds.ObjectiveBound.{ObjectiveBound}
+use Rattle.search_base.specs.declared.objective_bound.ObjectiveBound.{ObjectiveBound}
 use Rattle.search_base.proofs.TurnLines.{own_law, totalizer_lines}
 
 -- ---- new bounds

@@ -25,7 +25,7 @@ use Rattle.search_base.specs.Logged.{IsCovered, Logs, logged}
 use Rattle.search_base.specs.Boards.{BoardValue, IsBoard, IsModelPair}
 use Rattle.search_base.specs.Cutting.{AreAnswers, IsCutOf, IsPut, LogsModel, answered_line, literals_at}
 use Rattle.search_base.specs.Good.{GoesOn, IsGood}
-use Rattle.search_base.specs.declared.bounds.ObjectiveBound.{ObjectiveBound}
+use Rattle.search_base.specs.declared.objective_bound.ObjectiveBound.{ObjectiveBound}
 use Rattle.search_base.proofs.Answered.{IsAnswerAt, answers_at}
 use Rattle.search_base.proofs.BoundRows.{bounds_later}
 use Rattle.search_base.proofs.CutClauses.{clause_put, clause_tested, cut_fails}

@@ -20,7 +20,7 @@ use Rattle.search_base.specs.Cutting.{AreAnswers, IsPut, LogsModel}
 use Rattle.search_base.specs.Good.{GoesOn, IsGood}
 use Rattle.search_base.specs.Laws.{BoundingStaysGood}
 use Rattle.search_base.specs.Turns.{IsTakable, IsTaken}
-use Rattle.search_base.specs.declared.bounds.ObjectiveBound.{ObjectiveBound}
+use Rattle.search_base.specs.declared.objective_bound.ObjectiveBound.{ObjectiveBound}
 use Rattle.search_base.proofs.Covering.{falls}
 use Rattle.search_base.proofs.LoggedStates.{good_after, logs_model}
 use Rattle.search_base.proofs.LoggedVectors.{totalizer_logs_none}

@@ -10,7 +10,7 @@ use Rattle.search_base.specs.CostBox.{cost_box, is_covered, uncovered}
 use Rattle.search_base.specs.Boards.{BoardValue}
 use Rattle.search_base.specs.Good.{GoesOn, IsGood, KeepsBoard}
 use Rattle.search_base.specs.Turns.{FindsNew}
-use Rattle.search_base.specs.declared.bounds.ObjectiveBound.{ObjectiveBound}
+use Rattle.search_base.specs.declared.objective_bound.ObjectiveBound.{ObjectiveBound}
 use Rattle.search_base.proofs.TurnLines.{no_line, both_lines}
 
 -- ---- a call after another

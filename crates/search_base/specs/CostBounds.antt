@@ -1,25 +1,169 @@
 -- Bounds of objectives.
-use Rattle.std.specs.Prelude.{◌≡◌, List, ℤ, ◌-ℤ◌}
+use Rattle.std.specs.Prelude.{◌≡◌, ◌≢◌, ◌⊎◌, ℕ, ◌-◌, ◌<◌, Bool, true, false, List, [], ◌∷◌, length, map, slice_index_or, All, AllPairs, Contains, Some, ℤ, pos, ◌+ℤ◌, ◌-ℤ◌, ◌≤ℤ◌, ◌<ℤ◌}
+use Rattle.std.specs.BTreeMap.{get}
 use Rattle.std.specs.List.{AllZip}
-use Rattle.pb_lin.specs.CostRow.{CostRowValue}
+use Rattle.std.specs.Ordering.{nat_cmp}
+use Rattle.scut_base.specs.Literal.{Literal}
+use Rattle.scut_base.specs.Assignment.{lit_true}
+use Rattle.pb_lin.specs.Constraint.{ConstraintValue, Covers, Holds, IsVariable, total}
+use Rattle.pb_lin.specs.CostRow.{CostRowValue, row_cost}
 use Rattle.pb_lin.specs.Problem.{ProblemValue}
+use Rattle.pb_lin.specs.Restriction.{restriction}
+use Rattle.proof_laws.specs.State.{StateValue}
+use Rattle.proof_laws.specs.Refusal.{line_or_none}
 use Rattle.proof_laws.specs.declared.line.Line.{Line}
 use Rattle.proof_rules.specs.Recording.{Snapshot}
+use Rattle.oracle.specs.Solving.{Reaches}
+use Rattle.sum_outputs.specs.Adding.{IsReached, IsReady, KeptHold}
+use Rattle.sum_outputs.specs.Totals.{IsAttainable}
+use Rattle.sum_outputs.specs.declared.node.Node.{Node}
 use Rattle.totalizer.specs.declared.bound.Bound.{Bound}
-use Rattle.totalizer.specs.Meaning.{IsBound}
+use Rattle.totalizer.specs.declared.bound.Bound.TheVariants.{Always, Never, At}
+use Rattle.totalizer.specs.declared.reform.Reform.{Reform}
+use Rattle.totalizer.specs.Meaning.{AreTruthsWith, IsOwnOrNone}
+use Rattle.totalizer.specs.Reforming.{IsReformOf}
 use Rattle.totalizer.specs.Totalizing.{Fits, terms_of}
-use Rattle.search_base.specs.declared.bounds.ObjectiveBound.{ObjectiveBound}
+use Rattle.totalizer.specs.Demanding.{IsAnswered, IsThere, MakesDemanded}
+use Rattle.search_base.specs.declared.objective_bound.ObjectiveBound.{ObjectiveBound}
 
--- the objective's offset, and a totalizer of its terms that may be asked
+-- ---- what stands for "this objective costs at least value"
+
+-- literals of distinct variables
+abbrev pub AreApart : List Literal → Type 0
+AreApart lits = AllPairs (λ l m. l.var ≢ m.var) lits
+
+-- where these literals are true, the constraint covers "the row costs at least value"
+abbrev pub CoversCost : CostRowValue → ℤ → ConstraintValue → List Literal → Type 0
+CoversCost row value c truths = (n : ℕ) → value ≡ pos n +ℤ row.offset
+    → Covers (restriction c truths) (restriction (record { terms = row.terms; degree = n }) truths)
+
+-- the line of this id does so wherever literals of this kind are true; line 0 is "0 >= 0"
+abbrev pub LineCovers : StateValue → CostRowValue → ℤ → ℕ → (List Literal → Type 0) → Type 0
+LineCovers s row value id IsKind = (c : ConstraintValue) × (line_or_none s.live id ≡ Some c)
+    × ((truths : List Literal) → IsKind truths → CoversCost row value c truths)
+
+-- the row costs at least value at every assignment, as the line says
+pub record IsAlwaysOver (p : ProblemValue) (lines : List Line) (row : CostRowValue) (value : ℤ) (id : ℕ)
+    (s : StateValue) : Type 0 where
+  pub own : IsOwnOrNone p lines s id
+  pub covers : LineCovers s row value id AreApart
+
+-- no assignment that makes the rows and the kept clauses hold costs so much
+abbrev pub IsNeverOver : ProblemValue → List Line → CostRowValue → ℤ → StateValue → Type 0
+IsNeverOver p lines row value s = (x : List Bool) → All (Holds x) p.rows → KeptHold p lines s x
+    → row_cost x row <ℤ value
+
+-- the literal stands for "the row costs at least value", by this line
+pub record IsOverAt (p : ProblemValue) (lines : List Line) (row : CostRowValue) (value : ℤ) (l : Literal) (id : ℕ)
+    (s : StateValue) : Type 0 where
+  pub variable : IsVariable s.vars l.var
+  pub own : IsOwnOrNone p lines s id
+  pub follows : (x : List Bool) → All (Holds x) p.rows → KeptHold p lines s x
+      → value ≤ℤ row_cost x row → lit_true x l ≡ true
+  pub covers : LineCovers s row value id (AreTruthsWith l)
+
+-- what is answered for "this objective costs at least value"
+abbrev pub IsCostBound : ProblemValue → List Line → CostRowValue → ℤ → Bound → Type 0
+IsCostBound p lines row value (Always id) = Reaches p lines (IsAlwaysOver p lines row value id)
+IsCostBound p lines row value Never = Reaches p lines (IsNeverOver p lines row value)
+IsCostBound p lines row value (At l id) = Reaches p lines (IsOverAt p lines row value l id)
+
+-- ---- which of the three is answered
+
+-- all that the reform can be
+abbrev pub greatest_of : Reform → ℤ
+greatest_of r = r.offset +ℤ pos (total r.terms)
+
+-- by the objective's reform
+abbrev pub IsAnswerFor : Reform → ℤ → Bound → Type 0
+IsAnswerFor r value (Always id) = (value ≤ℤ r.offset) × (id ≡ r.lower_line)
+IsAnswerFor r value Never = greatest_of r <ℤ value
+IsAnswerFor r value (At l id) = (r.offset <ℤ value) × (value ≤ℤ greatest_of r)
+
+-- a variable that stands in no term of these
+abbrev pub IsOutside : List Reform → ℕ → Type 0
+IsOutside reforms var = All (λ r. All (λ t. t.0.var ≢ var) r.terms) reforms
+
+-- the literal of the reform's only term; or a positive one of a variable that is in no term of a reform
+abbrev pub HasLiteral : List Reform → Reform → Bound → Type 0
+HasLiteral reforms r (At l id) = ((weight : ℕ) × (r.terms ≡ (l, weight) ∷ []))
+    ⊎ ((1 < length r.terms) × (l ≡ record { var = l.var; neg = false }) × IsOutside reforms l.var)
+HasLiteral reforms r bound = Unit {0}
+
+-- ---- bounds that may be asked
+
+abbrev pub reforms_of : List ObjectiveBound → List Reform
+reforms_of bounds = map (λ b. b.reform) bounds
+
+-- at the root of its totalizer, the literal stands for this sum
+abbrev pub StandsFor : ObjectiveBound → ℕ → Literal → Type 0
+StandsFor b n l = IsThere b.totalizer.made (length b.totalizer.nodes - 1) n l
+
+-- The line was made for an output's variable: no line has learned it, and it covers what the output stands for.
+pub record IsCover (p : ProblemValue) (lines : List Line) (s : StateValue) (row : CostRowValue) (b : ObjectiveBound)
+    (var id : ℕ) : Type 0 where
+  pub sum : ℕ
+  pub there : StandsFor b sum (record { var = var; neg = false })
+  pub own : IsOwnOrNone p lines s id
+  pub covers : LineCovers s row (pos sum +ℤ b.reform.offset) id (AreTruthsWith (record { var = var; neg = false }))
+
+-- an objective in other terms, a totalizer of these that may be asked, and the lines that were made for its outputs
 pub record BoundsRow (a : Snapshot) (row : CostRowValue) (b : ObjectiveBound) : Type 0 where
-  pub offset : b.offset ≡ row.offset
-  pub terms : terms_of b.totalizer ≡ row.terms
+  pub reform : (s : StateValue) → IsReached a s → IsReformOf a.problem a.lines s row b.reform
+  pub terms : terms_of b.totalizer ≡ b.reform.terms
   pub fits : Fits a b.totalizer
+  pub covers : (s : StateValue) → IsReached a s → (var id : ℕ) → get nat_cmp b.covers var ≡ Some id
+      → IsCover a.problem a.lines s row b var id
+
+-- the variables of outputs that were made are in no term of a reform
+abbrev pub AreMadeOutside : List Reform → ObjectiveBound → Type 0
+AreMadeOutside reforms b = (i n : ℕ) (d : Node) (l : Literal) → i < length b.totalizer.nodes
+    → 1 < length (slice_index_or b.totalizer.nodes i d).terms → IsThere b.totalizer.made i n l → IsOutside reforms l.var
 
 -- one for each objective, in order
-abbrev pub FitBounds : Snapshot → List ObjectiveBound → Type 0
-FitBounds a bounds = AllZip (BoundsRow a) a.problem.costs bounds
+pub record FitBounds (a : Snapshot) (bounds : List ObjectiveBound) : Type 0 where
+  pub rows : AllZip (BoundsRow a) a.problem.costs bounds
+  pub outside : All (AreMadeOutside (reforms_of bounds)) bounds
 
--- what is answered for "this objective's cost is at least a value"
-abbrev pub IsCostBound : ProblemValue → List Line → CostRowValue → ℤ → Bound → Type 0
-IsCostBound p lines row value bound = IsBound p lines row.terms (value -ℤ row.offset) bound
+-- some recorder's lines made them
+abbrev pub FitSome : List ObjectiveBound → Type 0
+FitSome bounds = (a : Snapshot) × IsReady a × FitBounds a bounds
+
+-- each objective in other terms, in order
+abbrev pub AreReforms : Snapshot → List Reform → Type 0
+AreReforms a reforms = (s : StateValue) → IsReached a s → AllZip (IsReformOf a.problem a.lines s) a.problem.costs reforms
+
+-- ---- what a bound adds
+
+-- the literal was asked for before: its output is there, and so is its line, where it needs one of its own
+pub record IsKnownAt (b : ObjectiveBound) (k : ℕ) (l : Literal) : Type 0 where
+  pub answered : IsAnswered b.totalizer k l
+  pub covered : 1 < length b.reform.terms → b.reform.lower_line ≢ 0 → (id : ℕ) × (get nat_cmp b.covers l.var ≡ Some id)
+
+-- what a literal for "the reform's sum is at least k" adds: what that demands, and no line where it was asked for before
+pub record AddsCost (a b : Snapshot) (k : ℕ) (before now : ObjectiveBound) (l : Literal) : Type 0 where
+  pub makes : MakesDemanded a b k before.totalizer now.totalizer
+  pub known : IsKnownAt now k l
+  pub again : IsKnownAt before k l → b.lines ≡ a.lines
+
+-- where no literal is answered, nothing is added
+abbrev pub AddsBound : Snapshot → Snapshot → ℤ → ObjectiveBound → ObjectiveBound → Bound → Type 0
+AddsBound a b value before now (At l id) = (k : ℕ) × (value ≡ pos k +ℤ before.reform.offset) × AddsCost a b k before now l
+AddsBound a b value before now bound = (b.lines ≡ a.lines) × (now ≡ before)
+
+-- the reforms are the same, and so are the bounds of all objectives but one
+pub record KeepsOthers (objective : ℕ) (before now : List ObjectiveBound) : Type 0 where
+  pub reforms : reforms_of now ≡ reforms_of before
+  pub others : (i : ℕ) (d : ObjectiveBound) → i ≢ objective → slice_index_or now i d ≡ slice_index_or before i d
+
+-- ---- what a reform can be
+
+-- some of the reform's weights, with its offset, have this value
+abbrev pub IsValueOf : Reform → ℤ → Type 0
+IsValueOf r n = (k : ℕ) × (n ≡ pos k +ℤ r.offset) × IsAttainable r.terms k
+
+-- the least of these values above the given one
+pub record IsNextValue (r : Reform) (value next : ℤ) : Type 0 where
+  pub is : IsValueOf r next
+  pub above : value <ℤ next
+  pub least : (n : ℤ) → IsValueOf r n → value <ℤ n → next ≤ℤ n

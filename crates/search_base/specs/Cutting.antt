@@ -1,5 +1,5 @@
 -- The cut of a model, and the line that logs it.
-use Rattle.std.specs.Prelude.{◌≡◌, ℕ, ◌+◌, ◌<◌, Bool, false, not, List, [], ◌∷◌, ◌++◌, length, map, slice_index_or, take, ℤ, Contains}
+use Rattle.std.specs.Prelude.{◌≡◌, ℕ, ◌+◌, ◌<◌, Bool, false, not, List, [], ◌∷◌, ◌++◌, length, map, slice_index_or, take, Some, ℤ, Contains}
 use Rattle.std.specs.List.{flat_map}
 use Rattle.scut_base.specs.Literal.{Literal}
 use Rattle.front_set.specs.declared.set.Inserted.{Inserted}
@@ -83,5 +83,6 @@ pub record LogsModel (a b : Snapshot) (x : List Bool) (answers : List Bound) : T
 pub record IsPut (old new : BoardValue) (costs : List ℤ) (x : List Bool) : Type 0 where
   pub instance : new.instance ≡ old.instance
   pub problem : new.problem ≡ old.problem
+  pub last : new.last ≡ Some costs
   pub done : Inserted
   pub inserted : IsInserted old.entries new.entries (record { costs = costs; model = take old.instance.vars x }) done

@@ -9,7 +9,7 @@ use Rattle.sum_outputs.specs.Adding.{IsReached, IsReady, KeptHold}
 use Rattle.search_base.specs.Logged.{AddsTurnLines, IsCovered, logged}
 use Rattle.search_base.specs.CostBounds.{FitBounds}
 use Rattle.search_base.specs.Boards.{BoardValue, IsBoard}
-use Rattle.search_base.specs.declared.bounds.ObjectiveBound.{ObjectiveBound}
+use Rattle.search_base.specs.declared.objective_bound.ObjectiveBound.{ObjectiveBound}
 
 -- no logged vector is below the costs of an assignment that makes the rows and the kept clauses hold
 abbrev pub AllIsNew : Snapshot → Type 0

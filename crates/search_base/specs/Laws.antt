@@ -6,13 +6,13 @@ use Rattle.proof_laws.specs.Replay.{IsReplay}
 use Rattle.proof_laws.specs.declared.line.Line.{Line}
 use Rattle.proof_rules.specs.Recording.{Snapshot, KeepsSurroundings}
 use Rattle.oracle.specs.Solving.{AddsSearchLines, AreEarned, IsWithin}
-use Rattle.sum_outputs.specs.Adding.{Continues, IsReached}
+use Rattle.sum_outputs.specs.Adding.{Continues, IsReached, IsReady}
 use Rattle.totalizer.specs.Keeping.{KeepsOwn}
 use Rattle.search_base.specs.Logged.{AddsTurnLines, LogsNone, logged}
 use Rattle.search_base.specs.CostBounds.{FitBounds}
 use Rattle.search_base.specs.Boards.{BoardValue, IsBoard}
 use Rattle.search_base.specs.Good.{IsGood}
-use Rattle.search_base.specs.declared.bounds.ObjectiveBound.{ObjectiveBound}
+use Rattle.search_base.specs.declared.objective_bound.ObjectiveBound.{ObjectiveBound}
 
 -- the state has exactly what the lines have logged
 abbrev pub LoggedIsReached : Type 0
@@ -52,8 +52,19 @@ pub record TurnLinesJoin : Type 0 where
 abbrev pub TurnLinesKeepOwn : Type 0
 TurnLinesKeepOwn = (p : ProblemValue) (old new : List Line) → AddsTurnLines p old new → KeepsOwn p old new
 
--- A new proof of a problem is a good state, for bounds that may be asked and a board that has nothing yet.
+-- Lines that log nothing, have earned what they learned, as many as may be, and may be followed by others.
+pub record IsPrepared (a : Snapshot) : Type 0 where
+  pub ready : IsReady a
+  pub none : logged a.problem a.lines ≡ []
+  pub earned : AreEarned a.problem a.lines
+  pub within : IsWithin a.limit a.problem a.lines
+
+-- After such lines the state is good, for bounds that may be asked and a board that has nothing yet.
 abbrev pub BeginningIsGood : Type 0
-BeginningIsGood = (a : Snapshot) (s : StateValue) (bounds : List ObjectiveBound) (board : BoardValue)
-    → IsProblem a.problem → a.lines ≡ [] → a.broken ≡ false → IsReached a s
-    → board.problem ≡ a.problem → IsBoard board [] → FitBounds a bounds → IsGood a bounds board
+BeginningIsGood = (a : Snapshot) (bounds : List ObjectiveBound) (board : BoardValue)
+    → IsPrepared a → board.problem ≡ a.problem → IsBoard board [] → FitBounds a bounds → IsGood a bounds board
+
+-- a new proof of a problem has such lines: none
+abbrev pub NoLinesArePrepared : Type 0
+NoLinesArePrepared = (a : Snapshot) (s : StateValue)
+    → IsProblem a.problem → a.lines ≡ [] → a.broken ≡ false → IsReached a s → IsPrepared a

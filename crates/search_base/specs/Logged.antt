@@ -45,3 +45,16 @@ pub record AddsTurnLines (p : ProblemValue) (old new : List Line) : Type 0 where
   pub is : new ≡ old ++ more
   pub kinds : (first : List Line) (line : Line) (after : List Line) → more ≡ first ++ (line ∷ after) →
       IsTurnLine p (old ++ first) line
+
+-- a derived constraint, a definition, or a solution
+abbrev pub IsTakenLine : Line → Type 0
+IsTakenLine (Pol tokens) = Unit {0}
+IsTakenLine (Def var sum) = Unit {0}
+IsTakenLine (Sol model cut ids) = Unit {0}
+IsTakenLine line = ⊥
+
+-- the new lines are the old ones, and such lines
+pub record AddsTakenLines (old new : List Line) : Type 0 where
+  pub more : List Line
+  pub is : new ≡ old ++ more
+  pub kinds : All IsTakenLine more

@@ -1,10 +1,11 @@
 // The board that searches share: the front so far.
-ghost use Rattle.std.specs.Prelude.{◌≡◌, ◌≤◌, ◌<◌, ◌^◌, [], length, take, IfOk, IfErr, OnOk};
+ghost use Rattle.std.specs.Prelude.{◌≡◌, ◌≤◌, ◌<◌, ◌^◌, [], length, take, IfOk, IfErr, OnOk, option_copied};
 ghost use Rattle.instance_normal.specs.NormalForm.{IsNormalFormOf};
 ghost use Rattle.sum_outputs.specs.Adding.{IsFaultAt};
 ghost use Rattle.search_base.specs.Boards.{IsBoard};
 ghost use Rattle.search_base.specs.Cutting.{IsPut};
 ghost use Rattle.search_base.specs.Good.{GoesOn, IsGood, KeepsBoard};
+ghost use Rattle.search_base.specs.Logged.{AddsTakenLines};
 ghost use Rattle.search_base.specs.Turns.{IsTakable, IsTaken};
 
 use crate::Bounds;
@@ -17,7 +18,7 @@ use instance::Instance;
 use instance_normal::tighten;
 use pb_lin::PbProblem;
 use proof_rules::{RecordFault, Recorder};
-use scut_base::{Assignment, Lit, NoMemory};
+use scut_base::{Assignment, Duplicate, Lit, NoMemory};
 use std::alloc::Global;
 use std::marker::Model;
 use sum_outputs::in_memory;
@@ -31,6 +32,7 @@ pub struct Board<'a> {
     problem: &'a PbProblem,
     instance: &'a Instance,
     front: FrontSet,
+    last: Option<CostVec>,
 }
 
 impl<'a> Model for Board<'a> {
@@ -38,7 +40,7 @@ impl<'a> Model for Board<'a> {
 
     ghost Value = { BoardValue };
 
-    ghost view = { λ b. record { instance = b.instance.now; problem = b.problem.now; entries = b.front } };
+    ghost view = { λ b. record { instance = b.instance.now; problem = b.problem.now; entries = b.front; last = b.last } };
 }
 
 impl<'a> Board<'a> {
@@ -54,6 +56,7 @@ impl<'a> Board<'a> {
             problem,
             instance,
             front: FrontSet::new(alloc),
+            last: None,
         }
     }
 
@@ -62,6 +65,13 @@ impl<'a> Board<'a> {
         ensures { result.now ≡ self.now.entries }
     {
         &self.front
+    }
+
+    /// The vector that was logged last.
+    pub fn last(&self) -> Option<&CostVec>
+        ensures { option_copied result ≡ self.now.last }
+    {
+        self.last.as_ref()
     }
 
     /// Takes a model: tightens it, logs it with its costs, and puts it onto the board. After an `Err` the
@@ -77,6 +87,7 @@ impl<'a> Board<'a> {
         ensures good { OnOk result (IsGood (R.seen rec.new) bounds.new self.new) }
         ensures taken { OnOk result (IsTaken (R.seen rec.old) (R.seen rec.new) a.now) }
         ensures fault { IfErr result (IsFaultAt (R.seen rec.old) (R.seen rec.new)) }
+        ensures lines { AddsTakenLines (R.seen rec.old).lines (R.seen rec.new).lines }
         ensures goes_on { GoesOn (R.seen rec.old) (R.seen rec.new) }
         ensures board { KeepsBoard self.old self.new }
     {
@@ -100,6 +111,7 @@ impl<'a> Board<'a> {
         ensures board { KeepsBoard self.old self.new }
     {
         let model = first_values(self.alloc, a, self.instance.vars())?;
+        self.last = Some(costs.copy(self.alloc)?);
         self.front.insert(costs, model)?;
         Ok(())
     }

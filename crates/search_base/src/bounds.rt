@@ -1,36 +1,29 @@
 // Literals that stand for "this objective's cost is at least a value".
-ghost use Rattle.std.specs.Prelude.{◌≡◌, ◌<◌, ◌≤◌, length, slice_index_or, List, IfOk, OnOk};
+ghost use Rattle.std.specs.Prelude.{◌≡◌, ◌<◌, length, slice_index_or, All, IfOk, IfSome, OnOk};
 ghost use Rattle.pb_lin.specs.CostRow.{CostRowValue};
-ghost use Rattle.proof_laws.specs.State.{StateValue};
 ghost use Rattle.proof_rules.specs.Recording.{Snapshot};
-ghost use Rattle.sum_outputs.specs.Adding.{IsReached, IsReady, IsRecorded};
-ghost use Rattle.totalizer.specs.Meaning.{IsBound};
-ghost use Rattle.totalizer.specs.Totalizing.{Fits, terms_of};
-ghost use Rattle.search_base.specs.CostBounds.{FitBounds, IsCostBound};
+ghost use Rattle.sum_outputs.specs.Adding.{IsReady, IsRecorded};
+ghost use Rattle.sum_outputs.specs.Totals.{AreWeights};
+ghost use Rattle.search_base.specs.CostBounds.{AddsBound, AreReforms, FitBounds, FitSome, HasLiteral, IsAnswerFor, IsCostBound, IsNextValue, KeepsOthers, reforms_of};
+ghost use Rattle.search_base.specs.declared.objective_bound.ObjectiveBound.{ObjectiveBound};
 
-use pb_lin::PbProblem;
+use crate::ObjectiveBound;
 use proof_rules::{RecordFault, Recorder};
 use scut_base::NoMemory;
 use std::alloc::Global;
 use std::marker::Model;
-use totalizer::{Bound, Totalizer, fitting_stays};
-
-/// The bounds of one objective: its offset, and a totalizer of its terms.
-#[derive(Drop)]
-pub struct ObjectiveBound {
-    pub offset: i64,
-    pub totalizer: Totalizer,
-}
+use totalizer::{Bound, Reform, fitting_stays, reform_stays};
 
 /// The bounds of all objectives of a problem, in order.
 #[derive(Drop)]
 pub struct Bounds {
+    alloc: Global,
     bounds: Vec<ObjectiveBound>,
 }
 
 impl Model for Bounds {
     ghost use Rattle.std.specs.Prelude.{List};
-    ghost use Rattle.search_base.specs.declared.bounds.ObjectiveBound.{ObjectiveBound};
+    ghost use Rattle.search_base.specs.declared.objective_bound.ObjectiveBound.{ObjectiveBound};
 
     ghost Value = { List ObjectiveBound };
 
@@ -38,27 +31,27 @@ impl Model for Bounds {
 }
 
 impl Bounds {
-    /// The bounds of a problem's objectives, of which nothing has been asked. Costs a totalizer for each.
-    pub fn new(alloc: Global, problem: &PbProblem) -> Result<Bounds, NoMemory>
-        ensures { IfOk result (λ b. (a : Snapshot) → a.problem ≡ problem.now
-            → ((s : StateValue) → IsReached a s → problem.now.vars ≤ s.vars) → FitBounds a b) }
+    /// The bounds of objectives in other terms, of which nothing has been asked. The k-th is that of the
+    /// problem's k-th objective. Costs a totalizer for each.
+    pub fn new(alloc: Global, reforms: Vec<Reform>) -> Result<Bounds, NoMemory>
+        requires { All (λ r. AreWeights r.terms) reforms.items }
+        ensures reforms { IfOk result (λ b. reforms_of b ≡ reforms.items) }
+        ensures fits { IfOk result (λ b. (a : Snapshot) → AreReforms a reforms.items → FitBounds a b) }
     {
-        // Tells that the rows' variables are the problem's.
-        let _vars = problem.vars();
         let mut bounds = Vec::new(alloc);
-        for row in problem.costs() {
-            let totalizer = Totalizer::build(alloc, row.terms())?;
-            bounds.push(ObjectiveBound {
-                offset: row.offset(),
-                totalizer,
-            })?;
+        for reform in reforms {
+            bounds.push(ObjectiveBound::new(alloc, reform)?)?;
         }
-        Ok(Bounds { bounds })
+        Ok(Bounds { alloc, bounds })
     }
 
-    /// What stands for "the objective's cost is at least `value`": `Always` where the value is at most its
-    /// offset, `Never` where it exceeds the offset and all weights. Objectives are counted from 0. Costs what
-    /// `Totalizer::output` does.
+    /// What stands for "the objective's cost is at least `value`": `Always` exactly where the value is at most
+    /// the offset of the objective's reform, and `Never` exactly where it exceeds all that the reform can be.
+    /// The literal of `At` is that of the reform's only term, or a positive one of a variable that is in no
+    /// term of a reform. Objectives are counted from 0.
+    ///
+    /// Costs a look-up where it was asked for before. Else it costs what `Totalizer::output` does, and a line
+    /// where the reform has a line and more than one term.
     pub fn at_least<R: Recorder>(
         &mut self,
         rec: &mut R,
@@ -71,35 +64,30 @@ impl Bounds {
         ensures recorded { IsRecorded (R.seen rec.old) (R.seen rec.new) result }
         ensures bound { IfOk result (λ bound. (d : CostRowValue) → IsCostBound (R.seen rec.new).problem
             (R.seen rec.new).lines (slice_index_or (R.seen rec.old).problem.costs objective d) value bound) }
+        ensures answer { IfOk result (λ bound. (e : ObjectiveBound)
+            → IsAnswerFor (slice_index_or self.old objective e).reform value bound) }
+        ensures literal { IfOk result (λ bound. (e : ObjectiveBound)
+            → HasLiteral (reforms_of self.old) (slice_index_or self.old objective e).reform bound) }
+        ensures added { IfOk result (λ bound. (e : ObjectiveBound)
+            → AddsBound (R.seen rec.old) (R.seen rec.new) value
+            (slice_index_or self.old objective e) (slice_index_or self.new objective e) bound) }
+        ensures others { KeepsOthers objective self.old self.new }
         ensures fits { OnOk result (FitBounds (R.seen rec.new) self.new) }
     {
         fitting_stays();
+        reform_stays();
         let bound = &mut self.bounds[objective];
-        let above = i128::from(value) - i128::from(bound.offset);
-        bound_of(&mut bound.totalizer, rec, above)
+        bound.at_least(self.alloc, rec, value)
     }
-}
 
-// What stands for "the totalizer's sum is at least `k`", for any `k`.
-fn bound_of<R: Recorder>(
-    totalizer: &mut Totalizer,
-    rec: &mut R,
-    k: i128,
-) -> Result<Bound, RecordFault>
-    requires ready { IsReady (R.seen rec.old) }
-    requires fits { Fits (R.seen rec.old) totalizer.old }
-    ensures recorded { IsRecorded (R.seen rec.old) (R.seen rec.new) result }
-    ensures bound { IfOk result (IsBound (R.seen rec.new).problem (R.seen rec.new).lines
-        (terms_of totalizer.old) k) }
-    ensures fits { OnOk result (Fits (R.seen rec.new) totalizer.new) }
-    ensures terms { terms_of totalizer.new ≡ terms_of totalizer.old }
-{
-    if k < 1 {
-        return Ok(Bound::Always { lower_line: 0 });
+    /// The least value above `value` that the objective's reform can have, where that is known: its offset,
+    /// or what an output that was made stands for. Objectives are counted from 0. Costs a binary search.
+    pub fn next_value(&self, objective: usize, value: i64) -> Option<i64>
+        requires there { objective < length self.now }
+        requires fits { FitSome self.now }
+        ensures { IfSome result (λ next. (e : ObjectiveBound)
+            → IsNextValue (slice_index_or self.now objective e).reform value next) }
+    {
+        self.bounds[objective].next_value(value)
     }
-    let Ok(k) = i64::try_from(k) else {
-        // The weights sum below 2^63.
-        return Ok(Bound::Never);
-    };
-    totalizer.output(rec, k)
 }

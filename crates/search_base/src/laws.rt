@@ -1,5 +1,5 @@
 // Laws of good states.
-ghost use Rattle.search_base.specs.Laws.{AskingStaysGood, BeginningIsGood, BoundingStaysGood, LoggedIsReached, TurnLinesJoin, TurnLinesKeepOwn};
+ghost use Rattle.search_base.specs.Laws.{AskingStaysGood, BeginningIsGood, BoundingStaysGood, LoggedIsReached, NoLinesArePrepared, TurnLinesJoin, TurnLinesKeepOwn};
 
 use totalizer::{fitting_stays, own_lines_stay};
 
@@ -8,9 +8,14 @@ pub fn logged_is_reached()
     ensures { LoggedIsReached }
 {}
 
-/// Law: a new proof is a good state.
+/// Law: lines that log nothing and have earned what they learned lead to a good state.
 pub fn beginning_is_good()
     ensures { BeginningIsGood }
+{}
+
+/// Law: a new proof has such lines.
+pub fn no_lines_are_prepared()
+    ensures { NoLinesArePrepared }
 {}
 
 /// Law: an oracle's call keeps a good state good.

@@ -14,16 +14,20 @@ mod costs;
 mod cut;
 mod laws;
 mod logging;
+mod objective_bound;
+mod reforms;
 mod running;
 mod search;
 mod turn;
 
 pub use board::Board;
-pub use bounds::{Bounds, ObjectiveBound};
+pub use bounds::Bounds;
 pub use laws::{
-    asking_stays_good, beginning_is_good, bounding_stays_good, logged_is_reached, turn_lines_join,
-    turn_lines_keep_own,
+    asking_stays_good, beginning_is_good, bounding_stays_good, logged_is_reached,
+    no_lines_are_prepared, turn_lines_join, turn_lines_keep_own,
 };
+pub use objective_bound::ObjectiveBound;
+pub use reforms::own_reforms;
 pub use running::run_search;
 pub use search::Search;
 pub use turn::Turn;

@@ -33,6 +33,6 @@ pub use clauses::place_of;
 pub use inner::Inner;
 pub use leaf::leaf_output;
 pub use node::{Node, push_nodes};
-pub use recording::in_memory;
+pub use recording::{in_memory, record};
 pub use root::ask;
 pub use sum_output::SumOutput;

@@ -9,9 +9,9 @@ use proof_laws::Line;
 use proof_rules::{RecordFault, Recorder};
 use scut_base::NoMemory;
 
-// Records a line, and answers the first id that it makes. It owns the line, so that its callers, which leave
-// by `?`, own none.
-pub(crate) fn record<R: Recorder>(rec: &mut R, line: Line) -> Result<u64, RecordFault>
+/// Records a line of a totalizer, and answers the first id that it makes. It owns the line, so that its callers,
+/// which leave by `?`, own none.
+pub fn record<R: Recorder>(rec: &mut R, line: Line) -> Result<u64, RecordFault>
     requires ready { IsReady (R.seen rec.old) }
     requires formed { IsWellFormed line }
     requires kind { IsTotalizerLine line }

@@ -1,6 +1,8 @@
 -- What later lines leave as it is.
 use Rattle.std.specs.Prelude.{◌≡◌, List, ◌∷◌, ◌++◌, All, ℕ, ℤ}
 use Rattle.scut_base.specs.Literal.{Literal}
+use Rattle.pb_lin.specs.Constraint.{TermsUpTo}
+use Rattle.pb_lin.specs.CostRow.{CostRowValue, IsCostRow}
 use Rattle.pb_lin.specs.Problem.{ProblemValue}
 use Rattle.proof_laws.specs.State.{StateValue}
 use Rattle.proof_laws.specs.Replay.{IsReplay}
@@ -10,7 +12,9 @@ use Rattle.proof_laws.specs.declared.line.Line.TheVariants.{Del, Reduce}
 use Rattle.proof_rules.specs.Recording.{Snapshot}
 use Rattle.sum_outputs.specs.Adding.{IsReached, IsLater}
 use Rattle.totalizer.specs.declared.bound.Bound.{Bound}
+use Rattle.totalizer.specs.declared.reform.Reform.{Reform}
 use Rattle.totalizer.specs.Meaning.{IsBound}
+use Rattle.totalizer.specs.Reforming.{IsOwnReform, IsReformOf}
 use Rattle.totalizer.specs.Totalizing.{TotalizerValue, Fits}
 
 -- the line deletes nothing, or is a reduction of learned lines
@@ -43,3 +47,13 @@ abbrev pub BoundStays : Type 0
 BoundStays = (p : ProblemValue) (old new : List Line) (s : StateValue)
     (terms : List (Literal × ℕ)) (k : ℤ) (bound : Bound)
     → KeepsOwn p old new → IsReplay p old s → IsBound p old terms k bound → IsBound p new terms k bound
+
+-- an objective in other terms still is one
+abbrev pub ReformStays : Type 0
+ReformStays = (p : ProblemValue) (old new : List Line) (s t : StateValue) (row : CostRowValue) (r : Reform)
+    → KeepsOwn p old new → IsReplay p old s → IsReplay p new t → IsReformOf p old s row r → IsReformOf p new t row r
+
+-- its own terms, with its offset, are those of an objective of the problem
+abbrev pub OwnTermsServe : Type 0
+OwnTermsServe = (p : ProblemValue) (lines : List Line) (s : StateValue) (row : CostRowValue) (r : Reform)
+    → IsCostRow row.terms row.offset → TermsUpTo s.vars row.terms → IsOwnReform row r → IsReformOf p lines s row r

@@ -37,6 +37,10 @@ pub record Fits (a : Snapshot) (t : TotalizerValue) : Type 0 where
   pub asked : (o : SumOutput) (d : List SumOutput) → Contains (slice_index_or t.made (length t.nodes - 1) d) o
       → AreCompleteTo t.nodes t.made (length t.nodes - 1) o.from
 
+-- some recorder's lines made it
+abbrev pub FitsSome : TotalizerValue → Type 0
+FitsSome t = (a : Snapshot) × Fits a t
+
 -- ---- a new totalizer
 
 -- the literal of a node of one term

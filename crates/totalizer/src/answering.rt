@@ -78,7 +78,7 @@ fn known(terms: &[(Lit, u64)], outputs: &[SumOutput], k: u64) -> Option<Bound>
 }
 
 // The output that stands for "the sum is at least `k`", if there is one.
-fn standing_for(outputs: &[SumOutput], k: u64) -> Option<&SumOutput>
+pub(crate) fn standing_for(outputs: &[SumOutput], k: u64) -> Option<&SumOutput>
     requires rising { AllPairs (λ o q. o.sum < q.sum) outputs.now }
     requires apart { AllPairs (λ o q. o.sum < q.from) outputs.now }
     ensures { MatchOption result (All (λ o. o.from ≤ k → o.sum < k) outputs.now)

@@ -14,6 +14,6 @@ mod reform;
 mod totalizer;
 
 pub use bound::Bound;
-pub use laws::{bounds_stay, fitting_stays, own_lines_stay};
+pub use laws::{bounds_stay, fitting_stays, own_lines_stay, own_terms_serve, reform_stays};
 pub use reform::Reform;
 pub use totalizer::Totalizer;

@@ -1,14 +1,15 @@
 // The totalizer of one weighted sum.
-ghost use Rattle.std.specs.Prelude.{◌≡◌, IfOk, OnOk};
+ghost use Rattle.std.specs.Prelude.{◌≡◌, IfOk, OnOk, MatchOption};
 ghost use Rattle.proof_rules.specs.Recording.{Snapshot};
 ghost use Rattle.sum_outputs.specs.Totals.{AreWeights};
 ghost use Rattle.sum_outputs.specs.Adding.{IsReady, IsRecorded};
 ghost use Rattle.totalizer.specs.Meaning.{IsBound};
-ghost use Rattle.totalizer.specs.Totalizing.{terms_of, Fits, HasVariables, IsBuilt};
+ghost use Rattle.totalizer.specs.Totalizing.{terms_of, Fits, FitsSome, HasVariables, IsBuilt};
 ghost use Rattle.totalizer.specs.Demanding.{AddsFor};
+ghost use Rattle.totalizer.specs.Knowing.{IsMadeFor, IsUnmade};
 
 use crate::Bound;
-use crate::answering::bound_at;
+use crate::answering::{bound_at, standing_for};
 use crate::building::{first_lists, nodes_of};
 use proof_rules::{RecordFault, Recorder};
 use scut_base::{Items, Lit, NoMemory};
@@ -70,5 +71,14 @@ impl Totalizer {
             &mut self.made,
             k as u64,
         )
+    }
+
+    /// The output that stands for "the sum is at least `k`", where it has been made: the least sum of at least
+    /// `k`, and the ids of its two lines. Costs a binary search.
+    pub fn made_for(&self, k: u64) -> Option<&SumOutput>
+        requires { FitsSome self.now }
+        ensures { MatchOption result (IsUnmade self.now k) (λ o. IsMadeFor self.now k o.now) }
+    {
+        standing_for(self.made.as_slice().last()?.as_slice(), k)
     }
 }

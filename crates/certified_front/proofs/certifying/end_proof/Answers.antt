@@ -15,4 +15,4 @@ returns-clause-ending g c =
     let b = R.seen c.add_line.new.self in
     let ready = c.requires.ready in
     let call = c.in_ok-add_line.ensures in
-    ended_after a b c.args.id ready.state c.state-state.result.now call.keeps.problem call.added ready.reached c.state-state.ensures
+    ended_after a b c.args.id ready.state c.state-state.result.now call.keeps.problem call.added ready.reached c.state-state.ensures.replays

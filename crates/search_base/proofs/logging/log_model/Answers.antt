@@ -15,7 +15,7 @@ model_line-requires-clause-alike g c =
     let ls = (R.seen c.args.rec.now).lines in
     let s = c.state.result.now in
     answers_alike p ls s c.args.model.now c.args.answers.now c.requires.problem.cost_variables
-    (answers_at p ls s c.args.model.now c.args.answers.now c.state.ensures c.requires.answers)
+    (answers_at p ls s c.args.model.now c.args.answers.now c.state.ensures.replays c.requires.answers)
 
 pub returns-in_err-line-clause-goes_on : goal.returns-in_err-line-clause-goes_on
 returns-in_err-line-clause-goes_on g c =
@@ -30,7 +30,7 @@ add_line-requires-clause-formed g c =
     let s = c.state.result.now in
     line_formed p ls s c.args.model.now c.args.answers.now c.in_ok-line.line
     (rw c.in_ok-line.ensures.ok at c.model_line.ensures)
-    (answers_at p ls s c.args.model.now c.args.answers.now c.state.ensures c.requires.answers)
+    (answers_at p ls s c.args.model.now c.args.answers.now c.state.ensures.replays c.requires.answers)
     c.vars-vars.ensures.state c.requires.problem c.requires.model
 
 pub add_line-requires-clause-legal : goal.add_line-requires-clause-legal
@@ -40,12 +40,12 @@ add_line-requires-clause-legal g c =
     let ls = (R.seen c.args.rec.now).lines in
     let s = c.state.result.now in
     let ready = c.requires.ready in
-    let same : ready.state ≡ s = replay_once p ls ready.state s ready.reached c.state.ensures in
+    let same : ready.state ≡ s = replay_once p ls ready.state s ready.reached c.state.ensures.replays in
     let running : s.ended ≡ false = subst (λ (t : StateValue). t.ended ≡ false) same ready.unended in
     line_may p ls s c.args.model.now c.args.answers.now c.in_ok-line.line
     (rw c.in_ok-line.ensures.ok at c.model_line.ensures)
-    (answers_at p ls s c.args.model.now c.args.answers.now c.state.ensures c.requires.answers)
-    c.state.ensures running c.requires.model
+    (answers_at p ls s c.args.model.now c.args.answers.now c.state.ensures.replays c.requires.answers)
+    c.state.ensures.replays running c.requires.model
 
 pub returns-in_err-add_line-clause-goes_on : goal.returns-in_err-add_line-clause-goes_on
 returns-in_err-add_line-clause-goes_on g c =
@@ -70,7 +70,7 @@ returns-clause-logged g c =
     record {
       before = c.state.result.now;
       known = c.vars-vars.ensures.state;
-      stood = c.state.ensures;
+      stood = c.state.ensures.replays;
       line =
           c.in_ok-line.line;
       is = rw c.in_ok-line.ensures.ok at c.model_line.ensures;
@@ -78,5 +78,5 @@ returns-clause-logged g c =
       whole =
           was.whole;
       state = c.state-state.result.now;
-      reached = c.state-state.ensures;
+      reached = c.state-state.ensures.replays;
     }

@@ -17,7 +17,7 @@ returns-in_ok-build-in-Some g c =
     let same = sym c.requires.problem in
     let found : slice_get c.args.problem.now.costs 0 ≡ Some row =
     subst (λ (rows : List CostRowValue). slice_get rows 0 ≡ Some row) c.costs.ensures (sym c.in-Some.ensures.value) in
-    askable_at_first a c.state-state.result.now row t c.requires.whole c.requires.begun c.state-state.ensures
+    askable_at_first a c.state-state.result.now row t c.requires.whole c.requires.begun c.state-state.ensures.replays
     (subst (λ (p : ProblemValue). IsProblem p) same c.vars-vars.ensures.problem)
     (subst (λ (p : ProblemValue). slice_get p.costs 0 ≡ Some row) same found) c.terms.ensures.row
     (subst (λ (ts : List (Literal × ℕ)). (b : Snapshot) → HasVariables b ts → Fits b t) c.terms.ensures.value c.in_ok-build-in-Some.ensures.fits)

@@ -16,13 +16,13 @@ pub sum_of-requires : goal.sum_of-requires
 sum_of-requires g c =
     let R = g.R.Recorder in
     let a = R.seen c.args.rec.now in
-    sums_small a c.state.result.now c.vars-vars.ensures.state c.state.ensures c.args.parts.now c.args.weakened.now c.args.target (c.requires.parts c.state.result.now c.state.ensures)
+    sums_small a c.state.result.now c.vars-vars.ensures.state c.state.ensures.replays c.args.parts.now c.args.weakened.now c.args.target (c.requires.parts c.state.result.now c.state.ensures.replays)
 
 pub overflow_add-degree : goal.overflow_add-degree
 overflow_add-degree g c =
     let R = g.R.Recorder in
     let a = R.seen c.args.rec.now in
-    let small = sums_small a c.state.result.now c.vars-vars.ensures.state c.state.ensures c.args.parts.now c.args.weakened.now c.args.target (c.requires.parts c.state.result.now c.state.ensures) in
+    let small = sums_small a c.state.result.now c.vars-vars.ensures.state c.state.ensures.replays c.args.parts.now c.args.weakened.now c.args.target (c.requires.parts c.state.result.now c.state.ensures.replays) in
     let is = c.sum_of.ensures in
     omega arith
 
@@ -36,32 +36,32 @@ pub record-requires-clause-formed : goal.record-requires-clause-formed
 record-requires-clause-formed g c =
     let R = g.R.Recorder in
     let a = R.seen c.args.rec.now in
-    let can = c.requires.parts c.state.result.now c.state.ensures in
-    let tokens_are : c.in_ok-tokens.tokens ≡ imply_tokens a c.state.result.now c.vars-vars.ensures.state c.state.ensures c.args.parts.now c.args.weakened.now c.args.target can =
+    let can = c.requires.parts c.state.result.now c.state.ensures.replays in
+    let tokens_are : c.in_ok-tokens.tokens ≡ imply_tokens a c.state.result.now c.vars-vars.ensures.state c.state.ensures.replays c.args.parts.now c.args.weakened.now c.args.target can =
     c.in_ok-tokens.ensures
     ∙ ap (λ (n : ℕ). clause_tokens (lowers_of c.args.parts.now) c.args.target.upper c.args.weakened.now ((n + 1) - c.args.target.sum)) c.sum_of.ensures in
-    subst (λ (ts : List PolToken). AreTokens ts) (sym tokens_are) (imply_formed a c.state.result.now c.vars-vars.ensures.state c.state.ensures c.args.parts.now c.args.weakened.now c.args.target can)
+    subst (λ (ts : List PolToken). AreTokens ts) (sym tokens_are) (imply_formed a c.state.result.now c.vars-vars.ensures.state c.state.ensures.replays c.args.parts.now c.args.weakened.now c.args.target can)
 
 pub record-requires-clause-legal : goal.record-requires-clause-legal
 record-requires-clause-legal g c =
     let R = g.R.Recorder in
     let a = R.seen c.args.rec.now in
-    let can = c.requires.parts c.state.result.now c.state.ensures in
-    let tokens_are : c.in_ok-tokens.tokens ≡ imply_tokens a c.state.result.now c.vars-vars.ensures.state c.state.ensures c.args.parts.now c.args.weakened.now c.args.target can =
+    let can = c.requires.parts c.state.result.now c.state.ensures.replays in
+    let tokens_are : c.in_ok-tokens.tokens ≡ imply_tokens a c.state.result.now c.vars-vars.ensures.state c.state.ensures.replays c.args.parts.now c.args.weakened.now c.args.target can =
     c.in_ok-tokens.ensures
     ∙ ap (λ (n : ℕ). clause_tokens (lowers_of c.args.parts.now) c.args.target.upper c.args.weakened.now ((n + 1) - c.args.target.sum)) c.sum_of.ensures in
-    subst (λ (ts : List PolToken). MayBeAdded a.problem a.lines (Pol ts)) (sym tokens_are) (imply_legal a c.state.result.now c.vars-vars.ensures.state c.state.ensures c.args.parts.now c.args.weakened.now c.args.target can c.requires.ready)
+    subst (λ (ts : List PolToken). MayBeAdded a.problem a.lines (Pol ts)) (sym tokens_are) (imply_legal a c.state.result.now c.vars-vars.ensures.state c.state.ensures.replays c.args.parts.now c.args.weakened.now c.args.target can c.requires.ready)
 
 pub returns-clause-says : goal.returns-clause-says
 returns-clause-says g c =
     let R = g.R.Recorder in
     let a = R.seen c.args.rec.now in
-    let can = c.requires.parts c.state.result.now c.state.ensures in
-    let tokens_are : c.in_ok-tokens.tokens ≡ imply_tokens a c.state.result.now c.vars-vars.ensures.state c.state.ensures c.args.parts.now c.args.weakened.now c.args.target can =
+    let can = c.requires.parts c.state.result.now c.state.ensures.replays in
+    let tokens_are : c.in_ok-tokens.tokens ≡ imply_tokens a c.state.result.now c.vars-vars.ensures.state c.state.ensures.replays c.args.parts.now c.args.weakened.now c.args.target can =
     c.in_ok-tokens.ensures
     ∙ ap (λ (n : ℕ). clause_tokens (lowers_of c.args.parts.now) c.args.target.upper c.args.weakened.now ((n + 1) - c.args.target.sum)) c.sum_of.ensures in
     let b = R.seen c.record.new.rec in
-    imply_says a c.state.result.now c.vars-vars.ensures.state c.state.ensures c.args.parts.now c.args.weakened.now c.args.target can b c.in_ok-_id.ensures.recorded.continues.problem
+    imply_says a c.state.result.now c.vars-vars.ensures.state c.state.ensures.replays c.args.parts.now c.args.weakened.now c.args.target can b c.in_ok-_id.ensures.recorded.continues.problem
     (c.in_ok-_id.ensures.added ∙ ap (λ (ts : List PolToken). a.lines ++ Pol ts ∷ []) tokens_are)
 
 pub returns-clause-defines_none : goal.returns-clause-defines_none

@@ -18,7 +18,7 @@ define_next-requires-clause-next g c = λ s reached.
     let R = g.R.Recorder in
     let a = R.seen c.args.rec.now in
     let order : IsInOrder c.args.terms.now c.args.sum c.in_ok-constraint.constraint = c.in_ok-constraint.ensures in
-    let same : c.state.result.now ≡ s = replay_once a.problem a.lines c.state.result.now s c.state.ensures reached in
+    let same : c.state.result.now ≡ s = replay_once a.problem a.lines c.state.result.now s c.state.ensures.replays reached in
     let next : c.vars-var.result + 1 ≡ s.vars + 1 = ap (λ (n : ℕ). n + 1) (c.vars-var.ensures.value ∙ ap (λ (u : StateValue). u.vars) same) in
     sum_of_order s c.args.terms.now c.in_ok-constraint.constraint (c.vars-var.result + 1) c.args.sum order c.requires.terms next c.requires.some c.requires.most (c.requires.variables s reached)
 

@@ -23,5 +23,5 @@ returns-clause-recorded g c =
     let b = R.seen c.add_line.new.self in
     let was = c.in_ok-id.ensures in
     recorded_ok a b c.in_ok-id.id
-    (continues_more a b c.args.line.now c.state.result.now c.state-state.result.now was.keeps was.added c.requires.kind c.state.ensures c.state-state.ensures)
+    (continues_more a b c.args.line.now c.state.result.now c.state-state.result.now was.keeps was.added c.requires.kind c.state.ensures.replays c.state-state.ensures.replays)
     was.whole

@@ -50,7 +50,7 @@ returns-clause-working g c =
     let with_clause : ConstraintValue → SearchValue = λ d. record { store = insert search.store c.in_ok-id.id d; trail = with_step search.trail (asserted c.args.lit c.args.level c.in_ok-id.id) } in
     let stored = ◌∙◌ {b = with_clause c.learned_goal.result.now} c.in_ok-learn.ensures.ok (ap with_clause (c.learned_goal.ensures _ _ given.can.learns)) in
     at_work g.R.Recorder.seen _ _ _ _ given.work given.can _ c.in_ok-id.ensures.added _ c.state.result.now c.in_ok-id.id c.in_ok-id.ensures.whole c.in_ok-id.ensures.keeps.problem refl
-    c.state.ensures c.vars-vars.ensures.state (c.in_ok-id.ensures.id _ given.work.taken.held.replay) given.may stored c.in_ok-push.ensures.ok refl
+    c.state.ensures.replays c.vars-vars.ensures.state (c.in_ok-id.ensures.id _ given.work.taken.held.replay) given.may stored c.in_ok-push.ensures.ok refl
 
 pub returns-clause-ends : goal.returns-clause-ends
 returns-clause-ends g c = done_working g.R.Recorder.seen _ (returns-clause-working g c)

@@ -31,7 +31,7 @@ returns-then-eq-clause-ends g c =
     }) c.self.view_is refl c.back_to.ensures.store (vars_back _ _ _ c.back_to.ensures.trail) c.requires.working in
     rw (← c.self.view_is) (spent_stops g.R.Recorder.seen _ _ _ _ working
     (learnable _ _ _ _ c.level-level.ensures.search lesson c.back_to.ensures.store c.back_to.ensures.trail refl)
-    c.state-state.result.now c.spent.result c.learned-learned.result _ c.state-state.ensures c.spent.ensures.full c.spent.ensures.spent reached c.learned-learned.ensures)
+    c.state-state.result.now c.spent.result c.learned-learned.result _ c.state-state.ensures.replays c.spent.ensures.full c.spent.ensures.spent reached c.learned-learned.ensures)
 
 pub returns-then-eq-clause-steps : goal.returns-then-eq-clause-steps
 returns-then-eq-clause-steps g c = steps_none g.R.Recorder.seen _ _ _ c.self.view_is refl refl refl c.requires.working
@@ -46,7 +46,7 @@ add_learned-requires-clause-working g c =
 pub add_learned-requires-clause-more : goal.add_learned-requires-clause-more
 add_learned-requires-clause-more g c =
     let other : c.self.inside.limit ≢ Some c.learned-learned.result = search rules in
-    may_learn _ _ _ c.state-state.result.now c.learned-learned.result c.state-state.ensures c.learned-learned.ensures other
+    may_learn _ _ _ c.state-state.result.now c.learned-learned.result c.state-state.ensures.replays c.learned-learned.ensures other
 
 pub returns-clause-rises : goal.returns-clause-rises
 returns-clause-rises g c =

@@ -46,7 +46,7 @@ pub returns-clause-ends : goal.returns-clause-ends
 returns-clause-ends g c =
     let added = rw c.clause.ensures at c.in_ok-id.ensures.added in
     done_implied g.R.Recorder.seen _ _ c.args.lits c.args.hints c.self.view_is c.requires.working (record { rising = c.requires.rising; within = c.requires.within; given = c.requires.hints })
-    _ c.in_ok-id.ensures.keeps added c.state.result.now c.state.ensures c.vars-vars.ensures.state c.in_ok-id.ensures.whole refl refl refl refl
+    _ c.in_ok-id.ensures.keeps added c.state.result.now c.state.ensures.replays c.vars-vars.ensures.state c.in_ok-id.ensures.whole refl refl refl refl
 
 pub returns-clause-steps : goal.returns-clause-steps
 returns-clause-steps g c =

@@ -9,10 +9,10 @@ pub invariant_of-result : goal.invariant_of-result
 invariant_of-result g c whole = (
   c.requires.whole,
   held_nothing g.R.Recorder.seen _ c.state-state.result.now
-      c.state-state.ensures c.vars-vars.ensures.state
+      c.state-state.ensures.replays c.vars-vars.ensures.state
       (ap length c.rows.ensures ∙ ap (λ (p : ProblemValue). length p.rows) c.requires.problem)
       (ap (λ (s : SearchValue). s.store) c.in-Ok.ensures) (ap (λ (s : SearchValue). s.trail.vars) c.in-Ok.ensures) refl
       (ledger_nothing _ _ c.new-in-Ok.result _ c.new-in-Ok.ensures.ids c.new-in-Ok.ensures.number
-      (λ test. c.first_line_is_no_reduction.ensures _ _ _ c.state-state.ensures (sym c.lines-begins.ensures ∙ eqb-true _ _ test)))
+      (λ test. c.first_line_is_no_reduction.ensures _ _ _ c.state-state.ensures.replays (sym c.lines-begins.ensures ∙ eqb-true _ _ test)))
       c.line_is_passed.ensures.none c.nothing_is_stored.ensures,
 )

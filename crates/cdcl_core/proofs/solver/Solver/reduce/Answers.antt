@@ -53,7 +53,7 @@ returns-clause-working g c =
     let kept = map (λ (x : LearnedClause). x.id) c.in_ok-named.field-0.kept in
     let is : c.keep.new.self ≡ with_ids (ledger_after c.self.inside.ledger (Reduce named)) kept = c.keep.ensures ∙ ap (λ (ledger : LedgerValue). with_ids ledger kept) c.note.ensures in
     at_work g.R.Recorder.seen _ named can.work c.in_ok-named.ensures.named c.in_ok-named.ensures.live _ c.in_ok-record.ensures.added can.last can.due _ c.state.result.now kept
-    c.in_ok-record.ensures.whole c.in_ok-record.ensures.keeps.problem refl c.state.ensures c.vars-vars.ensures.state c.drop_deleted.ensures.store c.drop_deleted.ensures.vars
+    c.in_ok-record.ensures.whole c.in_ok-record.ensures.keeps.problem refl c.state.ensures.replays c.vars-vars.ensures.state c.drop_deleted.ensures.store c.drop_deleted.ensures.vars
     c.in_ok-named.ensures.kept is refl
 
 pub returns-clause-ends : goal.returns-clause-ends

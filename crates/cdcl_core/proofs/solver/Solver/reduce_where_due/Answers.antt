@@ -12,7 +12,7 @@ reduce-requires-clause-due g c =
     let rec = g.R.Recorder in
     let due = c.is_due.ensures.0 c.if-is_due.true in
     subst (λ (v : SolverValue _). Reaches (rec.seen v.recorder).problem (rec.seen v.recorder).lines (λ s. IsDue v.ledger.reductions s.learned)) c.self.view_is
-    (λ s replay. subst (IsDue c.self.inside.ledger.reductions) (c.learned-learned.ensures ∙ ap (λ (t : StateValue). t.learned) (replay_once _ _ _ s c.state.ensures replay)) due)
+    (λ s replay. subst (IsDue c.self.inside.ledger.reductions) (c.learned-learned.ensures ∙ ap (λ (t : StateValue). t.learned) (replay_once _ _ _ s c.state.ensures.replays replay)) due)
 
 pub returns-clause-ends : goal.returns-clause-ends
 returns-clause-ends g c = done_working g.R.Recorder.seen _ c.requires.working

@@ -6,7 +6,7 @@ use Rattle.cdcl_core.proofs.solver.SolverRecorder.add_line.Goals as goal
 pub invariant_of-self : goal.invariant_of-self
 invariant_of-self g c whole = (
   c.in-Ok.ensures.whole,
-  held_added g.R.Recorder.seen _ _ c.args.line.now c.state.result.now (c.self.invariant whole).1 c.in-Ok.ensures.keeps.problem c.in-Ok.ensures.added c.state.ensures c.vars-vars.ensures.state refl refl
+  held_added g.R.Recorder.seen _ _ c.args.line.now c.state.result.now (c.self.invariant whole).1 c.in-Ok.ensures.keeps.problem c.in-Ok.ensures.added c.state.ensures.replays c.vars-vars.ensures.state refl refl
       c.drop_deleted.ensures.store c.drop_deleted.ensures.vars c.note.ensures,
 )
 

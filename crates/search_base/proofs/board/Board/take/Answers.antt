@@ -18,7 +18,7 @@ tighten-requires-clause-long g c =
     let same : c.self.inside.problem.now ≡ a.problem = ap (λ (b : BoardValue). b.problem) c.self.view_is
     ∙ c.requires.good.problem in
     subst (λ (p : ProblemValue). p.vars ≤ length c.args.a.now) (sym same)
-    (long_enough a c.state-state.result.now c.args.a.now c.state-state.ensures c.requires.model)
+    (long_enough a c.state-state.result.now c.args.a.now c.state-state.ensures.replays c.requires.model)
 
 pub tighten-requires-clause-model : goal.tighten-requires-clause-model
 tighten-requires-clause-model g c =
@@ -27,7 +27,7 @@ tighten-requires-clause-model g c =
     let same : c.self.inside.problem.now ≡ a.problem = ap (λ (b : BoardValue). b.problem) c.self.view_is
     ∙ c.requires.good.problem in
     subst (λ (p : ProblemValue). IsProblemModel p (take p.vars c.args.a.now)) (sym same)
-    (problem_part a c.state-state.result.now c.args.a.now c.state-state.ensures c.requires.model
+    (problem_part a c.state-state.result.now c.args.a.now c.state-state.ensures.replays c.requires.model
     (subst IsProblem same c.vars-problem.ensures.problem))
 
 pub returns-in_err-b-clause-goes_on : goal.returns-in_err-b-clause-goes_on
@@ -103,7 +103,7 @@ returns-clause-good g c =
     in_memory_ok c.in_memory-3.result c.put.result c.in_memory-3.ensures.ok
     (λ (put : IsPut c.args.self.now c.put.new.self c.in_ok-costs.costs x).
     good_taken c.bounding_stays_good.ensures c.fitting_stays.ensures a m b c.state-state.result.now c.args.bounds.now
-    c.answers_at.new.bounds c.args.self.now c.put.new.self y x c.as_slice.result.now c.state-state.ensures
+    c.answers_at.new.bounds c.args.self.now c.put.new.self y x c.as_slice.result.now c.state-state.ensures.replays
     c.requires.model tight c.requires.good log
     (subst (λ (vs : List ℤ). IsPut c.args.self.now c.put.new.self vs x)
     (costs ∙ ap (λ (q : ProblemValue). problem_costs q x) same) put))
@@ -139,6 +139,6 @@ returns-clause-taken g c =
     in_memory_ok c.in_memory-3.result c.put.result c.in_memory-3.ensures.ok
     (λ (put : IsPut c.args.self.now c.put.new.self c.in_ok-costs.costs x).
     is_taken a m b c.state-state.result.now c.args.bounds.now c.answers_at.new.bounds c.args.self.now
-    c.args.self.now.instance y x c.as_slice.result.now c.state-state.ensures c.requires.model tight
+    c.args.self.now.instance y x c.as_slice.result.now c.state-state.ensures.replays c.requires.model tight
     c.requires.good log)
     c.put.ensures.put

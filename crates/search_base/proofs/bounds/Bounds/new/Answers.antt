@@ -9,7 +9,7 @@ use Rattle.pb_lin.specs.Constraint.{TermsUpTo}
 use Rattle.pb_lin.specs.CostRow.{CostRowValue}
 use Rattle.proof_rules.specs.Recording.{Snapshot}
 use Rattle.totalizer.specs.Totalizing.{Fits, HasVariables, IsBuilt}
-use Rattle.search_base.specs.declared.bounds.ObjectiveBound.{ObjectiveBound}
+use Rattle.search_base.specs.declared.objective_bound.ObjectiveBound.{ObjectiveBound}
 use Rattle.search_base.proofs.BoundRows.{FitRows, one_fits_more, all_fit}
 use Rattle.search_base.proofs.bounds.Bounds.new.Goals as goal
 

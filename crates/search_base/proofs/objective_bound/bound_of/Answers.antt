@@ -9,7 +9,7 @@ use Rattle.sum_outputs.proofs.LaterStates.{continues_again, recorded_ok}
 use Rattle.totalizer.specs.Totalizing.{terms_of}
 use Rattle.totalizer.specs.declared.bound.Bound.TheVariants.{Always, Never}
 use Rattle.search_base.proofs.BoundRows.{above_all, total_small}
-use Rattle.search_base.proofs.bounds.bound_of.Goals as goal
+use Rattle.search_base.proofs.objective_bound.bound_of.Goals as goal
 
 pub returns-then-k-lt1-clause-recorded : goal.returns-then-k-lt1-clause-recorded
 returns-then-k-lt1-clause-recorded g c =
