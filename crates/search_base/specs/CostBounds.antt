@@ -1,8 +1,6 @@
 -- Bounds of objectives.
 use Rattle.std.specs.Prelude.{◌≡◌, ◌≢◌, ◌⊎◌, ℕ, ◌-◌, ◌<◌, Bool, true, false, List, [], ◌∷◌, length, map, slice_index_or, All, AllPairs, Contains, Some, ℤ, pos, ◌+ℤ◌, ◌-ℤ◌, ◌≤ℤ◌, ◌<ℤ◌}
-use Rattle.std.specs.BTreeMap.{get}
 use Rattle.std.specs.List.{AllZip}
-use Rattle.std.specs.Ordering.{nat_cmp}
 use Rattle.scut_base.specs.Literal.{Literal}
 use Rattle.scut_base.specs.Assignment.{lit_true}
 use Rattle.pb_lin.specs.Constraint.{ConstraintValue, Covers, Holds, IsVariable, total}
@@ -24,6 +22,7 @@ use Rattle.totalizer.specs.Meaning.{AreTruthsWith, IsOwnOrNone}
 use Rattle.totalizer.specs.Reforming.{IsReformOf}
 use Rattle.totalizer.specs.Totalizing.{Fits, terms_of}
 use Rattle.totalizer.specs.Demanding.{IsAnswered, IsThere, MakesDemanded}
+use Rattle.search_base.specs.declared.objective_bound.Cover.{Cover}
 use Rattle.search_base.specs.declared.objective_bound.ObjectiveBound.{ObjectiveBound}
 
 -- ---- what stands for "this objective costs at least value"
@@ -101,19 +100,19 @@ StandsFor b n l = IsThere b.totalizer.made (length b.totalizer.nodes - 1) n l
 
 -- The line was made for an output's variable: no line has learned it, and it covers what the output stands for.
 pub record IsCover (p : ProblemValue) (lines : List Line) (s : StateValue) (row : CostRowValue) (b : ObjectiveBound)
-    (var id : ℕ) : Type 0 where
+    (c : Cover) : Type 0 where
   pub sum : ℕ
-  pub there : StandsFor b sum (record { var = var; neg = false })
-  pub own : IsOwnOrNone p lines s id
-  pub covers : LineCovers s row (pos sum +ℤ b.reform.offset) id (AreTruthsWith (record { var = var; neg = false }))
+  pub there : StandsFor b sum (record { var = c.var; neg = false })
+  pub own : IsOwnOrNone p lines s c.line
+  pub covers : LineCovers s row (pos sum +ℤ b.reform.offset) c.line (AreTruthsWith (record { var = c.var; neg = false }))
 
 -- an objective in other terms, a totalizer of these that may be asked, and the lines that were made for its outputs
 pub record BoundsRow (a : Snapshot) (row : CostRowValue) (b : ObjectiveBound) : Type 0 where
   pub reform : (s : StateValue) → IsReached a s → IsReformOf a.problem a.lines s row b.reform
   pub terms : terms_of b.totalizer ≡ b.reform.terms
   pub fits : Fits a b.totalizer
-  pub covers : (s : StateValue) → IsReached a s → (var id : ℕ) → get nat_cmp b.covers var ≡ Some id
-      → IsCover a.problem a.lines s row b var id
+  pub covers : (s : StateValue) → IsReached a s → All (IsCover a.problem a.lines s row b) b.covers.items
+  pub rising : AllPairs (λ c d. c.var < d.var) b.covers.items
 
 -- the variables of outputs that were made are in no term of a reform
 abbrev pub AreMadeOutside : List Reform → ObjectiveBound → Type 0
@@ -138,7 +137,7 @@ AreReforms a reforms = (s : StateValue) → IsReached a s → AllZip (IsReformOf
 -- the literal was asked for before: its output is there, and so is its line, where it needs one of its own
 pub record IsKnownAt (b : ObjectiveBound) (k : ℕ) (l : Literal) : Type 0 where
   pub answered : IsAnswered b.totalizer k l
-  pub covered : 1 < length b.reform.terms → b.reform.lower_line ≢ 0 → (id : ℕ) × (get nat_cmp b.covers l.var ≡ Some id)
+  pub covered : 1 < length b.reform.terms → b.reform.lower_line ≢ 0 → (c : Cover) × Contains b.covers.items c × (c.var ≡ l.var)
 
 -- what a literal for "the reform's sum is at least k" adds: what that demands, and no line where it was asked for before
 pub record AddsCost (a b : Snapshot) (k : ℕ) (before now : ObjectiveBound) (l : Literal) : Type 0 where

@@ -1,5 +1,5 @@
 // The bounds of one objective.
-ghost use Rattle.std.specs.Prelude.{◌≡◌, ◌<◌, ◌≢◌, length, pos, IfOk, IfSome, OnOk};
+ghost use Rattle.std.specs.Prelude.{◌≡◌, ◌<◌, ◌≤◌, ◌≢◌, length, pos, IfOk, IfSome, OnOk};
 ghost use Rattle.pb_lin.specs.CostRow.{CostRowValue};
 ghost use Rattle.sum_outputs.specs.Adding.{IsReady, IsRecorded};
 ghost use Rattle.sum_outputs.specs.Totals.{AreWeights};
@@ -11,18 +11,25 @@ use proof_laws::Line;
 use proof_rules::{RecordFault, Recorder};
 use scut_base::{Items, Lit, NoMemory};
 use std::alloc::Global;
-use std::collections::BTreeMap;
-use sum_outputs::record;
+use sum_outputs::{in_memory, record};
 use totalizer::{Bound, Reform, Totalizer};
 
+/// The line that says of the objective what the line of an output says of the reform's terms.
+#[derive(Clone, Copy, Debug)]
+pub struct Cover {
+    /// The output's variable.
+    pub var: u64,
+    /// The id of the line.
+    pub line: u64,
+}
+
 /// The bounds of one objective: its reform, and a totalizer of the reform's terms. Where the reform has a line,
-/// `covers` has, by the variable of an output that was asked for, the line that says of the objective what the
-/// output's says of the terms.
+/// `covers` has those of the outputs that were asked for, in rising order of variables.
 #[derive(Drop)]
 pub struct ObjectiveBound {
     pub reform: Reform,
     pub totalizer: Totalizer,
-    pub covers: BTreeMap<u64, u64>,
+    pub covers: Vec<Cover>,
 }
 
 impl ObjectiveBound {
@@ -32,7 +39,7 @@ impl ObjectiveBound {
         Ok(ObjectiveBound {
             reform,
             totalizer,
-            covers: BTreeMap::new(alloc),
+            covers: Vec::new(alloc),
         })
     }
 
@@ -72,14 +79,14 @@ impl ObjectiveBound {
         if output_line == 0 {
             return Ok(lower_line);
         }
-        if let Some(line) = self.covers.get(&lit.var()) {
-            return Ok(*line);
+        let var = lit.var();
+        let place = self.covers.partition_point(|cover| cover.var < var);
+        if place < self.covers.len() && self.covers[place].var == var {
+            return Ok(self.covers[place].line);
         }
-        let tokens = sum_tokens(alloc, lower_line, output_line)?;
+        let tokens = in_memory(sum_tokens(alloc, lower_line, output_line))?;
         let line = record(rec, Line::Pol { tokens })?;
-        if self.covers.insert(lit.var(), line).is_err() {
-            return Err(RecordFault::NoMemory);
-        }
+        in_memory(insert_cover(&mut self.covers, place, Cover { var, line }))?;
         Ok(line)
     }
 
@@ -93,6 +100,14 @@ impl ObjectiveBound {
         let output = self.totalizer.made_for(k)?;
         i64::try_from(offset + i128::from(output.sum)).ok()
     }
+}
+
+// Puts a line between those of lower and those of greater variables.
+fn insert_cover(covers: &mut Vec<Cover>, place: usize, cover: Cover) -> Result<(), NoMemory>
+    requires { place ≤ length covers.old.items }
+{
+    covers.insert(place, cover)?;
+    Ok(())
 }
 
 // The sum of two lines.
