@@ -51,7 +51,8 @@ pub fn line_is_passed()
         → IsStored p s (next + 1) store }
     ensures other { (p : ProblemValue) (s : StateValue) (next : ℕ) (store : LineMap)
         (c : ConstraintValue) → IsStored p s next store → get s.live next ≡ Some c
-        → next < s.next_id → length p.rows < next → is_clause c ≡ false → IsStored p s (next + 1) store }
+        → next < s.next_id → length p.rows < next → is_clause c ≡ false
+        → IsStored p s (next + 1) store }
 {}
 
 /// Law: a line that deletes nothing leaves what is stored right.

@@ -77,7 +77,8 @@ impl ClauseStore {
     /// The literal at a place of a line that is there, with its coefficient.
     pub fn term(&self, id: u64, place: usize) -> (Lit, u128)
         requires { (c : ConstraintValue) × (get self.now id ≡ Some c) × (place < length c.terms) }
-        ensures { (c : ConstraintValue) → get self.now id ≡ Some c → slice_get c.terms place ≡ Some result }
+        ensures { (c : ConstraintValue) → get self.now id ≡ Some c
+            → slice_get c.terms place ≡ Some result }
     {
         match self.lines.get(id) {
             Some(line) => line.term(place),

@@ -262,7 +262,8 @@ impl Watches {
     ) -> Result<Visit, NoMemory>
         requires looking { IsAt self.old trail.old lit at }
         requires within { at < entries_of self.old lit }
-        requires entry { (slice_index_or (list_of self.old.lists.items lit) at no_entry).slot ≡ slot }
+        requires entry { (slice_index_or
+            (list_of self.old.lists.items lit) at no_entry).slot ≡ slot }
         requires slot { slot < length self.old.slots.items }
         requires long { 2 ≤ length (clause_at self.old.slots.items slot) }
         requires second { slice_index_or (clause_at self.old.slots.items slot) 1 no_literal ≡ lit }
@@ -292,10 +293,12 @@ impl Watches {
     ) -> Result<Visit, NoMemory>
         requires looking { IsAt self.old trail.now lit at }
         requires within { at < entries_of self.old lit }
-        requires entry { (slice_index_or (list_of self.old.lists.items lit) at no_entry).slot ≡ slot }
+        requires entry { (slice_index_or
+            (list_of self.old.lists.items lit) at no_entry).slot ≡ slot }
         requires slot { slot < length self.old.slots.items }
         requires second { slice_index_or (clause_at self.old.slots.items slot) 1 no_literal ≡ lit }
-        requires free { IsFree (clause_at self.old.slots.items slot) (lits_of trail.now.steps) place }
+        requires free { IsFree (clause_at self.old.slots.items slot)
+            (lits_of trail.now.steps) place }
         ensures ok { IfOk result (IsVisited self.old self.new trail.now trail.now lit at) }
         ensures err { OnErr result (IsReady self.new trail.now
             × IsFollowed self.old self.new trail.now trail.now) }
@@ -311,11 +314,13 @@ impl Watches {
     // Makes the first literal true, where it isn't false; all others are.
     fn force(&self, trail: &mut Trail, lit: Lit, at: usize, slot: usize) -> Visit
         requires looking { IsAt self.now trail.old lit at }
-        requires entry { (slice_index_or (list_of self.now.lists.items lit) at no_entry).slot ≡ slot }
+        requires entry { (slice_index_or
+            (list_of self.now.lists.items lit) at no_entry).slot ≡ slot }
         requires slot { slot < length self.now.slots.items }
         requires long { 2 ≤ length (clause_at self.now.slots.items slot) }
         requires second { slice_index_or (clause_at self.now.slots.items slot) 1 no_literal ≡ lit }
-        requires others { AreFalse (clause_at self.now.slots.items slot) (lits_of trail.old.steps) 2 }
+        requires others { AreFalse (clause_at self.now.slots.items slot)
+            (lits_of trail.old.steps) 2 }
         ensures { IsVisited self.now self.now trail.old trail.new lit at result }
     {
         let first = self.literal(slot, 0);

@@ -47,9 +47,10 @@ row_magnitude row = terms_magnitude row.terms + unsigned_abs row.bound
 abbrev pub objective_magnitude : Objective → ℕ
 objective_magnitude o = weights_sum o.softs + terms_magnitude o.terms + unsigned_abs o.offset
 
--- a row over n variables, within its limit
+-- a row over the variables 1 to n, within its limit
 pub record IsRowWithin (n : ℕ) (row : Linear) : Type 0 where
   pub variables : TermsUpTo n row.terms
+  pub from_one : All (λ t. 0 < t.1.var) row.terms
   pub magnitude : row_magnitude row < magnitude_limit
 
 -- An objective over n variables, within its limit. A maximised one has no soft clauses, since a false soft clause is a cost: no format has rewards for false clauses.

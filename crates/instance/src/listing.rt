@@ -15,7 +15,8 @@ use std::alloc::Global;
 /// of these vectors. Costs a sort of the pairs.
 pub fn listed(alloc: Global, inst: &Instance, front: &FrontSet) -> Result<Vec<Entry>, NoMemory>
     requires { AreProblemVectors inst.now front.now }
-    ensures same { IfOk result (λ v. IsPermutation (map (listed_entry inst.now) front.now) v.items) }
+    ensures same { IfOk result (λ v. IsPermutation (map
+        (listed_entry inst.now) front.now) v.items) }
     ensures rising { IfOk result (λ v. AreRising (vectors_of v.items)) }
 {
     sort_entries(listed_entries(alloc, inst, front.entries())?)

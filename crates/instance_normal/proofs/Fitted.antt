@@ -15,10 +15,9 @@ use Rattle.pb_lin.specs.NormalForm.{magnitude}
 use Rattle.pb_lin.specs.Problem.{ProblemValue, IsProblem}
 use Rattle.pb_lin.proofs.Merges.{rising_head, rising_tail}
 use Rattle.instance_normal.specs.NormalForm.{RowSource, Clause, Sum, IsRowOf, IsClauseRow, trivial_row, is_tautology, positive, at_least, at_most, sources_by, linear_sources, relaxed_clauses, relaxed_softs, row_sources, IsNormalFormOf}
-use Rattle.instance_normal.specs.Within.{IsFromOne}
 use Rattle.instance_normal.specs.Fitting.{Fits}
 use Rattle.instance_normal.proofs.Distinct.{clause_fits, members_upto}
-use Rattle.instance_normal.proofs.Members.{all_both, all_flattened}
+use Rattle.instance_normal.proofs.Members.{all_flattened}
 use Rattle.instance_normal.proofs.Models.{relaxed_upto}
 use Rattle.instance_normal.proofs.Sizes.{sum_fits, negated_magnitude, negated_upto}
 use Rattle.instance_normal.proofs.Within.{few_relaxed, problem_within}
@@ -66,26 +65,26 @@ rows_fit n (s ∷ ss) (c ∷ cs) low within zipped = All-cons (Fits n) c cs (row
 
 -- ---- what rows are made from
 
-least_within : (n : ℕ) (row : Linear) → IsRowWithin n row → IsFromOne row → SourceWithin n (at_least row)
-least_within n row within from_one = (within.magnitude, from_one, within.variables)
+least_within : (n : ℕ) (row : Linear) → IsRowWithin n row → SourceWithin n (at_least row)
+least_within n row within = (within.magnitude, within.from_one, within.variables)
 
-most_within : (n : ℕ) (row : Linear) → IsRowWithin n row → IsFromOne row → SourceWithin n (at_most row)
-most_within n row within from_one = (
+most_within : (n : ℕ) (row : Linear) → IsRowWithin n row → SourceWithin n (at_most row)
+most_within n row within = (
   (let bound : unsigned_abs (neg_ℤ row.bound) ≡ unsigned_abs row.bound = omega (arith, ints) in omega (arith, within.magnitude, negated_magnitude row.terms)),
-  All-map (λ (t : ℤ × Literal). 0 < t.1.var) (λ (t : ℤ × Literal). (neg_ℤ t.0, t.1)) row.terms from_one,
+  All-map (λ (t : ℤ × Literal). 0 < t.1.var) (λ (t : ℤ × Literal). (neg_ℤ t.0, t.1)) row.terms within.from_one,
   negated_upto n row.terms within.variables,
 )
 
-linear_within : (n : ℕ) (row : Linear) → IsRowWithin n row → IsFromOne row → All (SourceWithin n) (linear_sources row)
-linear_within n row within from_one = by row.rel
+linear_within : (n : ℕ) (row : Linear) → IsRowWithin n row → All (SourceWithin n) (linear_sources row)
+linear_within n row within = by row.rel
   where
     one : (s : RowSource) → SourceWithin n s → All (SourceWithin n) (s ∷ [])
     one s p = All-cons (SourceWithin n) s [] p (All-nil (SourceWithin n))
 
     by : (rel : Rel) → All (SourceWithin n) (sources_by rel row)
-    by AtLeast = one (at_least row) (least_within n row within from_one)
-    by AtMost = one (at_most row) (most_within n row within from_one)
-    by Equal = All-cons (SourceWithin n) (at_least row) (at_most row ∷ []) (least_within n row within from_one) (one (at_most row) (most_within n row within from_one))
+    by AtLeast = one (at_least row) (least_within n row within)
+    by AtMost = one (at_most row) (most_within n row within)
+    by Equal = All-cons (SourceWithin n) (at_least row) (at_most row ∷ []) (least_within n row within) (one (at_most row) (most_within n row within))
 
 clause_wider : (m n : ℕ) (lits : List Literal) → m ≤ n → ClauseUpTo m lits → ClauseUpTo n lits
 clause_wider m n lits le upto = All-weaker (λ (l : Literal). l.var ≤ m) (λ (l : Literal). l.var ≤ n) (λ l low. omega arith) lits upto
@@ -93,6 +92,7 @@ clause_wider m n lits le upto = All-weaker (λ (l : Literal). l.var ≤ m) (λ (
 row_wider : (m n : ℕ) (row : Linear) → m ≤ n → IsRowWithin m row → IsRowWithin n row
 row_wider m n row le within = record {
   variables = All-weaker (λ (t : ℤ × Literal). t.1.var ≤ m) (λ (t : ℤ × Literal). t.1.var ≤ n) (λ t low. omega arith) row.terms within.variables;
+  from_one = within.from_one;
   magnitude = within.magnitude;
 }
 
@@ -104,17 +104,19 @@ relaxed_within m n var (s ∷ softs) le within room =
     (All-push (λ (l : Literal). l.var ≤ n) s.lits (positive var) own (omega arith))
     (relaxed_within m n (var + 1) softs le (All-tail (λ (x : Soft). ClauseUpTo m x.lits) s softs within) (omega arith))
 
-sources_within : (i : InstanceValue) (n : ℕ) → IsWithinLimits i → All IsFromOne i.linear → n ≡ i.vars + length (relaxed_softs i) → All (SourceWithin n) (row_sources i)
-sources_within i n limits from_one is =
+sources_within : (i : InstanceValue) (n : ℕ) → IsWithinLimits i → n ≡ i.vars + length (relaxed_softs i) → All (SourceWithin n) (row_sources i)
+sources_within i n limits is =
     let wider : i.vars ≤ n = omega arith in
     All-append (SourceWithin n) (map Clause i.clauses ++ flat_map linear_sources i.linear) (relaxed_clauses (i.vars + 1) (relaxed_softs i))
     (All-append (SourceWithin n) (map Clause i.clauses) (flat_map linear_sources i.linear)
     (All-map (SourceWithin n) Clause i.clauses (All-weaker (ClauseUpTo i.vars) (ClauseUpTo n) (λ lits upto. clause_wider i.vars n lits wider upto) i.clauses limits.clauses))
-    (all_flattened (SourceWithin n) linear_sources i.linear (all_both (IsRowWithin i.vars) IsFromOne (λ row. All (SourceWithin n) (linear_sources row)) i.linear (λ row within from. linear_within n row (row_wider i.vars n row wider within) from) limits.rows from_one)))
+    (all_flattened (SourceWithin n) linear_sources i.linear
+    (All-weaker (IsRowWithin i.vars) (λ row. All (SourceWithin n) (linear_sources row))
+    (λ row within. linear_within n row (row_wider i.vars n row wider within)) i.linear limits.rows)))
     (relaxed_within i.vars n (i.vars + 1) (relaxed_softs i) wider (relaxed_upto i.vars i.objectives limits.objectives) (omega arith))
 
 -- ---- the whole
 
-pub form_within : (i : InstanceValue) (p : ProblemValue) → IsWithinLimits i → All IsFromOne i.linear → IsNormalFormOf i p → IsProblem p
-form_within i p limits from_one form =
-    problem_within i p limits form (rows_fit p.vars (row_sources i) p.rows (omega (arith, form.vars, few_relaxed i.objectives, limits.variables, limits.size)) (sources_within i p.vars limits from_one form.vars) form.rows)
+pub form_within : (i : InstanceValue) (p : ProblemValue) → IsWithinLimits i → IsNormalFormOf i p → IsProblem p
+form_within i p limits form =
+    problem_within i p limits form (rows_fit p.vars (row_sources i) p.rows (omega (arith, form.vars, few_relaxed i.objectives, limits.variables, limits.size)) (sources_within i p.vars limits form.vars) form.rows)

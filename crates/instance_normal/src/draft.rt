@@ -57,7 +57,8 @@ fn add_relaxation(
     requires vars { draft.old.vars < 2 ^ 33 }
     requires offset { costs.old.offset + added.offset < 2 ^ 63 }
     ensures rows { OnOk result (draft.new.rows ≡ draft.old.rows ++ option_to_list added.row) }
-    ensures vars { OnOk result (draft.new.vars ≡ draft.old.vars + length (option_to_list added.row)) }
+    ensures vars { OnOk result (draft.new.vars ≡ draft.old.vars + length
+        (option_to_list added.row)) }
     ensures terms { OnOk result (costs.new.terms ≡ costs.old.terms ++ option_to_list added.term) }
     ensures offset { OnOk result (costs.new.offset ≡ costs.old.offset + added.offset) }
 {

@@ -70,7 +70,8 @@ fn add_falsities(
 ) -> Result<(), NoMemory>
     requires { All (λ s. ClauseUpTo (length a.now) s.lits) softs.now }
     ensures { OnOk result (values.new.items
-        ≡ values.old.items ++ map (λ s. not (clause_true a.now s.lits)) (filter is_relaxed softs.now)) }
+        ≡ values.old.items ++ map (λ s. not (clause_true a.now s.lits))
+        (filter is_relaxed softs.now)) }
 {
     for soft in softs {
         if is_relaxed(alloc, soft)? {

@@ -14,6 +14,7 @@ use Rattle.instance.specs.Shape.{InstanceValue, IsWithinLimits}
 use Rattle.instance.specs.Meaning.{IsModel, costs_of, objective_cost}
 use Rattle.instance.specs.ParetoFront.{WeaklyDominates, weakly_dominates, Dominates, IsOnFront, IsFront, problem_vector}
 use Rattle.instance.proofs.Dominance.{weakly_dominates-is_below, problem_numbers-injective}
+use Rattle.instance_normal.proofs.Fitted.{form_within}
 use Rattle.instance_normal.specs.NormalForm.{IsNormalFormOf}
 use Rattle.instance_normal.specs.Tightened.{tightened}
 use Rattle.instance_normal.proofs.Models.{model_extends}
@@ -130,7 +131,8 @@ covered_below i p vectors log limits normal within proof a model =
 -- the entries of an accepted list are the front
 pub entries_are_front : (i : InstanceValue) (list log : List ℕ) → IsWithinLimits i → (accepted : IsAccepted i list log) → IsFront i accepted.entries
 entries_are_front i list log limits accepted = right_list_is_front i accepted.entries accepted.right
-    (covered_below i accepted.problem (problem_vectors i accepted.entries) log limits accepted.normal accepted.within accepted.proof)
+    (covered_below i accepted.problem (problem_vectors i accepted.entries) log limits accepted.normal
+    (form_within i accepted.problem limits accepted.normal) accepted.proof)
 
 pub accepted_front : (i : InstanceValue) (list log : List ℕ) → IsWithinLimits i → IsAccepted i list log → (entries : List Entry) × (list ≡ list_text true entries) × IsFront i entries
 accepted_front i list log limits accepted = (accepted.entries, accepted.spelled.is, entries_are_front i list log limits accepted)

@@ -8,7 +8,7 @@ use Rattle.instance.specs.Shape.{InstanceValue}
 use Rattle.instance.specs.Meaning.{IsModel, costs_of}
 use Rattle.instance.specs.ParetoFront.{WeaklyDominates, problem_vector}
 use Rattle.instance_normal.specs.NormalForm.{IsNormalFormOf}
-use Rattle.pb_lin.specs.Problem.{ProblemValue, IsProblem}
+use Rattle.pb_lin.specs.Problem.{ProblemValue}
 use Rattle.proof_laws.specs.State.{StateValue}
 use Rattle.proof_laws.specs.Replay.{IsReplay}
 use Rattle.proof_laws.specs.declared.line.Line.{Line}
@@ -53,12 +53,11 @@ pub record IsEndedProof (p : ProblemValue) (vectors : List (List ℤ)) (log : Li
 abbrev pub problem_vectors : InstanceValue → List Entry → List (List ℤ)
 problem_vectors i entries = map (λ e. problem_vector i e.costs) entries
 
--- The list is that of right entries, and the log is an ended proof over the instance's normal form, within the limits of problems, whose logged vectors they cover.
+-- The list is that of right entries, and the log is an ended proof over the instance's normal form, whose logged vectors they cover.
 pub record IsAccepted (i : InstanceValue) (list log : List ℕ) : Type 0 where
   pub entries : List Entry
   pub spelled : Spells list true entries
   pub right : IsRightList i entries
   pub problem : ProblemValue
   pub normal : IsNormalFormOf i problem
-  pub within : IsProblem problem
   pub proof : IsEndedProof problem (problem_vectors i entries) log

@@ -144,7 +144,8 @@ impl Checker {
         ensures fails { self.old.failed ≡ true → self.old.refused ≡ None
             → result ≡ Err CheckFault.NoMemory }
         ensures passed { OnOk result ((self.new.failed ≡ false) × (self.new.refused ≡ None)) }
-        ensures passes { self.old.finished ≡ true → self.old.failed ≡ false → self.old.refused ≡ None
+        ensures passes { self.old.finished ≡ true → self.old.failed ≡ false
+            → self.old.refused ≡ None
             → IsOk result }
         ensures no_list { (k : ℕ) (why : ListWhy)
             → result ≡ Err (CheckFault.ListRefused k why) → ⊥ }

@@ -24,7 +24,8 @@ pub(crate) fn read_statement(
 ) -> Result<Statement, PlaceFault>
     requires count { length sums.now ≡ max_objectives }
     requires small { All (λ sum. sum < magnitude_limit) sums.now }
-    ensures ok { IfOk result (λ s. SpellsStatement (words_of line.now) s × IsStatementWithin sums.now s) }
+    ensures ok { IfOk result (λ s. SpellsStatement (words_of line.now) s
+        × IsStatementWithin sums.now s) }
     ensures fault { IfErr result (λ f. (before : List (List (List ℕ)))
         → IsSumsOf before sums.now → IsPlaceFaultOf (line_fault before (words_of line.now)) f) }
 {

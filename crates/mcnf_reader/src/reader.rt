@@ -52,8 +52,10 @@ fn read_line(alloc: Global, line: &[u8], number: u64, draft: &mut Draft) -> Resu
     ensures ok { OnOk result ((s : Statement)
         × SpellsStatement (words_of line.now) s
         × IsStatementWithin draft.old.sums s
-        × ((done : List Statement) → IsDraftOf draft.old done → IsDraftOf draft.new (done ++ s ∷ []))) }
-    ensures fault { IfErr result (λ f. (before : List (List (List ℕ))) → IsSumsOf before draft.old.sums
+        × ((done : List Statement) → IsDraftOf draft.old done
+        → IsDraftOf draft.new (done ++ s ∷ []))) }
+    ensures fault { IfErr result (λ f. (before : List (List (List ℕ)))
+        → IsSumsOf before draft.old.sums
         → IsFaultOf (option_map (at_line number) (line_fault before (words_of line.now))) f) }
 {
     match read_statement(alloc, line, &draft.sums) {

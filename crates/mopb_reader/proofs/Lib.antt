@@ -4,6 +4,7 @@ pub mod Statements
 pub mod Places
 pub mod Findings
 pub mod Drafts
+pub mod Counted
 pub mod Limits
 pub mod Texts
 pub mod Faultless

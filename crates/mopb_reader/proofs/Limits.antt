@@ -17,6 +17,7 @@ use Rattle.mopb_reader.specs.Tokens.{Token, Digits, Positive, Min, Equal, Other,
 use Rattle.mopb_reader.specs.Grammar.{SpellsObjective, SpellsRow, Spells, is_semicolon, largest_of, largest_in_objectives, largest_in_rows}
 use Rattle.mopb_reader.specs.Drafts.{SpellsAll, IsDraft, instance_of}
 use Rattle.mopb_reader.specs.declared.draft.Draft.{Draft}
+use Rattle.mopb_reader.proofs.Counted.{spelled_rows_counted}
 use Rattle.mopb_reader.proofs.Cutting.{byte_cases}
 
 -- a byte makes one token at most
@@ -126,11 +127,15 @@ objectives_within n (tokens ∷ first) (o ∷ os) zipped le small = All-cons (Is
     (objective_within n tokens o zipped.0 (omega arith) (All-head (λ (x : Objective). objective_magnitude x < 2 ^ 63) o os small))
     (objectives_within n first os zipped.1 (omega arith) (All-tail (λ (x : Objective). objective_magnitude x < 2 ^ 63) o os small))
 
-rows_within : (n : ℕ) (rows : List Linear) → largest_in_rows rows ≤ n → All (λ row. row_magnitude row < 2 ^ 63) rows → All (IsRowWithin n) rows
-rows_within n [] le small = All-nil (IsRowWithin n)
-rows_within n (row ∷ rows) le small = All-cons (IsRowWithin n) row rows
-    (record { variables = terms_up_to n row.terms (omega arith); magnitude = All-head (λ (x : Linear). row_magnitude x < 2 ^ 63) row rows small })
-    (rows_within n rows (omega arith) (All-tail (λ (x : Linear). row_magnitude x < 2 ^ 63) row rows small))
+rows_within : (n : ℕ) (rows : List Linear) → largest_in_rows rows ≤ n → All (λ row. All (λ t. 0 < t.1.var) row.terms) rows → All (λ row. row_magnitude row < 2 ^ 63) rows → All (IsRowWithin n) rows
+rows_within n [] le counted small = All-nil (IsRowWithin n)
+rows_within n (row ∷ rows) le counted small = All-cons (IsRowWithin n) row rows
+    (record {
+      variables = terms_up_to n row.terms (omega arith);
+      from_one = All-head (λ (x : Linear). All (λ t. 0 < t.1.var) x.terms) row rows counted;
+      magnitude = All-head (λ (x : Linear). row_magnitude x < 2 ^ 63) row rows small;
+    })
+    (rows_within n rows (omega arith) (All-tail (λ (x : Linear). All (λ t. 0 < t.1.var) x.terms) row rows counted) (All-tail (λ (x : Linear). row_magnitude x < 2 ^ 63) row rows small))
 
 no_softs : (first : List (List Token)) (os : List Objective) → AllZip SpellsObjective first os → sum_by (λ o. length o.softs) os ≡ 0
 no_softs [] [] zipped = refl
@@ -143,7 +148,7 @@ draft_within text d short spelled draft = record {
   variables = draft.within;
   count = draft.count;
   clauses = All-nil (ClauseUpTo d.vars);
-  rows = rows_within d.vars d.linear (omega (arith, draft.variables)) draft.rows;
+  rows = rows_within d.vars d.linear (omega (arith, draft.variables)) (spelled_rows_counted text spelled.first spelled.then d.linear spelled.statements spelled.rows_spelled) draft.rows;
   objectives = objectives_within d.vars spelled.first d.objectives spelled.objectives_spelled (omega (arith, draft.variables)) draft.objectives;
   size = omega (arith, short, no_softs spelled.first d.objectives spelled.objectives_spelled, rows_fit (tokens_of text) d.objectives d.linear spelled, tokens_fit text);
 }

@@ -110,7 +110,8 @@ fn cut_less(text: &[u8]) -> (Symbol, &[u8])
 
 // What follows the head of an objective without its `m`, if the text begins with it.
 fn after_head(text: &[u8]) -> Option<&[u8]>
-    ensures { MatchOption result ((rest : List ℕ) → text.entry.now ≡ 105 ∷ 110 ∷ 58 ∷ rest → ⊥) (λ rest. text.entry.now ≡ 105 ∷ 110 ∷ 58 ∷ rest.now) }
+    ensures { MatchOption result ((rest : List ℕ) → text.entry.now ≡ 105 ∷ 110 ∷ 58 ∷ rest
+        → ⊥) (λ rest. text.entry.now ≡ 105 ∷ 110 ∷ 58 ∷ rest.now) }
 {
     match text {
         [b'i', b'n', b':', rest @ ..] => Some(rest),
@@ -120,7 +121,8 @@ fn after_head(text: &[u8]) -> Option<&[u8]>
 
 // What follows a byte, if the text begins with it.
 fn after_byte(text: &[u8], byte: u8) -> Option<&[u8]>
-    ensures { MatchOption result (IsNotBefore byte text.entry.now) (λ rest. text.entry.now ≡ byte ∷ rest.now) }
+    ensures { MatchOption result (IsNotBefore byte text.entry.now)
+        (λ rest. text.entry.now ≡ byte ∷ rest.now) }
 {
     match text {
         [first, rest @ ..] if *first == byte => Some(rest),
@@ -130,7 +132,9 @@ fn after_byte(text: &[u8], byte: u8) -> Option<&[u8]>
 
 // Digits of a value of at least 1, if the text begins with them, and what follows them.
 fn cut_variable(text: &[u8]) -> Option<(Option<u64>, &[u8])>
-    ensures { MatchOption result (with_x (tokens_of_line text.entry.now) ≡ Other 120 ∷ tokens_of_line text.entry.now) (λ r. HasVariable (tokens_of_line text.entry.now) r.0 r.1.now) }
+    ensures { MatchOption result (with_x
+        (tokens_of_line text.entry.now) ≡ Other 120 ∷ tokens_of_line text.entry.now)
+        (λ r. HasVariable (tokens_of_line text.entry.now) r.0 r.1.now) }
 {
     let (digits, rest) = cut_digits(text);
     if digits.is_empty() {
@@ -145,9 +149,11 @@ fn cut_variable(text: &[u8]) -> Option<(Option<u64>, &[u8])>
 // The digits that a text begins with, and what follows them.
 fn cut_digits(text: &[u8]) -> (&[u8], &[u8])
     ensures none { result.0.now ≡ [] → BeginsNoDigits (tokens_of_line text.entry.now) }
-    ensures some { 0 < length result.0.now → tokens_of_line text.entry.now ≡ Digits result.0.now ∷ tokens_of_line result.1.now }
+    ensures some { 0 < length result.0.now
+        → tokens_of_line text.entry.now ≡ Digits result.0.now ∷ tokens_of_line result.1.now }
     ensures digits { 0 < length result.0.now → IsNatural result.0.now }
-    ensures first { 0 < length text.entry.now → is_ascii_digit (slice_index text.entry.now 0) ≡ true → 0 < length result.0.now }
+    ensures first { 0 < length text.entry.now
+        → is_ascii_digit (slice_index text.entry.now 0) ≡ true → 0 < length result.0.now }
 {
     let end = digits_len(text);
     (&text[..end], &text[end..])

@@ -46,10 +46,18 @@ pub fn add_statement(
     draft: &mut Draft,
 ) -> Result<(), PlaceFault>
     requires { IsSound (Some first) }
-    ensures draft { OnOk result ((left : List Token) → IsLeft (Some first) (plain tokens.old.left) left → IsDraft draft.old → IsDraft draft.new) }
-    ensures spelled { OnOk result ((all left : List Token) → IsLeft (Some first) (plain tokens.old.left) left → GoesOn all left draft.old → GoesOn all (plain tokens.new.left) draft.new) }
-    ensures fewer { OnOk result ((left : List Token) → IsLeft (Some first) (plain tokens.old.left) left → length (plain tokens.new.left) < length left) }
-    ensures fault { Finds (fault_behind tokens.old (symbol_step (progress_of draft.old) first)) result tokens.new (λ _. fault_from tokens.new.last (progress_of draft.new) tokens.new.left) }
+    ensures draft { OnOk result ((left : List Token)
+        → IsLeft (Some first) (plain tokens.old.left) left → IsDraft draft.old
+        → IsDraft draft.new) }
+    ensures spelled { OnOk result ((all left : List Token)
+        → IsLeft (Some first) (plain tokens.old.left) left → GoesOn all left draft.old
+        → GoesOn all (plain tokens.new.left) draft.new) }
+    ensures fewer { OnOk result ((left : List Token)
+        → IsLeft (Some first) (plain tokens.old.left) left
+        → length (plain tokens.new.left) < length left) }
+    ensures fault { Finds (fault_behind tokens.old (symbol_step
+        (progress_of draft.old) first)) result tokens.new (λ _. fault_from tokens.new.last
+        (progress_of draft.new) tokens.new.left) }
 {
     match first {
         Symbol::Min => add_objective(alloc, tokens, draft),
@@ -63,8 +71,11 @@ fn add_objective(
     tokens: &mut Tokens<'_>,
     draft: &mut Draft,
 ) -> Result<(), PlaceFault>
-    ensures ok { OnOk result (AddsObjective (plain tokens.old.left) (plain tokens.new.left) draft.old draft.new) }
-    ensures fault { Finds (fault_behind tokens.old (head_begun (progress_of draft.old))) result tokens.new (λ _. fault_from tokens.new.last (progress_of draft.new) tokens.new.left) }
+    ensures ok { OnOk result (AddsObjective (plain tokens.old.left)
+        (plain tokens.new.left) draft.old draft.new) }
+    ensures fault { Finds (fault_behind tokens.old (head_begun
+        (progress_of draft.old))) result tokens.new (λ _. fault_from tokens.new.last
+        (progress_of draft.new) tokens.new.left) }
 {
     if !draft.linear.is_empty() {
         return Err(PlaceFault::Bad(BadKind::ObjectiveAfterConstraint));
@@ -86,8 +97,11 @@ fn add_row(
     draft: &mut Draft,
 ) -> Result<(), PlaceFault>
     requires { IsSound (Some first) }
-    ensures ok { OnOk result (AddsRow first (plain tokens.old.left) (plain tokens.new.left) draft.old draft.new) }
-    ensures fault { Finds (fault_behind tokens.old (moved (progress_of draft.old) true (symbol_behind Start first))) result tokens.new (λ _. fault_from tokens.new.last (progress_of draft.new) tokens.new.left) }
+    ensures ok { OnOk result (AddsRow first (plain tokens.old.left)
+        (plain tokens.new.left) draft.old draft.new) }
+    ensures fault { Finds (fault_behind tokens.old (moved (progress_of draft.old) true
+        (symbol_behind Start first))) result tokens.new (λ _. fault_from tokens.new.last
+        (progress_of draft.new) tokens.new.left) }
 {
     if !begins_row(first) {
         return Err(PlaceFault::Bad(BadKind::UnknownLine));

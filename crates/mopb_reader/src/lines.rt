@@ -8,8 +8,11 @@ ghost use Rattle.mopb_reader.specs.Streams.{numbered_from, lines_behind};
 
 /// The first line of a text from its first token on, and what follows its line feed, if it has one.
 pub fn first_line(text: &[u8]) -> (&[u8], Option<&[u8]>)
-    ensures same { (number : ℕ) → numbered_from number result.0.now (option_map (λ r. r.now) result.1) ≡ numbered_tokens number (lines_of text.entry.now) }
-    ensures lines { lines_behind (option_map (λ r. r.now) result.1) + 1 ≡ length (lines_of text.entry.now) }
+    ensures same { (number : ℕ)
+        → numbered_from number result.0.now (option_map
+        (λ r. r.now) result.1) ≡ numbered_tokens number (lines_of text.entry.now) }
+    ensures lines { lines_behind (option_map (λ r. r.now) result.1) + 1 ≡ length
+        (lines_of text.entry.now) }
     ensures at_token { BeginsNoBlank result.0.now }
     ensures less { rest_size (option_map (λ r. r.now) result.1) ≤ length text.entry.now }
 {

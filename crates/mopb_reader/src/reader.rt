@@ -31,7 +31,8 @@ pub fn read(alloc: Global, bytes: &[u8]) -> Result<Instance, ReadFault>
 // Reads all statements.
 fn read_statements(alloc: Global, bytes: &[u8]) -> Result<Draft, ReadFault>
     requires { length bytes.now < 2 ^ 32 }
-    ensures ok { IfOk result (λ d. SpellsAll (tokens_of bytes.now) d.objectives d.linear × IsDraft d) }
+    ensures ok { IfOk result (λ d. SpellsAll (tokens_of bytes.now) d.objectives d.linear
+        × IsDraft d) }
     ensures fault { IfErr result (λ f. IsFaultOf (first_fault bytes.now) f) }
 {
     let mut draft = new_draft(alloc);
@@ -50,10 +51,18 @@ fn read_statement(
     draft: &mut Draft,
 ) -> Result<(), ReadFault>
     requires { IsSound (Some first) }
-    ensures draft { OnOk result ((left : List Token) → IsLeft (Some first) (plain tokens.old.left) left → IsDraft draft.old → IsDraft draft.new) }
-    ensures spelled { OnOk result ((all left : List Token) → IsLeft (Some first) (plain tokens.old.left) left → GoesOn all left draft.old → GoesOn all (plain tokens.new.left) draft.new) }
-    ensures fewer { OnOk result ((left : List Token) → IsLeft (Some first) (plain tokens.old.left) left → length (plain tokens.new.left) < length left) }
-    ensures fault { Meets (fault_behind tokens.old (symbol_step (progress_of draft.old) first)) result (fault_from tokens.new.last (progress_of draft.new) tokens.new.left) }
+    ensures draft { OnOk result ((left : List Token)
+        → IsLeft (Some first) (plain tokens.old.left) left → IsDraft draft.old
+        → IsDraft draft.new) }
+    ensures spelled { OnOk result ((all left : List Token)
+        → IsLeft (Some first) (plain tokens.old.left) left → GoesOn all left draft.old
+        → GoesOn all (plain tokens.new.left) draft.new) }
+    ensures fewer { OnOk result ((left : List Token)
+        → IsLeft (Some first) (plain tokens.old.left) left
+        → length (plain tokens.new.left) < length left) }
+    ensures fault { Meets (fault_behind tokens.old (symbol_step
+        (progress_of draft.old) first)) result (fault_from tokens.new.last
+        (progress_of draft.new) tokens.new.left) }
 {
     match add_statement(alloc, first, tokens, draft) {
         Ok(()) => Ok(()),

@@ -22,8 +22,10 @@ pub fn read_objective(
     alloc: Global,
     tokens: &mut Tokens<'_>,
 ) -> Result<(Objective, u64), PlaceFault>
-    ensures ok { IfOk result (λ r. IsReadObjective (plain tokens.old.left) (plain tokens.new.left) r.0 r.1) }
-    ensures fault { (p : Progress) → Finds (fault_at tokens.old p Head) result tokens.new (λ _. fault_at tokens.new p Start) }
+    ensures ok { IfOk result (λ r. IsReadObjective (plain tokens.old.left)
+        (plain tokens.new.left) r.0 r.1) }
+    ensures fault { (p : Progress)
+        → Finds (fault_at tokens.old p Head) result tokens.new (λ _. fault_at tokens.new p Start) }
 {
     let first = tokens.next();
     let terms = read_terms(alloc, first, tokens, InstanceLimit::Weights)?;
@@ -45,8 +47,12 @@ pub fn read_row(
 ) -> Result<(Linear, u64), PlaceFault>
     requires sound { IsSound (Some first) }
     requires begins { begins_row first ≡ true }
-    ensures ok { IfOk result (λ r. (left : List Token) → IsLeft (Some first) (plain tokens.old.left) left → IsReadRow left (plain tokens.new.left) r.0 r.1) }
-    ensures fault { (p : Progress) → Finds (fault_inside tokens.old p (symbol_behind Start first)) result tokens.new (λ _. fault_at tokens.new p Start) }
+    ensures ok { IfOk result (λ r. (left : List Token)
+        → IsLeft (Some first) (plain tokens.old.left) left
+        → IsReadRow left (plain tokens.new.left) r.0 r.1) }
+    ensures fault { (p : Progress)
+        → Finds (fault_inside tokens.old p (symbol_behind Start first)) result tokens.new
+        (λ _. fault_at tokens.new p Start) }
 {
     let terms = read_terms(alloc, Some(first), tokens, InstanceLimit::Row)?;
     let rel = read_relation(terms.next)?;
@@ -64,7 +70,8 @@ pub fn read_row(
 // Reads a relation.
 fn read_relation(symbol: Option<Symbol>) -> Result<Rel, PlaceFault>
     ensures ok { IfOk result (λ rel. symbol ≡ Some (Relation rel)) }
-    ensures fault { (sum : ℕ) → begins_term symbol ≡ false → Judges (taken_behind (Term Constraint sum) symbol) result (λ _. BehindRelation sum) }
+    ensures fault { (sum : ℕ) → begins_term symbol ≡ false
+        → Judges (taken_behind (Term Constraint sum) symbol) result (λ _. BehindRelation sum) }
 {
     match relation_of(symbol) {
         Some(rel) => Ok(rel),
@@ -75,9 +82,12 @@ fn read_relation(symbol: Option<Symbol>) -> Result<Rel, PlaceFault>
 // Reads a bound, whose magnitude is at most what there is room for.
 fn read_bound(tokens: &mut Tokens<'_>, room: u64) -> Result<i64, PlaceFault>
     requires { room < 2 ^ 63 }
-    ensures ok { IfOk result (λ bound. BeginsWith SpellsBound (plain tokens.old.left) (plain tokens.new.left) bound) }
+    ensures ok { IfOk result (λ bound. BeginsWith SpellsBound (plain tokens.old.left)
+        (plain tokens.new.left) bound) }
     ensures within { IfOk result (λ bound. unsigned_abs bound ≤ room) }
-    ensures fault { (sum : ℕ) (p : Progress) → room + sum + 1 ≡ 2 ^ 63 → Finds (fault_at tokens.old p (BehindRelation sum)) result tokens.new (λ _. fault_at tokens.new p Bound) }
+    ensures fault { (sum : ℕ) (p : Progress) → room + sum + 1 ≡ 2 ^ 63
+        → Finds (fault_at tokens.old p (BehindRelation sum)) result tokens.new
+        (λ _. fault_at tokens.new p Bound) }
 {
     let first = tokens.next();
     match sign_of(first) {
@@ -92,9 +102,11 @@ fn read_bound(tokens: &mut Tokens<'_>, room: u64) -> Result<i64, PlaceFault>
 // Reads a bound from behind its sign on.
 fn read_magnitude(minus: bool, symbol: Option<Symbol>, room: u64) -> Result<i64, PlaceFault>
     requires { room < 2 ^ 63 }
-    ensures ok { IfOk result (λ bound. (rest left : List Token) → IsLeft symbol rest left → (token : Token) × (left ≡ token ∷ rest) × SpellsMagnitude minus (token ∷ []) bound) }
+    ensures ok { IfOk result (λ bound. (rest left : List Token) → IsLeft symbol rest left
+        → (token : Token) × (left ≡ token ∷ rest) × SpellsMagnitude minus (token ∷ []) bound) }
     ensures within { IfOk result (λ bound. unsigned_abs bound ≤ room) }
-    ensures fault { (sum : ℕ) → room + sum + 1 ≡ 2 ^ 63 → Judges (taken_behind (BoundSign sum) symbol) result (λ _. Bound) }
+    ensures fault { (sum : ℕ) → room + sum + 1 ≡ 2 ^ 63
+        → Judges (taken_behind (BoundSign sum) symbol) result (λ _. Bound) }
 {
     match number_of(symbol) {
         Some(value) => {

@@ -28,7 +28,8 @@ pub enum Symbol {
 
 /// Whether a token is a minus, if it is a sign.
 pub fn sign_of(symbol: Option<Symbol>) -> Option<bool>
-    ensures { MatchOption result ((minus : Bool) → symbol ≡ Some (Sign minus) → ⊥) (λ minus. symbol ≡ Some (Sign minus)) }
+    ensures { MatchOption result ((minus : Bool) → symbol ≡ Some (Sign minus)
+        → ⊥) (λ minus. symbol ≡ Some (Sign minus)) }
 {
     match symbol {
         Some(Symbol::Sign { minus }) => Some(minus),
@@ -38,7 +39,8 @@ pub fn sign_of(symbol: Option<Symbol>) -> Option<bool>
 
 /// The value of a token, if it is digits.
 pub fn number_of(symbol: Option<Symbol>) -> Option<Option<u64>>
-    ensures { MatchOption result ((value : Option ℕ) → symbol ≡ Some (Number value) → ⊥) (λ value. symbol ≡ Some (Number value)) }
+    ensures { MatchOption result ((value : Option ℕ) → symbol ≡ Some (Number value)
+        → ⊥) (λ value. symbol ≡ Some (Number value)) }
 {
     match symbol {
         Some(Symbol::Number { value }) => Some(value),
@@ -48,7 +50,8 @@ pub fn number_of(symbol: Option<Symbol>) -> Option<Option<u64>>
 
 /// The relation of a token, if it is one.
 pub fn relation_of(symbol: Option<Symbol>) -> Option<Rel>
-    ensures { MatchOption result ((rel : Rel) → symbol ≡ Some (Relation rel) → ⊥) (λ rel. symbol ≡ Some (Relation rel)) }
+    ensures { MatchOption result ((rel : Rel) → symbol ≡ Some (Relation rel)
+        → ⊥) (λ rel. symbol ≡ Some (Relation rel)) }
 {
     match symbol {
         Some(Symbol::Relation { rel }) => Some(rel),

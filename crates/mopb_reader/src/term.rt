@@ -25,10 +25,16 @@ pub fn read_term(
 ) -> Result<(i64, Lit), PlaceFault>
     requires room { room < 2 ^ 63 }
     requires sound { IsSound first }
-    ensures ok { IfOk result (λ term. (left : List Token) → IsLeft first (plain tokens.old.left) left → BeginsWith SpellsTerm left (plain tokens.new.left) term) }
+    ensures ok { IfOk result (λ term. (left : List Token)
+        → IsLeft first (plain tokens.old.left) left
+        → BeginsWith SpellsTerm left (plain tokens.new.left) term) }
     ensures within { IfOk result (λ term. IsTermWithin room term) }
     ensures fewer { length (plain tokens.new.left) ≤ length (plain tokens.old.left) }
-    ensures fault { (kind : Kind) (sum : ℕ) (missing : BadKind) (p : Progress) → limit ≡ limit_of kind → room + sum + 1 ≡ 2 ^ 63 → begins_term first ≡ true → Finds (fault_inside tokens.old p (taken_begun kind sum missing first)) result tokens.new (λ term. fault_at tokens.new p (Term kind (sum + unsigned_abs term.0))) }
+    ensures fault { (kind : Kind) (sum : ℕ) (missing : BadKind) (p : Progress)
+        → limit ≡ limit_of kind → room + sum + 1 ≡ 2 ^ 63 → begins_term first ≡ true
+        → Finds (fault_inside tokens.old p
+        (taken_begun kind sum missing first)) result tokens.new (λ term. fault_at tokens.new p
+        (Term kind (sum + unsigned_abs term.0))) }
 {
     match sign_of(first) {
         Some(minus) => {
@@ -49,10 +55,16 @@ fn read_unsigned(
 ) -> Result<(i64, Lit), PlaceFault>
     requires room { room < 2 ^ 63 }
     requires sound { IsSound first }
-    ensures ok { IfOk result (λ term. (left : List Token) → IsLeft first (plain tokens.old.left) left → BeginsWith (SpellsUnsigned minus) left (plain tokens.new.left) term) }
+    ensures ok { IfOk result (λ term. (left : List Token)
+        → IsLeft first (plain tokens.old.left) left
+        → BeginsWith (SpellsUnsigned minus) left (plain tokens.new.left) term) }
     ensures within { IfOk result (λ term. IsTermWithin room term) }
     ensures fewer { length (plain tokens.new.left) ≤ length (plain tokens.old.left) }
-    ensures fault { (kind : Kind) (sum : ℕ) (p : Progress) → limit ≡ limit_of kind → room + sum + 1 ≡ 2 ^ 63 → Finds (fault_inside tokens.old p (taken_behind (Sign kind sum) first)) result tokens.new (λ term. fault_at tokens.new p (Term kind (sum + unsigned_abs term.0))) }
+    ensures fault { (kind : Kind) (sum : ℕ) (p : Progress) → limit ≡ limit_of kind
+        → room + sum + 1 ≡ 2 ^ 63
+        → Finds (fault_inside tokens.old p (taken_behind
+        (Sign kind sum) first)) result tokens.new (λ term. fault_at tokens.new p (Term kind
+        (sum + unsigned_abs term.0))) }
 {
     match number_of(first) {
         Some(value) => {
@@ -86,7 +98,9 @@ pub fn magnitude_within(
     limit: InstanceLimit,
 ) -> Result<u64, PlaceFault>
     ensures ok { IfOk result (λ magnitude. (value ≡ Some magnitude) × (magnitude ≤ room)) }
-    ensures fault { (sum : ℕ) (place : ℕ → Place) → room + sum + 1 ≡ 2 ^ 63 → Judges (value_counted limit sum value place) result (λ magnitude. place (sum + magnitude)) }
+    ensures fault { (sum : ℕ) (place : ℕ → Place) → room + sum + 1 ≡ 2 ^ 63
+        → Judges (value_counted limit sum value place) result (λ magnitude. place
+        (sum + magnitude)) }
 {
     match value {
         None => Err(PlaceFault::Bad(BadKind::NumberTooWide)),
@@ -102,9 +116,11 @@ pub fn magnitude_within(
 // Reads a literal, whose variable is at most the largest.
 fn read_literal(symbol: Option<Symbol>) -> Result<Lit, PlaceFault>
     requires { IsSound symbol }
-    ensures ok { IfOk result (λ l. (rest left : List Token) → IsLeft symbol rest left → (token : Token) × (left ≡ token ∷ rest) × SpellsLiteral token l) }
+    ensures ok { IfOk result (λ l. (rest left : List Token) → IsLeft symbol rest left
+        → (token : Token) × (left ≡ token ∷ rest) × SpellsLiteral token l) }
     ensures within { IfOk result (λ l. l.var ≤ 2 ^ 24) }
-    ensures fault { (kind : Kind) (sum : ℕ) → Judges (taken_behind (Coefficient kind sum) symbol) result (λ _. Term kind sum) }
+    ensures fault { (kind : Kind) (sum : ℕ)
+        → Judges (taken_behind (Coefficient kind sum) symbol) result (λ _. Term kind sum) }
 {
     match symbol {
         Some(Symbol::Literal { var: None, .. }) => Err(PlaceFault::Bad(BadKind::NumberTooWide)),

@@ -32,10 +32,15 @@ pub fn read_terms(
     limit: InstanceLimit,
 ) -> Result<Terms, PlaceFault>
     requires { IsSound first }
-    ensures ok { IfOk result (λ t. (left : List Token) → IsLeft first (plain tokens.old.left) left → BeginsWithTerms left (plain tokens.new.left) t.next t.items) }
+    ensures ok { IfOk result (λ t. (left : List Token)
+        → IsLeft first (plain tokens.old.left) left
+        → BeginsWithTerms left (plain tokens.new.left) t.next t.items) }
     ensures sums { IfOk result (λ t. AreSummed t) }
     ensures none { IfOk result (λ t. t.items ≡ [] → t.next ≡ first) }
-    ensures fault { (kind : Kind) (p : Progress) → limit ≡ limit_of kind → Finds (fault_inside tokens.old p (taken_behind (place_of kind []) first)) result tokens.new (λ t. fault_inside tokens.new p (taken_behind (place_of kind t.items) t.next)) }
+    ensures fault { (kind : Kind) (p : Progress) → limit ≡ limit_of kind
+        → Finds (fault_inside tokens.old p (taken_behind
+        (place_of kind []) first)) result tokens.new (λ t. fault_inside tokens.new p
+        (taken_behind (place_of kind t.items) t.next)) }
 {
     let mut items = Items::new(alloc);
     let mut sum = 0u64;

@@ -23,18 +23,22 @@ pub trait Oracle: Recorder {
         requires assumptions { Reaches (Self.seen self.old).problem (Self.seen self.old).lines
             (λ s. AreAssumptions s.vars assumptions.now) }
         requires earned { AreEarned (Self.seen self.old).problem (Self.seen self.old).lines }
-        requires within { IsWithin (Self.seen self.old).limit (Self.seen self.old).problem (Self.seen self.old).lines }
+        requires within { IsWithin (Self.seen self.old).limit (Self.seen self.old).problem
+            (Self.seen self.old).lines }
         ensures answer { IfOk result
             (IsAnswer (Self.seen self.old).problem (Self.seen self.new).lines assumptions.now) }
-        ensures fault { IfErr result (λ f. HasFault f (Self.seen self.old).limit (Self.seen self.old).problem
-            (Self.seen self.new).lines (Rose (Self.seen self.old).faults (Self.seen self.new).faults)
+        ensures fault { IfErr result (λ f. HasFault f (Self.seen self.old).limit
+            (Self.seen self.old).problem (Self.seen self.new).lines
+            (Rose (Self.seen self.old).faults (Self.seen self.new).faults)
             (Self.seen self.new).broken) }
         ensures whole { OnOk result ((Self.seen self.new).broken ≡ false) }
         ensures lines { AddsSearchLines (Self.seen self.old).problem
             (Self.seen self.old).lines (Self.seen self.new).lines }
-        ensures implied { ImpliesCoreAlone (Self.seen self.old).lines (Self.seen self.new).lines result }
+        ensures implied { ImpliesCoreAlone (Self.seen self.old).lines
+            (Self.seen self.new).lines result }
         ensures earned { IsOrderly result
             → AreEarned (Self.seen self.old).problem (Self.seen self.new).lines }
-        ensures within { IsWithin (Self.seen self.old).limit (Self.seen self.old).problem (Self.seen self.new).lines }
+        ensures within { IsWithin (Self.seen self.old).limit (Self.seen self.old).problem
+            (Self.seen self.new).lines }
         ensures keeps { KeepsRecorder (Self.seen self.old) (Self.seen self.new) };
 }

@@ -25,7 +25,8 @@ impl Constraint {
         degree: i128,
     ) -> Result<Constraint, LinFault>
         ensures normal_form { IfOk result (λ c. IsNormalForm c terms.now degree) }
-        ensures overflow { IsErrOf result LinFault.Overflow ↔ (2 ^ 99 < magnitude terms.now degree) }
+        ensures overflow { IsErrOf result LinFault.Overflow
+            ↔ (2 ^ 99 < magnitude terms.now degree) }
     {
         if !is_small(terms, degree) {
             return Err(LinFault::Overflow);

@@ -131,7 +131,8 @@ fn append_solution(
     rows: &[u64],
 ) -> Result<(), NoMemory>
     ensures { OnOk result
-        (text.new.items ≡ text.old.items ++ after_spaces (solution_words model.now cut.now rows.now)) }
+        (text.new.items ≡ text.old.items ++ after_spaces
+        (solution_words model.now cut.now rows.now)) }
 {
     append_literals(text, buffer, model)?;
     append(text, b" :")?;

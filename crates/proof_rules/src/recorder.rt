@@ -48,7 +48,8 @@ pub trait Recorder {
         requires formed { IsWellFormed line.now }
         requires legal { MayBeAdded (seen self.old).problem (seen self.old).lines line.now }
         requires whole { (seen self.old).broken ≡ false }
-        ensures added { OnOk result ((seen self.new).lines ≡ (seen self.old).lines ++ line.now ∷ []) }
+        ensures added { OnOk result ((seen self.new).lines
+            ≡ (seen self.old).lines ++ line.now ∷ []) }
         ensures id { IfOk result (IsNextId (seen self.old).problem (seen self.old).lines) }
         ensures whole { OnOk result ((seen self.new).broken ≡ false) }
         ensures kept { OnErr result ((seen self.new).lines ≡ (seen self.old).lines) }

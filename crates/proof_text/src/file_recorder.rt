@@ -81,8 +81,10 @@ impl<'a, H: Shelf> FileRecorder<'a, H> {
         ensures begun { IfOk result (λ r. (H.world r.shelf.now).files
             ≡ with_file (H.world shelf.old).files name.entry.now header_line) }
         ensures said { IfOk result (λ r. (H.world r.shelf.now).said ≡ (H.world shelf.old).said) }
-        ensures warned { IfOk result (λ r. (H.world r.shelf.now).warned ≡ (H.world shelf.old).warned) }
-        ensures later { IfOk result (λ r. NoneFell (H.world shelf.old).faults (H.world r.shelf.now).faults) }
+        ensures warned { IfOk result (λ r. (H.world r.shelf.now).warned
+            ≡ (H.world shelf.old).warned) }
+        ensures later { IfOk result (λ r. NoneFell (H.world shelf.old).faults
+            (H.world r.shelf.now).faults) }
         ensures name { IfOk result (λ r. r.name ≡ name.entry.now) }
         ensures problem { IfOk result (λ r. r.problem ≡ problem.now) }
         ensures empty { IfOk result (λ r. r.lines ≡ []) }
@@ -91,12 +93,15 @@ impl<'a, H: Shelf> FileRecorder<'a, H> {
             (λ e. e.shelf.ghost_name ≡ shelf.entry.ghost_name) }
         ensures refused { IfErr result
             (λ e. IsNotBegun (H.world shelf.old).files (H.world e.shelf.now).files name.entry.now) }
-        ensures said_after { IfErr result (λ e. (H.world e.shelf.now).said ≡ (H.world shelf.old).said) }
-        ensures warned_after { IfErr result (λ e. (H.world e.shelf.now).warned ≡ (H.world shelf.old).warned) }
+        ensures said_after { IfErr result (λ e. (H.world e.shelf.now).said
+            ≡ (H.world shelf.old).said) }
+        ensures warned_after { IfErr result (λ e. (H.world e.shelf.now).warned
+            ≡ (H.world shelf.old).warned) }
         ensures later_after { IfErr result
             (λ e. NoneFell (H.world shelf.old).faults (H.world e.shelf.now).faults) }
         ensures cause { IfErr result (λ e. e.fault ≡ RecordFault.Failed
-            → WritingFailed (H.world shelf.old).faults (H.world e.shelf.now).faults name.entry.now) }
+            → WritingFailed (H.world shelf.old).faults
+            (H.world e.shelf.now).faults name.entry.now) }
         ensures never_full { IfErr result (λ e. e.fault ≢ RecordFault.Full) }
     {
         let started = start(alloc, problem);
@@ -211,7 +216,8 @@ impl<'a, H: Shelf> Recorder for FileRecorder<'a, H> {
 fn begin_log<H: Shelf>(shelf: &mut H, name: &str) -> Result<(), RecordFault>
     ensures ok { OnOk result
         ((H.world shelf.new).files ≡ with_file (H.world shelf.old).files name.now header_line) }
-    ensures err { OnErr result (IsNotBegun (H.world shelf.old).files (H.world shelf.new).files name.now) }
+    ensures err { OnErr result (IsNotBegun (H.world shelf.old).files
+        (H.world shelf.new).files name.now) }
     ensures said { (H.world shelf.new).said ≡ (H.world shelf.old).said }
     ensures warned { (H.world shelf.new).warned ≡ (H.world shelf.old).warned }
     ensures later { NoneFell (H.world shelf.old).faults (H.world shelf.new).faults }
@@ -247,14 +253,17 @@ fn commit<H: Shelf>(
     state: &mut ProofState,
     line: &Line,
 ) -> Result<u64, RecordFault>
-    requires there { IsTold (H.world shelf.old).files → IsSome (content (H.world shelf.old).files name.now) }
+    requires there { IsTold (H.world shelf.old).files
+        → IsSome (content (H.world shelf.old).files name.now) }
     requires fits { Fits problem.now state.old }
     requires formed { IsWellFormed line.now }
     requires legal { IsLegal problem.now state.old line.now }
     ensures written { OnOk result
-        ((H.world shelf.new).files ≡ with_appended (H.world shelf.old).files name.now (printed line.now)) }
+        ((H.world shelf.new).files ≡ with_appended (H.world shelf.old).files name.now
+        (printed line.now)) }
     ensures partly { OnErr result
-        (IsPutPartly (H.world shelf.old).files (H.world shelf.new).files name.now (printed line.now)) }
+        (IsPutPartly (H.world shelf.old).files (H.world shelf.new).files name.now
+        (printed line.now)) }
     ensures id { IfOk result (λ id. id ≡ state.old.next_id) }
     ensures next { OnOk result (IsNext problem.now state.old line.now state.new) }
     ensures fits { OnOk result (Fits problem.now state.new) }
@@ -279,11 +288,14 @@ fn write_line<H: Shelf>(
     text: &mut Vec<u8>,
     line: &Line,
 ) -> Result<(), RecordFault>
-    requires there { IsTold (H.world shelf.old).files → IsSome (content (H.world shelf.old).files name.now) }
+    requires there { IsTold (H.world shelf.old).files
+        → IsSome (content (H.world shelf.old).files name.now) }
     ensures written { OnOk result
-        ((H.world shelf.new).files ≡ with_appended (H.world shelf.old).files name.now (printed line.now)) }
+        ((H.world shelf.new).files ≡ with_appended (H.world shelf.old).files name.now
+        (printed line.now)) }
     ensures partly { OnErr result
-        (IsPutPartly (H.world shelf.old).files (H.world shelf.new).files name.now (printed line.now)) }
+        (IsPutPartly (H.world shelf.old).files (H.world shelf.new).files name.now
+        (printed line.now)) }
     ensures others { without_file (H.world shelf.new).files name.now
         ≡ without_file (H.world shelf.old).files name.now }
     ensures said { (H.world shelf.new).said ≡ (H.world shelf.old).said }

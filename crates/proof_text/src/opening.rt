@@ -36,7 +36,8 @@ pub fn opening_of(first: &[u8], piece: &[u8]) -> Opening
 }
 
 fn begins_with(bytes: &[u8], prefix: &[u8]) -> bool
-    ensures { MatchBool result (IsPrefixOf prefix.now bytes.now) (IsPrefixOf prefix.now bytes.now → ⊥) }
+    ensures { MatchBool result (IsPrefixOf prefix.now bytes.now)
+        (IsPrefixOf prefix.now bytes.now → ⊥) }
 {
     bytes.starts_with(prefix)
 }

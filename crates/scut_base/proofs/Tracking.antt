@@ -1,11 +1,13 @@
 -- The places of set values, as values are set, cleared and added.
-use Rattle.std.proofs.Common.{◌≡◌, ◌≢◌, ◌⊎◌, ℕ, zero, ◌+◌, ◌<◌, ◌≤◌, Bool, true, List, length, get_or, set, replicate, Option, None, Some, cond, refl, arith, ap, sym, ◌∙◌, ⊎_elim, inl, inr, count_by, length-set, get_or-set_other, get_or-set_same}
+use Rattle.std.proofs.Common.{◌≡◌, ◌≢◌, ◌⊎◌, ℕ, zero, ◌+◌, ◌-◌, ◌<◌, ◌≤◌, ◌++◌, Bool, true, List, length, get_or, set, replicate, Option, None, Some, cond, refl, arith, ap, sym, ◌∙◌, ⊎_elim, inl, inr, count_by, length-set, get_or-set_other, get_or-set_same}
+use Rattle.std.proofs.Math.ListN.{get_or-eq_default}
 use Rattle.std.specs.Prelude.{option_map}
 use Rattle.std.specs.Option.{is_some}
-use Rattle.std.proofs.lemmas.Bool.{cases_eq}
-use Rattle.std.proofs.lemmas.List.{same_lists, get_or-replicate, length-replicate, get_or_default}
-use Rattle.std.proofs.lemmas.List.Sums.{sum_by-set, count_by-le-length}
+use Rattle.std.proofs.lemmas.Bool.{cases_eq, cases_lt}
+use Rattle.std.proofs.lemmas.List.{same_lists, get_or-append_right, get_or_append_left, get_or-replicate, length-append, length-replicate, get_or_default}
+use Rattle.std.proofs.lemmas.List.Sums.{sum_by-append, sum_by-set, count_by-le-length}
 use Rattle.scut_base.specs.Tracked.{IsTracked}
+use Rattle.scut_base.proofs.Lists.{sum_by_zero}
 
 abbrev Values : Type 0
 Values = List (Option Bool)
@@ -48,6 +50,47 @@ tracked_set values places n i b is short open' = record {
         let count = is.count in
         let below = count_below values i short open' in
         ap (λ (m : ℕ). get_or (set places n i) m 0) e ∙ get_or-set_same places n i 0 (omega arith)
+
+-- room for more places changes nothing
+pub tracked_with_room : (values : Values) (old new : List ℕ) (n : ℕ) → IsTracked values old n →
+    length old ≤ length new → ((j : ℕ) → j < length old → get_or new j 0 ≡ get_or old j 0) → IsTracked values new n
+tracked_with_room values old new n is longer kept = record {
+  room = let room = is.room in omega arith;
+  count = is.count;
+  within = λ j less. let same = kept j (listed j less) in let w = is.within j less in omega arith;
+  listed = λ k less. ⊎_elim
+      (λ (o : get_or values k None ≡ None). inl o)
+      (λ (f : (j : ℕ) × (j < n) × (get_or old j 0 ≡ k)). inr (f.0, f.1, kept f.0 (listed f.0 f.1) ∙ f.2))
+      (is.listed k less);
+}
+  where
+    listed : (j : ℕ) → j < n → j < length old
+    listed j less =
+        let room = is.room in let count = is.count in let most = count_by-le-length is_some values in omega arith
+
+-- nor do more values that are open
+pub tracked_longer : (values : Values) (places : List ℕ) (n more : ℕ) → IsTracked values places n →
+    length values + more ≤ length places → IsTracked (values ++ replicate more None) places n
+tracked_longer values places n more is room = record {
+  room = omega (arith, length-append values (replicate more None), length-replicate {A = Option Bool} more None);
+  count = let own = is.count in
+      let both = sum_by-append (λ x. cond (is_some x) 1 0) values (replicate more None) in
+      let none = sum_by_zero (λ x. cond (is_some x) 1 0) (replicate more None) (λ k d short. ap (λ (x : Option Bool). cond (is_some x) 1 0) (get_or-replicate more k None d (omega (arith, short, length-replicate {A = Option Bool} more None)))) in
+      omega arith;
+  within = λ j less. let w = is.within j less in omega (arith, length-append values (replicate more None));
+  listed = λ k less. ⊎_elim
+      (λ (short : k < length values). ⊎_elim
+      (λ (o : get_or values k None ≡ None). inl (get_or_append_left values (replicate more None) None k short ∙ o))
+      (λ (f : (j : ℕ) × (j < n) × (get_or places j 0 ≡ k)). inr f) (is.listed k short))
+      (λ (long : length values ≤ k). inl (open_after k long)) (cases_lt k (length values));
+}
+  where
+    open_in : (m j : ℕ) → get_or {A = Option Bool} (replicate m None) j None ≡ None
+    open_in m j = ⊎_elim (λ (short : j < m). get_or-replicate m j None None short)
+        (λ (long : m ≤ j). get_or-eq_default (replicate m None) None (omega (arith, length-replicate {A = Option Bool} m None))) (cases_lt j m)
+
+    open_after : (k : ℕ) → length values ≤ k → get_or (values ++ replicate more None) k None ≡ None
+    open_after k long = get_or-append_right values (replicate more None) (length values) k None refl long ∙ open_in more (k - length values)
 
 -- an open literal's variable has no value
 pub none_under : (f : Bool → Bool) (o : Option Bool) → option_map f o ≡ None → o ≡ None

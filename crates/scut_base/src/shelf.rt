@@ -81,9 +81,11 @@ pub trait Shelf {
 
     /// Makes the file anew, empty. After a fault it is as before or empty.
     fn begin(&mut self, name: &str) -> Result<(), ShelfFault>
-        ensures begun { OnOk result ((world self.new).files ≡ with_file (world self.old).files name.now []) }
+        ensures begun { OnOk result ((world self.new).files ≡ with_file
+            (world self.old).files name.now []) }
         ensures fault { OnErr result
-            (IsTouched (world self.old).files (world self.new).files name.now (λ bytes. bytes ≡ [])) }
+            (IsTouched (world self.old).files (world self.new).files name.now
+            (λ bytes. bytes ≡ [])) }
         ensures said { (world self.new).said ≡ (world self.old).said }
         ensures warned { (world self.new).warned ≡ (world self.old).warned }
         ensures cause { HasCause ShelfCall.Begin name.now
@@ -91,7 +93,8 @@ pub trait Shelf {
 
     /// Puts a piece after the bytes of a file that is there. After a fault a prefix of it was put.
     fn append(&mut self, name: &str, piece: &[u8]) -> Result<(), ShelfFault>
-        requires { IsTold (world self.old).files → IsSome (content (world self.old).files name.now) }
+        requires { IsTold (world self.old).files
+            → IsSome (content (world self.old).files name.now) }
         ensures appended { OnOk result
             ((world self.new).files ≡ with_appended (world self.old).files name.now piece.now) }
         ensures fault { OnErr result
@@ -103,19 +106,23 @@ pub trait Shelf {
 
     /// Puts a piece out. After a fault a prefix of it was put out.
     fn say(&mut self, piece: &[u8]) -> Result<(), ShelfFault>
-        ensures said { OnOk result ((world self.new).said ≡ followed (world self.old).said piece.now) }
+        ensures said { OnOk result ((world self.new).said ≡ followed
+            (world self.old).said piece.now) }
         ensures fault { OnErr result
             (IsPartlyFollowed (world self.old).said (world self.new).said piece.now) }
         ensures files { (world self.new).files ≡ (world self.old).files }
         ensures warned { (world self.new).warned ≡ (world self.old).warned }
-        ensures cause { HasCause ShelfCall.Say [] (world self.old).faults (world self.new).faults result };
+        ensures cause { HasCause ShelfCall.Say [] (world self.old).faults
+            (world self.new).faults result };
 
     /// Puts a piece out as a warning. After a fault a prefix of it was put out.
     fn warn(&mut self, piece: &[u8]) -> Result<(), ShelfFault>
-        ensures warned { OnOk result ((world self.new).warned ≡ followed (world self.old).warned piece.now) }
+        ensures warned { OnOk result ((world self.new).warned ≡ followed
+            (world self.old).warned piece.now) }
         ensures fault { OnErr result
             (IsPartlyFollowed (world self.old).warned (world self.new).warned piece.now) }
         ensures files { (world self.new).files ≡ (world self.old).files }
         ensures said { (world self.new).said ≡ (world self.old).said }
-        ensures cause { HasCause ShelfCall.Warn [] (world self.old).faults (world self.new).faults result };
+        ensures cause { HasCause ShelfCall.Warn [] (world self.old).faults
+            (world self.new).faults result };
 }

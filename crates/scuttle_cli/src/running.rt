@@ -20,7 +20,8 @@ pub fn run<H: Shelf>(alloc: Global, words: &[String], shelf: &mut H) -> Status
         (H.world shelf.new) }
     ensures complete { Completes (request_of (map string_bytes words.now)) result
         (H.world shelf.old) (H.world shelf.new) }
-    ensures warned { IsPartlyFollowed (H.world shelf.old).warned (H.world shelf.new).warned (warning_text result) }
+    ensures warned { IsPartlyFollowed (H.world shelf.old).warned (H.world shelf.new).warned
+        (warning_text result) }
     ensures later { NoneFell (H.world shelf.old).faults (H.world shelf.new).faults }
 {
     let (status, _) = run_and_warn(alloc, words, shelf);

@@ -11,7 +11,7 @@ use Rattle.front_text.specs.Spelling.{Spells}
 use Rattle.instance.specs.declared.fault.InstanceLimit.TheVariants.{Bytes}
 use Rattle.instance.specs.Shape.{InstanceValue, IsWithinLimits}
 use Rattle.instance_normal.specs.NormalForm.{IsNormalFormOf}
-use Rattle.pb_lin.specs.Problem.{ProblemValue, IsProblem}
+use Rattle.pb_lin.specs.Problem.{ProblemValue}
 use Rattle.log_checker.specs.declared.fault.CheckFault.TheVariants.{Refused as LineRefused, ListRefused}
 use Rattle.log_checker.specs.Accepted.{IsAccepted, IsRightList, IsEndedProof, problem_vectors}
 use Rattle.log_checker.proofs.AcceptedFront.{accepted_front}
@@ -56,18 +56,16 @@ pub record IsListed (files : Option Files) (format : Format) (input list : List 
   pub listed : HasText files list (λ listed. (length listed < 2 ^ 32) × Spells listed true entries)
   pub right : IsRightList i entries
   pub normal : IsNormalFormOf i p
-  pub within : IsProblem p
   pub limits : IsWithinLimits i
   pub vectors_are : vectors ≡ problem_vectors i entries
 
 pub is_listed : (files now : Option Files) (format : Format) (input list : List ℕ) (i : InstanceValue) (entries slice : List Entry) (p made : ProblemValue) (vectors given : List (List ℤ)) → now ≡ files → HasText files input (IsTextOf format i) → HasText now list (λ listed. (length listed < 2 ^ 32) × Spells listed true entries)
-    → IsRightList i entries → IsNormalFormOf i made → IsProblem made → IsWithinLimits i → p ≡ made → vectors ≡ given → given ≡ problem_vectors i slice → slice ≡ entries → IsListed files format input list i entries p vectors
-is_listed files now format input list i entries slice p made vectors given same read listed right normal within limits is vectors_is given_is slice_is = record {
+    → IsRightList i entries → IsNormalFormOf i made → IsWithinLimits i → p ≡ made → vectors ≡ given → given ≡ problem_vectors i slice → slice ≡ entries → IsListed files format input list i entries p vectors
+is_listed files now format input list i entries slice p made vectors given same read listed right normal limits is vectors_is given_is slice_is = record {
   read = read;
   listed = subst (λ (fs : Option Files). HasText fs list (λ listed. (length listed < 2 ^ 32) × Spells listed true entries)) same listed;
   right = right;
   normal = subst (IsNormalFormOf i) (sym is) normal;
-  within = subst IsProblem (sym is) within;
   limits = limits;
   vectors_are = vectors_is ∙ given_is ∙ ap (problem_vectors i) slice_is;
 }
@@ -125,7 +123,6 @@ accepted files format input list log i entries p vectors known ended =
           right = known.right;
           problem = p;
           normal = known.normal;
-          within = known.within;
           proof = subst (λ (vs : List (List ℤ)). IsEndedProof p vs bytes) known.vectors_are proof;
         } in
         record { taken = small; accepted = both; front = accepted_front i listed bytes known.limits both }

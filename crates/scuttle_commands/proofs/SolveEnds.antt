@@ -15,7 +15,7 @@ use Rattle.front_text.specs.Spelling.{HasCosts}
 use Rattle.front_text.proofs.Lines.{concat-list_lines}
 use Rattle.instance.specs.Shape.{InstanceValue, IsWithinLimits}
 use Rattle.instance.specs.ParetoFront.{AreProblemVectors, IsFront, IsProblemVector}
-use Rattle.pb_lin.specs.Problem.{ProblemValue, IsProblem}
+use Rattle.pb_lin.specs.Problem.{ProblemValue}
 use Rattle.proof_text.specs.LogText.{log_text}
 use Rattle.log_checker.specs.Accepted.{IsAccepted}
 use Rattle.log_checker.proofs.AcceptedFront.{entries_are_front}
@@ -143,7 +143,7 @@ module _ (format : Format) (input list log : List ℕ) (limit : Option ℕ) (bef
               (subst (λ (n : ℕ). IsPartlyFollowed mid_said after.said (ending_line n found.ending)) counted partly);
         })
 
-        module _ (size : ℕ) (counted : size ≡ length entries) (limits : IsWithinLimits i) (within : IsProblem p)
+        module _ (size : ℕ) (counted : size ≡ length entries) (limits : IsWithinLimits i)
             (files : after.files ≡ with_file done list (concat lines)) (said : after.said ≡ followed before.said (ending_line size found.ending)) where
           abbrev accepted : HasEnded p logged.lines → IsAccepted i (list_text true entries) logged.proof
           accepted ended = record {
@@ -152,7 +152,6 @@ module _ (format : Format) (input list log : List ℕ) (limit : Option ℕ) (bef
             right = logged.covers.right;
             problem = p;
             normal = of_file.normal;
-            within = within;
             proof = record {
               lines = logged.lines;
               spelled = logged.spelled;

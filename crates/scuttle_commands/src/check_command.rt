@@ -34,8 +34,6 @@ pub fn check<H: Shelf>(
     let inst = read_instance(alloc, format, input, shelf)?;
     let found = read_right_list(alloc, &inst, list, shelf)?;
     let problem = normalise(alloc, &inst)?;
-    // Tells that the problem is within its limits.
-    let _vars = problem.vars();
     let vectors = problem_vectors(alloc, &inst, found.entries.as_slice())?;
     let checker = Checker::new(alloc, &problem, vectors)?;
     judge_log(alloc, checker, log, shelf)?;

@@ -50,7 +50,8 @@ fn read_small<H: Shelf>(
     input: &str,
     shelf: &mut H,
 ) -> Result<Instance, Status>
-    ensures read { IfOk result (λ inst. IsInstanceOf (H.world shelf.old).files format input.now inst) }
+    ensures read { IfOk result (λ inst. IsInstanceOf
+        (H.world shelf.old).files format input.now inst) }
     ensures refused { IfErr result (λ status. (list : List ℕ) →
         FrontAnswers format input.now list status (H.world shelf.old) (H.world shelf.new)) }
     ensures files { (H.world shelf.new).files ≡ (H.world shelf.old).files }

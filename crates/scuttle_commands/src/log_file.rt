@@ -29,7 +29,8 @@ pub fn judge_log<H: Shelf>(
 ) -> Result<(), Status>
     requires stands { StandsFor checker [] }
     requires open { checker.finished ≡ false }
-    ensures ended { OnOk result (HasText (H.world shelf.old).files log.now (λ bytes. (length bytes < 2 ^ 62)
+    ensures ended { OnOk result (HasText (H.world shelf.old).files log.now (λ bytes.
+        (length bytes < 2 ^ 62)
         × IsEndedProof checker.problem checker.vectors bytes)) }
     ensures stop { IfErr result (λ status.
         IsLogStop checker.problem checker.vectors log.now status
@@ -53,7 +54,8 @@ fn feed_log<H: Shelf>(
 ) -> Result<(), Status>
     requires stands { StandsFor checker.old [] }
     requires open { checker.old.finished ≡ false }
-    ensures ended { OnOk result (HasText (H.world shelf.old).files log.now (λ bytes. (length bytes < 2 ^ 62)
+    ensures ended { OnOk result (HasText (H.world shelf.old).files log.now (λ bytes.
+        (length bytes < 2 ^ 62)
         × IsEndedProof checker.old.problem checker.old.vectors bytes)) }
     ensures stop { IfErr result (λ status.
         IsLogStop checker.old.problem checker.old.vectors log.now status
@@ -94,9 +96,11 @@ fn feed_piece<H: Shelf>(
     requires fed { IsFedSoFar (H.world shelf.old).files log.now checker.old at }
     requires room { at < 2 ^ 62 - 1 }
     requires buffer { vec_len buffer.old ≡ 65536 }
-    ensures more { IfOk result (λ n. IsFedSoFar (H.world shelf.old).files log.now checker.new (at + n)) }
+    ensures more { IfOk result (λ n. IsFedSoFar (H.world shelf.old).files log.now checker.new
+        (at + n)) }
     ensures within { IfOk result (λ n. at + n < 2 ^ 62) }
-    ensures whole { IfOk result (λ n. n ≡ 0 → IsFedWhole (H.world shelf.old).files log.now checker.new at) }
+    ensures whole { IfOk result (λ n. n ≡ 0
+        → IsFedWhole (H.world shelf.old).files log.now checker.new at) }
     ensures stop { IfErr result (λ status.
         IsLogStop checker.old.problem checker.old.vectors log.now status
         (H.world shelf.old).files (H.world shelf.old).faults (H.world shelf.new).faults) }
@@ -126,7 +130,8 @@ fn has_more<H: Shelf>(
     ensures more { IfOk result (λ more. MatchBool more
         (HasText (H.world shelf.old).files log.now (λ bytes. at < length bytes))
         (HasText (H.world shelf.old).files log.now (λ bytes. length bytes ≤ at))) }
-    ensures cause { HasCause ShelfCall.Read log.now (H.world shelf.old).faults (H.world shelf.new).faults result }
+    ensures cause { HasCause ShelfCall.Read log.now (H.world shelf.old).faults
+        (H.world shelf.new).faults result }
     ensures files { (H.world shelf.new).files ≡ (H.world shelf.old).files }
     ensures said { (H.world shelf.new).said ≡ (H.world shelf.old).said }
     ensures warned { (H.world shelf.new).warned ≡ (H.world shelf.old).warned }

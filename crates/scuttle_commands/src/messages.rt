@@ -22,7 +22,8 @@ pub fn say_complete<H: Shelf>(alloc: Global, size: usize, shelf: &mut H) -> Resu
         (IsPartlyFollowed (H.world shelf.old).said (H.world shelf.new).said (complete_line size)) }
     ensures files { (H.world shelf.new).files ≡ (H.world shelf.old).files }
     ensures warned { (H.world shelf.new).warned ≡ (H.world shelf.old).warned }
-    ensures cause { HasCause ShelfCall.Say [] (H.world shelf.old).faults (H.world shelf.new).faults result }
+    ensures cause { HasCause ShelfCall.Say [] (H.world shelf.old).faults
+        (H.world shelf.new).faults result }
 {
     let line = complete_line(alloc, size)?;
     shelf.say(line.as_slice())
@@ -38,10 +39,12 @@ pub fn say_ending<H: Shelf>(
     ensures said { OnOk result
         ((H.world shelf.new).said ≡ followed (H.world shelf.old).said (ending_line size ending)) }
     ensures cut { OnErr result
-        (IsPartlyFollowed (H.world shelf.old).said (H.world shelf.new).said (ending_line size ending)) }
+        (IsPartlyFollowed (H.world shelf.old).said (H.world shelf.new).said
+        (ending_line size ending)) }
     ensures files { (H.world shelf.new).files ≡ (H.world shelf.old).files }
     ensures warned { (H.world shelf.new).warned ≡ (H.world shelf.old).warned }
-    ensures cause { HasCause ShelfCall.Say [] (H.world shelf.old).faults (H.world shelf.new).faults result }
+    ensures cause { HasCause ShelfCall.Say [] (H.world shelf.old).faults
+        (H.world shelf.new).faults result }
 {
     match ending {
         Ending::Complete => say_complete(alloc, size, shelf),
@@ -60,7 +63,8 @@ pub fn say_accepted<H: Shelf>(shelf: &mut H) -> Result<(), ShelfFault>
         (IsPartlyFollowed (H.world shelf.old).said (H.world shelf.new).said accepted_line) }
     ensures files { (H.world shelf.new).files ≡ (H.world shelf.old).files }
     ensures warned { (H.world shelf.new).warned ≡ (H.world shelf.old).warned }
-    ensures cause { HasCause ShelfCall.Say [] (H.world shelf.old).faults (H.world shelf.new).faults result }
+    ensures cause { HasCause ShelfCall.Say [] (H.world shelf.old).faults
+        (H.world shelf.new).faults result }
 {
     shelf.say(b"accepted\n")
 }
@@ -71,10 +75,12 @@ pub fn warn_of<H: Shelf>(alloc: Global, status: Status, shelf: &mut H) -> Result
     ensures warned { OnOk result
         ((H.world shelf.new).warned ≡ followed (H.world shelf.old).warned (warning_text status)) }
     ensures cut { OnErr result
-        (IsPartlyFollowed (H.world shelf.old).warned (H.world shelf.new).warned (warning_text status)) }
+        (IsPartlyFollowed (H.world shelf.old).warned (H.world shelf.new).warned
+        (warning_text status)) }
     ensures files { (H.world shelf.new).files ≡ (H.world shelf.old).files }
     ensures said { (H.world shelf.new).said ≡ (H.world shelf.old).said }
-    ensures cause { HasCause ShelfCall.Warn [] (H.world shelf.old).faults (H.world shelf.new).faults result }
+    ensures cause { HasCause ShelfCall.Warn [] (H.world shelf.old).faults
+        (H.world shelf.new).faults result }
 {
     let line = warning_text(alloc, status)?;
     if line.is_empty() {

@@ -25,9 +25,11 @@ pub fn search_with_log<'a, H: Shelf>(
     shelf: &'a mut H,
 ) -> Result<Found, Status>
     requires normal { IsNormalFormOf inst.now problem.now }
-    ensures found { IfOk result (IsLogged (H.world shelf.old).files (H.world shelf.new).files inst.now
+    ensures found { IfOk result (IsLogged (H.world shelf.old).files
+        (H.world shelf.new).files inst.now
         problem.now log.now limit) }
-    ensures stopped { IfErr result (λ status. IsLogStopped status (H.world shelf.old).files (H.world shelf.new).files
+    ensures stopped { IfErr result (λ status. IsLogStopped status (H.world shelf.old).files
+        (H.world shelf.new).files
         problem.now log.now (H.world shelf.old).faults (H.world shelf.new).faults) }
     ensures said { (H.world shelf.new).said ≡ (H.world shelf.old).said }
     ensures warned { (H.world shelf.new).warned ≡ (H.world shelf.old).warned }

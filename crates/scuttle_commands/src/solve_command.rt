@@ -36,8 +36,6 @@ pub fn solve<H: Shelf>(
 {
     let inst = read_instance(alloc, format, input, shelf)?;
     let problem = normalise(alloc, &inst)?;
-    // Tells that the problem is within its limits.
-    let _vars = problem.vars();
     let found = search_with_log(alloc, &inst, &problem, log, limit, shelf)?;
     let size = found.entries.len();
     let lines = list_lines(alloc, is_complete(found.ending), &found.entries)?;

@@ -22,12 +22,14 @@ pub fn read_whole<H: Shelf>(
     name: &str,
     shelf: &mut H,
 ) -> Result<Option<Vec<u8>>, ShelfFault>
-    ensures whole { IfOk result (λ found. MatchOption found (IsLarge (H.world shelf.old).files name.now)
+    ensures whole { IfOk result (λ found. MatchOption found (IsLarge
+        (H.world shelf.old).files name.now)
         (λ v. IsWhole (H.world shelf.old).files name.now v.items × (length v.items < 2 ^ 32))) }
     ensures files { (H.world shelf.new).files ≡ (H.world shelf.old).files }
     ensures said { (H.world shelf.new).said ≡ (H.world shelf.old).said }
     ensures warned { (H.world shelf.new).warned ≡ (H.world shelf.old).warned }
-    ensures cause { HasCause ShelfCall.Read name.now (H.world shelf.old).faults (H.world shelf.new).faults result }
+    ensures cause { HasCause ShelfCall.Read name.now (H.world shelf.old).faults
+        (H.world shelf.new).faults result }
 {
     let mut bytes = Vec::new(alloc);
     let mut buffer = zeros(alloc, PIECE)?;
@@ -50,8 +52,10 @@ pub fn write_lines<H: Shelf>(
     lines: &[Items<u8>],
 ) -> Result<(), ShelfFault>
     ensures ok { OnOk result
-        ((H.world shelf.new).files ≡ with_file (H.world shelf.old).files name.now (concat lines.now)) }
-    ensures err { OnErr result (IsTouched (H.world shelf.old).files (H.world shelf.new).files name.now
+        ((H.world shelf.new).files ≡ with_file (H.world shelf.old).files name.now
+        (concat lines.now)) }
+    ensures err { OnErr result (IsTouched (H.world shelf.old).files
+        (H.world shelf.new).files name.now
         (λ bytes. IsPrefixOf bytes (concat lines.now))) }
     ensures said { (H.world shelf.new).said ≡ (H.world shelf.old).said }
     ensures warned { (H.world shelf.new).warned ≡ (H.world shelf.old).warned }

@@ -20,7 +20,7 @@ returns-in_err-judge_log-clause-answer g c =
     let p = err_from_is_err_and c.from_residual-in_err-judge_log.result c.from_residual-in_err-judge_log.ensures.1 in
     rw (p.1, p.2)
     (log_stopped _ _ _ _ _ _ _ c.in_ok-inst.inst _ _ _
-    (is_listed _ _ _ _ _ c.in_ok-inst.inst _ _ _ _ _ _ c.in_ok-inst.ensures.files c.in_ok-inst.ensures.read c.in_ok-found.ensures.read c.in_ok-found.ensures.right c.in_ok-problem.ensures c.vars-vars.ensures.problem c.in_ok-inst.ensures.limits
+    (is_listed _ _ _ _ _ c.in_ok-inst.inst _ _ _ _ _ _ c.in_ok-inst.ensures.files c.in_ok-inst.ensures.read c.in_ok-found.ensures.read c.in_ok-found.ensures.right c.in_ok-problem.ensures c.in_ok-inst.ensures.limits
     c.in_ok-checker.ensures.problem c.in_ok-checker.ensures.vectors c.in_ok-vectors.ensures c.as_slice.ensures)
     (log_stop_earlier _ _ _ _ _ _ _ _ _ files (λ call name. omega (arith, c.in_ok-inst.ensures.later call name, c.in_ok-found.ensures.later call name)) c.in_err-judge_log.ensures.stop)
     (c.in_err-judge_log.ensures.files ∙ files) (c.in_err-judge_log.ensures.said ∙ (c.in_ok-found.ensures.said ∙ c.in_ok-inst.ensures.said)))
@@ -32,7 +32,7 @@ returns-in_err-say_accepted-clause-answer g c =
     rw (p.1, p.2)
     (saying_stopped _ _ _ _ _ _ _ _ _
     (accepted _ _ _ _ _ c.in_ok-inst.inst _ _ _
-    (is_listed _ _ _ _ _ c.in_ok-inst.inst _ _ _ _ _ _ c.in_ok-inst.ensures.files c.in_ok-inst.ensures.read c.in_ok-found.ensures.read c.in_ok-found.ensures.right c.in_ok-problem.ensures c.vars-vars.ensures.problem c.in_ok-inst.ensures.limits
+    (is_listed _ _ _ _ _ c.in_ok-inst.inst _ _ _ _ _ _ c.in_ok-inst.ensures.files c.in_ok-inst.ensures.read c.in_ok-found.ensures.read c.in_ok-found.ensures.right c.in_ok-problem.ensures c.in_ok-inst.ensures.limits
     c.in_ok-checker.ensures.problem c.in_ok-checker.ensures.vectors c.in_ok-vectors.ensures c.as_slice.ensures)
     (ended_earlier _ _ _ _ _ files c.in_ok-judge_log.ensures.ended))
     (c.in_err-say_accepted.ensures.files ∙ (c.in_ok-judge_log.ensures.files ∙ files))
@@ -47,7 +47,7 @@ returns-clause-answer g c =
     let before = c.in_ok-judge_log.ensures.said ∙ (c.in_ok-found.ensures.said ∙ c.in_ok-inst.ensures.said) in
     record {
       cause = accepted _ _ _ _ _ c.in_ok-inst.inst _ _ _
-          (is_listed _ _ _ _ _ c.in_ok-inst.inst _ _ _ _ _ _ c.in_ok-inst.ensures.files c.in_ok-inst.ensures.read c.in_ok-found.ensures.read c.in_ok-found.ensures.right c.in_ok-problem.ensures c.vars-vars.ensures.problem c.in_ok-inst.ensures.limits
+          (is_listed _ _ _ _ _ c.in_ok-inst.inst _ _ _ _ _ _ c.in_ok-inst.ensures.files c.in_ok-inst.ensures.read c.in_ok-found.ensures.read c.in_ok-found.ensures.right c.in_ok-problem.ensures c.in_ok-inst.ensures.limits
           c.in_ok-checker.ensures.problem c.in_ok-checker.ensures.vectors c.in_ok-vectors.ensures c.as_slice.ensures)
           (ended_earlier _ _ _ _ _ files c.in_ok-judge_log.ensures.ended);
       files = c.in_ok-say_accepted.ensures.files ∙ (c.in_ok-judge_log.ensures.files ∙ files);

@@ -52,6 +52,6 @@ returns-clause-answer g c =
     let lines : c.as_slice.result.now ≡ list_lines (is_complete c.in_ok-found.found.ending) c.in_ok-found.found.entries.items = search rules in
     solved _ _ _ _ _ _ _ c.in_ok-inst.inst c.in_ok-problem.problem (record { text = c.in_ok-inst.ensures.read; normal = c.in_ok-problem.ensures })
     _ c.in_ok-inst.ensures.files _ c.in_ok-found.found c.in_ok-found.ensures.found c.as_slice.result.now lines
-    _ (search rules) c.in_ok-inst.ensures.limits c.vars-vars.ensures.problem
+    _ (search rules) c.in_ok-inst.ensures.limits
     (c.in_ok-say_ending.ensures.files ∙ c.in_ok-write_lines.ensures.ok)
     (c.in_ok-say_ending.ensures.said ∙ ap (λ (text : Option (List ℕ)). followed text (ending_line c.len-size.result c.in_ok-found.found.ending)) (c.in_ok-write_lines.ensures.said ∙ (c.in_ok-found.ensures.said ∙ c.in_ok-inst.ensures.said)))
