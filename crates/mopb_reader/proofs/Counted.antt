@@ -1,5 +1,5 @@
 -- Variables are counted from 1: no token of a text is `x0`.
-use Rattle.std.proofs.Common.{◌≡◌, ℕ, ◌<◌, Bool, true, false, not, cond, List, [], ◌∷◌, ◌++◌, sym, subst, arith, ℤ}
+use Rattle.std.proofs.Common.{◌≡◌, ℕ, ◌<◌, Bool, true, false, not, List, [], ◌∷◌, ◌++◌, subst, arith, ℤ}
 use Rattle.std.specs.Prelude.{◌==◌, ◌&&◌}
 use Rattle.std.specs.List.{All, AllZip, filter, flat_map, onto_first, slice_split}
 use Rattle.std.proofs.lemmas.Bool.{cond_both}

@@ -28,7 +28,7 @@ impl<'a> Model for Tokens<'a> {
     ghost view = { λ t. record { left = numbered_from t.number t.line.now (option_map (λ r. r.now) t.rest); last = t.number + lines_behind (option_map (λ r. r.now) t.rest); line = t.number } };
 
     ghost invariant = { λ t. BeginsNoBlank t.line.now
-    × (t.number + rest_size (option_map (λ r. r.now) t.rest) ≤ 2 ^ 32) };
+        × (t.number + rest_size (option_map (λ r. r.now) t.rest) ≤ 2 ^ 32) };
 }
 
 impl<'a> Tokens<'a> {

@@ -1,5 +1,5 @@
 -- Room for more places first, and then the values.
-use Rattle.std.proofs.Common.{◌≡◌, ◌-◌, ◌++◌, Bool, List, Option, None, take, replicate, ap, sym, subst, ◌∙◌, arith}
+use Rattle.std.proofs.Common.{◌≡◌, ◌-◌, ◌++◌, Bool, List, Option, None, replicate, ap, sym, subst, ◌∙◌, arith}
 use Rattle.std.specs.Vec.{vec_len}
 use Rattle.std.proofs.lemmas.List.{take_all}
 use Rattle.scut_base.specs.Tracked.{IsTracked}
