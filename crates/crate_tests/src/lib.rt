@@ -6,17 +6,9 @@
 #[cfg(test)]
 mod clauses;
 #[cfg(test)]
-mod constraints_under_assignments;
-#[cfg(test)]
-mod cost_vectors;
-#[cfg(test)]
 mod failing_appends;
 #[cfg(test)]
-mod hinted_conflicts;
-#[cfg(test)]
 mod instances_in_normal_form;
-#[cfg(test)]
-mod lines_by_ids;
 #[cfg(test)]
 mod logs_in_pieces;
 #[cfg(test)]

@@ -1,10 +1,10 @@
 // Builders of constraints that are worked out by hand. A sum is given by its coefficients with the numbers of literals:
 // 3 is x3, and -3 is ~x3.
-ghost use Rattle.std.specs.Prelude.{◌≡◌, length, All, IfOk};
+ghost use Rattle.std.specs.Prelude.{All, IfOk};
 ghost use Rattle.pb_lin.specs.Constraint.{IsVariable, UpTo};
 
 use pb_lin::{Constraint, LinFault};
-use scut_base::{Assignment, Lit, NoMemory, Partial};
+use scut_base::{Lit, NoMemory};
 use std::alloc::Global;
 
 // The literal of a number.
@@ -47,29 +47,4 @@ pub fn is(constraint: &Constraint, terms: &[(u128, i8)], degree: u128) -> bool {
 // Whether a term has this coefficient and this literal.
 pub fn is_term(term: (Lit, u128), wanted: (u128, i8)) -> bool {
     term.1 == wanted.0 && term.0 == lit(wanted.1)
-}
-
-// The partial assignment of 128 variables that makes these literals true.
-pub fn partial(alloc: Global, truths: &[i8]) -> Result<Partial, NoMemory>
-    ensures { IfOk result (λ p. length p ≡ 128) }
-{
-    let mut part = Partial::new(alloc, 128)?;
-    for number in truths {
-        let literal = lit(*number);
-        if part.get(literal).is_none() {
-            part.set(literal);
-        }
-    }
-    Ok(part)
-}
-
-// The assignment of 128 variables that makes these literals true, and each other variable false.
-pub fn assignment(alloc: Global, truths: &[i8]) -> Result<Assignment, NoMemory>
-    ensures { IfOk result (λ a. length a ≡ 128) }
-{
-    let mut a = Assignment::new(alloc, 128)?;
-    for number in truths {
-        a.set(lit(*number));
-    }
-    Ok(a)
 }
