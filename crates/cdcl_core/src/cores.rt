@@ -11,7 +11,7 @@ ghost use Rattle.oracle.specs.Solving.{IsCore};
 ghost use Rattle.cdcl_core.specs.Work.{Ends, ImpliesOnly, IsOfCore, IsWorking, Reached, StepsFrom};
 
 use crate::Solver;
-use crate::recording::record;
+use crate::recording::record_made;
 use cdcl_analysis::Blame;
 use cdcl_state::Search;
 use clause_prop::Propagator;
@@ -86,11 +86,8 @@ impl<R: Recorder + Drop, P: Propagator + Drop> Solver<R, P> {
         if let Some(id) = hinted_clause(&self.search, lits.as_slice(), hints.as_slice()) {
             return Ok(id);
         }
-        let line = Line::Rup {
-            goal: Constraint::clause(lits),
-            hints,
-        };
-        let id = record(&mut self.recorder, &line)?;
+        let goal = Constraint::clause(lits);
+        let id = record_made(&mut self.recorder, Line::Rup { goal, hints })?;
         // Tells that the lines reach a state.
         let _vars = self.recorder.state().vars();
         Ok(id)

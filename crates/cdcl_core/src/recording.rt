@@ -31,6 +31,21 @@ pub(crate) fn record<R: Recorder>(recorder: &mut R, line: &Line) -> Result<u64, 
     }
 }
 
+/// The same of a line that is made for the call, so that a caller which leaves by `?` owns none.
+pub(crate) fn record_made<R: Recorder>(recorder: &mut R, line: Line) -> Result<u64, OracleFault>
+    requires formed { IsWellFormed line }
+    requires legal { MayBeAdded (R.seen recorder.old).problem (R.seen recorder.old).lines line }
+    requires whole { (R.seen recorder.old).broken ≡ false }
+    ensures added { OnOk result ((R.seen recorder.new).lines ≡ (R.seen recorder.old).lines ++ line ∷ []) }
+    ensures id { IfOk result (IsNextId (R.seen recorder.old).problem (R.seen recorder.old).lines) }
+    ensures whole { OnOk result ((R.seen recorder.new).broken ≡ false) }
+    ensures same { OnErr result ((R.seen recorder.new).lines ≡ (R.seen recorder.old).lines) }
+    ensures cause { IfErr result (IsRecordCause (R.seen recorder.old) (R.seen recorder.new)) }
+    ensures keeps { KeepsRecorder (R.seen recorder.old) (R.seen recorder.new) }
+{
+    record(recorder, &line)
+}
+
 /// The clause of a learned line.
 pub(crate) fn learned_goal(line: &Line) -> &Constraint
     requires { (goal : ConstraintValue) × (hints : List Hint) × (line.now ≡ Learn goal hints) }

@@ -20,14 +20,14 @@ returns-in-Some-clause-steps g c = steps_none g.R.Recorder.seen _ _ _ refl refl 
 pub returns-in-Some-clause-implied : goal.returns-in-Some-clause-implied
 returns-in-Some-clause-implied g c = implies_unchanged g.R.Recorder.seen c.args.self.now _ _ _ refl refl
 
-pub record-requires-clause-formed : goal.record-requires-clause-formed
-record-requires-clause-formed g c =
-    subst (λ (goal : ConstraintValue). IsWellFormed (Rup goal c.args.hints)) (sym c.clause.ensures)
+pub record_made-requires-clause-formed : goal.record_made-requires-clause-formed
+record_made-requires-clause-formed g c =
+    subst (λ (goal : ConstraintValue). IsWellFormed (Rup goal c.args.hints)) (sym c.clause-goal.ensures)
     (implied_formed g.R.Recorder.seen _ _ c.args.lits c.args.hints c.self.view_is c.requires.working (record { rising = c.requires.rising; within = c.requires.within; given = c.requires.hints }))
 
-pub record-requires-clause-legal : goal.record-requires-clause-legal
-record-requires-clause-legal g c =
-    subst (λ (goal : ConstraintValue). MayBeAdded (g.R.Recorder.seen c.self.inside.recorder).problem (g.R.Recorder.seen c.self.inside.recorder).lines (Rup goal c.args.hints)) (sym c.clause.ensures)
+pub record_made-requires-clause-legal : goal.record_made-requires-clause-legal
+record_made-requires-clause-legal g c =
+    subst (λ (goal : ConstraintValue). MayBeAdded (g.R.Recorder.seen c.self.inside.recorder).problem (g.R.Recorder.seen c.self.inside.recorder).lines (Rup goal c.args.hints)) (sym c.clause-goal.ensures)
     (implied_legal g.R.Recorder.seen _ _ c.args.lits c.args.hints c.self.view_is c.requires.working (record { rising = c.requires.rising; within = c.requires.within; given = c.requires.hints }))
 
 pub returns-in_err-id-clause-steps : goal.returns-in_err-id-clause-steps
@@ -38,24 +38,24 @@ returns-in_err-id-clause-implied g c = implies_unchanged g.R.Recorder.seen _ _ _
 
 pub returns-clause-named : goal.returns-clause-named
 returns-clause-named g c =
-    let added = rw c.clause.ensures at c.in_ok-id.ensures.added in
+    let added = rw c.clause-goal.ensures at c.in_ok-id.ensures.added in
     named_implied g.R.Recorder.seen _ _ c.args.lits c.args.hints c.self.view_is c.requires.working (record { rising = c.requires.rising; within = c.requires.within; given = c.requires.hints })
     _ c.in_ok-id.ensures.keeps added c.in_ok-id.id c.in_ok-id.ensures.id
 
 pub returns-clause-ends : goal.returns-clause-ends
 returns-clause-ends g c =
-    let added = rw c.clause.ensures at c.in_ok-id.ensures.added in
+    let added = rw c.clause-goal.ensures at c.in_ok-id.ensures.added in
     done_implied g.R.Recorder.seen _ _ c.args.lits c.args.hints c.self.view_is c.requires.working (record { rising = c.requires.rising; within = c.requires.within; given = c.requires.hints })
     _ c.in_ok-id.ensures.keeps added c.state.result.now c.state.ensures.replays c.vars-vars.ensures.state c.in_ok-id.ensures.whole refl refl refl refl
 
 pub returns-clause-steps : goal.returns-clause-steps
 returns-clause-steps g c =
-    let added = rw c.clause.ensures at c.in_ok-id.ensures.added in
+    let added = rw c.clause-goal.ensures at c.in_ok-id.ensures.added in
     steps_implied g.R.Recorder.seen _ _ c.args.lits c.args.hints c.self.view_is c.requires.working (record { rising = c.requires.rising; within = c.requires.within; given = c.requires.hints })
     _ c.in_ok-id.ensures.keeps added refl refl
 
 pub returns-clause-implied : goal.returns-clause-implied
 returns-clause-implied g c =
-    let added = rw c.clause.ensures at c.in_ok-id.ensures.added in
+    let added = rw c.clause-goal.ensures at c.in_ok-id.ensures.added in
     only_implied g.R.Recorder.seen _ _ c.args.lits c.args.hints c.self.view_is c.requires.working (record { rising = c.requires.rising; within = c.requires.within; given = c.requires.hints })
     _ _ added refl
