@@ -1,6 +1,6 @@
 -- Only the number of lines may stand against the line, and the proof has ended after it.
 use Rattle.certified_front.proofs.EndLines.{ended_after, may_end}
-use Rattle.certified_front.proofs.certifying.end_proof.Goals as goal
+use Rattle.certified_front.proofs.searching.end_proof.Goals as goal
 
 pub add_line-requires-clause-legal : goal.add_line-requires-clause-legal
 add_line-requires-clause-legal g c =
