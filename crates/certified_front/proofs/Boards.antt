@@ -1,5 +1,5 @@
 -- The beginning of a proof, and what is listed of the board at the end.
-use Rattle.std.proofs.Common.{◌≡◌, ◌≤◌, false, List, [], map, ap, refl, sym, subst, ◌∙◌, arith, ℤ}
+use Rattle.std.proofs.Common.{◌≡◌, ◌≤◌, false, List, [], map, ap, refl, sym, subst, arith, ℤ}
 use Rattle.std.specs.List.{All}
 use Rattle.std.specs.List.Sorted.{IsPermutation}
 use Rattle.front_set.specs.declared.entry.Entry.{Entry}

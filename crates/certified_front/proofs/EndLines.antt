@@ -72,6 +72,6 @@ stays_after a m b turns ended = record {
   begins = (
     turns.lines.more ++ ended.begins.0,
     ended.begins.1 ∙ ap (λ (ls : List Line). ls ++ ended.begins.0) turns.lines.is
-    ∙ append_assoc a.lines turns.lines.more ended.begins.0,
+        ∙ append_assoc a.lines turns.lines.more ended.begins.0,
   );
 }

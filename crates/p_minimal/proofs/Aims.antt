@@ -11,9 +11,8 @@ use Rattle.proof_rules.specs.Recording.{Snapshot}
 use Rattle.search_base.specs.Boards.{BoardValue, IsBoard}
 use Rattle.search_base.specs.Logged.{Logs, LogsNone, logged}
 use Rattle.search_base.specs.Turns.{IsTaken}
-use Rattle.search_questions.specs.Telling.{Tells, TellsAny}
-use Rattle.search_questions.specs.declared.below.Below.TheVariants.{Model, End, Above}
-use Rattle.p_minimal.specs.Aiming.{AimsLower, GivesUp, Serves, TellsOfAim}
+use Rattle.search_questions.specs.declared.below.Below.TheVariants.{Model}
+use Rattle.p_minimal.specs.Aiming.{AimsLower, Serves, TellsOfAim}
 
 last_pushed : {A : Type 0} (first : Option A) (xs : List A) (x : A) → last_or first (xs ++ x ∷ []) ≡ Some x
 last_pushed first [] x = refl

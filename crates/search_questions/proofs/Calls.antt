@@ -1,5 +1,5 @@
 -- Calls one after another keep a good state good.
-use Rattle.std.proofs.Common.{◌≡◌, ℕ, ◌≤◌, false, Option, Result, Err, List, [], ◌∷◌, sym, subst}
+use Rattle.std.proofs.Common.{◌≡◌, ℕ, false, Option, Result, Err, List, [], ◌∷◌, sym, subst}
 use Rattle.std.specs.List.{All, AllZip}
 use Rattle.std.proofs.lemmas.List.Elements.{All-nil, All-cons}
 use Rattle.scut_base.specs.Faults.{Rose}
@@ -8,7 +8,7 @@ use Rattle.pb_lin.specs.Problem.{ProblemValue}
 use Rattle.instance_normal.specs.NormalForm.{CostSource, IsCostRowOf}
 use Rattle.proof_laws.specs.State.{StateValue}
 use Rattle.proof_laws.proofs.Replays.{replay_once}
-use Rattle.proof_rules.specs.Recording.{Snapshot, KeepsSurroundings}
+use Rattle.proof_rules.specs.Recording.{Snapshot, KeepsRecorder}
 use Rattle.proof_rules.specs.declared.recorder.RecordFault.{RecordFault}
 use Rattle.proof_rules.specs.declared.recorder.RecordFault.TheVariants.{Failed as RecordingFailed, Full as RecordFull, NoMemory as RecordNoMemory}
 use Rattle.oracle.specs.Solving.{AddsSearchLines, AreEarned, HasFault, IsOrderly, IsWithin, Reaches, fault_of_recording}
@@ -33,7 +33,8 @@ not_ended a ready s reached =
 abbrev AreCostRows : List CostRowValue → Type 0
 AreCostRows rows = All (λ r. IsCostRow r.terms r.offset) rows
 
-cost_rows : (sources : List CostSource) (rows : List CostRowValue) → AllZip IsCostRowOf sources rows → AreCostRows rows
+cost_rows : (sources : List CostSource) (rows : List CostRowValue) → AllZip IsCostRowOf sources rows
+    → AreCostRows rows
 cost_rows [] [] zip = All-nil (λ r. IsCostRow r.terms r.offset)
 cost_rows [] (r ∷ rows) zip = absurd zip
 cost_rows (s ∷ sources) [] zip = absurd zip
@@ -53,24 +54,23 @@ pub bounds_stay_good : BoundingStaysGood → (a b : Snapshot) (old new : List Ob
 bounds_stay_good law a b old new on whole fits front good = law a b old new front good on whole fits
 
 module _ (law : AskingStaysGood) (a b : Snapshot) (asked : List ObjectiveBound)
-    (problem : b.problem ≡ a.problem) (limit : b.limit ≡ a.limit) (later : a.faults ≤ b.faults)
-    (around : KeepsSurroundings a.around b.around) (lines : AddsSearchLines a.problem a.lines b.lines)
+    (keeps : KeepsRecorder a b) (lines : AddsSearchLines a.problem a.lines b.lines)
     (within : IsWithin a.limit a.problem b.lines) where
   -- the oracle was asked
   pub oracle_stays_good : b.broken ≡ false → AreEarned a.problem b.lines → StaysGood a b asked asked
   oracle_stays_good whole earned front good =
       let here : AreEarned b.problem b.lines =
-      subst (λ (p : ProblemValue). AreEarned p b.lines) (sym problem) earned in
+      subst (λ (p : ProblemValue). AreEarned p b.lines) (sym keeps.problem) earned in
       law a b here.1.replays.0 asked front good here.1.replays.1 (record {
-        problem = problem;
-        limit = limit;
+        problem = keeps.problem;
+        limit = keeps.limit;
         whole = whole;
-        later = later;
-        around = around;
+        later = keeps.later;
+        around = keeps.around;
         lines = lines;
         earned = here;
-        within = subst (λ (p : ProblemValue). IsWithin b.limit p b.lines) (sym problem)
-            (subst (λ (n : Option ℕ). IsWithin n a.problem b.lines) (sym limit) within);
+        within = subst (λ (p : ProblemValue). IsWithin b.limit p b.lines) (sym keeps.problem)
+            (subst (λ (n : Option ℕ). IsWithin n a.problem b.lines) (sym keeps.limit) within);
       })
 
   -- why it didn't answer
@@ -108,13 +108,13 @@ bounds_go_on join a b on = record {
   lines = join.totalizer a b on;
 }
 
-pub oracle_goes_on : TurnLinesJoin → (a b : Snapshot) → b.problem ≡ a.problem → b.limit ≡ a.limit → a.faults ≤ b.faults
-    → KeepsSurroundings a.around b.around → AddsSearchLines a.problem a.lines b.lines → GoesOn a b
-oracle_goes_on join a b problem limit later around lines = record {
-  problem = problem;
-  limit = limit;
-  later = later;
-  around = around;
+pub oracle_goes_on : TurnLinesJoin → (a b : Snapshot) → KeepsRecorder a b → AddsSearchLines a.problem a.lines b.lines
+    → GoesOn a b
+oracle_goes_on join a b keeps lines = record {
+  problem = keeps.problem;
+  limit = keeps.limit;
+  later = keeps.later;
+  around = keeps.around;
   lines = join.search a.problem a.lines b.lines lines;
 }
 
@@ -127,6 +127,7 @@ ended T RecordFull order = order
 ended T RecordNoMemory order = order
 
 pub recording_ends : {T : Type 0} (a b : Snapshot) (old new : List ObjectiveBound)
-    (r : Result T OracleFault) (f : RecordFault) → r ≡ Err (fault_of_recording f) → IsInOrder r → StaysGood a b old new
+    (r : Result T OracleFault) (f : RecordFault) → r ≡ Err (fault_of_recording f) → IsInOrder r
+    → StaysGood a b old new
 recording_ends {T} a b old new r f is order =
     absurd (ended T f (subst (λ (q : Result T OracleFault). IsInOrder q) is order))

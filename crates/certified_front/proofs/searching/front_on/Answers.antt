@@ -1,5 +1,5 @@
 -- What is on the board at the end covers what is logged.
-use Rattle.std.proofs.Common.{◌∙◌, subst, sym}
+use Rattle.std.proofs.Common.{◌∙◌, subst}
 use Rattle.pb_lin.specs.Problem.{ProblemValue}
 use Rattle.certified_front.specs.Certified.{IsEnding}
 use Rattle.certified_front.proofs.Boards.{covers_logged}

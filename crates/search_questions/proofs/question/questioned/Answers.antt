@@ -1,7 +1,7 @@
 -- Each excess is denied where it can be, and what was asked before stays asked.
 use mir.Val.{SFits, of_z, to_z}
 use mir.Syntax.{w64}
-use Rattle.std.proofs.Common.{rules, ◌≡◌, None, Err, List, [], ◌∷◌, ◌++◌, ℕ, ◌+◌, ◌<◌, length, get_or, ap, refl, subst, sym, ◌∙◌, arith, pos}
+use Rattle.std.proofs.Common.{rules, ◌≡◌, None, Err, List, [], ◌∷◌, ◌++◌, ℕ, ◌+◌, ◌<◌, length, get_or, ap, subst, sym, ◌∙◌, arith, pos}
 use Rattle.std.proofs.lemmas.Int.{to_z-of_z}
 use Rattle.std.proofs.lemmas.List.{length_push}
 use Rattle.std.proofs.lemmas.Result.{err_from_is_err_and}
@@ -21,9 +21,10 @@ loop-objective-init g c =
       way = record { on = continues_again a; whole = c.requires.ready.whole };
       fits = c.requires.fits;
       count = ap (λ (bs : List Bound). length bs) c.new-excesses.ensures;
-      excesses = subst (λ (bs : List Bound). AreExcesses a.problem a.lines c.args.limits.now bs) (sym c.new-excesses.ensures)
+      excesses = subst (AreExcesses a.problem a.lines c.args.limits.now) (sym c.new-excesses.ensures)
           (no_excesses a.problem a.lines c.args.limits.now);
-      denies = subst (λ (bs : List Bound). Denies bs c.new-lits.result) (sym c.new-excesses.ensures) (subst (Denies []) (sym c.new-lits.ensures) denies_none);
+      denies = subst (λ (bs : List Bound). Denies bs c.new-lits.result) (sym c.new-excesses.ensures)
+          (subst (Denies []) (sym c.new-lits.ensures) denies_none);
     }
 
 pub excess_of-requires-clause-ready : goal.excess_of-requires-clause-ready
@@ -89,13 +90,15 @@ returns-then-not-branch-clause-asked g c =
     let limit = to_z w64 (of_z w64 (get_or items n (pos 0))) in
     let in_range : SFits w64 (get_or items n (pos 0)) = search rules in
     let read = to_z-of_z w64 (get_or items n (pos 0)) in_range in
-    let short : n < length limits = omega (arith, ap length c.as_slice-limit-items.ensures, c.loop-objective-test.true) in
+    let short : n < length limits =
+    omega (arith, ap length c.as_slice-limit-items.ensures, c.loop-objective-test.true) in
     let ready = ready_later a b c.requires.ready was.way.on was.way.whole in
     let pushed : c.push.new.self ≡ c.loop-objective.excesses ++ c.in_ok-excess.excess ∷ [] = search rules in
     subst (λ (bs : List Bound). IsQuestion d limits bs c.in_ok-excess.excess None) (sym pushed)
-    (clashed b d limits items n limit c.as_slice-limit-items.ensures short read c.loop-objective.excesses c.loop-objective.lits was.count
-    c.own_lines_stay.ensures c.turn_lines_join.ensures c.turn_lines_keep_own.ensures ready call.recorded.continues was.excesses was.denies
-    c.in_ok-excess.excess call.bound call.limited (rw c.if-not-branch.true at c.in_ok-deny.ensures.denied))
+    (clashed b d limits items n limit c.as_slice-limit-items.ensures short read
+    c.loop-objective.excesses c.loop-objective.lits was.count
+    c.own_lines_stay.ensures c.turn_lines_join.ensures c.turn_lines_keep_own.ensures
+    ready call.recorded.continues was.excesses was.denies c.in_ok-excess.excess call.bound call.limited (rw c.if-not-branch.true at c.in_ok-deny.ensures.denied))
 
 pub loop-objective-preserved : goal.loop-objective-preserved
 loop-objective-preserved g c =
@@ -111,7 +114,8 @@ loop-objective-preserved g c =
     let limit = to_z w64 (of_z w64 (get_or items n (pos 0))) in
     let in_range : SFits w64 (get_or items n (pos 0)) = search rules in
     let read = to_z-of_z w64 (get_or items n (pos 0)) in_range in
-    let short : n < length limits = omega (arith, ap length c.as_slice-limit-items.ensures, c.loop-objective-test.true) in
+    let short : n < length limits =
+    omega (arith, ap length c.as_slice-limit-items.ensures, c.loop-objective-test.true) in
     let ready = ready_later a b c.requires.ready was.way.on was.way.whole in
     let pushed : c.push.new.self ≡ c.loop-objective.excesses ++ c.in_ok-excess.excess ∷ [] = search rules in
     record {
@@ -120,9 +124,10 @@ loop-objective-preserved g c =
       count = ap (λ (bs : List Bound). length bs) pushed ∙ length_push c.loop-objective.excesses c.in_ok-excess.excess
           ∙ ap (λ (k : ℕ). k + 1) was.count;
       excesses = subst (λ (bs : List Bound). AreExcesses d.problem d.lines limits bs) (sym pushed)
-          (excesses_on b d limits items n limit c.as_slice-limit-items.ensures short read c.loop-objective.excesses c.loop-objective.lits was.count
-          c.own_lines_stay.ensures c.turn_lines_join.ensures c.turn_lines_keep_own.ensures ready call.recorded.continues was.excesses was.denies
-          c.in_ok-excess.excess call.bound call.limited);
+          (excesses_on b d limits items n limit c.as_slice-limit-items.ensures short read
+          c.loop-objective.excesses c.loop-objective.lits was.count
+          c.own_lines_stay.ensures c.turn_lines_join.ensures c.turn_lines_keep_own.ensures
+          ready call.recorded.continues was.excesses was.denies c.in_ok-excess.excess call.bound call.limited);
       denies = subst (λ (bs : List Bound). Denies bs c.deny.new.lits) (sym pushed)
           (denies_more c.loop-objective.excesses c.loop-objective.lits c.deny.new.lits c.in_ok-excess.excess was.denies
           (rw c.if-not-branch.false at c.in_ok-deny.ensures.denied));

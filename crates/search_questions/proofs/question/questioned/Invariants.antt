@@ -8,8 +8,7 @@ abbrev pub invariant-loop-objective : goal.invariant-loop-objective
 invariant-loop-objective g l =
     let R = g.R.Recorder in
     record {
-      way : IsUnderWay (R.seen l.initial.rec)
-          (R.seen l.rec);
+      way : IsUnderWay (R.seen l.initial.rec) (R.seen l.rec);
       fits : FitBounds (R.seen l.rec) l.bounds;
       count : length l.excesses ≡ l.objective;
       excesses : AreExcesses (R.seen l.rec).problem (R.seen l.rec).lines l.limits l.excesses;

@@ -1,17 +1,16 @@
 -- The question's bounds and the oracle's call keep a good state good, and the answer tells of the limits what was asked.
-use Rattle.std.proofs.Common.{◌≡◌, Option, Some, None, Err, List, length, ap, sym, subst, ◌∙◌, ℤ}
+use Rattle.std.proofs.Common.{◌≡◌, Some, None, Err, List, length, ap, sym, subst, ◌∙◌, ℤ}
 use Rattle.std.proofs.lemmas.Result.{IfOk-weaker, err_from_is_err_and}
 use Rattle.std.specs.Prelude.{IfOk}
 use Rattle.pb_lin.specs.Problem.{ProblemValue}
 use Rattle.oracle.specs.Solving.{AreAssumptions, IsAnswer}
 use Rattle.oracle.specs.declared.answer.Answer.TheVariants.{Sat, Unsat}
 use Rattle.oracle.specs.declared.fault.OracleFault.{OracleFault}
-use Rattle.sum_outputs.proofs.LaterStates.{ready_later}
 use Rattle.search_base.proofs.Turning.{goes_twice}
 use Rattle.search_questions.specs.Questions.{IsAsked}
 use Rattle.search_questions.specs.Cores.{IsToldByCore}
 use Rattle.search_questions.specs.Telling.{Tells}
-use Rattle.search_questions.proofs.Calls.{not_ended, good_rows, bounds_stay_good, oracle_stays_good, stays_good_twice, bounds_go_on, oracle_goes_on, spent_stays_good}
+use Rattle.search_questions.proofs.Calls.{not_ended, good_rows, bounds_stay_good, oracle_stays_good, stays_good_twice, bounds_go_on, oracle_goes_on, recording_ends, spent_stays_good}
 use Rattle.search_questions.proofs.Questions.{are_assumptions}
 use Rattle.search_questions.proofs.Told.{told_clash, told_model, told_core}
 use Rattle.search_questions.proofs.seeking.seek_below.Goals as goal
@@ -21,6 +20,31 @@ questioned-requires-clause-costs g c =
     let R = g.O.Recorder in
     let a = R.seen c.args.oracle.now in
     good_rows a c.args.bounds.now c.requires.good
+
+pub returns-in_err-question-clause-good : goal.returns-in_err-question-clause-good
+returns-in_err-question-clause-good g c =
+    let R = g.O.Recorder in
+    let is = err_from_is_err_and c.from_residual.result c.from_residual.ensures.1 in
+    recording_ends (R.seen c.args.oracle.now) (R.seen c.questioned.new.rec) c.args.bounds.now c.questioned.new.bounds
+    c.from_residual.result c.in_err-question.field-0.0 (is.1 ∙ ap (λ (f : OracleFault). Err f) is.2)
+
+pub returns-in_err-question-clause-goes_on : goal.returns-in_err-question-clause-goes_on
+returns-in_err-question-clause-goes_on g c =
+    let R = g.O.Recorder in
+    bounds_go_on c.turn_lines_join.ensures (R.seen c.args.oracle.now) (R.seen c.questioned.new.rec)
+    c.in_err-question.ensures.recorded.continues
+
+pub returns-in_err-stands-clause-goes_on : goal.returns-in_err-stands-clause-goes_on
+returns-in_err-stands-clause-goes_on g c =
+    let R = g.O.Recorder in
+    bounds_go_on c.turn_lines_join.ensures (R.seen c.args.oracle.now) (R.seen c.questioned.new.rec)
+    c.in_ok-question.ensures.recorded.continues
+
+pub returns-in_default-clause-goes_on : goal.returns-in_default-clause-goes_on
+returns-in_default-clause-goes_on g c =
+    let R = g.O.Recorder in
+    bounds_go_on c.turn_lines_join.ensures (R.seen c.args.oracle.now) (R.seen c.questioned.new.rec)
+    c.in_ok-question.ensures.recorded.continues
 
 pub returns-in_default-clause-good : goal.returns-in_default-clause-good
 returns-in_default-clause-good g c =
@@ -103,7 +127,7 @@ returns-in_err-model-clause-good g c =
     λ order. stays_good_twice a m b c.args.bounds.now c.questioned.new.bounds c.questioned.new.bounds
     asked.recorded.continues.problem first
     (spent_stays_good c.asking_stays_good.ensures m b c.questioned.new.bounds
-    call.keeps.problem call.keeps.limit call.keeps.later call.keeps.around call.lines call.within c.from_residual-in_err-model.result
+    call.keeps call.lines call.within c.from_residual-in_err-model.result
     c.in_err-model.field-0.0 (is.1 ∙ ap (λ (f : OracleFault). Err f) is.2) call.earned call.fault order)
 
 pub returns-in_err-model-clause-goes_on : goal.returns-in_err-model-clause-goes_on
@@ -115,7 +139,7 @@ returns-in_err-model-clause-goes_on g c =
     let asked = c.in_ok-question.ensures in
     let call = c.in_err-model.ensures in
     goes_twice a m b (bounds_go_on c.turn_lines_join.ensures a m asked.recorded.continues)
-    (oracle_goes_on c.turn_lines_join.ensures m b call.keeps.problem call.keeps.limit call.keeps.later call.keeps.around call.lines)
+    (oracle_goes_on c.turn_lines_join.ensures m b call.keeps call.lines)
 
 pub returns-in-Sat-clause-goes_on : goal.returns-in-Sat-clause-goes_on
 returns-in-Sat-clause-goes_on g c =
@@ -126,7 +150,7 @@ returns-in-Sat-clause-goes_on g c =
     let asked = c.in_ok-question.ensures in
     let call = c.in_ok-model.ensures in
     goes_twice a m b (bounds_go_on c.turn_lines_join.ensures a m asked.recorded.continues)
-    (oracle_goes_on c.turn_lines_join.ensures m b call.keeps.problem call.keeps.limit call.keeps.later call.keeps.around call.lines)
+    (oracle_goes_on c.turn_lines_join.ensures m b call.keeps call.lines)
 
 pub returns-in-Sat-clause-good : goal.returns-in-Sat-clause-good
 returns-in-Sat-clause-good g c =
@@ -141,7 +165,7 @@ returns-in-Sat-clause-good g c =
     λ order. stays_good_twice a m b c.args.bounds.now c.questioned.new.bounds c.questioned.new.bounds
     asked.recorded.continues.problem first
     (oracle_stays_good c.asking_stays_good.ensures m b c.questioned.new.bounds
-    call.keeps.problem call.keeps.limit call.keeps.later call.keeps.around call.lines call.within call.whole (call.earned tt))
+    call.keeps call.lines call.within call.whole (call.earned tt))
 
 pub returns-in-Sat-clause-tells : goal.returns-in-Sat-clause-tells
 returns-in-Sat-clause-tells g c =
@@ -157,8 +181,10 @@ returns-in-Sat-clause-tells g c =
     let good = bounds_stay_good c.bounding_stays_good.ensures a m c.args.bounds.now c.questioned.new.bounds
     asked.recorded.continues asked.recorded.whole asked.fits front.0 front.1 in
     let is : IsAsked m limits q.excesses q.last (Some c.in-Some.lits) = rw c.in-Some.is at asked.asked.asked in
-    let long : length limits ≡ length m.problem.costs = c.requires.count ∙ ap (λ (p : ProblemValue). length p.costs) (sym asked.recorded.continues.problem) in
-    let answer : IsAnswer m.problem b.lines c.in-Some.lits (Sat c.in-Sat.model) = rw c.as_slice.ensures at rw c.in-Sat.is at call.answer in
+    let long : length limits ≡ length m.problem.costs =
+    c.requires.count ∙ ap (λ (p : ProblemValue). length p.costs) (sym asked.recorded.continues.problem) in
+    let answer : IsAnswer m.problem b.lines c.in-Some.lits (Sat c.in-Sat.model) =
+    rw c.as_slice.ensures at rw c.in-Sat.is at call.answer in
     told_model m b call.keeps.problem (call.earned tt) limits q.excesses c.in-Some.lits
     c.own_lines_stay.ensures c.turn_lines_join.ensures c.turn_lines_keep_own.ensures
     good.0.ready.state good.0.ready.reached call.lines asked.asked.excesses is.1 is.0
@@ -173,7 +199,7 @@ returns-clause-goes_on g c =
     let asked = c.in_ok-question.ensures in
     let call = c.in_ok-model.ensures in
     goes_twice a m b (bounds_go_on c.turn_lines_join.ensures a m asked.recorded.continues)
-    (oracle_goes_on c.turn_lines_join.ensures m b call.keeps.problem call.keeps.limit call.keeps.later call.keeps.around call.lines)
+    (oracle_goes_on c.turn_lines_join.ensures m b call.keeps call.lines)
 
 pub returns-clause-good : goal.returns-clause-good
 returns-clause-good g c =
@@ -188,7 +214,7 @@ returns-clause-good g c =
     λ order. stays_good_twice a m b c.args.bounds.now c.questioned.new.bounds c.questioned.new.bounds
     asked.recorded.continues.problem first
     (oracle_stays_good c.asking_stays_good.ensures m b c.questioned.new.bounds
-    call.keeps.problem call.keeps.limit call.keeps.later call.keeps.around call.lines call.within call.whole (call.earned tt))
+    call.keeps call.lines call.within call.whole (call.earned tt))
 
 pub returns-clause-tells : goal.returns-clause-tells
 returns-clause-tells g c =
@@ -205,12 +231,12 @@ returns-clause-tells g c =
     asked.recorded.continues asked.recorded.whole asked.fits front.0 front.1 in
     let is : IsAsked m limits q.excesses q.last (Some c.in-Some.lits) = rw c.in-Some.is at asked.asked.asked in
     let core = c.in-Unsat.core in
-    let answer : IsAnswer m.problem b.lines c.in-Some.lits (Unsat core) = rw c.as_slice.ensures at rw c.in-Unsat.is at call.answer in
+    let answer : IsAnswer m.problem b.lines c.in-Some.lits (Unsat core) =
+    rw c.as_slice.ensures at rw c.in-Unsat.is at call.answer in
     let told : IfOk c.told_by_core.result (IsToldByCore q.excesses core.lits core.id (length limits)) =
     rw c.as_slice-excesses.ensures at rw c.as_slice-objectives.ensures at c.told_by_core.ensures.told in
     IfOk-weaker c.told_by_core.result (IsToldByCore q.excesses core.lits core.id (length limits)) (Tells b limits)
     (λ below. told_core m b call.keeps.problem (call.earned tt) limits q.excesses c.in-Some.lits
-        c.own_lines_stay.ensures c.turn_lines_join.ensures c.turn_lines_keep_own.ensures
-        good.0.ready.state good.0.ready.reached call.lines asked.asked.excesses is.1 is.0
+    c.own_lines_stay.ensures c.turn_lines_join.ensures c.turn_lines_keep_own.ensures
+    good.0.ready.state good.0.ready.reached call.lines asked.asked.excesses is.1 is.0
     core.lits core.id below answer) told
-
