@@ -1,5 +1,5 @@
--- The board of a new proof, and what is listed of the board at the end.
-use Rattle.std.proofs.Common.{◌≡◌, ◌≤◌, false, List, [], map, ap, refl, sym, subst, ◌∙◌, arith, ℤ}
+-- The beginning of a proof, and what is listed of the board at the end.
+use Rattle.std.proofs.Common.{◌≡◌, ◌≤◌, false, List, [], map, ap, refl, sym, subst, arith, ℤ}
 use Rattle.std.specs.List.{All}
 use Rattle.std.specs.List.Sorted.{IsPermutation}
 use Rattle.front_set.specs.declared.entry.Entry.{Entry}
@@ -15,28 +15,26 @@ use Rattle.log_checker.specs.Accepted.{IsCovered, problem_vectors}
 use Rattle.proof_rules.specs.Recording.{Snapshot}
 use Rattle.sum_outputs.specs.Adding.{IsReached}
 use Rattle.search_base.specs.Boards.{BoardValue, IsBoard}
-use Rattle.search_base.specs.CostBounds.{FitBounds}
-use Rattle.search_base.specs.Good.{IsGood}
-use Rattle.search_base.specs.Laws.{BeginningIsGood, LoggedIsReached}
+use Rattle.search_base.specs.Laws.{IsPrepared, LoggedIsReached, NoLinesArePrepared}
 use Rattle.search_base.specs.Logged.{logged}
-use Rattle.search_base.specs.declared.objective_bound.ObjectiveBound.{ObjectiveBound}
 use Rattle.certified_front.specs.Certified.{CoversLogged}
 use Rattle.certified_front.proofs.ListedModels.{all_covered, listed_vectors, right_list}
 
--- bounds that fit wherever the problem's variables are there
-abbrev FitAnywhere : ProblemValue → List ObjectiveBound → Type 0
-FitAnywhere p bounds = (a : Snapshot) → a.problem ≡ p → ((s : StateValue) → IsReached a s → p.vars ≤ s.vars) → FitBounds a bounds
+-- no lines are prepared, and reforms of the problem's own terms serve over them
+module _ (a : Snapshot) (p : ProblemValue) (same : a.problem ≡ p) (none : a.lines ≡ []) where
+  start_reached : IsReached a (start a.problem)
+  start_reached = subst (λ (ls : List Line). IsReplay a.problem ls (start a.problem)) (sym none) refl
 
-pub begins_good : BeginningIsGood → (a : Snapshot) (p : ProblemValue) (bounds : List ObjectiveBound) (board : BoardValue) → a.problem ≡ p → a.lines ≡ [] → a.broken ≡ false → IsProblem p → FitAnywhere p bounds → board.problem ≡ p → IsBoard board [] → IsGood a bounds board
-begins_good law a p bounds board same none whole problem fit of_board is_board =
-    let from : StateValue = start a.problem in
-    let reached : IsReached a from = subst (λ (ls : List Line). IsReplay a.problem ls from) (sym none) refl in
-    let has : (s : StateValue) → IsReached a s → p.vars ≤ s.vars = λ s there.
-    let is : s ≡ from = subst (λ (ls : List Line). IsReplay a.problem ls s) none there in
-    let vars : s.vars ≡ a.problem.vars = ap (λ (t : StateValue). t.vars) is in
-    let problem_vars : a.problem.vars ≡ p.vars = ap (λ (q : ProblemValue). q.vars) same in
-    omega arith in
-    law a from bounds board (subst IsProblem (sym same) problem) none whole reached (of_board ∙ sym same) is_board (fit a same has)
+  pub begins_prepared : NoLinesArePrepared → a.broken ≡ false → IsProblem p → IsPrepared a
+  begins_prepared law whole problem =
+      law a (start a.problem) (subst IsProblem (sym same) problem) none whole start_reached
+
+  pub has_variables : (s : StateValue) → IsReached a s → p.vars ≤ s.vars
+  has_variables s there =
+      let is : s ≡ start a.problem = subst (λ (ls : List Line). IsReplay a.problem ls s) none there in
+      let vars : s.vars ≡ a.problem.vars = ap (λ (t : StateValue). t.vars) is in
+      let problem_vars : a.problem.vars ≡ p.vars = ap (λ (q : ProblemValue). q.vars) same in
+      omega arith
 
 -- the board's instance and the problem are known
 listed_covers : LoggedIsReached → (p : ProblemValue) (lines : List Line) (board : BoardValue) (listed : List Entry) → IsBoard board (logged p lines) → IsPermutation (map (listed_entry board.instance) board.entries) listed → AreRising (vectors_of listed) → CoversLogged board.instance p lines listed

@@ -1,5 +1,5 @@
 -- The line that ends a proof: it may be added, the proof has ended after it, and it logs nothing.
-use Rattle.std.proofs.Common.{◌≡◌, ◌⊎◌, inl, inr, ℕ, ◌^◌, Bool, true, false, not, Option, None, Some, List, [], ◌∷◌, ◌++◌, ap, refl, sym, subst, ℤ}
+use Rattle.std.proofs.Common.{◌≡◌, ◌⊎◌, inl, inr, ℕ, ◌^◌, Bool, true, false, not, Option, None, Some, List, [], ◌∷◌, ◌++◌, ap, append_assoc, refl, sym, subst, ◌∙◌, arith, ℤ}
 use Rattle.std.specs.Prelude.{nat_lt}
 use Rattle.std.specs.FinMap.{get}
 use Rattle.pb_lin.specs.Constraint.{ConstraintValue}
@@ -15,10 +15,13 @@ use Rattle.proof_laws.specs.declared.why.Why.TheVariants.{AfterEnd, LogLong}
 use Rattle.proof_laws.proofs.Replays.{replay_before, replay_once}
 use Rattle.proof_rules.specs.Recording.{Snapshot, MayBeAdded}
 use Rattle.sum_outputs.specs.Adding.{IsReady, IsReached}
+use Rattle.sum_outputs.proofs.LaterStates.{around_twice}
 use Rattle.search_base.specs.Boards.{BoardValue, IsBoard}
+use Rattle.search_base.specs.Good.{GoesOn}
 use Rattle.search_base.specs.Logged.{LogsNone, logged}
 use Rattle.search_base.specs.Turns.{IsEndLine}
 use Rattle.certified_front.specs.Certified.{HasEnded}
+use Rattle.certified_front.specs.Stopping.{StaysWith}
 
 -- "0 >= 1"
 abbrev contradiction : ConstraintValue
@@ -58,3 +61,17 @@ ended_after a b id s t problem added before after =
 pub still_board : (p q : ProblemValue) (old new : List Line) (board : BoardValue) → q ≡ p → LogsNone p old new → IsBoard board (logged p old) → IsBoard board (logged q new)
 still_board p q old new board problem none is =
     subst (λ (r : ProblemValue). IsBoard board (logged r new)) (sym problem) (subst (λ (vs : List (List ℤ)). IsBoard board vs) (sym none) is)
+
+-- what stays after turns still does after the last line
+pub stays_after : (a m b : Snapshot) → GoesOn a m → StaysWith m b → StaysWith a b
+stays_after a m b turns ended = record {
+  problem = ended.problem ∙ turns.problem;
+  limit = ended.limit ∙ turns.limit;
+  later = let one = turns.later in let other = ended.later in omega arith;
+  around = around_twice a.around m.around b.around turns.around ended.around;
+  begins = (
+    turns.lines.more ++ ended.begins.0,
+    ended.begins.1 ∙ ap (λ (ls : List Line). ls ++ ended.begins.0) turns.lines.is
+        ∙ append_assoc a.lines turns.lines.more ended.begins.0,
+  );
+}

@@ -1,49 +1,60 @@
 -- The vector that is logged for a model is the new aim.
-use Rattle.std.proofs.Common.{◌≡◌, None, Some, Option, Bool, List, [], ◌∷◌, ◌++◌, length, ap, sym, subst, ◌∙◌, ℤ}
+use Rattle.std.proofs.Common.{◌≡◌, None, Some, Option, Bool, List, [], ◌∷◌, ◌++◌, length, ap, refl, sym, subst, ◌∙◌, ℤ}
 use Rattle.std.specs.Prelude.{IfSome}
+use Rattle.std.specs.List.{last_or}
 use Rattle.std.proofs.lemmas.List.{length-map}
 use Rattle.front_set.specs.Vector.{IsBelow}
 use Rattle.front_set.proofs.FrontLaws.{IsBelow-trans, length-IsBelow}
 use Rattle.pb_lin.specs.CostRow.{row_cost}
 use Rattle.pb_lin.specs.Problem.{ProblemValue, problem_costs}
 use Rattle.proof_rules.specs.Recording.{Snapshot}
+use Rattle.search_base.specs.Boards.{BoardValue, IsBoard}
 use Rattle.search_base.specs.Logged.{Logs, LogsNone, logged}
 use Rattle.search_base.specs.Turns.{IsTaken}
-use Rattle.p_minimal.specs.Aiming.{AimsLower, Serves}
+use Rattle.search_questions.specs.declared.below.Below.TheVariants.{Model}
+use Rattle.p_minimal.specs.Aiming.{AimsLower, Serves, TellsOfAim}
 
--- no vector but the last one ends what is logged
-abbrev pub IsLast : Snapshot → List ℤ → Type 0
-IsLast b v =
-    (before : List (List ℤ)) (last : List ℤ) → logged b.problem b.lines ≡ before ++ last ∷ [] → v ≡ last
+last_pushed : {A : Type 0} (first : Option A) (xs : List A) (x : A) → last_or first (xs ++ x ∷ []) ≡ Some x
+last_pushed first [] x = refl
+last_pushed first (y ∷ xs) x = last_pushed (Some y) xs x
 
 lower : (costs at : List ℤ) (aim : Option (List ℤ)) → IsBelow costs at → IfSome aim (λ v. IsBelow at v)
     → IfSome aim (λ v. IsBelow costs v)
 lower costs at None first second = tt
 lower costs at (Some v) first second = IsBelow-trans costs at v first second
 
-module _ (m b : Snapshot) (x : List Bool) (v : List ℤ) (taken : IsTaken m b x)
-    (same : b.problem ≡ m.problem) (last : IsLast b v) where
-  is_logged : v ≡ taken.found.costs
-  is_logged =
-      last (logged m.problem m.lines) taken.found.costs
-      (ap (λ (p : ProblemValue). logged p b.lines) same ∙ taken.found.logs)
+-- what is told of a model
+model_told : (m : Snapshot) (aim : Option (List ℤ)) (x : List Bool) → TellsOfAim m aim (Model x)
+    → IfSome aim (λ v. IsBelow (problem_costs m.problem x) v)
+model_told m None x tells = tt
+model_told m (Some v) x tells = tells.1
 
-  pub serves_after : Serves (Some v) b.problem
+-- the board's last vector is the one that was logged for the model
+module _ (m b : Snapshot) (x : List Bool) (board : BoardValue) (now : Option (List ℤ)) (taken : IsTaken m b x)
+    (same : b.problem ≡ m.problem) (is : IsBoard board (logged b.problem b.lines)) (copied : now ≡ board.last) where
+  is_logged : now ≡ Some taken.found.costs
+  is_logged =
+      copied ∙ is.last
+      ∙ ap (λ (vs : List (List ℤ)). last_or None vs)
+      (ap (λ (p : ProblemValue). logged p b.lines) same ∙ taken.found.logs)
+      ∙ last_pushed None (logged m.problem m.lines) taken.found.costs
+
+  pub serves_after : Serves now b.problem
   serves_after =
-      ap length is_logged ∙ length-IsBelow taken.found.costs (problem_costs m.problem x) taken.below
+      subst (λ (aim : Option (List ℤ)). Serves aim b.problem) (sym is_logged)
+      (length-IsBelow taken.found.costs (problem_costs m.problem x) taken.below
       ∙ length-map m.problem.costs (row_cost x)
-      ∙ ap (λ (p : ProblemValue). length p.costs) (sym same)
+      ∙ ap (λ (p : ProblemValue). length p.costs) (sym same))
 
   pub aims_lower : (a : Snapshot) (aim : Option (List ℤ)) → m.problem ≡ a.problem
-      → LogsNone a.problem a.lines m.lines → IfSome aim (λ w. IsBelow (problem_costs m.problem x) w)
-      → AimsLower a b aim (Some v)
-  aims_lower a aim problem none below =
+      → LogsNone a.problem a.lines m.lines → TellsOfAim m aim (Model x) → AimsLower a b aim now
+  aims_lower a aim problem none tells =
       let costs = taken.found.costs in
       let logs : Logs a.problem m.lines b.lines costs =
       subst (λ (p : ProblemValue). Logs p m.lines b.lines costs) problem taken.found.logs in
       record {
         costs = costs;
-        aims = ap (λ (w : List ℤ). Some w) is_logged;
+        aims = is_logged;
         logs = logs ∙ ap (λ (vs : List (List ℤ)). vs ++ costs ∷ []) none;
-        below = lower costs (problem_costs m.problem x) aim taken.below below;
+        below = lower costs (problem_costs m.problem x) aim taken.below (model_told m aim x tells);
       }

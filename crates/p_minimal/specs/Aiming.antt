@@ -7,6 +7,8 @@ use Rattle.search_base.specs.Logged.{Logs}
 use Rattle.search_base.specs.Turns.{IsRemaining}
 use Rattle.search_base.specs.declared.turn.Turn.{Turn}
 use Rattle.search_base.specs.declared.turn.Turn.TheVariants.{Found, Moved, Finished}
+use Rattle.search_questions.specs.Telling.{Tells, TellsAny}
+use Rattle.search_questions.specs.declared.below.Below.{Below}
 
 -- 1 where there is an aim
 abbrev pub own_number : Option (List ℤ) → ℕ
@@ -30,6 +32,11 @@ pub record GivesUp (b : Snapshot) (aim now : Option (List ℤ)) : Type 0 where
   pub aimed : aim ≡ Some costs
   pub none : now ≡ None
   pub least : IsRemaining b costs → ⊥
+
+-- what an answer tells of the aim, where there is one
+abbrev pub TellsOfAim : Snapshot → Option (List ℤ) → Below → Type 0
+TellsOfAim b None below = TellsAny b below
+TellsOfAim b (Some aim) below = Tells b aim below
 
 -- what each answer of a turn says of the aim
 abbrev pub Aims : Snapshot → Snapshot → Option (List ℤ) → Option (List ℤ) → Turn → Type 0

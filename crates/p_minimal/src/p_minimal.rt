@@ -2,20 +2,16 @@
 ghost use Rattle.std.specs.Prelude.{◌≡◌, None, IfOk, IfErr, option_copied};
 ghost use Rattle.search_base.specs.Good.{GoesOn, IsGood, KeepsBoard};
 ghost use Rattle.search_base.specs.Turns.{IsInOrder, IsSearchFault, IsTurn};
-ghost use Rattle.p_minimal.specs.Aiming.{Aims, Serves, own_number};
-ghost use Rattle.p_minimal.specs.Asking.{IsGoodWithSome, StaysGood, Tells};
+ghost use Rattle.search_questions.specs.Telling.{IsGoodWithSome, StaysGood};
+ghost use Rattle.p_minimal.specs.Aiming.{Aims, Serves, TellsOfAim, own_number};
 
-use crate::last_logged::last_logged;
-use crate::question::question;
 use front_set::CostVec;
-use oracle::{Answer, Oracle, OracleFault};
-use search_base::{
-    Board, Bounds, Search, Turn, asking_stays_good, bounding_stays_good, turn_lines_join,
-    turn_lines_keep_own,
-};
+use oracle::{Oracle, OracleFault};
+use scut_base::{Duplicate, NoMemory};
+use search_base::{Board, Bounds, Search, Turn};
+use search_questions::{Below, seek_any, seek_below};
 use std::alloc::Global;
 use std::marker::Model;
-use totalizer::bounds_stay;
 
 /// Finds a model, and then one whose costs are below the last one's and differ, until none is left: then it
 /// starts afresh.
@@ -48,10 +44,32 @@ impl PMinimal {
         self.aim.as_ref()
     }
 
+    // Whether a model is left whose costs are at most the aim, or any where there is no aim.
+    fn seek<O: Oracle>(&self, oracle: &mut O, bounds: &mut Bounds) -> Result<Below, OracleFault>
+        requires good { IsGoodWithSome (O.seen oracle.old) bounds.old }
+        requires serves { Serves self.now (O.seen oracle.old).problem }
+        ensures tells { IfOk result (TellsOfAim (O.seen oracle.new) self.now) }
+        ensures good { IsInOrder result → StaysGood (O.seen oracle.old) (O.seen oracle.new)
+            bounds.old bounds.new }
+        ensures fault { IfErr result (IsSearchFault (O.seen oracle.old) (O.seen oracle.new)) }
+        ensures goes_on { GoesOn (O.seen oracle.old) (O.seen oracle.new) }
+    {
+        match &self.aim {
+            Some(aim) => seek_below(self.alloc, oracle, bounds, aim),
+            None => seek_any(oracle, bounds),
+        }
+    }
+}
+
+impl Search for PMinimal {
+    ghost own = { own_number };
+
+    ghost serves = { Serves };
+
     /// One turn. With an aim it asks for a model of no greater costs: `Found` where there is one, whose costs
     /// are the new aim, and else `Moved`, without an aim. Without an aim it asks for any model: `Found`, or
     /// `Finished`.
-    pub fn advance<O: Oracle>(
+    fn turn<O: Oracle>(
         &mut self,
         oracle: &mut O,
         bounds: &mut Bounds,
@@ -64,66 +82,32 @@ impl PMinimal {
         ensures aim { IfOk result (Aims (O.seen oracle.old) (O.seen oracle.new) self.old self.new) }
         ensures same_aim { IfErr result (λ f. self.new ≡ self.old) }
         ensures good { IsInOrder result → IsGood (O.seen oracle.new) bounds.new board.new }
-        ensures serves { Serves self.new (O.seen oracle.new).problem }
+        ensures serves { IsInOrder result → Serves self.new (O.seen oracle.new).problem }
         ensures fault { IfErr result (IsSearchFault (O.seen oracle.old) (O.seen oracle.new)) }
         ensures goes_on { GoesOn (O.seen oracle.old) (O.seen oracle.new) }
         ensures board { KeepsBoard board.old board.new }
     {
-        match self.ask(oracle, bounds)? {
-            Some(Answer::Sat(model)) => {
+        match self.seek(oracle, bounds)? {
+            Below::Model(model) => {
                 board.take(oracle, bounds, &model)?;
-                self.aim = Some(last_logged(self.alloc, oracle)?);
+                self.aim = copy_of_last(self.alloc, board)?;
                 Ok(Turn::Found)
             }
-            Some(Answer::Unsat(core)) if core.lits.is_empty() => Ok(Turn::Finished { id: core.id }),
-            Some(Answer::Unsat(_)) | None => {
+            Below::End { id } => Ok(Turn::Finished { id }),
+            Below::Above { .. } => {
                 self.aim = None;
                 Ok(Turn::Moved)
             }
         }
     }
-
-    // Whether a model has costs below the aim, or whether there is a model where there is no aim. `None` where
-    // the bounds alone tell that none has.
-    fn ask<O: Oracle>(
-        &self,
-        oracle: &mut O,
-        bounds: &mut Bounds,
-    ) -> Result<Option<Answer>, OracleFault>
-        requires good { IsGoodWithSome (O.seen oracle.old) bounds.old }
-        requires serves { Serves self.now (O.seen oracle.old).problem }
-        ensures tells { IfOk result (Tells (O.seen oracle.new) self.now) }
-        ensures good { IsInOrder result → StaysGood (O.seen oracle.old)
-            (O.seen oracle.new) bounds.old bounds.new }
-        ensures fault { IfErr result (IsSearchFault (O.seen oracle.old) (O.seen oracle.new)) }
-        ensures goes_on { GoesOn (O.seen oracle.old) (O.seen oracle.new) }
-    {
-        bounds_stay();
-        asking_stays_good();
-        bounding_stays_good();
-        turn_lines_join();
-        turn_lines_keep_own();
-        let Some(aim) = &self.aim else {
-            return Ok(Some(oracle.solve(&[])?));
-        };
-        let Some(lits) = question(self.alloc, oracle, bounds, aim)? else {
-            return Ok(None);
-        };
-        Ok(Some(oracle.solve(lits.as_slice())?))
-    }
 }
 
-impl Search for PMinimal {
-    ghost own = { own_number };
-
-    ghost serves = { Serves };
-
-    fn turn<O: Oracle>(
-        &mut self,
-        oracle: &mut O,
-        bounds: &mut Bounds,
-        board: &mut Board<'_>,
-    ) -> Result<Turn, OracleFault> {
-        self.advance(oracle, bounds, board)
+// A copy of the vector that was logged last, where there is one.
+fn copy_of_last(alloc: Global, board: &Board<'_>) -> Result<Option<CostVec>, NoMemory>
+    ensures { IfOk result (λ copy. copy ≡ board.now.last) }
+{
+    match board.last() {
+        Some(last) => Ok(Some(last.copy(alloc)?)),
+        None => Ok(None),
     }
 }

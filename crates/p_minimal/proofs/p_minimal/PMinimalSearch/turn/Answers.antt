@@ -1,0 +1,61 @@
+-- The vector that was logged for the model is the new aim.
+use Rattle.search_base.proofs.Turning.{finds_after, goes_twice}
+use Rattle.p_minimal.proofs.Aims.{aims_lower, serves_after}
+use Rattle.p_minimal.proofs.p_minimal.PMinimalSearch.turn.Goals as goal
+
+pub returns-in_err-take-in-Model-clause-goes_on : goal.returns-in_err-take-in-Model-clause-goes_on
+returns-in_err-take-in-Model-clause-goes_on g c =
+    let R = g.O.Recorder in
+    let a = R.seen c.args.oracle.now in
+    let m = R.seen c.seek.new.oracle in
+    let b = R.seen c.take.new.rec in
+    goes_twice a m b c.seek.ensures.goes_on c.take.ensures.goes_on
+
+pub returns-in_err-self-inside-in-Model-clause-goes_on : goal.returns-in_err-self-inside-in-Model-clause-goes_on
+returns-in_err-self-inside-in-Model-clause-goes_on g c =
+    let R = g.O.Recorder in
+    let a = R.seen c.args.oracle.now in
+    let m = R.seen c.seek.new.oracle in
+    let b = R.seen c.take.new.rec in
+    goes_twice a m b c.seek.ensures.goes_on c.take.ensures.goes_on
+
+pub returns-in-Model-clause-goes_on : goal.returns-in-Model-clause-goes_on
+returns-in-Model-clause-goes_on g c =
+    let R = g.O.Recorder in
+    let a = R.seen c.args.oracle.now in
+    let m = R.seen c.seek.new.oracle in
+    let b = R.seen c.take.new.rec in
+    goes_twice a m b c.seek.ensures.goes_on c.take.ensures.goes_on
+
+pub returns-in-Model-clause-turn : goal.returns-in-Model-clause-turn
+returns-in-Model-clause-turn g c =
+    let R = g.O.Recorder in
+    let a = R.seen c.args.oracle.now in
+    let m = R.seen c.seek.new.oracle in
+    let b = R.seen c.take.new.rec in
+    let asked = c.in_ok-model.ensures in
+    let stays = asked.good tt c.args.board.now c.requires.good in
+    finds_after a m b asked.goes_on.problem stays.1 c.in_ok-take-in-Model.ensures.taken.found
+
+pub returns-in-Model-clause-serves : goal.returns-in-Model-clause-serves
+returns-in-Model-clause-serves g c =
+    let R = g.O.Recorder in
+    let m = R.seen c.seek.new.oracle in
+    let b = R.seen c.take.new.rec in
+    let call = c.in_ok-take-in-Model.ensures in
+    λ order. serves_after m b c.in-Model.model c.take.new.self c.in_ok-self-inside-in-Model.field-0
+    call.taken call.goes_on.problem call.good.board c.in_ok-self-inside-in-Model.ensures
+
+pub returns-in-Model-clause-aim : goal.returns-in-Model-clause-aim
+returns-in-Model-clause-aim g c =
+    let R = g.O.Recorder in
+    let a = R.seen c.args.oracle.now in
+    let m = R.seen c.seek.new.oracle in
+    let b = R.seen c.take.new.rec in
+    let asked = c.in_ok-model.ensures in
+    let stays = asked.good tt c.args.board.now c.requires.good in
+    let tells = rw c.in-Model.is at asked.tells in
+    let call = c.in_ok-take-in-Model.ensures in
+    aims_lower m b c.in-Model.model c.take.new.self c.in_ok-self-inside-in-Model.field-0
+    call.taken call.goes_on.problem call.good.board c.in_ok-self-inside-in-Model.ensures
+    a c.args.self.now asked.goes_on.problem stays.1 tells

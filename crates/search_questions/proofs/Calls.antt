@@ -1,0 +1,133 @@
+-- Calls one after another keep a good state good.
+use Rattle.std.proofs.Common.{◌≡◌, ℕ, false, Option, Result, Err, List, [], ◌∷◌, sym, subst}
+use Rattle.std.specs.List.{All, AllZip}
+use Rattle.std.proofs.lemmas.List.Elements.{All-nil, All-cons}
+use Rattle.scut_base.specs.Faults.{Rose}
+use Rattle.pb_lin.specs.CostRow.{CostRowValue, IsCostRow}
+use Rattle.pb_lin.specs.Problem.{ProblemValue}
+use Rattle.instance_normal.specs.NormalForm.{CostSource, IsCostRowOf}
+use Rattle.proof_laws.specs.State.{StateValue}
+use Rattle.proof_laws.proofs.Replays.{replay_once}
+use Rattle.proof_rules.specs.Recording.{Snapshot, KeepsRecorder}
+use Rattle.proof_rules.specs.declared.recorder.RecordFault.{RecordFault}
+use Rattle.proof_rules.specs.declared.recorder.RecordFault.TheVariants.{Failed as RecordingFailed, Full as RecordFull, NoMemory as RecordNoMemory}
+use Rattle.oracle.specs.Solving.{AddsSearchLines, AreEarned, HasFault, IsOrderly, IsWithin, Reaches, fault_of_recording}
+use Rattle.oracle.specs.declared.fault.OracleFault.{OracleFault}
+use Rattle.oracle.specs.declared.fault.OracleFault.TheVariants.{Spent, Failed, Full, NoMemory}
+use Rattle.sum_outputs.specs.Adding.{Continues, IsReady}
+use Rattle.search_base.specs.CostBounds.{FitBounds}
+use Rattle.search_base.specs.Good.{GoesOn}
+use Rattle.search_base.specs.Laws.{AskingStaysGood, BoundingStaysGood, TurnLinesJoin}
+use Rattle.search_base.specs.Turns.{IsInOrder}
+use Rattle.search_base.specs.declared.objective_bound.ObjectiveBound.{ObjectiveBound}
+use Rattle.search_base.proofs.Turning.{none_twice}
+use Rattle.search_questions.specs.Telling.{IsGoodWithSome, StaysGood}
+
+-- ---- before a call
+
+pub not_ended : (a : Snapshot) → IsReady a → Reaches a.problem a.lines (λ s. s.ended ≡ false)
+not_ended a ready s reached =
+    subst (λ (t : StateValue). t.ended ≡ false)
+    (replay_once a.problem a.lines ready.state s ready.reached reached) ready.unended
+
+abbrev AreCostRows : List CostRowValue → Type 0
+AreCostRows rows = All (λ r. IsCostRow r.terms r.offset) rows
+
+cost_rows : (sources : List CostSource) (rows : List CostRowValue) → AllZip IsCostRowOf sources rows
+    → AreCostRows rows
+cost_rows [] [] zip = All-nil (λ r. IsCostRow r.terms r.offset)
+cost_rows [] (r ∷ rows) zip = absurd zip
+cost_rows (s ∷ sources) [] zip = absurd zip
+cost_rows (s ∷ sources) (r ∷ rows) zip =
+    All-cons (λ r. IsCostRow r.terms r.offset) r rows zip.0.row (cost_rows sources rows zip.1)
+
+pub good_rows : (a : Snapshot) (asked : List ObjectiveBound) → IsGoodWithSome a asked → AreCostRows a.problem.costs
+good_rows a asked (front, good) =
+    subst (λ (p : ProblemValue). AreCostRows p.costs) good.problem
+    (cost_rows _ front.problem.costs good.board.normal.costs)
+
+-- ---- one call
+
+-- bounds were asked for
+pub bounds_stay_good : BoundingStaysGood → (a b : Snapshot) (old new : List ObjectiveBound)
+    → Continues a b → b.broken ≡ false → FitBounds b new → StaysGood a b old new
+bounds_stay_good law a b old new on whole fits front good = law a b old new front good on whole fits
+
+module _ (law : AskingStaysGood) (a b : Snapshot) (asked : List ObjectiveBound)
+    (keeps : KeepsRecorder a b) (lines : AddsSearchLines a.problem a.lines b.lines)
+    (within : IsWithin a.limit a.problem b.lines) where
+  -- the oracle was asked
+  pub oracle_stays_good : b.broken ≡ false → AreEarned a.problem b.lines → StaysGood a b asked asked
+  oracle_stays_good whole earned front good =
+      let here : AreEarned b.problem b.lines =
+      subst (λ (p : ProblemValue). AreEarned p b.lines) (sym keeps.problem) earned in
+      law a b here.1.replays.0 asked front good here.1.replays.1 (record {
+        problem = keeps.problem;
+        limit = keeps.limit;
+        whole = whole;
+        later = keeps.later;
+        around = keeps.around;
+        lines = lines;
+        earned = here;
+        within = subst (λ (p : ProblemValue). IsWithin b.limit p b.lines) (sym keeps.problem)
+            (subst (λ (n : Option ℕ). IsWithin n a.problem b.lines) (sym keeps.limit) within);
+      })
+
+  -- why it didn't answer
+  abbrev WhyNot : OracleFault → Type 0
+  WhyNot f = HasFault f a.limit a.problem b.lines (Rose a.faults b.faults) b.broken
+
+  spent : (T : Type 0) (f : OracleFault) → (IsOrderly (Err f) → AreEarned a.problem b.lines) → WhyNot f
+      → IsInOrder {T = T} (Err f) → StaysGood a b asked asked
+  spent T (Spent learned) earned fault order = oracle_stays_good fault.1 (earned tt)
+  spent T Failed earned fault order = absurd order
+  spent T Full earned fault order = absurd order
+  spent T NoMemory earned fault order = absurd order
+
+  -- it spent what it may
+  pub spent_stays_good : {T : Type 0} (r : Result T OracleFault) (f : OracleFault) → r ≡ Err f
+      → (IsOrderly (Err f) → AreEarned a.problem b.lines) → WhyNot f → IsInOrder r → StaysGood a b asked asked
+  spent_stays_good {T} r f is earned fault order =
+      spent T f earned fault (subst (λ (q : Result T OracleFault). IsInOrder q) is order)
+
+pub stays_good_twice : (a b c : Snapshot) (old mid new : List ObjectiveBound)
+    → b.problem ≡ a.problem → StaysGood a b old mid → StaysGood b c mid new → StaysGood a c old new
+stays_good_twice a b c old mid new problem one other front good =
+    let first = one front good in
+    let second = other front first.0 in
+    (second.0, none_twice a b c problem first.1 second.1)
+
+-- ---- what a call adds
+
+pub bounds_go_on : TurnLinesJoin → (a b : Snapshot) → Continues a b → GoesOn a b
+bounds_go_on join a b on = record {
+  problem = on.problem;
+  limit = on.limit;
+  later = on.later;
+  around = on.around;
+  lines = join.totalizer a b on;
+}
+
+pub oracle_goes_on : TurnLinesJoin → (a b : Snapshot) → KeepsRecorder a b → AddsSearchLines a.problem a.lines b.lines
+    → GoesOn a b
+oracle_goes_on join a b keeps lines = record {
+  problem = keeps.problem;
+  limit = keeps.limit;
+  later = keeps.later;
+  around = keeps.around;
+  lines = join.search a.problem a.lines b.lines lines;
+}
+
+-- ---- faults
+
+-- after a fault of recording not all may go on
+ended : (T : Type 0) (f : RecordFault) → IsInOrder {T = T} (Err (fault_of_recording f)) → ⊥
+ended T RecordingFailed order = order
+ended T RecordFull order = order
+ended T RecordNoMemory order = order
+
+pub recording_ends : {T : Type 0} (a b : Snapshot) (old new : List ObjectiveBound)
+    (r : Result T OracleFault) (f : RecordFault) → r ≡ Err (fault_of_recording f) → IsInOrder r
+    → StaysGood a b old new
+recording_ends {T} a b old new r f is order =
+    absurd (ended T f (subst (λ (q : Result T OracleFault). IsInOrder q) is order))

@@ -1,0 +1,9 @@
+pub mod LaterBounds
+pub mod Excesses
+pub mod Questions
+pub mod Questioned
+pub mod Denials
+pub mod Cores
+pub mod Calls
+pub mod Telling
+pub mod Told

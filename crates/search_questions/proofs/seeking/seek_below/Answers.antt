@@ -1,0 +1,242 @@
+-- The question's bounds and the oracle's call keep a good state good, and the answer tells of the limits what was asked.
+use Rattle.std.proofs.Common.{◌≡◌, Some, None, Err, List, length, ap, sym, subst, ◌∙◌, ℤ}
+use Rattle.std.proofs.lemmas.Result.{IfOk-weaker, err_from_is_err_and}
+use Rattle.std.specs.Prelude.{IfOk}
+use Rattle.pb_lin.specs.Problem.{ProblemValue}
+use Rattle.oracle.specs.Solving.{AreAssumptions, IsAnswer}
+use Rattle.oracle.specs.declared.answer.Answer.TheVariants.{Sat, Unsat}
+use Rattle.oracle.specs.declared.fault.OracleFault.{OracleFault}
+use Rattle.search_base.proofs.Turning.{goes_twice}
+use Rattle.search_questions.specs.Questions.{IsAsked}
+use Rattle.search_questions.specs.Cores.{IsToldByCore}
+use Rattle.search_questions.specs.Telling.{Tells}
+use Rattle.search_questions.proofs.Calls.{not_ended, good_rows, bounds_stay_good, oracle_stays_good, stays_good_twice, bounds_go_on, oracle_goes_on, recording_ends, spent_stays_good}
+use Rattle.search_questions.proofs.Questions.{are_assumptions}
+use Rattle.search_questions.proofs.Told.{told_clash, told_model, told_core}
+use Rattle.search_questions.proofs.seeking.seek_below.Goals as goal
+
+pub questioned-requires-clause-costs : goal.questioned-requires-clause-costs
+questioned-requires-clause-costs g c =
+    let R = g.O.Recorder in
+    let a = R.seen c.args.oracle.now in
+    good_rows a c.args.bounds.now c.requires.good
+
+pub returns-in_err-question-clause-good : goal.returns-in_err-question-clause-good
+returns-in_err-question-clause-good g c =
+    let R = g.O.Recorder in
+    let is = err_from_is_err_and c.from_residual.result c.from_residual.ensures.1 in
+    recording_ends (R.seen c.args.oracle.now) (R.seen c.questioned.new.rec) c.args.bounds.now c.questioned.new.bounds
+    c.from_residual.result c.in_err-question.field-0.0 (is.1 ∙ ap (λ (f : OracleFault). Err f) is.2)
+
+pub returns-in_err-question-clause-goes_on : goal.returns-in_err-question-clause-goes_on
+returns-in_err-question-clause-goes_on g c =
+    let R = g.O.Recorder in
+    bounds_go_on c.turn_lines_join.ensures (R.seen c.args.oracle.now) (R.seen c.questioned.new.rec)
+    c.in_err-question.ensures.recorded.continues
+
+pub returns-in_err-stands-clause-goes_on : goal.returns-in_err-stands-clause-goes_on
+returns-in_err-stands-clause-goes_on g c =
+    let R = g.O.Recorder in
+    bounds_go_on c.turn_lines_join.ensures (R.seen c.args.oracle.now) (R.seen c.questioned.new.rec)
+    c.in_ok-question.ensures.recorded.continues
+
+pub returns-in_default-clause-goes_on : goal.returns-in_default-clause-goes_on
+returns-in_default-clause-goes_on g c =
+    let R = g.O.Recorder in
+    bounds_go_on c.turn_lines_join.ensures (R.seen c.args.oracle.now) (R.seen c.questioned.new.rec)
+    c.in_ok-question.ensures.recorded.continues
+
+pub returns-in_default-clause-good : goal.returns-in_default-clause-good
+returns-in_default-clause-good g c =
+    let R = g.O.Recorder in
+    let a = R.seen c.args.oracle.now in
+    let m = R.seen c.questioned.new.rec in
+    let asked = c.in_ok-question.ensures in
+    λ order. bounds_stay_good c.bounding_stays_good.ensures a m c.args.bounds.now c.questioned.new.bounds
+    asked.recorded.continues asked.recorded.whole asked.fits
+
+pub returns-in_default-clause-tells : goal.returns-in_default-clause-tells
+returns-in_default-clause-tells g c =
+    let R = g.O.Recorder in
+    let a = R.seen c.args.oracle.now in
+    let m = R.seen c.questioned.new.rec in
+    let asked = c.in_ok-question.ensures in
+    let q = c.in_ok-question.question in
+    let limits : List ℤ = c.args.limits.now in
+    let is : IsAsked m limits q.excesses q.last None = rw c.in_default.is at asked.asked.asked in
+    let stands = c.in_ok-stands.ensures in
+    told_clash m limits q.excesses q.last c.in_ok-stands.stands asked.asked.excesses is.0 is.1
+    (rw c.as_slice-excesses.ensures at rw c.as_slice-objectives.ensures at stands)
+
+pub solve-requires-clause-unended : goal.solve-requires-clause-unended
+solve-requires-clause-unended g c =
+    let R = g.O.Recorder in
+    let a = R.seen c.args.oracle.now in
+    let m = R.seen c.questioned.new.rec in
+    let asked = c.in_ok-question.ensures in
+    let front = c.requires.good in
+    let good = bounds_stay_good c.bounding_stays_good.ensures a m c.args.bounds.now c.questioned.new.bounds
+    asked.recorded.continues asked.recorded.whole asked.fits front.0 front.1 in
+    not_ended m good.0.ready
+
+pub solve-requires-clause-assumptions : goal.solve-requires-clause-assumptions
+solve-requires-clause-assumptions g c =
+    let R = g.O.Recorder in
+    let a = R.seen c.args.oracle.now in
+    let m = R.seen c.questioned.new.rec in
+    let asked = c.in_ok-question.ensures in
+    let q = c.in_ok-question.question in
+    let limits : List ℤ = c.args.limits.now in
+    let is : IsAsked m limits q.excesses q.last (Some c.in-Some.lits) = rw c.in-Some.is at asked.asked.asked in
+    λ s reached. subst (AreAssumptions s.vars) (sym c.as_slice.ensures)
+    (are_assumptions m.problem m.lines limits q.excesses c.in-Some.lits s reached asked.asked.excesses is.1)
+
+pub solve-requires-clause-earned : goal.solve-requires-clause-earned
+solve-requires-clause-earned g c =
+    let R = g.O.Recorder in
+    let a = R.seen c.args.oracle.now in
+    let m = R.seen c.questioned.new.rec in
+    let asked = c.in_ok-question.ensures in
+    let front = c.requires.good in
+    let good = bounds_stay_good c.bounding_stays_good.ensures a m c.args.bounds.now c.questioned.new.bounds
+    asked.recorded.continues asked.recorded.whole asked.fits front.0 front.1 in
+    good.0.earned
+
+pub solve-requires-clause-within : goal.solve-requires-clause-within
+solve-requires-clause-within g c =
+    let R = g.O.Recorder in
+    let a = R.seen c.args.oracle.now in
+    let m = R.seen c.questioned.new.rec in
+    let asked = c.in_ok-question.ensures in
+    let front = c.requires.good in
+    let good = bounds_stay_good c.bounding_stays_good.ensures a m c.args.bounds.now c.questioned.new.bounds
+    asked.recorded.continues asked.recorded.whole asked.fits front.0 front.1 in
+    good.0.within
+
+pub returns-in_err-model-clause-good : goal.returns-in_err-model-clause-good
+returns-in_err-model-clause-good g c =
+    let R = g.O.Recorder in
+    let a = R.seen c.args.oracle.now in
+    let m = R.seen c.questioned.new.rec in
+    let b = R.seen c.solve.new.self in
+    let asked = c.in_ok-question.ensures in
+    let call = c.in_err-model.ensures in
+    let is = err_from_is_err_and c.from_residual-in_err-model.result c.from_residual-in_err-model.ensures.1 in
+    let first = bounds_stay_good c.bounding_stays_good.ensures a m c.args.bounds.now c.questioned.new.bounds
+    asked.recorded.continues asked.recorded.whole asked.fits in
+    λ order. stays_good_twice a m b c.args.bounds.now c.questioned.new.bounds c.questioned.new.bounds
+    asked.recorded.continues.problem first
+    (spent_stays_good c.asking_stays_good.ensures m b c.questioned.new.bounds
+    call.keeps call.lines call.within c.from_residual-in_err-model.result
+    c.in_err-model.field-0.0 (is.1 ∙ ap (λ (f : OracleFault). Err f) is.2) call.earned call.fault order)
+
+pub returns-in_err-model-clause-goes_on : goal.returns-in_err-model-clause-goes_on
+returns-in_err-model-clause-goes_on g c =
+    let R = g.O.Recorder in
+    let a = R.seen c.args.oracle.now in
+    let m = R.seen c.questioned.new.rec in
+    let b = R.seen c.solve.new.self in
+    let asked = c.in_ok-question.ensures in
+    let call = c.in_err-model.ensures in
+    goes_twice a m b (bounds_go_on c.turn_lines_join.ensures a m asked.recorded.continues)
+    (oracle_goes_on c.turn_lines_join.ensures m b call.keeps call.lines)
+
+pub returns-in-Sat-clause-goes_on : goal.returns-in-Sat-clause-goes_on
+returns-in-Sat-clause-goes_on g c =
+    let R = g.O.Recorder in
+    let a = R.seen c.args.oracle.now in
+    let m = R.seen c.questioned.new.rec in
+    let b = R.seen c.solve.new.self in
+    let asked = c.in_ok-question.ensures in
+    let call = c.in_ok-model.ensures in
+    goes_twice a m b (bounds_go_on c.turn_lines_join.ensures a m asked.recorded.continues)
+    (oracle_goes_on c.turn_lines_join.ensures m b call.keeps call.lines)
+
+pub returns-in-Sat-clause-good : goal.returns-in-Sat-clause-good
+returns-in-Sat-clause-good g c =
+    let R = g.O.Recorder in
+    let a = R.seen c.args.oracle.now in
+    let m = R.seen c.questioned.new.rec in
+    let b = R.seen c.solve.new.self in
+    let asked = c.in_ok-question.ensures in
+    let call = c.in_ok-model.ensures in
+    let first = bounds_stay_good c.bounding_stays_good.ensures a m c.args.bounds.now c.questioned.new.bounds
+    asked.recorded.continues asked.recorded.whole asked.fits in
+    λ order. stays_good_twice a m b c.args.bounds.now c.questioned.new.bounds c.questioned.new.bounds
+    asked.recorded.continues.problem first
+    (oracle_stays_good c.asking_stays_good.ensures m b c.questioned.new.bounds
+    call.keeps call.lines call.within call.whole (call.earned tt))
+
+pub returns-in-Sat-clause-tells : goal.returns-in-Sat-clause-tells
+returns-in-Sat-clause-tells g c =
+    let R = g.O.Recorder in
+    let a = R.seen c.args.oracle.now in
+    let m = R.seen c.questioned.new.rec in
+    let b = R.seen c.solve.new.self in
+    let asked = c.in_ok-question.ensures in
+    let q = c.in_ok-question.question in
+    let limits : List ℤ = c.args.limits.now in
+    let call = c.in_ok-model.ensures in
+    let front = c.requires.good in
+    let good = bounds_stay_good c.bounding_stays_good.ensures a m c.args.bounds.now c.questioned.new.bounds
+    asked.recorded.continues asked.recorded.whole asked.fits front.0 front.1 in
+    let is : IsAsked m limits q.excesses q.last (Some c.in-Some.lits) = rw c.in-Some.is at asked.asked.asked in
+    let long : length limits ≡ length m.problem.costs =
+    c.requires.count ∙ ap (λ (p : ProblemValue). length p.costs) (sym asked.recorded.continues.problem) in
+    let answer : IsAnswer m.problem b.lines c.in-Some.lits (Sat c.in-Sat.model) =
+    rw c.as_slice.ensures at rw c.in-Sat.is at call.answer in
+    told_model m b call.keeps.problem (call.earned tt) limits q.excesses c.in-Some.lits
+    c.own_lines_stay.ensures c.turn_lines_join.ensures c.turn_lines_keep_own.ensures
+    good.0.ready.state good.0.ready.reached call.lines asked.asked.excesses is.1 is.0
+    c.in-Sat.model long answer
+
+pub returns-clause-goes_on : goal.returns-clause-goes_on
+returns-clause-goes_on g c =
+    let R = g.O.Recorder in
+    let a = R.seen c.args.oracle.now in
+    let m = R.seen c.questioned.new.rec in
+    let b = R.seen c.solve.new.self in
+    let asked = c.in_ok-question.ensures in
+    let call = c.in_ok-model.ensures in
+    goes_twice a m b (bounds_go_on c.turn_lines_join.ensures a m asked.recorded.continues)
+    (oracle_goes_on c.turn_lines_join.ensures m b call.keeps call.lines)
+
+pub returns-clause-good : goal.returns-clause-good
+returns-clause-good g c =
+    let R = g.O.Recorder in
+    let a = R.seen c.args.oracle.now in
+    let m = R.seen c.questioned.new.rec in
+    let b = R.seen c.solve.new.self in
+    let asked = c.in_ok-question.ensures in
+    let call = c.in_ok-model.ensures in
+    let first = bounds_stay_good c.bounding_stays_good.ensures a m c.args.bounds.now c.questioned.new.bounds
+    asked.recorded.continues asked.recorded.whole asked.fits in
+    λ order. stays_good_twice a m b c.args.bounds.now c.questioned.new.bounds c.questioned.new.bounds
+    asked.recorded.continues.problem first
+    (oracle_stays_good c.asking_stays_good.ensures m b c.questioned.new.bounds
+    call.keeps call.lines call.within call.whole (call.earned tt))
+
+pub returns-clause-tells : goal.returns-clause-tells
+returns-clause-tells g c =
+    let R = g.O.Recorder in
+    let a = R.seen c.args.oracle.now in
+    let m = R.seen c.questioned.new.rec in
+    let b = R.seen c.solve.new.self in
+    let asked = c.in_ok-question.ensures in
+    let q = c.in_ok-question.question in
+    let limits : List ℤ = c.args.limits.now in
+    let call = c.in_ok-model.ensures in
+    let front = c.requires.good in
+    let good = bounds_stay_good c.bounding_stays_good.ensures a m c.args.bounds.now c.questioned.new.bounds
+    asked.recorded.continues asked.recorded.whole asked.fits front.0 front.1 in
+    let is : IsAsked m limits q.excesses q.last (Some c.in-Some.lits) = rw c.in-Some.is at asked.asked.asked in
+    let core = c.in-Unsat.core in
+    let answer : IsAnswer m.problem b.lines c.in-Some.lits (Unsat core) =
+    rw c.as_slice.ensures at rw c.in-Unsat.is at call.answer in
+    let told : IfOk c.told_by_core.result (IsToldByCore q.excesses core.lits core.id (length limits)) =
+    rw c.as_slice-excesses.ensures at rw c.as_slice-objectives.ensures at c.told_by_core.ensures.told in
+    IfOk-weaker c.told_by_core.result (IsToldByCore q.excesses core.lits core.id (length limits)) (Tells b limits)
+    (λ below. told_core m b call.keeps.problem (call.earned tt) limits q.excesses c.in-Some.lits
+    c.own_lines_stay.ensures c.turn_lines_join.ensures c.turn_lines_keep_own.ensures
+    good.0.ready.state good.0.ready.reached call.lines asked.asked.excesses is.1 is.0
+    core.lits core.id below answer) told

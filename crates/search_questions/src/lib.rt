@@ -1,0 +1,14 @@
+//! The question that all searches ask: is a model left whose costs are at most given limits?
+//!
+//! Its public contract: `seek_below` answers such a model, or that none is left, with the objectives whose
+//! limits stand in the way; `seek_any` asks for any model. Both keep a good state good and log nothing. Which
+//! limits are asked about, and in what order, is a search's own.
+#![tactic(auto)]
+
+mod below;
+mod question;
+mod seeking;
+mod standing;
+
+pub use below::Below;
+pub use seeking::{seek_any, seek_below};
