@@ -5,6 +5,7 @@ pub mod ReplayIds
 pub mod LaterStates
 pub mod TokenLists
 pub mod PartLines
+pub mod PolLines
 pub mod ImplyLines
 pub mod DefinedLines
 pub mod OutputsLater

@@ -1,5 +1,5 @@
 -- What is added to a recorder, and what stays as it was.
-use Rattle.std.specs.Prelude.{◌≡◌, ◌≤◌, ◌^◌, ℕ, ◌+◌, Bool, false, List, ◌++◌, length, All, Option, Some, Result, OnOk, IfErr}
+use Rattle.std.specs.Prelude.{◌≡◌, ◌≤◌, ◌^◌, ℕ, ◌+◌, Bool, false, List, ◌++◌, length, All, Some, Result, OnOk, IfErr}
 use Rattle.std.specs.FinMap.{get}
 use Rattle.scut_base.specs.Faults.{Rose}
 use Rattle.pb_lin.specs.Constraint.{ConstraintValue, Holds}

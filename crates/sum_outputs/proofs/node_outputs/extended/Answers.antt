@@ -1,8 +1,7 @@
 -- What is made, and what is put behind the others.
-use Rattle.std.proofs.Common.{◌≡◌, ℕ, ◌-◌, ◌<◌, List, [], ◌∷◌, ◌++◌, length, drop, reverse, ap, sym, subst, ◌∙◌, arith}
+use Rattle.std.proofs.Common.{ℕ, ◌-◌, List, [], ◌∷◌, length, drop, reverse, ap, sym, subst, ◌∙◌, arith}
 use Rattle.std.specs.List.{All}
 use Rattle.std.proofs.lemmas.List.{length-append, length-reverse}
-use Rattle.proof_rules.specs.Recording.{Snapshot}
 use Rattle.sum_outputs.specs.Outputs.{AreRising, CanImplyNow}
 use Rattle.sum_outputs.specs.Sums.{last_sum}
 use Rattle.sum_outputs.specs.Falling.{AreFallingTo, AreExtended}

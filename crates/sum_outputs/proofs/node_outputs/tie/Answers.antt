@@ -1,5 +1,5 @@
 -- One smaller output after the other.
-use Rattle.std.proofs.Common.{◌-◌, ◌^◌, [], ◌∷◌, get_or, refl, sym, subst, ◌∙◌, arith}
+use Rattle.std.proofs.Common.{◌-◌, ◌^◌, [], ◌∷◌, get_or, sym, subst, arith}
 use Rattle.std.proofs.lemmas.Result.{err_from_is_err_and}
 use Rattle.sum_outputs.specs.Adding.{Always}
 use Rattle.sum_outputs.specs.Outputs.{CanImplyNow, Imply}

@@ -1,5 +1,5 @@
 -- The clauses so far are there.
-use Rattle.std.proofs.Common.{◌≡◌, ℕ, ◌<◌, ◌≤◌, ◌-◌, ◌^◌, slice_index_or}
+use Rattle.std.proofs.Common.{ℕ, ◌<◌, ◌≤◌, ◌-◌, ◌^◌, slice_index_or}
 use Rattle.sum_outputs.specs.Adding.{DefinesMore}
 use Rattle.sum_outputs.specs.Joining.{SinglesImply}
 use Rattle.sum_outputs.specs.declared.sum_output.SumOutput.{SumOutput}

@@ -1,5 +1,5 @@
 -- The output is made, tied and put at its place.
-use Rattle.std.proofs.Common.{◌≡◌, ◌-◌, List, [], ◌∷◌, ◌++◌, length, drop, take, ap, sym, subst, ◌∙◌, arith}
+use Rattle.std.proofs.Common.{◌-◌, List, [], ◌∷◌, ◌++◌, length, drop, take, ap, sym, subst, ◌∙◌, arith}
 use Rattle.std.proofs.lemmas.List.{length-append, length-take, length-drop, take_rest}
 use Rattle.std.specs.List.{All}
 use Rattle.sum_outputs.specs.Outputs.{CanImplyNow}
