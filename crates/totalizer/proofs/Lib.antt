@@ -1,6 +1,7 @@
 pub mod OwnLines
 pub mod LaterOutputs
 pub mod LawsKept
+pub mod OwnReforms
 pub mod Restricted
 pub mod BoundLines
 pub mod Roots
