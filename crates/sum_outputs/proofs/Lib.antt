@@ -22,5 +22,6 @@ pub mod TreeParts
 pub mod TreeLists
 pub mod LeafLists
 pub mod MadeLists
+pub mod LackingNodes
 pub mod GrownOutputs
 pub mod DefinitionCounts

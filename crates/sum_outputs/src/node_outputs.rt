@@ -1,6 +1,5 @@
 // The outputs of a node, and those that it gets.
 ghost use Rattle.std.specs.Prelude.{◌≡◌, ◌+◌, ◌-◌, ◌<◌, ◌^◌, ◌++◌, [], ◌∷◌, length, reverse, All, IfOk, OnOk};
-ghost use Rattle.sum_outputs.specs.Totals.{definitions};
 ghost use Rattle.sum_outputs.specs.Adding.{DefinesMore, IsReady, IsRecorded};
 ghost use Rattle.sum_outputs.specs.Outputs.{AreRising, CanImplyNow};
 ghost use Rattle.sum_outputs.specs.Joining.{AreDefinedNow, IsInnerAt, SinglesImply};
@@ -32,8 +31,6 @@ pub(crate) fn extended<R: Recorder>(
     ensures recorded { IsRecorded (R.seen rec.old) (R.seen rec.new) result }
     ensures extended { IfOk result (AreExtended (R.seen rec.old) (R.seen rec.new)
         node.now.terms.now outputs.now k) }
-    ensures defined { IfOk result (λ all. definitions (R.seen rec.new).lines + length outputs.now
-        ≡ definitions (R.seen rec.old).lines + length all) }
 {
     let falling = make_falling(alloc, rec, node, last_sum(outputs), k)?;
     tie(alloc, rec, last_of(falling.as_slice()), last_of(outputs))?;

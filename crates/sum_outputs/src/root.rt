@@ -1,7 +1,7 @@
 // An output of the root, where it is asked for.
-ghost use Rattle.std.specs.Prelude.{◌≡◌, ◌≢◌, ◌+◌, ◌<◌, ◌≤◌, ◌^◌, ◌++◌, [], ◌∷◌, true, false, length, take, drop, slice_index_or, slice_set, All, AllPairs, IfOk, OnOk};
+ghost use Rattle.std.specs.Prelude.{◌≡◌, ◌≢◌, ◌<◌, ◌≤◌, ◌^◌, ◌++◌, [], ◌∷◌, true, false, length, take, drop, slice_index_or, slice_set, All, AllPairs, IfOk, OnOk};
 ghost use Rattle.pb_lin.specs.Constraint.{total};
-ghost use Rattle.sum_outputs.specs.Totals.{IsLeastSum, definitions};
+ghost use Rattle.sum_outputs.specs.Totals.{IsLeastSum};
 ghost use Rattle.pb_lin.specs.Place.{IsPlace};
 ghost use Rattle.sum_outputs.specs.Outputs.{CanImplyNow};
 ghost use Rattle.sum_outputs.specs.Falling.{IsAsked, asked_from};
@@ -39,8 +39,6 @@ pub fn ask<R: Recorder>(
     ensures recorded { IsRecorded (R.seen rec.old) (R.seen rec.new) result }
     ensures asked { IfOk result (λ r. IsAsked (R.seen rec.old) (R.seen rec.new)
         node.now.terms.now outputs.now k r.0 r.1) }
-    ensures defined { IfOk result (λ r. definitions (R.seen rec.new).lines + length outputs.now
-        ≡ definitions (R.seen rec.old).lines + length r.1) }
 {
     let sum = least_sum(node.first.outputs, node.second.outputs, k, node.greatest);
     let place = place_of(outputs, sum);
@@ -129,8 +127,6 @@ fn ask_anew<R: Recorder>(
     ensures recorded { IsRecorded (R.seen rec.old) (R.seen rec.new) result }
     ensures asked { IfOk result (λ r. IsAsked (R.seen rec.old) (R.seen rec.new)
         node.now.terms.now outputs.now k r.0 r.1) }
-    ensures defined { IfOk result (λ r. definitions (R.seen rec.new).lines + length outputs.now
-        ≡ definitions (R.seen rec.old).lines + length r.1) }
 {
     let made = make_between(alloc, rec, node, &outputs[place..], k, sum)?;
     tie_one(alloc, rec, &made, last_of(&outputs[..place]))?;

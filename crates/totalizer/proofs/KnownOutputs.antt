@@ -22,12 +22,12 @@ use Rattle.totalizer.specs.declared.bound.Bound.{Bound}
 use Rattle.totalizer.specs.declared.bound.Bound.TheVariants.{Always, Never, At}
 use Rattle.totalizer.specs.Meaning.{IsBound, IsBoundAt}
 use Rattle.totalizer.specs.Totalizing.{TotalizerValue, root_terms, Fits}
-use Rattle.totalizer.specs.Demanding.{MakesDemanded, AddsFor}
+use Rattle.totalizer.specs.Demanding.{AddsDemanded, AddsFor, MakesDemanded}
 use Rattle.totalizer.specs.Knowing.{IsKnown}
 use Rattle.totalizer.proofs.BoundLines.{leaf_bound, output_bound}
 use Rattle.sum_outputs.proofs.MadeLists.{any_node}
 use Rattle.totalizer.proofs.Roots.{root_is, attain_root, alone}
-use Rattle.totalizer.proofs.DemandedOutputs.{all_there, attained}
+use Rattle.totalizer.proofs.DemandedOutputs.{all_there, answered_by, attained}
 
 one_value : (x : List Bool) (t : Literal × ℕ) → (value x (t ∷ []) ≡ 0) ⊎ (value x (t ∷ []) ≡ total (t ∷ []))
 one_value x t =
@@ -84,13 +84,19 @@ module _ (a : Snapshot) (t : TotalizerValue) (fits : Fits a t) (ready : IsReady 
     defined = refl;
   }
 
-  module _ (o : SumOutput) (has : Contains outputs o) (from : o.from ≤ k) (to : k ≤ o.sum) where
-    output_at : (s : StateValue) → IsReached a s → IsOutputAt a s terms o
-    output_at s reached =
-        let all = ((fits.made s reached).outputs place any_node [] (omega arith)).each in
-        subst (λ (ts : Terms). IsOutputAt a s ts o) (sym terms_are)
-        (All-contains (IsOutputAt a s (get_or t.nodes place any_node).terms) outputs o all has)
+  output_at : (o : SumOutput) → Contains outputs o → (s : StateValue) → IsReached a s → IsOutputAt a s terms o
+  output_at o has s reached =
+      let all = ((fits.made s reached).outputs place any_node [] (omega arith)).each in
+      subst (λ (ts : Terms). IsOutputAt a s ts o) (sym terms_are)
+      (All-contains (IsOutputAt a s (get_or t.nodes place any_node).terms) outputs o all has)
 
+  -- an output that stands for a sum of at least k has the least
+  stands_for : (o : SumOutput) → Contains outputs o → o.from ≤ k → k ≤ o.sum → IsLeastSum terms k o.sum
+  stands_for o has from to =
+      let is = output_at o has ready.state ready.reached in
+      record { attainable = is.attainable; reaches = to; least = λ m can reach. is.gap m can (omega arith) }
+
+  module _ (o : SumOutput) (has : Contains outputs o) (least : IsLeastSum terms k o.sum) where
     defined_at : 1 < length terms → (s : StateValue) → IsReached a s → IsDefined a s terms o
     defined_at long s reached =
         let more = subst (λ (ts : Terms). 1 < length ts) terms_are long in
@@ -98,13 +104,8 @@ module _ (a : Snapshot) (t : TotalizerValue) (fits : Fits a t) (ready : IsReady 
         subst (λ (ts : Terms). IsDefined a s ts o) (sym terms_are)
         (All-contains (IsDefined a s (get_or t.nodes place any_node).terms) outputs o all has)
 
-    least : IsLeastSum terms k o.sum
-    least =
-        let is = output_at ready.state ready.reached in
-        record { attainable = is.attainable; reaches = to; least = λ m can reach. is.gap m can (omega arith) }
-
-    -- what the output stands on is there for k too: no sum is from `from` on and below k
-    complete_to : AreCompleteTo t.nodes t.made place k
+    -- what the output stands on is there for k too: no sum is from `from` on and below its own
+    pub complete_to : AreCompleteTo t.nodes t.made place k
     complete_to i n os less m can more = ⊎_elim
         (λ (same : (q : SumOutput) × Contains (get_or t.made i os) q × (q.sum ≡ m)). inl same)
         (λ (other : (q : SumOutput) × Contains (get_or t.made i os) q × (o.from ≤ q.sum) × (q.sum ≤ m)).
@@ -114,17 +115,22 @@ module _ (a : Snapshot) (t : TotalizerValue) (fits : Fits a t) (ready : IsReady 
         let there = subst (λ (ps : List SumOutput). Contains ps q) same other.1 in
         let here = attained a ready.state t.nodes t.made are i q (omega arith) there in
         let sum = attain_root t.nodes fits.rooted i q.sum (omega arith) here in
-        let above = (output_at ready.state ready.reached).gap q.sum sum other.2 in
+        let above = (output_at o has ready.state ready.reached).gap q.sum sum other.2 in
+        let reach = least.reaches in
         inr (q, other.1, omega arith, other.3))
         (fits.asked o [] has i n os less m can more)
 
-    known_adds : MakesDemanded a a k t t
-    known_adds = nothing_more complete_to o has least
+    known_adds : AddsDemanded a a k t t o.lit
+    known_adds = record {
+      makes = nothing_more complete_to o has least;
+      answered = answered_by t k o (let size = are.size in omega arith) has least;
+      again = λ was. refl;
+    }
 
     known_bound : 1 < length terms → k ≤ total terms → IsBound a.problem a.lines terms (pos k) (At o.lit o.lower)
     known_bound long most =
         let at = λ (s : StateValue) (reached : IsReached a s).
-        output_bound a s terms k o (output_at s reached) (defined_at long s reached) least long in
+        output_bound a s terms k o (output_at o has s reached) (defined_at long s reached) least long in
         (k, refl, from_one, most, at)
 
   -- a root of one term has the output of its literal
@@ -198,10 +204,15 @@ module _ (a : Snapshot) (t : TotalizerValue) (fits : Fits a t) (ready : IsReady 
   answered_at l id most known = ⊎_elim
       (λ (one : (weight : ℕ) × (terms ≡ (l, weight) ∷ []) × (id ≡ 0)).
       subst (λ (i : ℕ). Answered (At l i)) (sym one.2)
-      (literal_bound l one.0 one.1 most, (k, refl, literal_adds l one.0 one.1 most)))
+      (literal_bound l one.0 one.1 most, (k, refl, record {
+        makes = literal_adds l one.0 one.1 most;
+        answered = λ long. let single = ap length one.1 in absurd (omega arith);
+        again = λ was. refl;
+      })))
       (λ (at : IsAnOutput l id).
       subst (λ (m : Literal). Answered (At m id)) at.5 (subst (λ (i : ℕ). Answered (At at.0.lit i)) at.6
-      (known_bound at.0 at.2 at.3 at.4 at.1 most, (k, refl, known_adds at.0 at.2 at.3 at.4))))
+      (let least = stands_for at.0 at.2 at.3 at.4 in
+      (known_bound at.0 at.2 least at.1 most, (k, refl, known_adds at.0 at.2 least)))))
       known
 
   pub answered : (bound : Bound) → k ≤ total terms → IsKnown terms outputs k bound → Answered bound

@@ -1,13 +1,12 @@
 -- An objective's own terms and offset, for which no line is named.
-use Rattle.std.proofs.Common.{◌≡◌, inl, Bool, Some, List, [], refl, ap, sym, subst, ◌∙◌, ℕ, arith, pos}
-use Rattle.std.specs.Prelude.{ℤ, ◌+ℤ◌, ◌-ℤ◌, ◌≤ℤ◌}
+use Rattle.std.proofs.Common.{◌≡◌, inl, List, [], refl, ap, sym, subst, ◌∙◌, ℕ, arith}
+use Rattle.std.specs.Prelude.{ℤ}
 use Rattle.std.proofs.lemmas.Int.{ints}
-use Rattle.pb_lin.specs.Constraint.{ConstraintValue, TermsUpTo, value}
+use Rattle.pb_lin.specs.Constraint.{TermsUpTo}
 use Rattle.pb_lin.specs.CostRow.{CostRowValue, IsCostRow}
 use Rattle.pb_lin.specs.Problem.{ProblemValue}
 use Rattle.cutting_planes.proofs.Terms.{Terms}
 use Rattle.proof_laws.specs.State.{StateValue}
-use Rattle.proof_laws.specs.Refusal.{line_or_none}
 use Rattle.proof_laws.specs.declared.line.Line.{Line}
 use Rattle.totalizer.specs.declared.reform.Reform.{Reform}
 use Rattle.totalizer.specs.Reforming.{IsReformOf}

@@ -1,7 +1,6 @@
 -- What is made, and what is put behind the others.
-use Rattle.std.proofs.Common.{ℕ, ◌-◌, List, [], ◌∷◌, length, drop, reverse, ap, sym, subst, ◌∙◌, arith}
+use Rattle.std.proofs.Common.{ℕ, ◌-◌, List, [], ◌∷◌, length, drop, ap, sym, subst, ◌∙◌, arith}
 use Rattle.std.specs.List.{All}
-use Rattle.std.proofs.lemmas.List.{length-append, length-reverse}
 use Rattle.sum_outputs.specs.Outputs.{AreRising, CanImplyNow}
 use Rattle.sum_outputs.specs.Sums.{last_sum}
 use Rattle.sum_outputs.specs.Falling.{AreFallingTo, AreExtended}
@@ -86,16 +85,6 @@ returns-clause-extended g c =
     let fs = c.in_ok-falling.falling in
     let falling : AreFallingTo a b node.terms.now (last_sum os) c.args.k fs = subst (λ (n : ℕ). AreFallingTo a b node.terms.now n c.args.k fs) c.last_sum.ensures made.falling in
     let ready_b = ready_later a b q.ready made.recorded.continues made.recorded.whole in
-    extended_later a b d ready_b c.in_ok-tie.ensures.recorded.continues node.terms.now os c.args.k c.in_ok-all.all
+    extended_later a b d ready_b c.in_ok-tie.ensures.recorded.continues c.in_ok-tie.ensures.defines_none node.terms.now os c.args.k c.in_ok-all.all
     (subst (λ (all : List SumOutput). AreExtended a b node.terms.now os c.args.k all) (sym c.in_ok-all.ensures)
-    (are_extended a b q.ready made.recorded.continues node.terms.now (node_weights a q.ready node q.inner.children) os fs c.args.k q.from_one q.outputs.outputs q.outputs.defined q.gapless falling))
-
-pub returns-clause-defined : goal.returns-clause-defined
-returns-clause-defined g c =
-    let os = c.args.outputs.now in
-    let fs = c.in_ok-falling.falling in
-    let size = ap length c.in_ok-all.ensures ∙ length-append os (reverse fs) in
-    let same = length-reverse fs in
-    let some = c.in_ok-falling.ensures.defined in
-    let none = c.in_ok-tie.ensures.defines_none in
-    omega arith
+    (are_extended a b q.ready made.recorded.continues node.terms.now (node_weights a q.ready node q.inner.children) os fs c.args.k q.from_one q.outputs.outputs q.outputs.defined q.gapless falling made.defined))

@@ -1,7 +1,6 @@
 -- The output is there, or it is made.
-use Rattle.std.proofs.Common.{ℕ, List, length, refl, ap, sym, subst, ◌∙◌, arith}
+use Rattle.std.proofs.Common.{ℕ, List, refl, sym, subst, arith}
 use Rattle.std.proofs.Math.ListN.{set}
-use Rattle.std.proofs.lemmas.List.{length-set}
 use Rattle.pb_lin.specs.Constraint.{total}
 use Rattle.proof_rules.specs.Recording.{Snapshot}
 use Rattle.sum_outputs.specs.Totals.{IsLeastSum}
@@ -54,13 +53,6 @@ returns-then-has_sum-clause-asked g c =
     (subst (λ (n : ℕ). IsLeastSum node.terms.now c.args.k n) (sym (there.1 r.0)) least) in
     subst (λ (all : List SumOutput). IsAsked a a node.terms.now os c.args.k r.0 all) (sym facts.1)
     (subst (λ (o : SumOutput). IsAsked a a node.terms.now os c.args.k o (set os c.place_of-place.result o)) (sym facts.0) made)
-
-pub returns-then-has_sum-clause-defined : goal.returns-then-has_sum-clause-defined
-returns-then-has_sum-clause-defined g c =
-    let r = c.in_ok-again.again in
-    let facts = c.in_ok-again.ensures r.0 in
-    let size = ap length facts.1 ∙ length-set c.args.outputs.now c.place_of-place.result r.0 in
-    omega arith
 
 pub ask_anew-requires-clause-least : goal.ask_anew-requires-clause-least
 ask_anew-requires-clause-least g c =

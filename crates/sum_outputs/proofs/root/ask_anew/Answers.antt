@@ -1,6 +1,6 @@
 -- The output is made, tied and put at its place.
-use Rattle.std.proofs.Common.{◌-◌, List, [], ◌∷◌, ◌++◌, length, drop, take, ap, sym, subst, ◌∙◌, arith}
-use Rattle.std.proofs.lemmas.List.{length-append, length-take, length-drop, take_rest}
+use Rattle.std.proofs.Common.{◌-◌, List, [], ◌∷◌, length, take, sym, subst, arith}
+use Rattle.std.proofs.lemmas.List.{take_rest}
 use Rattle.std.specs.List.{All}
 use Rattle.sum_outputs.specs.Outputs.{CanImplyNow}
 use Rattle.sum_outputs.specs.Falling.{IsAsked}
@@ -80,18 +80,4 @@ returns-clause-asked g c =
     let d = R.seen c.tie_one.new.rec in
     subst (λ (os : List SumOutput). IsAsked a d c.args.node.now.terms.now c.args.outputs.now c.args.k c.in_ok-made.made os)
     (sym c.in_ok-all.ensures)
-    (is_asked a b c.requires.ready made.recorded.continues c.args.node.now.terms.now weights c.args.outputs.now c.requires.outputs.outputs c.requires.outputs.defined c.args.sum c.args.place c.requires.place c.in_ok-made.made made.made.sum made.made.new d ready_b c.in_ok-tie_one.ensures.recorded.continues c.requires.absent c.args.k c.requires.least made.made.from)
-
-pub returns-clause-defined : goal.returns-clause-defined
-returns-clause-defined g c =
-    let made = c.in_ok-made.made in
-    let outputs = c.args.outputs.now in
-    let place = c.args.place in
-    let within = c.requires.place.bound in
-    let size = ap length c.in_ok-all.ensures ∙ length-append (take place outputs ++ made ∷ []) (drop place outputs) in
-    let front = length-append (take place outputs) (made ∷ []) in
-    let before = length-take place outputs in
-    let after = length-drop place outputs in
-    let one = c.in_ok-made.ensures.made.one in
-    let none = c.in_ok-tie_one.ensures.defines_none in
-    omega arith
+    (is_asked a b c.requires.ready made.recorded.continues c.args.node.now.terms.now weights c.args.outputs.now c.requires.outputs.outputs c.requires.outputs.defined c.args.sum c.args.place c.requires.place c.in_ok-made.made made.made.sum made.made.new d ready_b c.in_ok-tie_one.ensures.recorded.continues c.requires.absent c.args.k c.requires.least made.made.from (let one = made.made.one in let none = c.in_ok-tie_one.ensures.defines_none in omega arith))
