@@ -1,7 +1,7 @@
 -- What is there already.
 use Rattle.std.proofs.Common.{◌≡◌, ◌⊎◌, ⊎_elim, inl, inr, ℕ, ◌-◌, ◌<◌, ◌≤◌, Bool, true, false, if◌then◌else◌, List, [], ◌∷◌, length, get_or, refl, ap, sym, subst, ◌∙◌, arith, pos}
-use Rattle.std.specs.List.{All, AllPairs, Contains}
-use Rattle.std.proofs.lemmas.Bool.{cases_Bool, cases_lt}
+use Rattle.std.specs.List.{All, Contains}
+use Rattle.std.proofs.lemmas.Bool.{cases_Bool}
 use Rattle.std.proofs.lemmas.List.{get_or_default}
 use Rattle.std.proofs.lemmas.List.Elements.{All-contains, All-head}
 use Rattle.std.proofs.lemmas.List.Sums.{sum_by-cons}
@@ -14,7 +14,6 @@ use Rattle.proof_rules.specs.Recording.{Snapshot}
 use Rattle.sum_outputs.specs.Totals.{AreWeights, IsAttainable, IsLeastSum}
 use Rattle.sum_outputs.specs.Adding.{IsReached, IsReady}
 use Rattle.sum_outputs.specs.Outputs.{IsDefined}
-use Rattle.sum_outputs.specs.Joining.{IsOutputAt, AreOutputsAt}
 use Rattle.sum_outputs.specs.MadeOutputs.{AreMade, AreCompleteTo}
 use Rattle.sum_outputs.specs.declared.sum_output.SumOutput.{SumOutput}
 use Rattle.sum_outputs.proofs.Attaining.{attain_total}
@@ -27,6 +26,7 @@ use Rattle.totalizer.specs.Knowing.{IsKnown}
 use Rattle.totalizer.proofs.BoundLines.{leaf_bound, output_bound}
 use Rattle.sum_outputs.proofs.MadeLists.{any_node}
 use Rattle.totalizer.proofs.Roots.{root_is, attain_root, alone}
+use Rattle.totalizer.proofs.RootOutputs.{output_at, stands_for}
 use Rattle.totalizer.proofs.DemandedOutputs.{all_there, answered_by, attained}
 
 one_value : (x : List Bool) (t : Literal × ℕ) → (value x (t ∷ []) ≡ 0) ⊎ (value x (t ∷ []) ≡ total (t ∷ []))
@@ -41,20 +41,6 @@ one_value x t =
     let none : term_value x t ≡ 0 = ap (λ (b : Bool). if b then t.1 else 0) other in
     inl (omega arith))
     (cases_Bool (lit_true x t.0))
-
--- no output stands for the sum of another, or of less
-pub outputs_apart : (a : Snapshot) (s : StateValue) (terms : Terms) (os : List SumOutput) → AreOutputsAt a s terms os →
-    AllPairs (λ o q. o.sum < q.from) os
-outputs_apart a s terms os are i j d less short =
-    let o = get_or os i d in
-    let q = get_or os j d in
-    let rise = are.rising.rising i j d less short in
-    ⊎_elim
-    (λ (apart : o.sum < q.from). apart)
-    (λ (within : q.from ≤ o.sum).
-    let above = (are.each j d short).gap o.sum (are.each i d (omega arith)).attainable within in
-    absurd (omega arith))
-    (cases_lt o.sum q.from)
 
 module _ (a : Snapshot) (t : TotalizerValue) (fits : Fits a t) (ready : IsReady a) (some : 0 < length t.nodes)
     (k : ℕ) (from_one : 0 < k) where
@@ -84,18 +70,6 @@ module _ (a : Snapshot) (t : TotalizerValue) (fits : Fits a t) (ready : IsReady 
     defined = refl;
   }
 
-  output_at : (o : SumOutput) → Contains outputs o → (s : StateValue) → IsReached a s → IsOutputAt a s terms o
-  output_at o has s reached =
-      let all = ((fits.made s reached).outputs place any_node [] (omega arith)).each in
-      subst (λ (ts : Terms). IsOutputAt a s ts o) (sym terms_are)
-      (All-contains (IsOutputAt a s (get_or t.nodes place any_node).terms) outputs o all has)
-
-  -- an output that stands for a sum of at least k has the least
-  stands_for : (o : SumOutput) → Contains outputs o → o.from ≤ k → k ≤ o.sum → IsLeastSum terms k o.sum
-  stands_for o has from to =
-      let is = output_at o has ready.state ready.reached in
-      record { attainable = is.attainable; reaches = to; least = λ m can reach. is.gap m can (omega arith) }
-
   module _ (o : SumOutput) (has : Contains outputs o) (least : IsLeastSum terms k o.sum) where
     defined_at : 1 < length terms → (s : StateValue) → IsReached a s → IsDefined a s terms o
     defined_at long s reached =
@@ -115,7 +89,7 @@ module _ (a : Snapshot) (t : TotalizerValue) (fits : Fits a t) (ready : IsReady 
         let there = subst (λ (ps : List SumOutput). Contains ps q) same other.1 in
         let here = attained a ready.state t.nodes t.made are i q (omega arith) there in
         let sum = attain_root t.nodes fits.rooted i q.sum (omega arith) here in
-        let above = (output_at o has ready.state ready.reached).gap q.sum sum other.2 in
+        let above = (output_at a t fits some o has ready.state ready.reached).gap q.sum sum other.2 in
         let reach = least.reaches in
         inr (q, other.1, omega arith, other.3))
         (fits.asked o [] has i n os less m can more)
@@ -130,7 +104,7 @@ module _ (a : Snapshot) (t : TotalizerValue) (fits : Fits a t) (ready : IsReady 
     known_bound : 1 < length terms → k ≤ total terms → IsBound a.problem a.lines terms (pos k) (At o.lit o.lower)
     known_bound long most =
         let at = λ (s : StateValue) (reached : IsReached a s).
-        output_bound a s terms k o (output_at o has s reached) (defined_at long s reached) least long in
+        output_bound a s terms k o (output_at a t fits some o has s reached) (defined_at long s reached) least long in
         (k, refl, from_one, most, at)
 
   -- a root of one term has the output of its literal
@@ -211,7 +185,7 @@ module _ (a : Snapshot) (t : TotalizerValue) (fits : Fits a t) (ready : IsReady 
       })))
       (λ (at : IsAnOutput l id).
       subst (λ (m : Literal). Answered (At m id)) at.5 (subst (λ (i : ℕ). Answered (At at.0.lit i)) at.6
-      (let least = stands_for at.0 at.2 at.3 at.4 in
+      (let least = stands_for a t fits some ready.state ready.reached k at.0 at.2 at.3 at.4 in
       (known_bound at.0 at.2 least at.1 most, (k, refl, known_adds at.0 at.2 least)))))
       known
 

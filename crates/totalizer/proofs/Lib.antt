@@ -6,6 +6,7 @@ pub mod Restricted
 pub mod BoundLines
 pub mod Roots
 pub mod RootChildren
+pub mod RootOutputs
 pub mod DemandedOutputs
 pub mod KnownOutputs
 pub mod AskedRoot
