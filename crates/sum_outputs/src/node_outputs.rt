@@ -1,5 +1,5 @@
 // The outputs of a node, and those that it gets.
-ghost use Rattle.std.specs.Prelude.{◌≡◌, ◌+◌, ◌-◌, ◌<◌, ◌^◌, ◌++◌, [], ◌∷◌, length, reverse, All, IfOk, OnOk};
+ghost use Rattle.std.specs.Prelude.{◌≡◌, ◌+◌, ◌-◌, ◌<◌, ◌^◌, ◌++◌, [], ◌∷◌, reverse, All, IfOk, OnOk};
 ghost use Rattle.sum_outputs.specs.Adding.{DefinesMore, IsReady, IsRecorded};
 ghost use Rattle.sum_outputs.specs.Outputs.{AreRising, CanImplyNow};
 ghost use Rattle.sum_outputs.specs.Joining.{AreDefinedNow, IsInnerAt, SinglesImply};

@@ -1,5 +1,5 @@
 -- An output that stands for the number has the least sum of at least that.
-use Rattle.std.proofs.Common.{◌≡◌, ◌<◌, ◌≤◌, Option, None, Some, List, length, ap, sym, subst, ◌∙◌, arith, MatchOption, Bor}
+use Rattle.std.proofs.Common.{◌<◌, ◌≤◌, Option, None, Some, List, length, ap, subst, ◌∙◌, arith, MatchOption, Bor}
 use Rattle.std.specs.List.{All}
 use Rattle.sum_outputs.specs.declared.sum_output.SumOutput.{SumOutput}
 use Rattle.totalizer.specs.Totalizing.{TotalizerValue}
