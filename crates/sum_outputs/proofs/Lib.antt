@@ -13,6 +13,7 @@ pub mod JoinLines
 pub mod Attaining
 pub mod JoinMeaning
 pub mod MakeLines
+pub mod ClauseCalls
 pub mod SumLists
 pub mod Runs
 pub mod FallingLines

@@ -78,3 +78,9 @@ pub record IsRecorded {T : Type 0} (a b : Snapshot) (result : Result T RecordFau
   pub continues : Continues a b
   pub whole : OnOk result (b.broken ≡ false)
   pub fault : IfErr result (IsFaultAt a b)
+
+-- A call that adds lines by cutting planes alone, and no definition; where it is done P holds.
+pub record AddsClauses {T : Type 0} (a b : Snapshot) (result : Result T RecordFault) (P : Type 0) : Type 0 where
+  pub recorded : IsRecorded a b result
+  pub says : OnOk result P
+  pub defines_none : OnOk result (DefinesMore a b 0)

@@ -1,6 +1,6 @@
 // The outputs of a node, and those that it gets.
-ghost use Rattle.std.specs.Prelude.{◌≡◌, ◌+◌, ◌-◌, ◌<◌, ◌^◌, ◌++◌, [], ◌∷◌, reverse, All, IfOk, OnOk};
-ghost use Rattle.sum_outputs.specs.Adding.{DefinesMore, IsReady, IsRecorded};
+ghost use Rattle.std.specs.Prelude.{◌≡◌, ◌+◌, ◌-◌, ◌<◌, ◌^◌, ◌++◌, [], ◌∷◌, reverse, All, IfOk};
+ghost use Rattle.sum_outputs.specs.Adding.{AddsClauses, IsReady, IsRecorded};
 ghost use Rattle.sum_outputs.specs.Outputs.{AreRising, CanImplyNow};
 ghost use Rattle.sum_outputs.specs.Joining.{AreDefinedNow, IsInnerAt, SinglesImply};
 ghost use Rattle.sum_outputs.specs.Sums.{last_sum};
@@ -49,10 +49,8 @@ pub(crate) fn tie<R: Recorder>(
     requires rising { AreRising greater.now }
     requires can { All (λ o. All (λ q. CanImplyNow (R.seen rec.old) (q ∷ []) [] o) greater.now)
         smaller.now }
-    ensures recorded { IsRecorded (R.seen rec.old) (R.seen rec.new) result }
-    ensures says { OnOk result (All (λ o. SinglesImply (R.seen rec.new) greater.now o (2 ^ 64 - 1))
-        smaller.now) }
-    ensures defines_none { OnOk result (DefinesMore (R.seen rec.old) (R.seen rec.new) 0) }
+    ensures { AddsClauses (R.seen rec.old) (R.seen rec.new) result
+        (All (λ o. SinglesImply (R.seen rec.new) greater.now o (2 ^ 64 - 1)) smaller.now) }
 {
     for at in 0..smaller.len() {
         add_single(alloc, rec, greater, &[], &smaller[at], u64::MAX)?;

@@ -5,7 +5,7 @@ ghost use Rattle.sum_outputs.specs.Totals.{IsLeastSum};
 ghost use Rattle.pb_lin.specs.Place.{IsPlace};
 ghost use Rattle.sum_outputs.specs.Outputs.{CanImplyNow};
 ghost use Rattle.sum_outputs.specs.Falling.{IsAsked, asked_from};
-ghost use Rattle.sum_outputs.specs.Adding.{DefinesMore, IsReady, IsRecorded};
+ghost use Rattle.sum_outputs.specs.Adding.{AddsClauses, IsReady, IsRecorded};
 ghost use Rattle.sum_outputs.specs.declared.sum_output.SumOutput.{SumOutput};
 ghost use Rattle.sum_outputs.specs.Joining.{AreDefinedNow, AreOutputsNow, IsInnerAt, IsMade};
 
@@ -144,8 +144,7 @@ fn tie_one<R: Recorder>(
     requires ready { IsReady (R.seen rec.old) }
     requires small { greater.now.sum < 2 ^ 63 }
     requires can { All (CanImplyNow (R.seen rec.old) (greater.now ∷ []) []) smaller.now }
-    ensures recorded { IsRecorded (R.seen rec.old) (R.seen rec.new) result }
-    ensures defines_none { OnOk result (DefinesMore (R.seen rec.old) (R.seen rec.new) 0) }
+    ensures { AddsClauses (R.seen rec.old) (R.seen rec.new) result ⊤ }
 {
     tie(alloc, rec, &[*greater], smaller)
 }
