@@ -1,7 +1,6 @@
 -- What is known of outputs is known after lines were added.
-use Rattle.std.proofs.Common.{◌≡◌, ◌⊎◌, inl, inr, ℕ, ◌+◌, ◌<◌, ◌≤◌, false, List, [], ◌∷◌, get_or, length, refl, sym, subst, ⊎_elim, arith}
+use Rattle.std.proofs.Common.{◌≡◌, ◌⊎◌, inl, inr, ℕ, ◌<◌, ◌≤◌, false, List, [], ◌∷◌, get_or, length, sym, subst, ⊎_elim, arith}
 use Rattle.std.proofs.lemmas.Bool.{cases_order}
-use Rattle.std.proofs.lemmas.List.{get_or_read_under}
 use Rattle.pb_lin.specs.Constraint.{ConstraintValue, IsVariable}
 use Rattle.pb_lin.specs.Place.{IsPlace}
 use Rattle.pb_lin.specs.Problem.{ProblemValue}

@@ -2,7 +2,7 @@
 ghost use Rattle.std.specs.Prelude.{◌≡◌, ◌+◌, ◌-◌, ◌<◌, ◌^◌, ◌++◌, [], ◌∷◌, reverse, All, IfOk};
 ghost use Rattle.sum_outputs.specs.Adding.{AddsClauses, IsReady, IsRecorded};
 ghost use Rattle.sum_outputs.specs.Outputs.{AreRising, CanImplyNow};
-ghost use Rattle.sum_outputs.specs.Joining.{AreDefinedNow, IsInnerAt, SinglesImply};
+ghost use Rattle.sum_outputs.specs.Joining.{AreDefinedNow, MayMake, SinglesImply};
 ghost use Rattle.sum_outputs.specs.Sums.{last_sum};
 ghost use Rattle.sum_outputs.specs.Falling.{AreAllBetween, AreExtended};
 
@@ -23,11 +23,9 @@ pub(crate) fn extended<R: Recorder>(
     outputs: &[SumOutput],
     k: u64,
 ) -> Result<Items<SumOutput>, RecordFault>
-    requires ready { IsReady (R.seen rec.old) }
-    requires inner { IsInnerAt (R.seen rec.old) node.now k }
+    requires may { MayMake (R.seen rec.old) node.now k }
     requires outputs { AreDefinedNow (R.seen rec.old) node.now.terms.now outputs.now }
     requires gapless { AreAllBetween node.now.terms.now 0 (last_sum outputs.now) outputs.now }
-    requires from_one { 0 < k }
     ensures recorded { IsRecorded (R.seen rec.old) (R.seen rec.new) result }
     ensures extended { IfOk result (AreExtended (R.seen rec.old) (R.seen rec.new)
         node.now.terms.now outputs.now k) }

@@ -1,9 +1,6 @@
 -- The clauses of outputs alone and then of pairs.
 use Rattle.std.proofs.Common.{[], ◌∷◌, get_or, arith}
 use Rattle.sum_outputs.specs.Joining.{AreImplying}
-use Rattle.sum_outputs.specs.Adding.{Always}
-use Rattle.sum_outputs.specs.Outputs.{Imply}
-use Rattle.sum_outputs.specs.declared.sum_output.SumOutput.{SumOutput}
 use Rattle.sum_outputs.proofs.LaterStates.{ready_later, continues_twice}
 use Rattle.sum_outputs.proofs.OutputsLater.{can_later}
 use Rattle.sum_outputs.proofs.ClauseCalls.{adds_after, adds_err, singles_later}

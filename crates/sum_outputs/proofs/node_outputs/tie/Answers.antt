@@ -1,5 +1,5 @@
 -- One smaller output after the other.
-use Rattle.std.proofs.Common.{◌-◌, ◌^◌, ◌<◌, [], ◌∷◌, get_or, length, sym, subst, arith}
+use Rattle.std.proofs.Common.{◌-◌, ◌^◌, [], ◌∷◌, get_or, sym, subst, arith}
 use Rattle.std.specs.List.{All}
 use Rattle.sum_outputs.specs.Outputs.{CanImplyNow}
 use Rattle.sum_outputs.specs.Joining.{SinglesImply}

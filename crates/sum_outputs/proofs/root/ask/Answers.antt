@@ -21,10 +21,10 @@ least_found a ready node k sum inner least = least_of_node a ready node k k sum 
     (subst (λ (n : ℕ). IsLeastOf node.first.outputs.now node.second.outputs.now k n sum) node.total least)
 
 pub least_sum-sum-requires-clause-rising : goal.least_sum-sum-requires-clause-rising
-least_sum-sum-requires-clause-rising g c = (c.requires.inner.children c.requires.ready.state c.requires.ready.reached).of_first.rising
+least_sum-sum-requires-clause-rising g c = (c.requires.may.inner.children c.requires.may.ready.state c.requires.may.ready.reached).of_first.rising
 
 pub least_sum-sum-requires-clause-rising_too : goal.least_sum-sum-requires-clause-rising_too
-least_sum-sum-requires-clause-rising_too g c = (c.requires.inner.children c.requires.ready.state c.requires.ready.reached).of_second.rising
+least_sum-sum-requires-clause-rising_too g c = (c.requires.may.inner.children c.requires.may.ready.state c.requires.may.ready.reached).of_second.rising
 
 pub returns-in_err-again-clause-recorded : goal.returns-in_err-again-clause-recorded
 returns-in_err-again-clause-recorded g c =
@@ -36,7 +36,7 @@ pub returns-then-has_sum-clause-recorded : goal.returns-then-has_sum-clause-reco
 returns-then-has_sum-clause-recorded g c =
     let R = g.R.Recorder in
     let a = R.seen c.args.rec.now in
-    recorded_ok a a _ (continues_again a) c.requires.ready.whole
+    recorded_ok a a _ (continues_again a) c.requires.may.ready.whole
 
 pub returns-then-has_sum-clause-asked : goal.returns-then-has_sum-clause-asked
 returns-then-has_sum-clause-asked g c =
@@ -45,7 +45,7 @@ returns-then-has_sum-clause-asked g c =
     let node = c.args.node.now in
     let q = c.requires in
     let os = c.args.outputs.now in
-    let least = least_found a q.ready node c.args.k c.least_sum-sum.result q.inner c.least_sum-sum.ensures in
+    let least = least_found a q.may.ready node c.args.k c.least_sum-sum.result q.may.inner c.least_sum-sum.ensures in
     let there = c.if-has_sum.ensures.there refl in
     let r = c.in_ok-again.again in
     let facts = c.in_ok-again.ensures r.0 in
@@ -57,4 +57,4 @@ returns-then-has_sum-clause-asked g c =
 pub ask_anew-requires-clause-least : goal.ask_anew-requires-clause-least
 ask_anew-requires-clause-least g c =
     let R = g.R.Recorder in
-    least_found (R.seen c.args.rec.now) c.requires.ready c.args.node.now c.args.k c.least_sum-sum.result c.requires.inner c.least_sum-sum.ensures
+    least_found (R.seen c.args.rec.now) c.requires.may.ready c.args.node.now c.args.k c.least_sum-sum.result c.requires.may.inner c.least_sum-sum.ensures

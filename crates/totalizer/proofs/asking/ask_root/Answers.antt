@@ -17,12 +17,16 @@ of-root-requires-clause-at g c = in_nodes c.args.nodes.now c.requires.rooted c.r
 pub of-root-requires-clause-long : goal.of-root-requires-clause-long
 of-root-requires-clause-long g c = long_root c.args.nodes.now c.requires.rooted c.requires.long
 
-pub ask-requires-clause-inner : goal.ask-requires-clause-inner
-ask-requires-clause-inner g c =
+pub ask-requires-clause-may : goal.ask-requires-clause-may
+ask-requires-clause-may g c =
     let R = g.R.Recorder in
     let q = c.requires in
-    root_inner c.args.nodes.now q.rooted q.long (R.seen c.args.rec.now) c.args.made.now q.made
-    c.of-root.result c.of-root.ensures c.args.k q.complete
+    record {
+      ready = q.ready;
+      inner = root_inner c.args.nodes.now q.rooted q.long (R.seen c.args.rec.now) c.args.made.now q.made
+          c.of-root.result c.of-root.ensures c.args.k q.complete;
+      from_one = q.from_one;
+    }
 
 pub ask-requires-clause-outputs : goal.ask-requires-clause-outputs
 ask-requires-clause-outputs g c =
