@@ -39,7 +39,7 @@ pub fn extend_all<R: Recorder>(
     Ok(())
 }
 
-// Makes the outputs of a node before the last, whose children have theirs, where it hasn't got all of them yet.
+// Makes the outputs of a node before the last, whose children have theirs, where it hasn't got all of them.
 fn extend_node<R: Recorder>(
     alloc: Global,
     rec: &mut R,
@@ -59,8 +59,8 @@ fn extend_node<R: Recorder>(
     extend_inner(alloc, rec, nodes, made, at, k)
 }
 
-// Whether a node has all outputs up to its least sum of at least `k`: it is a leaf, or its last one's sum is as
-// great, or the greatest.
+// Whether a node has all outputs up to its least sum of at least `k`: it is a leaf, or the last one's sum is
+// as great, or the greatest of all.
 fn has_all(node: &Node, outputs: &[SumOutput], k: u64) -> bool
     ensures all { result ≡ true → (length node.now.terms ≡ 1)
         ⊎ (min k node.now.total ≤ last_sum outputs.now) }

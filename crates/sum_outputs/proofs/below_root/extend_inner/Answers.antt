@@ -24,14 +24,18 @@ extended_there a b nodes made at k all node os is here extended =
 pub of-node-requires-clause-size : goal.of-node-requires-clause-size
 of-node-requires-clause-size g c = let q = c.requires.may in (q.made q.ready.state q.ready.reached).size
 
-pub extended-requires-clause-inner : goal.extended-requires-clause-inner
-extended-requires-clause-inner g c =
+pub extended-requires-clause-may : goal.extended-requires-clause-may
+extended-requires-clause-may g c =
     let R = g.R.Recorder in
     let q = c.requires.may in
     let nodes = c.args.nodes.now in
     let short : c.args.at < length nodes = let w = q.below in omega arith in
-    inner_of_made nodes q.tree c.args.made.now c.args.at any_node short (inner_of nodes q.tree c.args.at any_node short (c.requires.lacks.long any_node))
-    c.of-node.result (c.of-node.ensures any_node) (R.seen c.args.rec.now) c.args.k q.made q.complete
+    record {
+      ready = q.ready;
+      inner = inner_of_made nodes q.tree c.args.made.now c.args.at any_node short (inner_of nodes q.tree c.args.at any_node short (c.requires.lacks.long any_node))
+          c.of-node.result (c.of-node.ensures any_node) (R.seen c.args.rec.now) c.args.k q.made q.complete;
+      from_one = q.from_one;
+    }
 
 pub extended-requires-clause-outputs : goal.extended-requires-clause-outputs
 extended-requires-clause-outputs g c =
