@@ -172,7 +172,7 @@ fn add_pairs<R: Recorder>(
         → CanImplyNow (R.seen rec.old) (o ∷ q ∷ []) [] target.now) seconds.now) firsts.now }
     ensures { AddsClauses (R.seen rec.old) (R.seen rec.new) result
         (All (λ o. o.sum < target.now.sum → PairsImply (R.seen rec.new) o seconds.now
-            target.now below) firsts.now) }
+        target.now below) firsts.now) }
 {
     for at in 0..place_of(firsts, target.sum) {
         add_pair(alloc, rec, &firsts[at], seconds, target, below)?;

@@ -135,8 +135,8 @@ module _ (a : Snapshot) (t : TotalizerValue) (fits : Fits a t) (ready : IsReady 
               (none_or_all can.0);
         }
 
-    literal_adds : MakesDemanded a a k t t
-    literal_adds =
+    literal_makes : MakesDemanded a a k t t
+    literal_makes =
         let n = total terms in
         let leaf : length (get_or t.nodes place any_node).terms ≡ 1 = ap length (sym terms_are ∙ is) in
         let can = subst (λ (ts : Terms). IsAttainable ts n) terms_are (whole_is_least n refl).attainable in
@@ -149,6 +149,13 @@ module _ (a : Snapshot) (t : TotalizerValue) (fits : Fits a t) (ready : IsReady 
         let high = other.3 in
         nothing_more none other.0 other.1 (whole_is_least other.0.sum (omega arith)))
         (are.leaves place any_node [] n (omega arith) leaf n can (omega arith))
+
+    literal_adds : AddsDemanded a a k t t l
+    literal_adds = record {
+      makes = literal_makes;
+      answered = λ long. let single = ap length is in absurd (omega arith);
+      again = λ was. refl;
+    }
 
     literal_variable : (s : StateValue) → IsReached a s → IsVariable s.vars l.var
     literal_variable s reached =
@@ -178,11 +185,7 @@ module _ (a : Snapshot) (t : TotalizerValue) (fits : Fits a t) (ready : IsReady 
   answered_at l id most known = ⊎_elim
       (λ (one : (weight : ℕ) × (terms ≡ (l, weight) ∷ []) × (id ≡ 0)).
       subst (λ (i : ℕ). Answered (At l i)) (sym one.2)
-      (literal_bound l one.0 one.1 most, (k, refl, record {
-        makes = literal_adds l one.0 one.1 most;
-        answered = λ long. let single = ap length one.1 in absurd (omega arith);
-        again = λ was. refl;
-      })))
+      (literal_bound l one.0 one.1 most, (k, refl, literal_adds l one.0 one.1 most)))
       (λ (at : IsAnOutput l id).
       subst (λ (m : Literal). Answered (At m id)) at.5 (subst (λ (i : ℕ). Answered (At at.0.lit i)) at.6
       (let least = stands_for a t fits some ready.state ready.reached k at.0 at.2 at.3 at.4 in
