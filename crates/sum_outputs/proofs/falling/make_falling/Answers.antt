@@ -10,7 +10,7 @@ use Rattle.sum_outputs.proofs.LaterStates.{continues_again, handed_err, memory_e
 use Rattle.sum_outputs.proofs.OutputsLater.{way_starts, way_ready, way_on}
 use Rattle.sum_outputs.proofs.MakeLines.{inner_later, node_weights}
 use Rattle.sum_outputs.proofs.Runs.{IsLastOf, run_pop}
-use Rattle.sum_outputs.proofs.FallingLines.{IsHalfWay, inner_less, halfway_starts, least_of_node, halfway_more, last_outputs}
+use Rattle.sum_outputs.proofs.FallingLines.{IsHalfWay, inner_less, halfway_starts, halfway_ends, least_of_node, halfway_more, last_outputs}
 use Rattle.sum_outputs.proofs.falling.make_falling.Goals as goal
 
 -- the half way before the last sum was taken
@@ -123,3 +123,12 @@ returns-in_err-push-clause-recorded g c =
     let d = R.seen c.make_next.new.rec in
     let call = c.in_ok-made.ensures in
     memory_err a d c.from_residual-in_err-push.result (way_on a b d c.loop-run.invariant.way call.recorded.continues call.recorded.whole).on c.from_residual-in_err-push.ensures.1
+
+pub returns-clause-falling : goal.returns-clause-falling
+returns-clause-falling g c =
+    let R = g.R.Recorder in
+    let a = R.seen c.args.rec.now in
+    let b = R.seen c.loop-run.rec in
+    let node = c.args.node.now in
+    halfway_ends a b node c.args.last c.args.k c.loop-run.falling
+    (subst (λ (ss : List (ℕ × ℕ)). IsHalfWay a b node c.args.last c.args.k ss c.loop-run.falling) c.in_default.ensures.0 c.loop-run.invariant.half)

@@ -1,7 +1,6 @@
 -- The output is there, or it is made.
 use Rattle.std.proofs.Common.{ℕ, List, refl, sym, subst, arith}
 use Rattle.std.proofs.Math.ListN.{set}
-use Rattle.pb_lin.specs.Constraint.{total}
 use Rattle.proof_rules.specs.Recording.{Snapshot}
 use Rattle.sum_outputs.specs.Totals.{IsLeastSum}
 use Rattle.sum_outputs.specs.Adding.{IsReady}
@@ -19,6 +18,21 @@ use Rattle.sum_outputs.proofs.root.ask.Goals as goal
 least_found : (a : Snapshot) → IsReady a → (node : Inner) (k sum : ℕ) → IsInnerAt a node k → IsLeastOf node.first.outputs.now node.second.outputs.now k node.greatest sum → IsLeastSum node.terms.now k sum
 least_found a ready node k sum inner least = least_of_node a ready node k k sum inner (omega arith)
     (subst (λ (n : ℕ). IsLeastOf node.first.outputs.now node.second.outputs.now k n sum) node.total least)
+
+pub least_sum-sum-requires-clause-most : goal.least_sum-sum-requires-clause-most
+least_sum-sum-requires-clause-most g c = let most = c.requires.most in let all = c.args.node.now.total in omega arith
+
+pub place_of-place-requires : goal.place_of-place-requires
+place_of-place-requires g c = let ready = c.requires.may.ready in (c.requires.outputs.outputs ready.state ready.reached).rising.rising
+
+pub has_sum-requires-clause-rising : goal.has_sum-requires-clause-rising
+has_sum-requires-clause-rising g c = let ready = c.requires.may.ready in (c.requires.outputs.outputs ready.state ready.reached).rising.rising
+
+pub has_sum-requires-clause-place : goal.has_sum-requires-clause-place
+has_sum-requires-clause-place g c = c.place_of-place.ensures
+
+pub asked_again-requires : goal.asked_again-requires
+asked_again-requires g c = let there = c.if-has_sum.ensures.there refl in there.0
 
 pub least_sum-sum-requires-clause-rising : goal.least_sum-sum-requires-clause-rising
 least_sum-sum-requires-clause-rising g c = (c.requires.may.inner.children c.requires.may.ready.state c.requires.may.ready.reached).of_first.rising
@@ -58,3 +72,21 @@ pub ask_anew-requires-clause-least : goal.ask_anew-requires-clause-least
 ask_anew-requires-clause-least g c =
     let R = g.R.Recorder in
     least_found (R.seen c.args.rec.now) c.requires.may.ready c.args.node.now c.args.k c.least_sum-sum.result c.requires.may.inner c.least_sum-sum.ensures
+
+pub ask_anew-requires-clause-may : goal.ask_anew-requires-clause-may
+ask_anew-requires-clause-may g c = c.requires.may
+
+pub ask_anew-requires-clause-outputs : goal.ask_anew-requires-clause-outputs
+ask_anew-requires-clause-outputs g c = c.requires.outputs
+
+pub ask_anew-requires-clause-place : goal.ask_anew-requires-clause-place
+ask_anew-requires-clause-place g c = c.place_of-place.ensures
+
+pub ask_anew-requires-clause-absent : goal.ask_anew-requires-clause-absent
+ask_anew-requires-clause-absent g c = c.if-has_sum.ensures.absent refl
+
+pub returns-clause-recorded : goal.returns-clause-recorded
+returns-clause-recorded g c = c.ask_anew.ensures.recorded
+
+pub returns-clause-asked : goal.returns-clause-asked
+returns-clause-asked g c = c.ask_anew.ensures.asked
