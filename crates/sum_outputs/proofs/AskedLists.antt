@@ -4,8 +4,8 @@ use Rattle.std.specs.Prelude.{◌^◌}
 use Rattle.std.proofs.Math.ListN.{set}
 use Rattle.std.specs.List.{All, AllPairs, Contains}
 use Rattle.std.proofs.lemmas.Bool.{cases_order}
-use Rattle.std.proofs.lemmas.List.{get_or-drop, get_or-take, get_or_default, get_or-set_same, get_or-set_other, length-set, length-take, length-drop, take-append-drop}
-use Rattle.std.proofs.lemmas.List.Elements.{All-nil, All-cons, All-append, All-take, All-drop, Contains-append_cases, Contains-append_left, Contains-append_right, Contains-get_or}
+use Rattle.std.proofs.lemmas.List.{get_or-drop, get_or-take, get_or_default, get_or-set_same, get_or-set_other, length-append, length-set, length-take, length-drop, take-append-drop}
+use Rattle.std.proofs.lemmas.List.Elements.{All-nil, All-cons, All-append, All-contains, All-take, All-drop, Contains-append_cases, Contains-append_left, Contains-append_right, Contains-get_or}
 use Rattle.std.proofs.lemmas.List.Quantifiers.{all_pairs_push}
 use Rattle.scut_base.proofs.Lists.{Contains-nil, Contains-head, Contains-cons_cases}
 use Rattle.pb_lin.specs.Place.{IsPlace}
@@ -13,7 +13,7 @@ use Rattle.cutting_planes.proofs.Terms.{Terms}
 use Rattle.proof_laws.specs.State.{StateValue}
 use Rattle.proof_rules.specs.Recording.{Snapshot}
 use Rattle.sum_outputs.specs.Totals.{AreWeights, IsLeastSum}
-use Rattle.sum_outputs.specs.Adding.{IsReached, IsReady, Continues}
+use Rattle.sum_outputs.specs.Adding.{DefinesMore, IsReached, IsReady, Continues}
 use Rattle.sum_outputs.specs.Outputs.{AreRising, CanImplyNow, IsDefined}
 use Rattle.sum_outputs.specs.Joining.{IsOutputAt, AreOutputsAt, AreOutputsNow, IsNewOutput}
 use Rattle.sum_outputs.specs.declared.sum_output.SumOutput.{SumOutput}
@@ -61,6 +61,13 @@ below_place os n place is i d short =
     let low = is.below i d (omega arith) in
     omega arith
 
+-- one sum is the least
+pub least_once : (terms : Terms) (k m n : ℕ) → IsLeastSum terms k m → IsLeastSum terms k n → m ≡ n
+least_once terms k m n one other =
+    let below = one.least n other.attainable other.reaches in
+    let above = other.least m one.attainable one.reaches in
+    omega arith
+
 module _ (a b : Snapshot) (ready : IsReady a) (on : Continues a b) (terms : Terms) (weights : AreWeights terms) (outputs : List SumOutput) (now : AreOutputsNow a terms outputs) (defined : (s : StateValue) → IsReached a s → All (IsDefined a s terms) outputs) (n place : ℕ) (is : IsPlace (λ o. o.sum) outputs n place) (o : SumOutput) (sum : o.sum ≡ n) (new : IsNewOutput a b terms o) where
   old_variables : All (λ q. q.lit.var ≤ ready.state.vars) outputs
   old_variables i d short = let v = ((now ready.state ready.reached).each i d short).literal.variable in v.1
@@ -81,7 +88,7 @@ module _ (a b : Snapshot) (ready : IsReady a) (on : Continues a b) (terms : Term
       let f = new.fresh ready.state ready.reached in
       tie_can b t terms o (get_or (drop m (take place outputs)) i d) weights (def i d short) q.literal.some q.literal.variable (new.is t reached).literal (omega arith) (λ same. omega arith)
 
-  module _ (d : Snapshot) (ready_b : IsReady b) (later : Continues b d) (absent : All (λ q. q.sum ≢ n) outputs) (k : ℕ) (least : IsLeastSum terms k n) (from : o.from ≡ k) where
+  module _ (d : Snapshot) (ready_b : IsReady b) (later : Continues b d) (absent : All (λ q. q.sum ≢ n) outputs) (k : ℕ) (least : IsLeastSum terms k n) (from : o.from ≡ k) (one : DefinesMore a d 1) where
     abbrev all : List SumOutput
     all = (take place outputs ++ o ∷ []) ++ drop place outputs
 
@@ -166,6 +173,14 @@ module _ (a b : Snapshot) (ready : IsReady a) (on : Continues a b) (terms : Term
       stays = λ i e short. (get_or outputs i e, among_all (get_or outputs i e) (Contains-get_or outputs i e short), refl, refl);
       kept = λ i e short. kept_or_new (get_or all i e) (Contains-get_or all i e short);
       others = others_before;
+      counted =
+          let size = length-append (take place outputs ++ o ∷ []) (drop place outputs) in
+          let front = length-append (take place outputs) (o ∷ []) in
+          let first = length-take place outputs in
+          let rest = length-drop place outputs in
+          let within = is.bound in
+          omega arith;
+      again = λ q there least'. absurd (All-contains (λ p. p.sum ≢ n) outputs q absent there (least_once terms k q.sum n least' least));
     }
 
 -- where the output at the place has another sum, none has it
@@ -261,4 +276,6 @@ module _ (a : Snapshot) (terms : Terms) (outputs : List SumOutput) (now : AreOut
     stays = stays_changed;
     kept = λ i d within. inl (kept_changed (get_or changed i d) (Contains-get_or changed i d within));
     others = all_changed (λ q. (q ≡ found) ⊎ Contains outputs q) (λ i d within. inr (Contains-get_or outputs i d within)) (inl refl);
+    counted = let size = length-set outputs place found in omega arith;
+    again = λ q there least'. refl;
   }

@@ -38,7 +38,7 @@ on_none : (P : Type 0) (Q : PolFault → Type 0) (o : Option PolFault) → o ≡
 on_none P Q None e p = p
 on_none P Q (Some f) e p = cc
 
-step : (given : Given) (token : PolToken) (stack next : List ConstraintValue) (rest : List PolToken) (answer : Answer) → token_fault given token stack ≡ None → IsStep given token stack next → IsValueOn given next rest answer → IsValueOn given stack (token ∷ rest) answer
+pub step : (given : Given) (token : PolToken) (stack next : List ConstraintValue) (rest : List PolToken) (answer : Answer) → token_fault given token stack ≡ None → IsStep given token stack next → IsValueOn given next rest answer → IsValueOn given stack (token ∷ rest) answer
 step given token stack next rest answer fine is goes = on_none _ (λ f. answer ≡ Err f) (token_fault given token stack) fine (next, is, goes)
 
 named_fine : (o : Option ConstraintValue) (id : ℕ) (c : ConstraintValue) → o ≡ Some c → named_fault o id ≡ None
@@ -49,13 +49,13 @@ named_pushed : (o : Option ConstraintValue) (c : ConstraintValue) (stack : List 
 named_pushed None c stack e = cc
 named_pushed (Some d) c stack e = let same : c ≡ d = cc in ap (λ (x : ConstraintValue). x ∷ stack) same
 
-push_line : (given : Given) (id : ℕ) (c : ConstraintValue) (stack : List ConstraintValue) (rest : List PolToken) (answer : Answer) → get given.lines id ≡ Some c → IsValueOn given (c ∷ stack) rest answer → IsValueOn given stack (Id id ∷ rest) answer
+pub push_line : (given : Given) (id : ℕ) (c : ConstraintValue) (stack : List ConstraintValue) (rest : List PolToken) (answer : Answer) → get given.lines id ≡ Some c → IsValueOn given (c ∷ stack) rest answer → IsValueOn given stack (Id id ∷ rest) answer
 push_line given id c stack rest answer is goes = step given (Id id) stack (c ∷ stack) rest answer (named_fine (get given.lines id) id c is) (named_pushed (get given.lines id) c stack is) goes
 
 not_less : (m n : ℕ) → n ≤ m → nat_lt m n ≡ false
 not_less m n le = le-ltb m n le
 
-size_fine : (n : ℕ) → n ≤ 2 ^ 100 → size_fault n ≡ None
+pub size_fine : (n : ℕ) → n ≤ 2 ^ 100 → size_fault n ≡ None
 size_fine n le = cond-false (nat_lt (2 ^ 100) n) _ None (not_less (2 ^ 100) n le)
 
 -- ---- sums of lines

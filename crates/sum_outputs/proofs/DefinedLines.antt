@@ -34,7 +34,7 @@ use Rattle.sum_outputs.specs.Totals.{AreWeights}
 use Rattle.sum_outputs.specs.declared.sum_output.SumOutput.{SumOutput}
 use Rattle.sum_outputs.proofs.LaterStates.{get_other, replay_vars, after_not_learned}
 use Rattle.sum_outputs.proofs.PartLines.{total_one}
-use Rattle.sum_outputs.proofs.ImplyLines.{none_found, put_live}
+use Rattle.sum_outputs.proofs.PolLines.{none_found, put_live}
 
 -- ---- the line is legal
 

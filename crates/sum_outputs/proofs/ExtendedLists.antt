@@ -9,7 +9,7 @@ use Rattle.cutting_planes.proofs.Terms.{Terms}
 use Rattle.proof_laws.specs.State.{StateValue}
 use Rattle.proof_rules.specs.Recording.{Snapshot}
 use Rattle.sum_outputs.specs.Totals.{AreWeights, IsAttainable, IsUpToLeast}
-use Rattle.sum_outputs.specs.Adding.{IsReached, IsReady, Continues}
+use Rattle.sum_outputs.specs.Adding.{DefinesMore, IsReached, IsReady, Continues}
 use Rattle.sum_outputs.specs.Outputs.{IsDefined, AreRising, CanImplyNow}
 use Rattle.sum_outputs.specs.Joining.{IsOutputAt, AreOutputsNow, IsCompleteTo}
 use Rattle.sum_outputs.specs.Sums.{last_sum}
@@ -78,7 +78,7 @@ last_most os rises i d short =
     (λ (more : length os - 1 < i). absurd (omega arith)) other)
     (cases_order i (length os - 1))
 
-module _ (a b : Snapshot) (ready : IsReady a) (on : Continues a b) (terms : Terms) (weights : AreWeights terms) (before falling : List SumOutput) (k : ℕ) (some : 0 < k) (now : AreOutputsNow a terms before) (defined : (s : StateValue) → IsReached a s → All (IsDefined a s terms) before) (gapless : AreAllBetween terms 0 (last_sum before) before) (made : AreFallingTo a b terms (last_sum before) k falling) where
+module _ (a b : Snapshot) (ready : IsReady a) (on : Continues a b) (terms : Terms) (weights : AreWeights terms) (before falling : List SumOutput) (k : ℕ) (some : 0 < k) (now : AreOutputsNow a terms before) (defined : (s : StateValue) → IsReached a s → All (IsDefined a s terms) before) (gapless : AreAllBetween terms 0 (last_sum before) before) (made : AreFallingTo a b terms (last_sum before) k falling) (more : DefinesMore a b (length falling)) where
   abbrev os : List SumOutput
   os = before ++ reverse falling
 
@@ -147,6 +147,10 @@ module _ (a b : Snapshot) (ready : IsReady a) (on : Continues a b) (terms : Term
     needed = all_reversed (λ o. IsUpToLeast terms k o.sum) falling made.needed;
     fresh = λ s reached. all_reversed (λ o. s.vars < o.lit.var) falling (made.are.fresh s reached);
     apart = pairs_reversed (λ o q. o.lit.var ≢ q.lit.var) (λ o q. o.lit.var ≢ q.lit.var) (λ x y ne e. ne (sym e)) falling made.are.apart;
+    counted =
+        let whole = length-append before (reverse falling) in
+        let same = length-reverse falling in
+        omega arith;
   }
 
 -- new outputs may imply those that were there
@@ -175,8 +179,8 @@ last_within a ready terms os now = ⊎_elim
     (last_is os)
 
 -- lines that were added after all was made change nothing
-pub extended_later : (a b c : Snapshot) → IsReady b → Continues b c → (terms : Terms) (before : List SumOutput) (k : ℕ) (os : List SumOutput) → AreExtended a b terms before k os → AreExtended a c terms before k os
-extended_later a b c ready on terms before k os is = record {
+pub extended_later : (a b c : Snapshot) → IsReady b → Continues b c → DefinesMore b c 0 → (terms : Terms) (before : List SumOutput) (k : ℕ) (os : List SumOutput) → AreExtended a b terms before k os → AreExtended a c terms before k os
+extended_later a b c ready on none terms before k os is = record {
   more = is.more;
   is = is.is;
   outputs = outputs_later b c ready on terms os is.outputs;
@@ -186,4 +190,5 @@ extended_later a b c ready on terms before k os is = record {
   needed = is.needed;
   fresh = is.fresh;
   apart = is.apart;
+  counted = let before = is.counted in omega arith;
 }

@@ -13,9 +13,9 @@ use Rattle.proof_rules.specs.Recording.{Snapshot}
 use Rattle.sum_outputs.specs.Totals.{AreWeights, IsAttainable, IsLeastSum, IsUpToLeast}
 use Rattle.sum_outputs.specs.Adding.{IsReady, Continues}
 use Rattle.sum_outputs.specs.Outputs.{IsDefined}
-use Rattle.sum_outputs.specs.Joining.{IsOutputAt, AreOutputsAt, IsCompleteTo, IsInnerAt, IsNewOutput}
+use Rattle.sum_outputs.specs.Joining.{IsAboveAll, IsOutputAt, AreOutputsAt, IsCompleteTo, IsInnerAt, IsNewOutput}
 use Rattle.sum_outputs.specs.Sums.{IsLeastOf, IsRun, IsRunTo}
-use Rattle.sum_outputs.specs.Falling.{AreFalling, AreAllBetween}
+use Rattle.sum_outputs.specs.Falling.{AreFalling, AreFallingTo, AreAllBetween}
 use Rattle.sum_outputs.specs.declared.sum_output.SumOutput.{SumOutput}
 use Rattle.sum_outputs.specs.declared.inner.Inner.{Inner}
 use Rattle.sum_outputs.proofs.OutputsLater.{defined_then, now_later}
@@ -167,6 +167,20 @@ module _ (a b c : Snapshot) (ready : IsReady a) (ready_b : IsReady b) (before : 
         enough = half.enough;
       }
 
+-- no sum is left
+pub halfway_ends : (a b : Snapshot) (node : Inner) (last k : ℕ) (os : List SumOutput) → IsHalfWay a b node last k [] os → AreFallingTo a b node.terms.now last k os
+halfway_ends a b node last k os half =
+    let end : half.middle ≡ last = half.run in
+    record {
+      high = half.high;
+      are = subst (λ (n : ℕ). AreFalling a b node.terms.now n os) end half.are;
+      needed = half.needed;
+      all = subst (λ (n : ℕ). AreAllBetween node.terms.now n half.high os) end half.all;
+      within = half.within;
+      top = subst (λ (n : ℕ). (half.high ≡ n) ⊎ ((o : SumOutput) × Contains os o × (o.sum ≡ half.high))) end half.top;
+      enough = half.enough;
+    }
+
 -- the last of outputs alone
 pub last_outputs : (b : Snapshot) (terms : Terms) (os : List SumOutput) (t : StateValue) → AreWeights terms → All (IsOutputAt b t terms) os → AreOutputsAt b t terms (drop (length os - 1) os)
 last_outputs b terms os t weights all =
@@ -179,3 +193,8 @@ last_outputs b terms os t weights all =
         small = λ i d short. let most = (each i d short).literal.most in let w = weights.small in omega arith;
       };
     }
+
+-- the sum of the first output, or a number above all sums where there is none
+pub above_first : (terms : Terms) (os : List SumOutput) (number below : ℕ) → total terms < number → (os ≡ [] → below ≡ number) → ((d : SumOutput) → 0 < length os → (get_or os 0 d).sum ≡ below) → IsAboveAll terms os below
+above_first terms [] number below above none some = inl (let is = none refl in omega arith)
+above_first terms (o ∷ os) number below above none some = inr (omega arith, λ d. some d (omega arith))

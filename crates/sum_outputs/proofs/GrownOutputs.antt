@@ -1,14 +1,14 @@
 -- Nodes that keep their outputs, and of which those below the root get what they need.
-use Rattle.std.proofs.Common.{◌≡◌, ◌⊎◌, inl, inr, ℕ, ◌+◌, ◌<◌, List, [], get_or, length, refl, sym, subst, ◌∙◌, ⊎_elim, arith}
+use Rattle.std.proofs.Common.{◌≡◌, ◌⊎◌, inl, inr, ℕ, ◌+◌, ◌<◌, ◌≤◌, List, [], get_or, length, refl, sym, subst, ◌∙◌, ⊎_elim, arith}
 use Rattle.std.specs.List.{All, Contains}
 use Rattle.std.proofs.Math.ListN.{set}
 use Rattle.std.proofs.lemmas.List.{get_or_default, length-set}
 use Rattle.std.proofs.lemmas.List.Elements.{All-append, All-contains, All-contains_itself, Contains-append_left}
 use Rattle.proof_rules.specs.Recording.{Snapshot}
 use Rattle.sum_outputs.specs.Totals.{IsUpToLeast}
-use Rattle.sum_outputs.specs.Adding.{Continues}
+use Rattle.sum_outputs.specs.Adding.{IsReady, Continues}
 use Rattle.sum_outputs.specs.Falling.{AreExtended}
-use Rattle.sum_outputs.specs.MadeOutputs.{AreGrownTo, IsNeeded}
+use Rattle.sum_outputs.specs.MadeOutputs.{AreCompleteTo, AreGrownTo, AreMadeNow, ExtendsTo, IsNeeded}
 use Rattle.sum_outputs.specs.declared.node.Node.{Node}
 use Rattle.sum_outputs.specs.declared.sum_output.SumOutput.{SumOutput}
 use Rattle.sum_outputs.proofs.MadeLists.{set_cases}
@@ -82,3 +82,38 @@ module _ (a b : Snapshot) (nodes : List Node) (made : List (List SumOutput)) (i 
     needed = λ j xs ys less. set_cases (λ f ps. f < length nodes → All (λ o. Contains (get_or made f xs) o ⊎ IsNeeded a nodes f k o) ps) made i os in_made
         (λ l. needed_here xs) (λ f d ne l. old_here a nodes made f k xs d (omega arith)) j ys less;
   }
+
+-- nodes are as complete where their outputs stay
+pub complete_grown : (a : Snapshot) (nodes : List Node) (before now : List (List SumOutput)) (k count h : ℕ) → count ≤ length nodes → AreGrownTo a nodes before now k → AreCompleteTo nodes before count h → AreCompleteTo nodes now count h
+complete_grown a nodes before now k count h most grown complete i n os less m can more = ⊎_elim
+    (λ (same : (q : SumOutput) × Contains (get_or before i os) q × (q.sum ≡ m)). inl (same.0, stays same.0 same.1, same.2))
+    (λ (other : (q : SumOutput) × Contains (get_or before i os) q × (h ≤ q.sum) × (q.sum ≤ m)). inr (other.0, stays other.0 other.1, other.2, other.3))
+    (complete i n os less m can more)
+  where
+    stays : (q : SumOutput) → Contains (get_or before i os) q → Contains (get_or now i os) q
+    stays q has = All-contains (Contains (get_or now i os)) (get_or before i os) q (grown.stays i os os (omega arith)) has
+
+-- ---- calls
+
+-- nothing was done yet
+pub extends_none : (a : Snapshot) → IsReady a → (nodes : List Node) (made : List (List SumOutput)) (count k : ℕ) → AreMadeNow a nodes made → AreCompleteTo nodes made count k → ExtendsTo a a nodes made made count k
+extends_none a ready nodes made count k are complete = record {
+  made = are;
+  complete = complete;
+  grown = grown_again a nodes made k (are ready.state ready.reached).size;
+  defined = refl;
+  again = λ was. refl;
+}
+
+-- one node more
+pub extends_more : (a b c : Snapshot) → Continues a b → (nodes : List Node) (one two three : List (List SumOutput)) (count k : ℕ) → count + 1 ≤ length nodes → ExtendsTo a b nodes one two count k → ExtendsTo b c nodes two three (count + 1) k →
+    ExtendsTo a c nodes one three (count + 1) k
+extends_more a b c on nodes one two three count k most first second = record {
+  made = second.made;
+  complete = second.complete;
+  grown = grown_twice a b on nodes one two three k first.grown second.grown;
+  defined = let before = first.defined in let here = second.defined in omega arith;
+  again = λ was.
+      second.again (complete_grown a nodes one two k (count + 1) k most first.grown was)
+      ∙ first.again (λ i n os less. was i n os (omega arith));
+}

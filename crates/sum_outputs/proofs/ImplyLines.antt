@@ -1,11 +1,8 @@
 -- The line by which outputs imply another: it is legal, and makes a clause that says so.
-use Rattle.std.proofs.Common.{◌≡◌, ◌≢◌, ◌⊎◌, inl, inr, ℕ, ◌+◌, ◌-◌, ◌<◌, ◌≤◌, ◌==◌, Bool, true, false, not, if◌then◌else◌, Option, None, Some, List, [], ◌∷◌, ◌++◌, get_or, refl, ap, subst, ◌∙◌, arith, Ok, pos}
-use Rattle.std.specs.Prelude.{◌^◌, nat_lt, option_map}
-use Rattle.std.specs.List.{All, find, flat_map}
-use Rattle.std.specs.FinMap.{get, insert, get-insert}
-use Rattle.std.specs.Cmp.{nat_cmp_total, unsigned_tied}
-use Rattle.std.specs.Ordering.{nat_cmp, eq_by_cmp}
-use Rattle.std.proofs.lemmas.Bool.{cond-true, cond-false, eq-eqb, ne_eqb, le-ltb}
+use Rattle.std.proofs.Common.{◌≡◌, ◌≢◌, ℕ, ◌+◌, ◌-◌, ◌<◌, ◌≤◌, ◌==◌, Bool, true, false, not, if◌then◌else◌, None, List, [], ◌∷◌, ◌++◌, get_or, refl, ap, arith, Ok, pos}
+use Rattle.std.specs.Prelude.{◌^◌, nat_lt}
+use Rattle.std.specs.List.{All}
+use Rattle.std.proofs.lemmas.Bool.{ne_eqb}
 use Rattle.std.proofs.lemmas.Int.{ints}
 use Rattle.std.proofs.lemmas.List.Elements.{All-nil, All-cons, All-head, All-tail, All-append, All-map, All-weaker}
 use Rattle.std.proofs.lemmas.List.Quantifiers.{all_pairs_push}
@@ -14,33 +11,24 @@ use Rattle.std.proofs.lemmas.List.Folds.{list_any_none}
 use Rattle.scut_base.specs.Literal.{Literal}
 use Rattle.scut_base.specs.Assignment.{lit_true, value_of}
 use Rattle.pb_lin.specs.Constraint.{ConstraintValue, Holds, opposite, size, term_value, total, value}
-use Rattle.pb_lin.specs.Problem.{ProblemValue}
-use Rattle.pb_lin.specs.LineMap.{LineMap}
 use Rattle.pb_lin.proofs.Ones.{AllPairs-map}
-use Rattle.cutting_planes.specs.Stack.{IsValueOn, Answer}
+use Rattle.cutting_planes.specs.Stack.{IsValueOn}
 use Rattle.cutting_planes.specs.declared.token.PolToken.{PolToken}
 use Rattle.cutting_planes.specs.declared.token.PolToken.TheVariants.{Id, Add, Div, Saturate, Weaken}
 use Rattle.cutting_planes.proofs.Terms.{Terms}
-use Rattle.cutting_planes.proofs.OneValue.{at_most_one}
 use Rattle.proof_laws.specs.State.{StateValue, IsState}
-use Rattle.proof_laws.specs.Steps.{reached_only_if, with_line}
+use Rattle.proof_laws.specs.Steps.{reached_only_if}
 use Rattle.proof_laws.specs.WellFormed.{AreTokens, IsToken}
-use Rattle.proof_laws.specs.Refusal.{given_in, is_clause, range_fault, fault_unless, token_variables, FirstOf, IsPolFault}
-use Rattle.proof_laws.specs.Legal.{IsLegal, IsRefused, IsNext}
-use Rattle.proof_laws.specs.Replay.{IsReplay}
-use Rattle.proof_laws.specs.Earned.{IsLearnedId}
-use Rattle.proof_laws.specs.declared.line.Line.{Line}
+use Rattle.proof_laws.specs.Refusal.{given_in, is_clause, token_variables}
 use Rattle.proof_laws.specs.declared.line.Line.TheVariants.{Pol}
-use Rattle.proof_laws.specs.declared.why.Why.{Why}
-use Rattle.proof_laws.specs.declared.why.Why.TheVariants.{AfterEnd, LogLong, VarRange}
-use Rattle.proof_laws.proofs.Replays.{replay_before, replay_once}
+use Rattle.proof_laws.proofs.Replays.{replay_once}
 use Rattle.proof_rules.specs.Recording.{Snapshot, MayBeAdded}
 use Rattle.sum_outputs.specs.Adding.{IsReached, IsReady, Always}
 use Rattle.sum_outputs.specs.ClauseTokens.{added, summed, weakens, cuts, named, clause_tokens}
 use Rattle.sum_outputs.specs.Outputs.{AreLiteralsOf, sums, CanImply, Imply}
 use Rattle.sum_outputs.specs.declared.sum_output.SumOutput.{SumOutput}
-use Rattle.sum_outputs.proofs.LaterStates.{new_not_learned}
 use Rattle.sum_outputs.proofs.Glue.{AreApart, apart_from_rising, bound, bound_within, none_true}
+use Rattle.sum_outputs.proofs.PolLines.{id_small, pol_leaves, pol_may_be_added_law}
 use Rattle.sum_outputs.proofs.Chains.{AreLines, is_of, MakesClause, has_clause}
 use Rattle.sum_outputs.proofs.TokenLists.{lowers_of}
 use Rattle.sum_outputs.proofs.PartLines.{againsts, PartLines, part_lines, missing, upper_value, upper_total}
@@ -66,10 +54,6 @@ againsts_none x (o ∷ parts) all =
 
 not_of : (v : ℕ) (ws : Terms) → All (λ t. v ≢ t.0.var) ws → is_of ws v ≡ false
 not_of v ws all = list_any_none (λ w. v == w.0.var) ws (λ k d short. ne_eqb v (get_or ws k d).0.var (all k d short))
-
--- ids are small
-pub id_small : (s : StateValue) → IsState s → (id : ℕ) (c : ConstraintValue) → get s.live id ≡ Some c → id < 2 ^ 63
-id_small s state id c is = let w = state.ids id c is in let n = state.next_id in let l = state.lines in omega arith
 
 module _ (a : Snapshot) (s : StateValue) (state : IsState s) (parts : List SumOutput) (weak : Terms) (target : SumOutput) (can : CanImply a s parts weak target) where
   lines : (lowers : List ConstraintValue) × (leaves : ℕ) × PartLines s can.lists parts lowers leaves
@@ -169,18 +153,6 @@ ids_small s state [] cs are = All-nil (λ id. id < 2 ^ 63)
 ids_small s state (id ∷ ids) [] are = absurd are
 ids_small s state (id ∷ ids) (c ∷ cs) are = All-cons (λ i. i < 2 ^ 63) id ids (id_small s state id c are.0) (ids_small s state ids cs are.2)
 
-pub none_found : (n : ℕ) (vs : List ℕ) → All (λ v. v ≤ n) vs → range_fault n vs ≡ None
-none_found n [] upto = refl
-none_found n (v ∷ vs) upto =
-    ap (option_map VarRange) (cond-false (nat_lt n v) (Some v) (find (λ w. nat_lt n w) vs) (le-ltb n v (All-head (λ w. w ≤ n) v vs upto)))
-    ∙ none_found n vs (All-tail (λ w. w ≤ n) v vs upto)
-
--- the variables that tokens write
-written_upto : (n : ℕ) (tokens : List PolToken) → All (λ t. All (λ v. v ≤ n) (token_variables t)) tokens → All (λ v. v ≤ n) (flat_map token_variables tokens)
-written_upto n [] upto = All-nil (λ v. v ≤ n)
-written_upto n (t ∷ ts) upto = All-append (λ v. v ≤ n) (token_variables t) (flat_map token_variables ts)
-    (All-head (λ u. All (λ v. v ≤ n) (token_variables u)) t ts upto) (written_upto n ts (All-tail (λ u. All (λ v. v ≤ n) (token_variables u)) t ts upto))
-
 -- a token that a text can spell, of no variable above n
 abbrev IsPlain : ℕ → PolToken → Type 0
 IsPlain n t = IsToken t × All (λ v. v ≤ n) (token_variables t)
@@ -216,42 +188,14 @@ tokens_plain s ids id ws degree vars small id_small within fits = All-append (Is
     (summed_plain s.vars (named ids ++ id ∷ []) (All-append (λ i. i < 2 ^ 63) (named ids) (id ∷ []) small (All-cons (λ i. i < 2 ^ 63) id [] id_small (All-nil (λ i. i < 2 ^ 63)))))
     (All-append (IsPlain s.vars) (weakens ws) (cuts degree) (weakens_plain s.vars ws vars within) (cuts_plain s.vars degree fits))
 
--- a line by cutting planes that makes something is legal, unless there are too many lines
-pol_legal : (p : ProblemValue) (s : StateValue) (tokens : List PolToken) (c : ConstraintValue) → s.ended ≡ false → All (λ t. All (λ v. v ≤ s.vars) (token_variables t)) tokens → IsValueOn (given_in s None None) [] tokens (Ok c) → IsLegal p s (Pol tokens) ⊎ IsRefused p s (Pol tokens) LogLong
-pol_legal p s tokens c unended upto is = by s.ended (nat_lt s.lines (2 ^ 61)) (range_fault s.vars (flat_map token_variables tokens)) unended (none_found s.vars (flat_map token_variables tokens) (written_upto s.vars tokens upto))
-  where
-    by : (e long : Bool) (range : Option Why) → e ≡ false → range ≡ None →
-        FirstOf (fault_unless (not e) AfterEnd) (FirstOf (fault_unless long LogLong) (FirstOf range (IsPolFault s tokens))) None ⊎ FirstOf (fault_unless (not e) AfterEnd) (FirstOf (fault_unless long LogLong) (FirstOf range (IsPolFault s tokens))) (Some LogLong)
-    by true long range e none = cc
-    by false true None e none = inl (Ok c, is, refl)
-    by false true (Some why) e none = cc
-    by false false range e none = inr refl
-
 -- ---- what a line more says
 
-pub put_live : (lines : LineMap) (id : ℕ) (c : ConstraintValue) → get (insert lines id c) id ≡ Some c
-put_live lines id c = get-insert nat_cmp_total lines id c id ∙ cond-true (eq_by_cmp nat_cmp id id) (Some c) (get lines id) (unsigned_tied id id ∙ eq-eqb id id refl)
-
 -- where a clause that a line by cutting planes makes gives P, P holds wherever the kept clauses do
-pub pol_means : (a b : Snapshot) (s : StateValue) (tokens : List PolToken) (c : ConstraintValue) (P : List Bool → Type 0) → IsState s → IsReached a s → b.problem ≡ a.problem → b.lines ≡ a.lines ++ Pol tokens ∷ [] →
+pol_means : (a b : Snapshot) (s : StateValue) (tokens : List PolToken) (c : ConstraintValue) (P : List Bool → Type 0) → IsReached a s → b.problem ≡ a.problem → b.lines ≡ a.lines ++ Pol tokens ∷ [] →
     IsValueOn (given_in s None None) [] tokens (Ok c) → is_clause c ≡ true → ((x : List Bool) → Holds x c → P x) → Always b P
-pol_means a b s tokens c P state reached problem lines value clause gives t after x hold =
-    let again : IsReplay a.problem (a.lines ++ Pol tokens ∷ []) t = subst (λ (ls : List Line). IsReplay a.problem ls t) lines (subst (λ (p : ProblemValue). IsReplay p b.lines t) problem after) in
-    let next : IsNext a.problem s (Pol tokens) t = replay_before a.problem a.lines (Pol tokens) s t reached again in
-    let makes = next.makes in
-    let answers : ◌≡◌ {A = Answer} (Ok makes.0) (Ok c) = at_most_one (given_in s None None) tokens (Ok makes.0) (Ok c) makes.1 value in
-    let same : makes.0 ≡ c = cc in
-    let state_is : t ≡ with_line s c = makes.2 ∙ ap (λ (d : ConstraintValue). with_line s d) same in
-    let live : get t.live s.next_id ≡ Some c = ap (λ (u : StateValue). get u.live s.next_id) state_is ∙ put_live s.live s.next_id c in
-    gives x (hold s.next_id c (
-      live,
-      clause,
-      λ learned.
-          not_learned_now (subst (λ (ls : List Line). IsLearnedId a.problem ls s.next_id) lines (subst (λ (p : ProblemValue). IsLearnedId p b.lines s.next_id) problem learned)),
-    ))
-  where
-    not_learned_now : IsLearnedId a.problem (a.lines ++ Pol tokens ∷ []) s.next_id → ⊥
-    not_learned_now learned = new_not_learned a.problem a.lines (Pol tokens) s reached refl learned
+pol_means a b s tokens c P reached problem lines value clause gives t after x hold =
+    let own = pol_leaves a s tokens c reached value b t s.next_id problem lines after (λ u is. ap (λ (v : StateValue). v.next_id) (replay_once a.problem a.lines s u reached is)) in
+    gives x (hold s.next_id c (own.0, clause, own.1))
 
 -- ---- the line that is added
 
@@ -274,15 +218,16 @@ module _ (a : Snapshot) (s : StateValue) (state : IsState s) (reached : IsReache
   imply_formed = (some_tokens (named (lowers_of parts)) target.upper (weakens weak ++ cuts ((sums parts + 1) - target.sum)), All-weaker (IsPlain s.vars) IsToken (λ t plain. plain.0) imply_tokens all_plain)
 
   pub imply_legal : IsReady a → MayBeAdded a.problem a.lines (Pol imply_tokens)
-  imply_legal ready t is =
+  imply_legal ready =
       let made = imply_clause a s state parts weak target can in
-      let same : s ≡ t = replay_once a.problem a.lines s t reached is in
-      let same_ready : ready.state ≡ s = replay_once a.problem a.lines ready.state s ready.reached reached in
-      let unended : s.ended ≡ false = subst (λ (u : StateValue). u.ended ≡ false) same_ready ready.unended in
-      subst (λ (u : StateValue). IsLegal a.problem u (Pol imply_tokens) ⊎ IsRefused a.problem u (Pol imply_tokens) LogLong) same
-      (pol_legal a.problem s imply_tokens made.0 unended (All-weaker (IsPlain s.vars) (λ u. All (λ v. v ≤ s.vars) (token_variables u)) (λ u plain. plain.1) imply_tokens all_plain) made.1)
+      let added = pol_may_be_added_law a s imply_tokens made.0 ready reached (record {
+        formed = imply_formed;
+        variables = All-weaker (IsPlain s.vars) (λ u. All (λ v. v ≤ s.vars) (token_variables u)) (λ u plain. plain.1) imply_tokens all_plain;
+        value = made.1;
+      }) in
+      added.legal
 
   pub imply_says : (b : Snapshot) → b.problem ≡ a.problem → b.lines ≡ a.lines ++ Pol imply_tokens ∷ [] → Always b (Imply parts target)
   imply_says b problem lines =
       let made = imply_clause a s state parts weak target can in
-      pol_means a b s imply_tokens made.0 (Imply parts target) state reached problem lines made.1 made.2 made.3
+      pol_means a b s imply_tokens made.0 (Imply parts target) reached problem lines made.1 made.2 made.3

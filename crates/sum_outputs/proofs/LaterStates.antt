@@ -1,6 +1,6 @@
 -- States after lines were added.
 use Rattle.std.proofs.Common.{◌≡◌, ◌≢◌, ◌⊎◌, inl, inr, ℕ, ◌+◌, ◌<◌, ◌≤◌, Bool, true, false, Option, None, Some, List, [], ◌∷◌, ◌++◌, length, fold, refl, ap, sym, subst, ◌∙◌, ⊎_elim, arith, append_assoc, append-nil, Ok, Err}
-use Rattle.std.specs.Prelude.{◌^◌, IfOk, IfErr, IsErrAnd, IsErrOf, ◌↔◌, Result}
+use Rattle.std.specs.Prelude.{◌^◌, IfOk, IsErrAnd, IsErrOf, ◌↔◌, Result}
 use Rattle.std.specs.List.{All}
 use Rattle.std.specs.Ordering.{nat_cmp, eq_by_cmp}
 use Rattle.std.specs.Cmp.{nat_cmp_total, unsigned_tied}

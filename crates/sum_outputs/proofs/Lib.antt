@@ -5,6 +5,7 @@ pub mod ReplayIds
 pub mod LaterStates
 pub mod TokenLists
 pub mod PartLines
+pub mod PolLines
 pub mod ImplyLines
 pub mod DefinedLines
 pub mod OutputsLater
@@ -12,6 +13,7 @@ pub mod JoinLines
 pub mod Attaining
 pub mod JoinMeaning
 pub mod MakeLines
+pub mod ClauseCalls
 pub mod SumLists
 pub mod Runs
 pub mod FallingLines
@@ -21,5 +23,6 @@ pub mod TreeParts
 pub mod TreeLists
 pub mod LeafLists
 pub mod MadeLists
+pub mod LackingNodes
 pub mod GrownOutputs
 pub mod DefinitionCounts

@@ -156,13 +156,6 @@ module _ (a b : Snapshot) (ready : IsReady a) (on : Continues a b) (nodes : List
       (λ f d ne l. before_is f m d (⊎_elim (λ (e : f ≡ i). absurd (ne e)) (λ (o : (f < i) ⊎ (i < f)). ⊎_elim (λ (x : f < i). x) (λ (x : i < f). absurd (omega arith)) o) (cases_order f i)))
       j ps less
 
--- a leaf is complete as it is
-pub complete_leaf : (a : Snapshot) (s : StateValue) (nodes : List Node) (made : List (List SumOutput)) (i k : ℕ) (n : Node) → AreMade a s nodes made → i < length nodes → length (get_or nodes i n).terms ≡ 1 → AreCompleteTo nodes made i k → AreCompleteTo nodes made (i + 1) k
-complete_leaf a s nodes made i k n are short one before j m os less = ⊎_elim
-    (λ (e : j ≡ i). subst (λ (f : ℕ). IsCompleteTo (get_or nodes f m).terms (get_or made f os) k) (sym e) (are.leaves i m os k short (ap (λ (nd : Node). length nd.terms) (get_or_default nodes i m n short) ∙ one)))
-    (λ (o : (j < i) ⊎ (i < j)). ⊎_elim (λ (x : j < i). before j m os x) (λ (x : i < j). absurd (omega arith)) o)
-    (cases_order j i)
-
 -- a node of more terms than one has children
 pub inner_of : (nodes : List Node) → IsTree nodes → (i : ℕ) (n : Node) → i < length nodes → 1 < length (get_or nodes i n).terms → IsInner nodes i (get_or nodes i n)
 inner_of nodes tree i n short long = ⊎_elim

@@ -8,7 +8,7 @@ use Rattle.cutting_planes.proofs.Terms.{Terms}
 use Rattle.proof_laws.specs.State.{StateValue}
 use Rattle.proof_rules.specs.Recording.{Snapshot}
 use Rattle.sum_outputs.specs.Totals.{AreWeights, IsLeastSum}
-use Rattle.sum_outputs.specs.Adding.{IsReached, IsReady, Continues, KeptHold, Always}
+use Rattle.sum_outputs.specs.Adding.{IsReached, IsReady, Continues, KeptHold}
 use Rattle.sum_outputs.specs.Outputs.{CanImplyNow, Imply, IsDefined, IsDefinedNext}
 use Rattle.sum_outputs.specs.Joining.{Follows, IsOutputAt, SinglesImply, AreOutputsAt, AreOutputsNow, AreChildren, AreChildrenNow, IsInnerAt, IsTarget, IsTargetNow, AreImplying, IsAboveAll, IsNewOutput}
 use Rattle.sum_outputs.specs.declared.sum_output.SumOutput.{SumOutput}

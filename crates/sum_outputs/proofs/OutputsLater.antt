@@ -1,7 +1,6 @@
 -- What is known of outputs is known after lines were added.
-use Rattle.std.proofs.Common.{◌≡◌, ◌⊎◌, inl, inr, ℕ, ◌+◌, ◌<◌, ◌≤◌, false, List, [], ◌∷◌, get_or, length, refl, sym, subst, ⊎_elim, arith}
+use Rattle.std.proofs.Common.{◌≡◌, ◌⊎◌, inl, inr, ℕ, ◌<◌, ◌≤◌, false, List, [], ◌∷◌, get_or, length, sym, subst, ⊎_elim, arith}
 use Rattle.std.proofs.lemmas.Bool.{cases_order}
-use Rattle.std.proofs.lemmas.List.{get_or_read_under}
 use Rattle.pb_lin.specs.Constraint.{ConstraintValue, IsVariable}
 use Rattle.pb_lin.specs.Place.{IsPlace}
 use Rattle.pb_lin.specs.Problem.{ProblemValue}
@@ -98,13 +97,6 @@ pub way_on : (a b c : Snapshot) → IsUnderWay a b → Continues b c → c.broke
 way_on a b c way on whole = record { on = continues_twice a b c way.on on; whole = whole }
 
 -- ---- lists that are gone through
-
--- what holds of each element from one place on, and of the next, holds of each up to it
-pub done_step : {X : Type 0} (P : X → Type 0) (xs : List X) (x : X) (from at : ℕ) → x ≡ get_or xs at x → at < length xs → P x → ((k : ℕ) (d : X) → from ≤ k → k < at → P (get_or xs k d)) → (k : ℕ) (d : X) → from ≤ k → k < at + 1 → P (get_or xs k d)
-done_step {X} P xs x from at is short here before k d low high = ⊎_elim
-    (λ (same : k ≡ at). subst (λ (j : ℕ). P (get_or xs j d)) (sym same) (subst P (get_or_read_under xs at (length xs) x d is short refl) here))
-    (λ (other : (k < at) ⊎ (at < k)). ⊎_elim (λ (less : k < at). before k d low less) (λ (more : at < k). absurd (omega arith)) other)
-    (cases_order k at)
 
 -- an element whose number isn't below the given one stands at the place or after it
 pub from_place : {X : Type 0} (n : X → ℕ) (xs : List X) (number i k : ℕ) (d : X) → IsPlace n xs number i → number ≤ n (get_or xs k d) → i ≤ k

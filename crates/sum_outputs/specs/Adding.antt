@@ -1,5 +1,5 @@
 -- What is added to a recorder, and what stays as it was.
-use Rattle.std.specs.Prelude.{◌≡◌, ◌≤◌, ◌^◌, ℕ, ◌+◌, Bool, false, List, ◌++◌, length, All, Option, Some, Result, OnOk, IfErr}
+use Rattle.std.specs.Prelude.{◌≡◌, ◌≤◌, ◌^◌, ℕ, ◌+◌, Bool, false, List, ◌++◌, length, All, Some, Result, OnOk, IfErr}
 use Rattle.std.specs.FinMap.{get}
 use Rattle.scut_base.specs.Faults.{Rose}
 use Rattle.pb_lin.specs.Constraint.{ConstraintValue, Holds}
@@ -78,3 +78,9 @@ pub record IsRecorded {T : Type 0} (a b : Snapshot) (result : Result T RecordFau
   pub continues : Continues a b
   pub whole : OnOk result (b.broken ≡ false)
   pub fault : IfErr result (IsFaultAt a b)
+
+-- A call that adds lines by cutting planes alone, and no definition; where it is done P holds.
+pub record AddsClauses {T : Type 0} (a b : Snapshot) (result : Result T RecordFault) (P : Type 0) : Type 0 where
+  pub recorded : IsRecorded a b result
+  pub says : OnOk result P
+  pub defines_none : OnOk result (DefinesMore a b 0)

@@ -1,10 +1,10 @@
 -- Outputs of a node that were made in falling order of sums.
-use Rattle.std.specs.Prelude.{◌≡◌, ◌≢◌, ◌⊎◌, ℕ, ◌<◌, ◌≤◌, List, ◌++◌, All, AllPairs, Contains}
+use Rattle.std.specs.Prelude.{◌≡◌, ◌≢◌, ◌⊎◌, ℕ, ◌+◌, ◌<◌, ◌≤◌, List, ◌++◌, length, All, AllPairs, Contains}
 use Rattle.scut_base.specs.Literal.{Literal}
 use Rattle.pb_lin.specs.Constraint.{total}
 use Rattle.proof_laws.specs.State.{StateValue}
 use Rattle.proof_rules.specs.Recording.{Snapshot}
-use Rattle.sum_outputs.specs.Totals.{IsAttainable, IsLeastSum, IsUpToLeast}
+use Rattle.sum_outputs.specs.Totals.{IsAttainable, IsLeastSum, IsUpToLeast, definitions}
 use Rattle.sum_outputs.specs.Adding.{IsReached}
 use Rattle.sum_outputs.specs.Outputs.{IsDefined}
 use Rattle.sum_outputs.specs.Joining.{IsOutputAt, AreOutputsAt, IsCompleteTo}
@@ -45,6 +45,7 @@ pub record AreExtended (a b : Snapshot) (terms : List (Literal × ℕ)) (before 
   pub needed : All (λ o. IsUpToLeast terms k o.sum) more
   pub fresh : (s : StateValue) → IsReached a s → All (λ o. s.vars < o.lit.var) more
   pub apart : AllPairs (λ o q. o.lit.var ≢ q.lit.var) more
+  pub counted : definitions b.lines + length before ≡ definitions a.lines + length os
 
 -- the same literal stands for the same sum among these
 abbrev pub IsKept : List SumOutput → SumOutput → Type 0
@@ -54,7 +55,8 @@ IsKept os q = (p : SumOutput) × Contains os p × (p.lit ≡ q.lit) × (p.sum �
 abbrev pub IsFresh : Snapshot → SumOutput → Type 0
 IsFresh a o = (s : StateValue) → IsReached a s → s.vars < o.lit.var
 
--- An output among those of a node, for the least sum of at least k; all others were there before, and stay.
+-- An output among those of a node, for the least sum of at least k; all others were there before, and stay. Where it was
+-- there, no line was added.
 pub record IsAsked (a b : Snapshot) (terms : List (Literal × ℕ)) (before : List SumOutput) (k : ℕ) (o : SumOutput) (os : List SumOutput) : Type 0 where
   pub there : Contains os o
   pub least : IsLeastSum terms k o.sum
@@ -64,6 +66,8 @@ pub record IsAsked (a b : Snapshot) (terms : List (Literal × ℕ)) (before : Li
   pub stays : All (IsKept os) before
   pub kept : All (λ q. IsKept before q ⊎ ((q ≡ o) × IsFresh a q)) os
   pub others : All (λ q. (q ≡ o) ⊎ Contains before q) os
+  pub counted : definitions b.lines + length before ≡ definitions a.lines + length os
+  pub again : (q : SumOutput) → Contains before q → IsLeastSum terms k q.sum → b.lines ≡ a.lines
 
 -- the output, where no sum is from k on and below its own
 abbrev pub asked_from : ℕ → SumOutput → SumOutput

@@ -6,7 +6,7 @@ use Rattle.pb_lin.specs.Constraint.{IsVariable, total, value}
 use Rattle.proof_laws.specs.State.{StateValue}
 use Rattle.proof_rules.specs.Recording.{Snapshot}
 use Rattle.sum_outputs.specs.Totals.{AreWeights, IsAttainable}
-use Rattle.sum_outputs.specs.Adding.{IsReached, KeptHold, Always, DefinesMore}
+use Rattle.sum_outputs.specs.Adding.{IsReached, IsReady, KeptHold, Always, DefinesMore}
 use Rattle.sum_outputs.specs.Outputs.{IsDefined, IsLiteralOf, AreRising, Imply}
 use Rattle.sum_outputs.specs.declared.sum_output.SumOutput.{SumOutput}
 use Rattle.sum_outputs.specs.declared.inner.Inner.{Inner}
@@ -51,6 +51,12 @@ pub record IsInnerAt (a : Snapshot) (node : Inner) (k : ℕ) : Type 0 where
   pub children : AreChildrenNow a node
   pub first_complete : IsCompleteTo node.first.terms.now node.first.outputs.now k
   pub second_complete : IsCompleteTo node.second.terms.now node.second.outputs.now k
+
+-- outputs of the node at sums up to the least of at least k may be made
+pub record MayMake (a : Snapshot) (node : Inner) (k : ℕ) : Type 0 where
+  pub ready : IsReady a
+  pub inner : IsInnerAt a node k
+  pub from_one : 0 < k
 
 -- a literal that was defined by a node's terms, apart from all that its children have
 pub record IsTarget (a : Snapshot) (s : StateValue) (terms : List (Literal × ℕ)) (firsts seconds : List SumOutput) (target : SumOutput) : Type 0 where

@@ -9,3 +9,4 @@ pub mod Falling
 pub mod Tree
 pub mod Leaves
 pub mod MadeOutputs
+pub mod Laws

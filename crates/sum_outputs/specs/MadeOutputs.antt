@@ -1,16 +1,16 @@
 -- The outputs of all nodes of a tree.
-use Rattle.std.specs.Prelude.{◌≡◌, ◌≢◌, ◌⊎◌, ℕ, ◌+◌, ◌<◌, List, length, slice_index_or, sum_by, All, Contains}
+use Rattle.std.specs.Prelude.{◌≡◌, ◌≢◌, ◌⊎◌, ℕ, ◌+◌, ◌<◌, min, List, length, slice_index_or, sum_by, All, Contains}
 use Rattle.scut_base.specs.Literal.{Literal}
-use Rattle.pb_lin.specs.Constraint.{IsVariable}
+use Rattle.pb_lin.specs.Constraint.{IsVariable, total}
 use Rattle.proof_laws.specs.State.{StateValue}
 use Rattle.proof_rules.specs.Recording.{Snapshot}
-use Rattle.sum_outputs.specs.Adding.{IsReached}
+use Rattle.sum_outputs.specs.Adding.{IsReached, IsReady}
 use Rattle.sum_outputs.specs.Outputs.{IsDefined}
 use Rattle.sum_outputs.specs.Joining.{AreOutputsAt, IsCompleteTo}
 use Rattle.sum_outputs.specs.Sums.{last_sum}
-use Rattle.sum_outputs.specs.Totals.{IsUpToLeast}
+use Rattle.sum_outputs.specs.Totals.{IsUpToLeast, definitions}
 use Rattle.sum_outputs.specs.Falling.{AreAllBetween, IsFresh}
-use Rattle.sum_outputs.specs.Tree.{IsInner}
+use Rattle.sum_outputs.specs.Tree.{IsInner, IsTree}
 use Rattle.sum_outputs.specs.declared.node.Node.{Node}
 use Rattle.sum_outputs.specs.declared.sum_output.SumOutput.{SumOutput}
 
@@ -57,3 +57,26 @@ pub record AreGrownTo (a : Snapshot) (nodes : List Node) (before now : List (Lis
   pub stays : (i : ℕ) (os ps : List SumOutput) → i < length nodes → All (Contains (slice_index_or now i ps)) (slice_index_or before i os)
   pub needed : (i : ℕ) (os ps : List SumOutput) → i < length nodes
       → All (λ o. Contains (slice_index_or before i os) o ⊎ IsNeeded a nodes i k o) (slice_index_or now i ps)
+
+-- The first nodes have got all outputs up to the least of at least k, with a definition for each that is new; and where
+-- they had them, no line was added.
+pub record ExtendsTo (a b : Snapshot) (nodes : List Node) (before now : List (List SumOutput)) (count k : ℕ) : Type 0 where
+  pub made : AreMadeNow b nodes now
+  pub complete : AreCompleteTo nodes now count k
+  pub grown : AreGrownTo a nodes before now k
+  pub defined : definitions b.lines + count_outputs before ≡ definitions a.lines + count_outputs now
+  pub again : AreCompleteTo nodes before count k → b.lines ≡ a.lines
+
+-- a node below the root, with all nodes before it complete
+pub record MayExtend (a : Snapshot) (nodes : List Node) (outputs : List (List SumOutput)) (at k : ℕ) : Type 0 where
+  pub ready : IsReady a
+  pub tree : IsTree nodes
+  pub below : at + 1 < length nodes
+  pub made : AreMadeNow a nodes outputs
+  pub complete : AreCompleteTo nodes outputs at k
+  pub from_one : 0 < k
+
+-- the node has children, and not all outputs up to the least of at least k
+pub record LacksOutputs (nodes : List Node) (made : List (List SumOutput)) (i k : ℕ) : Type 0 where
+  pub long : (n : Node) → 1 < length (slice_index_or nodes i n).terms
+  pub low : (n : Node) (os : List SumOutput) → last_sum (slice_index_or made i os) < min k (total (slice_index_or nodes i n).terms)

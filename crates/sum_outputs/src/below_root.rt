@@ -1,12 +1,12 @@
 // The outputs of all nodes below the root, up to a bound.
-ghost use Rattle.std.specs.Prelude.{◌≡◌, ◌+◌, ◌-◌, ◌<◌, length, slice_index_or, OnOk};
+ghost use Rattle.std.specs.Prelude.{◌≡◌, ◌≢◌, ◌⊎◌, ◌+◌, ◌-◌, ◌<◌, ◌≤◌, min, true, false, length, OnOk};
 ghost use Rattle.sum_outputs.specs.Adding.{IsReady, IsRecorded};
 ghost use Rattle.sum_outputs.specs.Tree.{IsTree};
-ghost use Rattle.sum_outputs.specs.Totals.{definitions};
-ghost use Rattle.sum_outputs.specs.MadeOutputs.{AreCompleteTo, AreGrownTo, AreMadeNow, count_outputs};
-ghost use Rattle.sum_outputs.specs.declared.node.Node.{Node};
+ghost use Rattle.sum_outputs.specs.Sums.{last_sum};
+ghost use Rattle.sum_outputs.specs.MadeOutputs.{AreMadeNow, ExtendsTo, LacksOutputs, MayExtend};
 
 use crate::SumOutput;
+use crate::falling::last_sum;
 use crate::inner::{Inner, outputs_at};
 use crate::node::Node;
 use crate::node_outputs::extended;
@@ -30,11 +30,8 @@ pub fn extend_all<R: Recorder>(
     requires made { AreMadeNow (R.seen rec.old) nodes.now made.old }
     requires from_one { 0 < k }
     ensures recorded { IsRecorded (R.seen rec.old) (R.seen rec.new) result }
-    ensures made { OnOk result (AreMadeNow (R.seen rec.new) nodes.now made.new) }
-    ensures complete { OnOk result (AreCompleteTo nodes.now made.new (length nodes.now - 1) k) }
-    ensures grown { OnOk result (AreGrownTo (R.seen rec.old) nodes.now made.old made.new k) }
-    ensures defined { OnOk result (definitions (R.seen rec.new).lines + count_outputs made.old
-        ≡ definitions (R.seen rec.old).lines + count_outputs made.new) }
+    ensures extends { OnOk result (ExtendsTo (R.seen rec.old) (R.seen rec.new) nodes.now
+        made.old made.new (length nodes.now - 1) k) }
 {
     for at in 0..nodes.len() - 1 {
         extend_node(alloc, rec, nodes, made, at, k)?;
@@ -42,7 +39,7 @@ pub fn extend_all<R: Recorder>(
     Ok(())
 }
 
-// Makes the outputs of a node before the last, whose children have theirs; those of a leaf are there.
+// Makes the outputs of a node before the last, whose children have theirs, where it hasn't got all of them.
 fn extend_node<R: Recorder>(
     alloc: Global,
     rec: &mut R,
@@ -51,23 +48,26 @@ fn extend_node<R: Recorder>(
     at: usize,
     k: u64,
 ) -> Result<(), RecordFault>
-    requires ready { IsReady (R.seen rec.old) }
-    requires tree { IsTree nodes.now }
-    requires at { at + 1 < length nodes.now }
-    requires made { AreMadeNow (R.seen rec.old) nodes.now made.old }
-    requires complete { AreCompleteTo nodes.now made.old at k }
-    requires from_one { 0 < k }
+    requires { MayExtend (R.seen rec.old) nodes.now made.old at k }
     ensures recorded { IsRecorded (R.seen rec.old) (R.seen rec.new) result }
-    ensures made { OnOk result (AreMadeNow (R.seen rec.new) nodes.now made.new) }
-    ensures complete { OnOk result (AreCompleteTo nodes.now made.new (at + 1) k) }
-    ensures grown { OnOk result (AreGrownTo (R.seen rec.old) nodes.now made.old made.new k) }
-    ensures defined { OnOk result (definitions (R.seen rec.new).lines + count_outputs made.old
-        ≡ definitions (R.seen rec.old).lines + count_outputs made.new) }
+    ensures extends { OnOk result (ExtendsTo (R.seen rec.old) (R.seen rec.new) nodes.now
+        made.old made.new (at + 1) k) }
 {
-    if nodes[at].terms.len() == 1 {
+    if has_all(&nodes[at], outputs_at(made, at), k) {
         return Ok(());
     }
     extend_inner(alloc, rec, nodes, made, at, k)
+}
+
+// Whether a node has all outputs up to its least sum of at least `k`: it is a leaf, or the last one's sum is
+// as great, or the greatest of all.
+fn has_all(node: &Node, outputs: &[SumOutput], k: u64) -> bool
+    ensures all { result ≡ true → (length node.now.terms ≡ 1)
+        ⊎ (min k node.now.total ≤ last_sum outputs.now) }
+    ensures lacks { result ≡ false → (length node.now.terms ≢ 1)
+        × (last_sum outputs.now < min k node.now.total) }
+{
+    node.terms.len() == 1 || k.min(node.total) <= last_sum(outputs)
 }
 
 // Makes the outputs of an inner node before the last, whose children have theirs.
@@ -79,19 +79,11 @@ fn extend_inner<R: Recorder>(
     at: usize,
     k: u64,
 ) -> Result<(), RecordFault>
-    requires ready { IsReady (R.seen rec.old) }
-    requires tree { IsTree nodes.now }
-    requires at { at + 1 < length nodes.now }
-    requires long { (d : Node) → 1 < length (slice_index_or nodes.now at d).terms }
-    requires made { AreMadeNow (R.seen rec.old) nodes.now made.old }
-    requires complete { AreCompleteTo nodes.now made.old at k }
-    requires from_one { 0 < k }
+    requires may { MayExtend (R.seen rec.old) nodes.now made.old at k }
+    requires lacks { LacksOutputs nodes.now made.old at k }
     ensures recorded { IsRecorded (R.seen rec.old) (R.seen rec.new) result }
-    ensures made { OnOk result (AreMadeNow (R.seen rec.new) nodes.now made.new) }
-    ensures complete { OnOk result (AreCompleteTo nodes.now made.new (at + 1) k) }
-    ensures grown { OnOk result (AreGrownTo (R.seen rec.old) nodes.now made.old made.new k) }
-    ensures defined { OnOk result (definitions (R.seen rec.new).lines + count_outputs made.old
-        ≡ definitions (R.seen rec.old).lines + count_outputs made.new) }
+    ensures extends { OnOk result (ExtendsTo (R.seen rec.old) (R.seen rec.new) nodes.now
+        made.old made.new (at + 1) k) }
 {
     let node = Inner::of(nodes, made, at);
     let all = extended(alloc, rec, &node, outputs_at(made, at), k)?;

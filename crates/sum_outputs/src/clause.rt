@@ -1,6 +1,6 @@
 // Clauses between outputs.
-ghost use Rattle.std.specs.Prelude.{◌≡◌, ◌<◌, ◌^◌, OnOk};
-ghost use Rattle.sum_outputs.specs.Adding.{Always, DefinesMore, IsReady, IsRecorded};
+ghost use Rattle.std.specs.Prelude.{◌≡◌, ◌<◌, ◌^◌};
+ghost use Rattle.sum_outputs.specs.Adding.{AddsClauses, Always, IsReady};
 ghost use Rattle.sum_outputs.specs.Outputs.{CanImplyNow, Imply, sums};
 
 use crate::SumOutput;
@@ -22,9 +22,8 @@ pub(crate) fn add_clause<R: Recorder>(
 ) -> Result<(), RecordFault>
     requires ready { IsReady (R.seen rec.old) }
     requires parts { CanImplyNow (R.seen rec.old) parts.now weakened.now target }
-    ensures recorded { IsRecorded (R.seen rec.old) (R.seen rec.new) result }
-    ensures says { OnOk result (Always (R.seen rec.new) (Imply parts.now target)) }
-    ensures defines_none { OnOk result (DefinesMore (R.seen rec.old) (R.seen rec.new) 0) }
+    ensures { AddsClauses (R.seen rec.old) (R.seen rec.new) result
+        (Always (R.seen rec.new) (Imply parts.now target)) }
 {
     // Tells that the lines so far reach a state.
     let _vars = rec.state().vars();

@@ -1,7 +1,7 @@
 // Clauses from the outputs of a node's children to an output of the node.
-ghost use Rattle.std.specs.Prelude.{◌+◌, ◌<◌, ◌≤◌, [], ◌∷◌, All, AllPairs, OnOk};
+ghost use Rattle.std.specs.Prelude.{◌+◌, ◌<◌, ◌≤◌, [], ◌∷◌, All, AllPairs};
 ghost use Rattle.pb_lin.specs.Place.{IsPlace};
-ghost use Rattle.sum_outputs.specs.Adding.{Always, DefinesMore, IsReady, IsRecorded};
+ghost use Rattle.sum_outputs.specs.Adding.{AddsClauses, Always, IsReady};
 ghost use Rattle.sum_outputs.specs.Outputs.{AreRising, CanImplyNow, Imply};
 ghost use Rattle.sum_outputs.specs.Joining.{AreChildrenNow, AreImplying, IsLeastBetween, IsTargetNow, PairsImply, SinglesImply};
 
@@ -47,9 +47,8 @@ pub(crate) fn add_single<R: Recorder>(
     requires rising { AreRising parts.now }
     requires can { All (λ o. target.now.sum ≤ o.sum → CanImplyNow (R.seen rec.old)
         (o ∷ []) weakened.now target.now) parts.now }
-    ensures recorded { IsRecorded (R.seen rec.old) (R.seen rec.new) result }
-    ensures says { OnOk result (SinglesImply (R.seen rec.new) parts.now target.now below) }
-    ensures defines_none { OnOk result (DefinesMore (R.seen rec.old) (R.seen rec.new) 0) }
+    ensures { AddsClauses (R.seen rec.old) (R.seen rec.new) result
+        (SinglesImply (R.seen rec.new) parts.now target.now below) }
 {
     match least_between(parts, target.sum, below) {
         Some(least) => imply_by_one(alloc, rec, &least, weakened, target),
@@ -71,9 +70,8 @@ fn add_pair<R: Recorder>(
     requires rising { AreRising others.now }
     requires can { All (λ o. target.now.sum ≤ part.now.sum + o.sum → CanImplyNow (R.seen rec.old)
         (part.now ∷ o ∷ []) [] target.now) others.now }
-    ensures recorded { IsRecorded (R.seen rec.old) (R.seen rec.new) result }
-    ensures says { OnOk result (PairsImply (R.seen rec.new) part.now others.now target.now below) }
-    ensures defines_none { OnOk result (DefinesMore (R.seen rec.old) (R.seen rec.new) 0) }
+    ensures { AddsClauses (R.seen rec.old) (R.seen rec.new) result
+        (PairsImply (R.seen rec.new) part.now others.now target.now below) }
 {
     let rest = target.sum.saturating_sub(part.sum);
     match least_between(others, rest, below.saturating_sub(part.sum)) {
@@ -92,9 +90,8 @@ fn imply_by_one<R: Recorder>(
 ) -> Result<(), RecordFault>
     requires ready { IsReady (R.seen rec.old) }
     requires can { CanImplyNow (R.seen rec.old) (part.now ∷ []) weakened.now target.now }
-    ensures recorded { IsRecorded (R.seen rec.old) (R.seen rec.new) result }
-    ensures says { OnOk result (Always (R.seen rec.new) (Imply (part.now ∷ []) target.now)) }
-    ensures defines_none { OnOk result (DefinesMore (R.seen rec.old) (R.seen rec.new) 0) }
+    ensures { AddsClauses (R.seen rec.old) (R.seen rec.new) result
+        (Always (R.seen rec.new) (Imply (part.now ∷ []) target.now)) }
 {
     add_clause(alloc, rec, &[*part], weakened, *target)
 }
@@ -109,10 +106,8 @@ fn imply_by_two<R: Recorder>(
 ) -> Result<(), RecordFault>
     requires ready { IsReady (R.seen rec.old) }
     requires can { CanImplyNow (R.seen rec.old) (first.now ∷ second.now ∷ []) [] target.now }
-    ensures recorded { IsRecorded (R.seen rec.old) (R.seen rec.new) result }
-    ensures says { OnOk result (Always (R.seen rec.new)
-        (Imply (first.now ∷ second.now ∷ []) target.now)) }
-    ensures defines_none { OnOk result (DefinesMore (R.seen rec.old) (R.seen rec.new) 0) }
+    ensures { AddsClauses (R.seen rec.old) (R.seen rec.new) result
+        (Always (R.seen rec.new) (Imply (first.now ∷ second.now ∷ []) target.now)) }
 {
     add_clause(alloc, rec, &[*first, *second], &[], *target)
 }
@@ -132,9 +127,8 @@ pub(crate) fn add_window<R: Recorder>(
     requires ready { IsReady (R.seen rec.old) }
     requires children { AreChildrenNow (R.seen rec.old) node.now }
     requires target { IsTargetNow (R.seen rec.old) node.now target.now }
-    ensures recorded { IsRecorded (R.seen rec.old) (R.seen rec.new) result }
-    ensures says { OnOk result (AreImplying (R.seen rec.new) node.now target.now below) }
-    ensures defines_none { OnOk result (DefinesMore (R.seen rec.old) (R.seen rec.new) 0) }
+    ensures { AddsClauses (R.seen rec.old) (R.seen rec.new) result
+        (AreImplying (R.seen rec.new) node.now target.now below) }
 {
     add_single(
         alloc,
@@ -176,10 +170,9 @@ fn add_pairs<R: Recorder>(
     requires rising_too { AreRising seconds.now }
     requires can { All (λ o. All (λ q. target.now.sum ≤ o.sum + q.sum
         → CanImplyNow (R.seen rec.old) (o ∷ q ∷ []) [] target.now) seconds.now) firsts.now }
-    ensures recorded { IsRecorded (R.seen rec.old) (R.seen rec.new) result }
-    ensures says { OnOk result (All (λ o. o.sum < target.now.sum
-        → PairsImply (R.seen rec.new) o seconds.now target.now below) firsts.now) }
-    ensures defines_none { OnOk result (DefinesMore (R.seen rec.old) (R.seen rec.new) 0) }
+    ensures { AddsClauses (R.seen rec.old) (R.seen rec.new) result
+        (All (λ o. o.sum < target.now.sum → PairsImply (R.seen rec.new) o seconds.now
+        target.now below) firsts.now) }
 {
     for at in 0..place_of(firsts, target.sum) {
         add_pair(alloc, rec, &firsts[at], seconds, target, below)?;

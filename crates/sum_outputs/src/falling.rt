@@ -1,10 +1,10 @@
 // Further outputs of a node, in rising order of sums without a gap.
-ghost use Rattle.std.specs.Prelude.{◌≡◌, ◌-◌, ◌<◌, ◌≤◌, ◌^◌, length, drop, slice_index_or, All, IfOk};
+ghost use Rattle.std.specs.Prelude.{◌≡◌, ◌-◌, ◌<◌, ◌≤◌, ◌^◌, [], length, drop, slice_index_or, All, IfOk};
 ghost use Rattle.pb_lin.specs.Constraint.{total};
 ghost use Rattle.sum_outputs.specs.Totals.{IsLeastSum};
-ghost use Rattle.sum_outputs.specs.Adding.{DefinesMore, IsReady, IsRecorded};
+ghost use Rattle.sum_outputs.specs.Adding.{DefinesMore, IsRecorded};
 ghost use Rattle.sum_outputs.specs.Outputs.{AreRising};
-ghost use Rattle.sum_outputs.specs.Joining.{AreOutputsNow, IsInnerAt, IsMade};
+ghost use Rattle.sum_outputs.specs.Joining.{AreOutputsNow, IsMade, MayMake};
 ghost use Rattle.sum_outputs.specs.Sums.{IsRunTo, last_sum};
 ghost use Rattle.sum_outputs.specs.Falling.{AreFallingTo};
 ghost use Rattle.sum_outputs.specs.declared.sum_output.SumOutput.{SumOutput};
@@ -27,8 +27,7 @@ pub(crate) fn make_falling<R: Recorder>(
     last: u64,
     k: u64,
 ) -> Result<Items<SumOutput>, RecordFault>
-    requires ready { IsReady (R.seen rec.old) }
-    requires inner { IsInnerAt (R.seen rec.old) node.now k }
+    requires may { MayMake (R.seen rec.old) node.now k }
     requires last { last ≤ total node.now.terms.now }
     ensures recorded { IsRecorded (R.seen rec.old) (R.seen rec.new) result }
     ensures falling { IfOk result (AreFallingTo (R.seen rec.old) (R.seen rec.new)
@@ -52,30 +51,17 @@ fn make_next<R: Recorder>(
     falling: &[SumOutput],
     run: (u64, u64),
 ) -> Result<SumOutput, RecordFault>
-    requires ready { IsReady (R.seen rec.old) }
-    requires inner { IsInnerAt (R.seen rec.old) node.now run.0 }
+    requires may { MayMake (R.seen rec.old) node.now run.0 }
     requires falling { AreOutputsNow (R.seen rec.old) node.now.terms.now
         (drop (length falling.now - 1) falling.now) }
     requires greater { All (λ o. run.1 < o.sum) falling.now }
-    requires from_one { 0 < run.0 }
     requires least { IsLeastSum node.now.terms.now run.0 run.1 }
     ensures recorded { IsRecorded (R.seen rec.old) (R.seen rec.new) result }
     ensures made { IfOk result (IsMade (R.seen rec.old) (R.seen rec.new) node.now.terms.now run.0 run.1) }
 {
-    let below = least_or(falling, node.greatest + 1);
-    make_output(alloc, rec, node, last_of(falling), run.0, run.1, below)
-}
-
-// The sum of the last output, or a number where there is none.
-fn least_or(outputs: &[SumOutput], number: u64) -> u64
-    ensures none { length outputs.now ≡ 0 → result ≡ number }
-    ensures some { (d : SumOutput) → 0 < length outputs.now
-        → (slice_index_or outputs.now (length outputs.now - 1) d).sum ≡ result }
-{
-    if outputs.is_empty() {
-        return number;
-    }
-    outputs[outputs.len() - 1].sum
+    let next = last_of(falling);
+    let below = next_sum(next, node.greatest + 1);
+    make_output(alloc, rec, node, next, run.0, run.1, below)
 }
 
 // The sums after `last`, up to the least of at least `k` or the greatest, each after the number that follows
@@ -122,4 +108,16 @@ pub(crate) fn last_of(outputs: &[SumOutput]) -> &[SumOutput]
     ensures { result.now ≡ drop (length outputs.now - 1) outputs.now }
 {
     &outputs[outputs.len().saturating_sub(1)..]
+}
+
+// The sum of the first output, or a number where there is none.
+pub(crate) fn next_sum(outputs: &[SumOutput], number: u64) -> u64
+    ensures none { outputs.now ≡ [] → result ≡ number }
+    ensures some { (d : SumOutput) → 0 < length outputs.now
+        → (slice_index_or outputs.now 0 d).sum ≡ result }
+{
+    if outputs.is_empty() {
+        return number;
+    }
+    outputs[0].sum
 }

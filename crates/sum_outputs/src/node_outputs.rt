@@ -1,9 +1,8 @@
 // The outputs of a node, and those that it gets.
-ghost use Rattle.std.specs.Prelude.{◌≡◌, ◌+◌, ◌-◌, ◌<◌, ◌^◌, ◌++◌, [], ◌∷◌, length, reverse, All, IfOk, OnOk};
-ghost use Rattle.sum_outputs.specs.Totals.{definitions};
-ghost use Rattle.sum_outputs.specs.Adding.{DefinesMore, IsReady, IsRecorded};
+ghost use Rattle.std.specs.Prelude.{◌≡◌, ◌+◌, ◌-◌, ◌<◌, ◌^◌, ◌++◌, [], ◌∷◌, reverse, All, IfOk};
+ghost use Rattle.sum_outputs.specs.Adding.{AddsClauses, IsReady, IsRecorded};
 ghost use Rattle.sum_outputs.specs.Outputs.{AreRising, CanImplyNow};
-ghost use Rattle.sum_outputs.specs.Joining.{AreDefinedNow, IsInnerAt, SinglesImply};
+ghost use Rattle.sum_outputs.specs.Joining.{AreDefinedNow, MayMake, SinglesImply};
 ghost use Rattle.sum_outputs.specs.Sums.{last_sum};
 ghost use Rattle.sum_outputs.specs.Falling.{AreAllBetween, AreExtended};
 
@@ -24,16 +23,12 @@ pub(crate) fn extended<R: Recorder>(
     outputs: &[SumOutput],
     k: u64,
 ) -> Result<Items<SumOutput>, RecordFault>
-    requires ready { IsReady (R.seen rec.old) }
-    requires inner { IsInnerAt (R.seen rec.old) node.now k }
+    requires may { MayMake (R.seen rec.old) node.now k }
     requires outputs { AreDefinedNow (R.seen rec.old) node.now.terms.now outputs.now }
     requires gapless { AreAllBetween node.now.terms.now 0 (last_sum outputs.now) outputs.now }
-    requires from_one { 0 < k }
     ensures recorded { IsRecorded (R.seen rec.old) (R.seen rec.new) result }
     ensures extended { IfOk result (AreExtended (R.seen rec.old) (R.seen rec.new)
         node.now.terms.now outputs.now k) }
-    ensures defined { IfOk result (λ all. definitions (R.seen rec.new).lines + length outputs.now
-        ≡ definitions (R.seen rec.old).lines + length all) }
 {
     let falling = make_falling(alloc, rec, node, last_sum(outputs), k)?;
     tie(alloc, rec, last_of(falling.as_slice()), last_of(outputs))?;
@@ -52,10 +47,8 @@ pub(crate) fn tie<R: Recorder>(
     requires rising { AreRising greater.now }
     requires can { All (λ o. All (λ q. CanImplyNow (R.seen rec.old) (q ∷ []) [] o) greater.now)
         smaller.now }
-    ensures recorded { IsRecorded (R.seen rec.old) (R.seen rec.new) result }
-    ensures says { OnOk result (All (λ o. SinglesImply (R.seen rec.new) greater.now o (2 ^ 64 - 1))
-        smaller.now) }
-    ensures defines_none { OnOk result (DefinesMore (R.seen rec.old) (R.seen rec.new) 0) }
+    ensures { AddsClauses (R.seen rec.old) (R.seen rec.new) result
+        (All (λ o. SinglesImply (R.seen rec.new) greater.now o (2 ^ 64 - 1)) smaller.now) }
 {
     for at in 0..smaller.len() {
         add_single(alloc, rec, greater, &[], &smaller[at], u64::MAX)?;

@@ -1,8 +1,8 @@
 // One output of a node.
 ghost use Rattle.std.specs.Prelude.{◌<◌, All, IfOk};
 ghost use Rattle.sum_outputs.specs.Totals.{IsLeastSum};
-ghost use Rattle.sum_outputs.specs.Adding.{IsReady, IsRecorded};
-ghost use Rattle.sum_outputs.specs.Joining.{AreOutputsNow, IsAboveAll, IsInnerAt, IsMade};
+ghost use Rattle.sum_outputs.specs.Adding.{IsRecorded};
+ghost use Rattle.sum_outputs.specs.Joining.{AreOutputsNow, IsAboveAll, IsMade, MayMake};
 
 use crate::SumOutput;
 use crate::clauses::{add_single, add_window};
@@ -23,12 +23,10 @@ pub(crate) fn make_output<R: Recorder>(
     sum: u64,
     below: u64,
 ) -> Result<SumOutput, RecordFault>
-    requires ready { IsReady (R.seen rec.old) }
-    requires inner { IsInnerAt (R.seen rec.old) node.now from }
+    requires may { MayMake (R.seen rec.old) node.now from }
     requires next { AreOutputsNow (R.seen rec.old) node.now.terms.now next.now }
     requires above { IsAboveAll node.now.terms.now next.now below }
     requires greater { All (λ o. sum < o.sum) next.now }
-    requires from_one { 0 < from }
     requires least { IsLeastSum node.now.terms.now from sum }
     ensures recorded { IsRecorded (R.seen rec.old) (R.seen rec.new) result }
     ensures made { IfOk result (IsMade (R.seen rec.old) (R.seen rec.new) node.now.terms.now from sum) }

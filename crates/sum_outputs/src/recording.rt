@@ -9,8 +9,10 @@ use proof_laws::Line;
 use proof_rules::{RecordFault, Recorder};
 use scut_base::NoMemory;
 
-/// Records a line of a totalizer, and answers the first id that it makes. It owns the line, so that its callers,
-/// which leave by `?`, own none.
+/// Records a definition or a line by cutting planes, and answers the first id that it makes. The recorder's
+/// refusal is handed on. It owns the line, so that its callers, which leave by `?`, own none.
+///
+/// `pol_may_be_added` says which lines by cutting planes may be recorded, and what is live under the id then.
 pub fn record<R: Recorder>(rec: &mut R, line: Line) -> Result<u64, RecordFault>
     requires ready { IsReady (R.seen rec.old) }
     requires formed { IsWellFormed line }

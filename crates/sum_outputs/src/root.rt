@@ -1,17 +1,17 @@
 // An output of the root, where it is asked for.
-ghost use Rattle.std.specs.Prelude.{◌≡◌, ◌≢◌, ◌+◌, ◌<◌, ◌≤◌, ◌^◌, ◌++◌, [], ◌∷◌, true, false, length, take, drop, slice_index_or, slice_set, All, AllPairs, IfOk, OnOk};
+ghost use Rattle.std.specs.Prelude.{⊤, ◌≡◌, ◌≢◌, ◌<◌, ◌≤◌, ◌^◌, ◌++◌, [], ◌∷◌, true, false, length, take, drop, slice_index_or, slice_set, All, AllPairs, IfOk};
 ghost use Rattle.pb_lin.specs.Constraint.{total};
-ghost use Rattle.sum_outputs.specs.Totals.{IsLeastSum, definitions};
+ghost use Rattle.sum_outputs.specs.Totals.{IsLeastSum};
 ghost use Rattle.pb_lin.specs.Place.{IsPlace};
 ghost use Rattle.sum_outputs.specs.Outputs.{CanImplyNow};
 ghost use Rattle.sum_outputs.specs.Falling.{IsAsked, asked_from};
-ghost use Rattle.sum_outputs.specs.Adding.{DefinesMore, IsReady, IsRecorded};
+ghost use Rattle.sum_outputs.specs.Adding.{AddsClauses, IsReady, IsRecorded};
 ghost use Rattle.sum_outputs.specs.declared.sum_output.SumOutput.{SumOutput};
-ghost use Rattle.sum_outputs.specs.Joining.{AreDefinedNow, AreOutputsNow, IsInnerAt, IsMade};
+ghost use Rattle.sum_outputs.specs.Joining.{AreDefinedNow, AreOutputsNow, IsMade, MayMake};
 
 use crate::SumOutput;
 use crate::clauses::place_of;
-use crate::falling::last_of;
+use crate::falling::{last_of, next_sum};
 use crate::inner::Inner;
 use crate::node_outputs::tie;
 use crate::output::make_output;
@@ -31,16 +31,12 @@ pub fn ask<R: Recorder>(
     outputs: &[SumOutput],
     k: u64,
 ) -> Result<(SumOutput, Items<SumOutput>), RecordFault>
-    requires ready { IsReady (R.seen rec.old) }
-    requires inner { IsInnerAt (R.seen rec.old) node.now k }
+    requires may { MayMake (R.seen rec.old) node.now k }
     requires outputs { AreDefinedNow (R.seen rec.old) node.now.terms.now outputs.now }
-    requires from_one { 0 < k }
     requires most { k ≤ total node.now.terms.now }
     ensures recorded { IsRecorded (R.seen rec.old) (R.seen rec.new) result }
     ensures asked { IfOk result (λ r. IsAsked (R.seen rec.old) (R.seen rec.new)
         node.now.terms.now outputs.now k r.0 r.1) }
-    ensures defined { IfOk result (λ r. definitions (R.seen rec.new).lines + length outputs.now
-        ≡ definitions (R.seen rec.old).lines + length r.1) }
 {
     let sum = least_sum(node.first.outputs, node.second.outputs, k, node.greatest);
     let place = place_of(outputs, sum);
@@ -119,18 +115,14 @@ fn ask_anew<R: Recorder>(
     k: u64,
     sum: u64,
 ) -> Result<(SumOutput, Items<SumOutput>), RecordFault>
-    requires ready { IsReady (R.seen rec.old) }
-    requires inner { IsInnerAt (R.seen rec.old) node.now k }
+    requires may { MayMake (R.seen rec.old) node.now k }
     requires outputs { AreDefinedNow (R.seen rec.old) node.now.terms.now outputs.now }
     requires place { IsPlace (λ o. o.sum) outputs.now sum place }
     requires absent { All (λ o. o.sum ≢ sum) outputs.now }
-    requires from_one { 0 < k }
     requires least { IsLeastSum node.now.terms.now k sum }
     ensures recorded { IsRecorded (R.seen rec.old) (R.seen rec.new) result }
     ensures asked { IfOk result (λ r. IsAsked (R.seen rec.old) (R.seen rec.new)
         node.now.terms.now outputs.now k r.0 r.1) }
-    ensures defined { IfOk result (λ r. definitions (R.seen rec.new).lines + length outputs.now
-        ≡ definitions (R.seen rec.old).lines + length r.1) }
 {
     let made = make_between(alloc, rec, node, &outputs[place..], k, sum)?;
     tie_one(alloc, rec, &made, last_of(&outputs[..place]))?;
@@ -148,8 +140,7 @@ fn tie_one<R: Recorder>(
     requires ready { IsReady (R.seen rec.old) }
     requires small { greater.now.sum < 2 ^ 63 }
     requires can { All (CanImplyNow (R.seen rec.old) (greater.now ∷ []) []) smaller.now }
-    ensures recorded { IsRecorded (R.seen rec.old) (R.seen rec.new) result }
-    ensures defines_none { OnOk result (DefinesMore (R.seen rec.old) (R.seen rec.new) 0) }
+    ensures { AddsClauses (R.seen rec.old) (R.seen rec.new) result ⊤ }
 {
     tie(alloc, rec, &[*greater], smaller)
 }
@@ -182,11 +173,9 @@ fn make_between<R: Recorder>(
     k: u64,
     sum: u64,
 ) -> Result<SumOutput, RecordFault>
-    requires ready { IsReady (R.seen rec.old) }
-    requires inner { IsInnerAt (R.seen rec.old) node.now k }
+    requires may { MayMake (R.seen rec.old) node.now k }
     requires outputs { AreOutputsNow (R.seen rec.old) node.now.terms.now greater.now }
     requires greater { All (λ o. sum < o.sum) greater.now }
-    requires from_one { 0 < k }
     requires least { IsLeastSum node.now.terms.now k sum }
     ensures recorded { IsRecorded (R.seen rec.old) (R.seen rec.new) result }
     ensures made { IfOk result (IsMade (R.seen rec.old) (R.seen rec.new) node.now.terms.now k sum) }
@@ -201,16 +190,4 @@ fn first_of(outputs: &[SumOutput]) -> &[SumOutput]
     ensures { result.now ≡ take 1 outputs.now }
 {
     &outputs[..outputs.len().min(1)]
-}
-
-// The sum of the first output, or a number where there is none.
-fn next_sum(outputs: &[SumOutput], number: u64) -> u64
-    ensures none { outputs.now ≡ [] → result ≡ number }
-    ensures some { (d : SumOutput) → 0 < length outputs.now
-        → (slice_index_or outputs.now 0 d).sum ≡ result }
-{
-    if outputs.is_empty() {
-        return number;
-    }
-    outputs[0].sum
 }

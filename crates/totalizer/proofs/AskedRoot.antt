@@ -2,8 +2,7 @@
 use Rattle.std.proofs.Common.{◌≡◌, ◌≢◌, ⊎_elim, ℕ, ◌+◌, ◌-◌, ◌<◌, ◌≤◌, List, [], length, get_or, refl, ap, sym, subst, ◌∙◌, arith, pos}
 use Rattle.std.specs.List.{All}
 use Rattle.std.proofs.Math.ListN.{set}
-use Rattle.std.proofs.lemmas.Bool.{cases_eq}
-use Rattle.std.proofs.lemmas.List.{get_or-set_same, get_or-set_other, length-set}
+use Rattle.std.proofs.lemmas.List.{get_or-set_other, length-set}
 use Rattle.std.proofs.lemmas.List.Elements.{All-contains}
 use Rattle.std.proofs.lemmas.List.Sums.{sum_by-set}
 use Rattle.scut_base.specs.Literal.{Literal}
@@ -24,18 +23,8 @@ use Rattle.totalizer.specs.Meaning.{IsBound, IsBoundAt}
 use Rattle.totalizer.specs.Totalizing.{root_terms}
 use Rattle.totalizer.proofs.BoundLines.{output_bound}
 use Rattle.totalizer.proofs.LaterOutputs.{made_then, later_of}
-use Rattle.sum_outputs.proofs.MadeLists.{any_node}
+use Rattle.sum_outputs.proofs.MadeLists.{any_node, set_cases}
 use Rattle.totalizer.proofs.Roots.{root_is, some_nodes}
-
--- what holds at one place and what holds at all others holds in a list with another element there
-set_cases : (P : ℕ → List SumOutput → Type 0) (made : List (List SumOutput)) (i : ℕ) (os : List SumOutput) →
-    i < length made → P i os → ((j : ℕ) (d : List SumOutput) → j ≢ i → P j (get_or made j d)) →
-    (j : ℕ) (d : List SumOutput) → P j (get_or (set made i os) j d)
-set_cases P made i os short here there j d = ⊎_elim
-    (λ (same : j ≡ i). subst (λ (h : ℕ). P h (get_or (set made i os) h d)) (sym same)
-    (subst (λ (ps : List SumOutput). P i ps) (sym (get_or-set_same made i os d short)) here))
-    (λ (ne : j ≢ i). subst (λ (ps : List SumOutput). P j ps) (sym (get_or-set_other made i j os d ne)) (there j d ne))
-    (cases_eq j i)
 
 -- no two of these outputs have one variable
 abbrev AreApart : List SumOutput → List SumOutput → Type 0

@@ -1,5 +1,5 @@
 -- A totalizer after an output was asked for.
-use Rattle.std.proofs.Common.{◌≡◌, ◌≢◌, ◌⊎◌, ⊎_elim, inl, inr, ℕ, ◌+◌, ◌-◌, ◌<◌, ◌≤◌, List, [], length, get_or, ap, sym, subst, ◌∙◌, arith}
+use Rattle.std.proofs.Common.{◌≡◌, ◌≢◌, ◌⊎◌, ⊎_elim, inl, inr, ℕ, ◌-◌, ◌<◌, List, [], length, get_or, ap, sym, subst, ◌∙◌, arith}
 use Rattle.std.specs.List.{Contains}
 use Rattle.std.proofs.Math.ListN.{set}
 use Rattle.std.proofs.lemmas.Bool.{cases_eq}
@@ -9,47 +9,32 @@ use Rattle.scut_base.specs.Literal.{Literal}
 use Rattle.cutting_planes.proofs.Terms.{Terms}
 use Rattle.proof_laws.specs.State.{StateValue}
 use Rattle.proof_rules.specs.Recording.{Snapshot}
-use Rattle.sum_outputs.specs.Totals.{IsLeastSum, definitions}
-use Rattle.sum_outputs.specs.Adding.{HasLater, IsReached, Continues}
+use Rattle.sum_outputs.specs.Totals.{IsLeastSum}
+use Rattle.sum_outputs.specs.Adding.{HasLater, IsReached, IsReady, Continues}
 use Rattle.sum_outputs.specs.Falling.{IsAsked, IsFresh, IsKept}
-use Rattle.sum_outputs.specs.MadeOutputs.{AreMadeNow, AreCompleteTo, AreGrownTo, IsNeeded, count_outputs}
+use Rattle.sum_outputs.specs.MadeOutputs.{AreMadeNow, AreCompleteTo, AreGrownTo, ExtendsTo, IsNeeded}
 use Rattle.sum_outputs.specs.declared.node.Node.{Node}
 use Rattle.sum_outputs.specs.declared.sum_output.SumOutput.{SumOutput}
 use Rattle.totalizer.specs.Totalizing.{TotalizerValue, root_terms, Fits}
-use Rattle.totalizer.specs.Demanding.{IsDemanded, IsThere, MakesDemanded}
+use Rattle.sum_outputs.proofs.GrownOutputs.{complete_grown}
+use Rattle.totalizer.specs.Demanding.{AddsDemanded, IsAnswered, IsDemanded, IsThere, MakesDemanded}
 use Rattle.totalizer.proofs.AskedRoot.{IsAskedRoot, made_asked, complete_stays, count_more}
-use Rattle.totalizer.proofs.DemandedOutputs.{all_there, is_there}
+use Rattle.totalizer.proofs.DemandedOutputs.{all_there, answered_by, is_there}
+use Rattle.totalizer.proofs.KnownOutputs.{complete_to}
 use Rattle.totalizer.proofs.Roots.{root_is, some_nodes}
 
 abbrev pub totalizer_of : List Node → List (List SumOutput) → TotalizerValue
 totalizer_of nodes made = record { nodes = nodes; made = made }
 
--- nodes are as complete where their outputs stay
-complete_grown : (a : Snapshot) (nodes : List Node) (before now : List (List SumOutput)) (k h : ℕ) →
-    AreGrownTo a nodes before now k → AreCompleteTo nodes before (length nodes - 1) h →
-    AreCompleteTo nodes now (length nodes - 1) h
-complete_grown a nodes before now k h grown complete i n os less m can more = ⊎_elim
-    (λ (same : (q : SumOutput) × Contains (get_or before i os) q × (q.sum ≡ m)).
-    inl (same.0, stays same.0 same.1, same.2))
-    (λ (other : (q : SumOutput) × Contains (get_or before i os) q × (h ≤ q.sum) × (q.sum ≤ m)).
-    inr (other.0, stays other.0 other.1, other.2, other.3))
-    (complete i n os less m can more)
-  where
-    stays : (q : SumOutput) → Contains (get_or before i os) q → Contains (get_or now i os) q
-    stays q has =
-        All-contains (Contains (get_or now i os)) (get_or before i os) q (grown.stays i os os (omega arith)) has
-
 -- the nodes below the root were extended up to a number, and then the root was asked
 pub record AreCalls (a c b : Snapshot) (nodes : List Node) (before made : List (List SumOutput)) (k : ℕ)
     (o : SumOutput) (os : List SumOutput) : Type 0 where
+  pub ready : IsReady a
   pub on : Continues a c
+  pub from_one : 0 < k
   pub fits : Fits a (totalizer_of nodes before)
-  pub complete : AreCompleteTo nodes made (length nodes - 1) k
-  pub grown : AreGrownTo a nodes before made k
-  pub defined : definitions c.lines + count_outputs before ≡ definitions a.lines + count_outputs made
+  pub extends : ExtendsTo a c nodes before made (length nodes - 1) k
   pub last : IsAskedRoot c b nodes made k o os
-  pub last_defined : (e : List SumOutput) →
-      definitions b.lines + length (get_or made (length nodes - 1) e) ≡ definitions c.lines + length os
 
 module _ (a c b : Snapshot) (nodes : List Node) (before made : List (List SumOutput)) (k : ℕ) (o : SumOutput)
     (os : List SumOutput) (calls : AreCalls a c b nodes before made k o os) where
@@ -58,6 +43,9 @@ module _ (a c b : Snapshot) (nodes : List Node) (before made : List (List SumOut
 
   abbrev new : List (List SumOutput)
   new = set made root os
+
+  grown : AreGrownTo a nodes before made k
+  grown = calls.extends.grown
 
   asked : IsAsked c b (root_terms nodes) (get_or made root []) k o os
   asked = calls.last.asked []
@@ -78,7 +66,7 @@ module _ (a c b : Snapshot) (nodes : List Node) (before made : List (List SumOut
   in_new i short = let e = length-set made root os in let w = in_made i short in omega arith
 
   in_before : (i : ℕ) → i < length nodes → i < length before
-  in_before i short = let e = calls.grown.size in let w = in_made i short in omega arith
+  in_before i short = let e = grown.size in let w = in_made i short in omega arith
 
   at_root : (d : List SumOutput) → get_or new root d ≡ os
   at_root d = get_or-set_same made root os d (in_made root root_short)
@@ -102,17 +90,17 @@ module _ (a c b : Snapshot) (nodes : List Node) (before made : List (List SumOut
       (λ (old : Contains (get_or before root []) q). old)
       (λ (needed : IsNeeded a nodes root k q). let below = needed.below_root in absurd (omega arith))
       (All-contains (λ p. Contains (get_or before root []) p ⊎ IsNeeded a nodes root k p) (get_or made root []) q
-      (calls.grown.needed root [] [] root_short) has)
+      (grown.needed root [] [] root_short) has)
 
   asked_complete : (q : SumOutput) (d : List SumOutput) → Contains (get_or new root d) q →
       AreCompleteTo nodes new root q.from
   asked_complete q d has = ⊎_elim
       (λ (same : q ≡ o).
       let from : k ≡ q.from = sym (ap (λ (p : SumOutput). p.from) same ∙ asked.from) in
-      subst (λ (h : ℕ). AreCompleteTo nodes new root h) from (now_complete k calls.complete))
+      subst (λ (h : ℕ). AreCompleteTo nodes new root h) from (now_complete k calls.extends.complete))
       (λ (old : Contains (get_or made root []) q).
       let was = calls.fits.asked q [] (was_at_root q old) in
-      now_complete q.from (complete_grown a nodes before made k q.from calls.grown was))
+      now_complete q.from (complete_grown a nodes before made k root q.from (omega arith) grown was))
       (All-contains (λ p. (p ≡ o) ⊎ Contains (get_or made root []) p) os q asked.others
       (moved (get_or new root d) os q (at_root d) has))
 
@@ -125,7 +113,7 @@ module _ (a c b : Snapshot) (nodes : List Node) (before made : List (List SumOut
   later = calls.last.on.states calls.last.ready.state calls.last.ready.reached
 
   all_now : (i n : ℕ) → i < length nodes → IsDemanded nodes k i n → (l : Literal) × IsThere new i n l
-  all_now = all_there b later.state nodes new (now_made later.state later.reached) k (now_complete k calls.complete) o
+  all_now = all_there b later.state nodes new (now_made later.state later.reached) k (now_complete k calls.extends.complete) o
       (moved os (get_or new root []) o (sym (at_root [])) asked.there) asked.least
 
   there_by : (ms : List (List SumOutput)) (i n : ℕ) (l : Literal) (q : SumOutput) → i < length ms →
@@ -137,7 +125,7 @@ module _ (a c b : Snapshot) (nodes : List Node) (before made : List (List SumOut
   stay_now i n l short is =
       let q = is [] in
       let grew : Contains (get_or made i []) q.0 = All-contains (Contains (get_or made i [])) (get_or before i []) q.0
-      (calls.grown.stays i [] [] short) q.1 in
+      (grown.stays i [] [] short) q.1 in
       ⊎_elim
       (λ (at : i ≡ root).
       let here = moved (get_or made i []) (get_or made root []) q.0 (ap (λ (j : ℕ). get_or made j []) at) grew in
@@ -190,7 +178,7 @@ module _ (a c b : Snapshot) (nodes : List Node) (before made : List (List SumOut
       (λ (needed : IsNeeded a nodes i k q).
       inr (new_at i n l q lit sum ((λ d. inr (needed.below_root, needed.sum d)), needed.fresh)))
       (All-contains (λ p. Contains (get_or before i []) p ⊎ IsNeeded a nodes i k p) (get_or made i []) q
-      (calls.grown.needed i [] [] short) has)
+      (grown.needed i [] [] short) has)
 
   new_now : (i n : ℕ) (l : Literal) → i < length nodes → IsThere new i n l → IsThere before i n l ⊎ IsNewAt i n l
   new_now i n l short is =
@@ -204,14 +192,34 @@ module _ (a c b : Snapshot) (nodes : List Node) (before made : List (List SumOut
       new_below i n l q.0 short (moved (get_or new i []) (get_or made i []) q.0 (at_other i [] ne) q.1) q.2 q.3)
       (cases_eq i root)
 
-  pub makes_demanded : MakesDemanded a b k (totalizer_of nodes before) (totalizer_of nodes new)
+  makes_demanded : MakesDemanded a b k (totalizer_of nodes before) (totalizer_of nodes new)
   makes_demanded = record {
     all = all_now;
     stay = stay_now;
     new = new_now;
     defined =
         let counted = count_more c b nodes made k o os calls.last [] in
-        let first = calls.defined in
-        let second = calls.last_defined [] in
+        let first = calls.extends.defined in
+        let second = asked.counted in
         omega arith;
+  }
+
+  -- no line was added where the output that was asked for was there
+  no_line_again : IsAnswered (totalizer_of nodes before) k o.lit → b.lines ≡ a.lines
+  no_line_again was =
+      let there = was calls.last.long o.sum asked.least [] in
+      let q = there.0 in
+      let least = subst (λ (n : ℕ). IsLeastSum (root_terms nodes) k n) (sym there.3) asked.least in
+      let first = calls.extends.again
+      (complete_to a (totalizer_of nodes before) calls.fits calls.ready some k calls.from_one q there.1 least) in
+      let stays : Contains (get_or made root []) q = All-contains (Contains (get_or made root []))
+      (get_or before root []) q (grown.stays root [] [] root_short) there.1 in
+      asked.again q stays least ∙ first
+
+  pub adds_demanded : AddsDemanded a b k (totalizer_of nodes before) (totalizer_of nodes new) o.lit
+  adds_demanded = record {
+    makes = makes_demanded;
+    answered = answered_by (totalizer_of nodes new) k o (in_new root root_short)
+        (moved os (get_or new root []) o (sym (at_root [])) asked.there) asked.least;
+    again = no_line_again;
   }

@@ -12,21 +12,23 @@ use Rattle.sum_outputs.specs.Joining.{IsOutputAt}
 use Rattle.sum_outputs.specs.MadeOutputs.{AreMade, AreCompleteTo}
 use Rattle.sum_outputs.specs.declared.node.Node.{Node}
 use Rattle.sum_outputs.specs.declared.sum_output.SumOutput.{SumOutput}
-use Rattle.totalizer.specs.Totalizing.{root_terms}
-use Rattle.totalizer.specs.Demanding.{IsDemanded, IsThere}
+use Rattle.totalizer.specs.Totalizing.{TotalizerValue, root_terms, terms_of}
+use Rattle.totalizer.specs.Demanding.{IsAnswered, IsDemanded, IsThere}
+use Rattle.sum_outputs.proofs.AskedLists.{least_once}
 use Rattle.sum_outputs.proofs.MadeLists.{any_node}
 use Rattle.totalizer.proofs.Roots.{root_is}
-
-least_once : (terms : Terms) (k m n : ℕ) → IsLeastSum terms k m → IsLeastSum terms k n → m ≡ n
-least_once terms k m n one other =
-    let below = one.least n other.attainable other.reaches in
-    let above = other.least m one.attainable one.reaches in
-    omega arith
 
 pub is_there : (made : List (List SumOutput)) (i : ℕ) (o : SumOutput) → i < length made →
     Contains (get_or made i []) o → IsThere made i o.sum o.lit
 is_there made i o short has d =
     (o, subst (λ (os : List SumOutput). Contains os o) (get_or_default made i [] d short) has, refl, refl)
+
+-- the literal of the root's output at the least sum of at least k answers
+pub answered_by : (t : TotalizerValue) (k : ℕ) (o : SumOutput) → length t.nodes - 1 < length t.made →
+    Contains (get_or t.made (length t.nodes - 1) []) o → IsLeastSum (terms_of t) k o.sum → IsAnswered t k o.lit
+answered_by t k o short has least long n is =
+    subst (λ (m : ℕ). IsThere t.made (length t.nodes - 1) m o.lit) (least_once (terms_of t) k o.sum n least is)
+    (is_there t.made (length t.nodes - 1) o short has)
 
 module _ (a : Snapshot) (s : StateValue) (nodes : List Node) (made : List (List SumOutput))
     (are : AreMade a s nodes made) where

@@ -1,7 +1,7 @@
 -- What is there already.
 use Rattle.std.proofs.Common.{◌≡◌, ◌⊎◌, ⊎_elim, inl, inr, ℕ, ◌-◌, ◌<◌, ◌≤◌, Bool, true, false, if◌then◌else◌, List, [], ◌∷◌, length, get_or, refl, ap, sym, subst, ◌∙◌, arith, pos}
-use Rattle.std.specs.List.{All, AllPairs, Contains}
-use Rattle.std.proofs.lemmas.Bool.{cases_Bool, cases_lt}
+use Rattle.std.specs.List.{All, Contains}
+use Rattle.std.proofs.lemmas.Bool.{cases_Bool}
 use Rattle.std.proofs.lemmas.List.{get_or_default}
 use Rattle.std.proofs.lemmas.List.Elements.{All-contains, All-head}
 use Rattle.std.proofs.lemmas.List.Sums.{sum_by-cons}
@@ -14,7 +14,6 @@ use Rattle.proof_rules.specs.Recording.{Snapshot}
 use Rattle.sum_outputs.specs.Totals.{AreWeights, IsAttainable, IsLeastSum}
 use Rattle.sum_outputs.specs.Adding.{IsReached, IsReady}
 use Rattle.sum_outputs.specs.Outputs.{IsDefined}
-use Rattle.sum_outputs.specs.Joining.{IsOutputAt, AreOutputsAt}
 use Rattle.sum_outputs.specs.MadeOutputs.{AreMade, AreCompleteTo}
 use Rattle.sum_outputs.specs.declared.sum_output.SumOutput.{SumOutput}
 use Rattle.sum_outputs.proofs.Attaining.{attain_total}
@@ -22,12 +21,13 @@ use Rattle.totalizer.specs.declared.bound.Bound.{Bound}
 use Rattle.totalizer.specs.declared.bound.Bound.TheVariants.{Always, Never, At}
 use Rattle.totalizer.specs.Meaning.{IsBound, IsBoundAt}
 use Rattle.totalizer.specs.Totalizing.{TotalizerValue, root_terms, Fits}
-use Rattle.totalizer.specs.Demanding.{MakesDemanded, AddsFor}
+use Rattle.totalizer.specs.Demanding.{AddsDemanded, AddsFor, MakesDemanded}
 use Rattle.totalizer.specs.Knowing.{IsKnown}
 use Rattle.totalizer.proofs.BoundLines.{leaf_bound, output_bound}
 use Rattle.sum_outputs.proofs.MadeLists.{any_node}
 use Rattle.totalizer.proofs.Roots.{root_is, attain_root, alone}
-use Rattle.totalizer.proofs.DemandedOutputs.{all_there, attained}
+use Rattle.totalizer.proofs.RootOutputs.{output_at, stands_for}
+use Rattle.totalizer.proofs.DemandedOutputs.{all_there, answered_by, attained}
 
 one_value : (x : List Bool) (t : Literal × ℕ) → (value x (t ∷ []) ≡ 0) ⊎ (value x (t ∷ []) ≡ total (t ∷ []))
 one_value x t =
@@ -41,20 +41,6 @@ one_value x t =
     let none : term_value x t ≡ 0 = ap (λ (b : Bool). if b then t.1 else 0) other in
     inl (omega arith))
     (cases_Bool (lit_true x t.0))
-
--- no output stands for the sum of another, or of less
-pub outputs_apart : (a : Snapshot) (s : StateValue) (terms : Terms) (os : List SumOutput) → AreOutputsAt a s terms os →
-    AllPairs (λ o q. o.sum < q.from) os
-outputs_apart a s terms os are i j d less short =
-    let o = get_or os i d in
-    let q = get_or os j d in
-    let rise = are.rising.rising i j d less short in
-    ⊎_elim
-    (λ (apart : o.sum < q.from). apart)
-    (λ (within : q.from ≤ o.sum).
-    let above = (are.each j d short).gap o.sum (are.each i d (omega arith)).attainable within in
-    absurd (omega arith))
-    (cases_lt o.sum q.from)
 
 module _ (a : Snapshot) (t : TotalizerValue) (fits : Fits a t) (ready : IsReady a) (some : 0 < length t.nodes)
     (k : ℕ) (from_one : 0 < k) where
@@ -84,13 +70,7 @@ module _ (a : Snapshot) (t : TotalizerValue) (fits : Fits a t) (ready : IsReady 
     defined = refl;
   }
 
-  module _ (o : SumOutput) (has : Contains outputs o) (from : o.from ≤ k) (to : k ≤ o.sum) where
-    output_at : (s : StateValue) → IsReached a s → IsOutputAt a s terms o
-    output_at s reached =
-        let all = ((fits.made s reached).outputs place any_node [] (omega arith)).each in
-        subst (λ (ts : Terms). IsOutputAt a s ts o) (sym terms_are)
-        (All-contains (IsOutputAt a s (get_or t.nodes place any_node).terms) outputs o all has)
-
+  module _ (o : SumOutput) (has : Contains outputs o) (least : IsLeastSum terms k o.sum) where
     defined_at : 1 < length terms → (s : StateValue) → IsReached a s → IsDefined a s terms o
     defined_at long s reached =
         let more = subst (λ (ts : Terms). 1 < length ts) terms_are long in
@@ -98,13 +78,8 @@ module _ (a : Snapshot) (t : TotalizerValue) (fits : Fits a t) (ready : IsReady 
         subst (λ (ts : Terms). IsDefined a s ts o) (sym terms_are)
         (All-contains (IsDefined a s (get_or t.nodes place any_node).terms) outputs o all has)
 
-    least : IsLeastSum terms k o.sum
-    least =
-        let is = output_at ready.state ready.reached in
-        record { attainable = is.attainable; reaches = to; least = λ m can reach. is.gap m can (omega arith) }
-
-    -- what the output stands on is there for k too: no sum is from `from` on and below k
-    complete_to : AreCompleteTo t.nodes t.made place k
+    -- what the output stands on is there for k too: no sum is from `from` on and below its own
+    pub complete_to : AreCompleteTo t.nodes t.made place k
     complete_to i n os less m can more = ⊎_elim
         (λ (same : (q : SumOutput) × Contains (get_or t.made i os) q × (q.sum ≡ m)). inl same)
         (λ (other : (q : SumOutput) × Contains (get_or t.made i os) q × (o.from ≤ q.sum) × (q.sum ≤ m)).
@@ -114,17 +89,22 @@ module _ (a : Snapshot) (t : TotalizerValue) (fits : Fits a t) (ready : IsReady 
         let there = subst (λ (ps : List SumOutput). Contains ps q) same other.1 in
         let here = attained a ready.state t.nodes t.made are i q (omega arith) there in
         let sum = attain_root t.nodes fits.rooted i q.sum (omega arith) here in
-        let above = (output_at ready.state ready.reached).gap q.sum sum other.2 in
+        let above = (output_at a t fits some o has ready.state ready.reached).gap q.sum sum other.2 in
+        let reach = least.reaches in
         inr (q, other.1, omega arith, other.3))
         (fits.asked o [] has i n os less m can more)
 
-    known_adds : MakesDemanded a a k t t
-    known_adds = nothing_more complete_to o has least
+    known_adds : AddsDemanded a a k t t o.lit
+    known_adds = record {
+      makes = nothing_more complete_to o has least;
+      answered = answered_by t k o (let size = are.size in omega arith) has least;
+      again = λ was. refl;
+    }
 
     known_bound : 1 < length terms → k ≤ total terms → IsBound a.problem a.lines terms (pos k) (At o.lit o.lower)
     known_bound long most =
         let at = λ (s : StateValue) (reached : IsReached a s).
-        output_bound a s terms k o (output_at s reached) (defined_at long s reached) least long in
+        output_bound a s terms k o (output_at a t fits some o has s reached) (defined_at long s reached) least long in
         (k, refl, from_one, most, at)
 
   -- a root of one term has the output of its literal
@@ -155,8 +135,8 @@ module _ (a : Snapshot) (t : TotalizerValue) (fits : Fits a t) (ready : IsReady 
               (none_or_all can.0);
         }
 
-    literal_adds : MakesDemanded a a k t t
-    literal_adds =
+    literal_makes : MakesDemanded a a k t t
+    literal_makes =
         let n = total terms in
         let leaf : length (get_or t.nodes place any_node).terms ≡ 1 = ap length (sym terms_are ∙ is) in
         let can = subst (λ (ts : Terms). IsAttainable ts n) terms_are (whole_is_least n refl).attainable in
@@ -169,6 +149,13 @@ module _ (a : Snapshot) (t : TotalizerValue) (fits : Fits a t) (ready : IsReady 
         let high = other.3 in
         nothing_more none other.0 other.1 (whole_is_least other.0.sum (omega arith)))
         (are.leaves place any_node [] n (omega arith) leaf n can (omega arith))
+
+    literal_adds : AddsDemanded a a k t t l
+    literal_adds = record {
+      makes = literal_makes;
+      answered = λ long. let single = ap length is in absurd (omega arith);
+      again = λ was. refl;
+    }
 
     literal_variable : (s : StateValue) → IsReached a s → IsVariable s.vars l.var
     literal_variable s reached =
@@ -201,7 +188,8 @@ module _ (a : Snapshot) (t : TotalizerValue) (fits : Fits a t) (ready : IsReady 
       (literal_bound l one.0 one.1 most, (k, refl, literal_adds l one.0 one.1 most)))
       (λ (at : IsAnOutput l id).
       subst (λ (m : Literal). Answered (At m id)) at.5 (subst (λ (i : ℕ). Answered (At at.0.lit i)) at.6
-      (known_bound at.0 at.2 at.3 at.4 at.1 most, (k, refl, known_adds at.0 at.2 at.3 at.4))))
+      (let least = stands_for a t fits some ready.state ready.reached k at.0 at.2 at.3 at.4 in
+      (known_bound at.0 at.2 least at.1 most, (k, refl, known_adds at.0 at.2 least)))))
       known
 
   pub answered : (bound : Bound) → k ≤ total terms → IsKnown terms outputs k bound → Answered bound

@@ -1,8 +1,9 @@
--- A totalizer may still be asked, and a bound still means what it did.
-use Rattle.std.proofs.Common.{◌≡◌, ⊎_elim, inl, inr, ℕ, ◌==◌, if◌then◌else◌, Option, Some, List, [], ◌∷◌, ap, sym, subst, ◌∙◌, arith}
+-- A totalizer may still be asked, and a bound and a reform still mean what they did.
+use Rattle.std.proofs.Common.{◌≡◌, ⊎_elim, inl, inr, ℕ, ◌==◌, Bool, if◌then◌else◌, Option, Some, List, [], ◌∷◌, get_or, ap, sym, subst, ◌∙◌, arith}
 use Rattle.std.specs.FinMap.{get}
 use Rattle.scut_base.specs.Literal.{Literal}
-use Rattle.pb_lin.specs.Constraint.{ConstraintValue}
+use Rattle.pb_lin.specs.Constraint.{ConstraintValue, IsVariable}
+use Rattle.pb_lin.specs.CostRow.{CostRowValue}
 use Rattle.pb_lin.specs.Problem.{ProblemValue}
 use Rattle.cutting_planes.proofs.Terms.{Terms}
 use Rattle.proof_laws.specs.State.{StateValue}
@@ -10,10 +11,12 @@ use Rattle.proof_laws.specs.Steps.{reached_if}
 use Rattle.proof_laws.specs.Refusal.{line_or_none}
 use Rattle.proof_laws.specs.Replay.{IsReplay}
 use Rattle.proof_laws.specs.declared.line.Line.{Line}
-use Rattle.sum_outputs.specs.Adding.{IsOwn, IsLater}
+use Rattle.sum_outputs.specs.Adding.{IsOwn, IsLater, KeptHold}
 use Rattle.totalizer.specs.declared.bound.Bound.TheVariants.{Always, Never, At}
+use Rattle.totalizer.specs.declared.reform.Reform.{Reform}
 use Rattle.totalizer.specs.Meaning.{IsDefinedFor, IsOutput, IsOwnOrNone, IsBoundAt}
-use Rattle.totalizer.specs.Keeping.{BoundStays, FittingStays}
+use Rattle.totalizer.specs.Reforming.{IsReformOf}
+use Rattle.totalizer.specs.Keeping.{BoundStays, FittingStays, ReformStays}
 use Rattle.totalizer.proofs.LaterOutputs.{made_then}
 use Rattle.sum_outputs.proofs.ReplayIds.{replay_ids}
 use Rattle.totalizer.proofs.OwnLines.{own_lines_stay_law}
@@ -69,13 +72,32 @@ module _ (p : ProblemValue) (old new : List Line) (s t : StateValue) (replay : I
   output_stays (u ∷ []) k l id own is = is
   output_stays (u ∷ v ∷ ts) k l id own is = defined_stays (u ∷ v ∷ ts) k l id own is
 
+  -- the kept clauses so far are among those that are kept later
+  held_before : (x : List Bool) → KeptHold p new t x → KeptHold p old s x
+  held_before x hold id c kept =
+      let own = later.own id c (kept.0, kept.2) in
+      hold id c (own.0, kept.1, own.1)
+
+  variable_stays : (var : ℕ) → IsVariable s.vars var → IsVariable t.vars var
+  variable_stays var is = let more = later.vars in (is.0, omega arith)
+
+  reform_stays : (row : CostRowValue) (r : Reform) → IsReformOf p old s row r → IsReformOf p new t row r
+  reform_stays row r is = record {
+    weights = is.weights;
+    variables = λ k d short. variable_stays (get_or r.terms k d).0.var (is.variables k d short);
+    offset = is.offset;
+    small = is.small;
+    own = own_stays r.lower_line is.own;
+    lower = let line = is.lower in (line.0, named_stays r.lower_line is.own ∙ line.1, line.2);
+    upper = λ x rows hold. is.upper x rows (held_before x hold);
+  }
+
   bound_stays : (terms : Terms) (k : ℕ) (l : Literal) (id : ℕ) → IsBoundAt p old s terms k l id →
       IsBoundAt p new t terms k l id
   bound_stays terms k l id is = record {
-    variable = let v = is.variable in let more = later.vars in (v.0, omega arith);
+    variable = variable_stays l.var is.variable;
     own = own_stays id is.own;
-    follows = λ x hold reach. is.follows x
-        (λ i c kept. let own = later.own i c (kept.0, kept.2) in hold i c (own.0, kept.1, own.1)) reach;
+    follows = λ x hold reach. is.follows x (held_before x hold) reach;
     bounds = let b = is.bounds in (b.0, named_stays id is.own ∙ b.1, b.2);
     output = output_stays terms k l id is.own is.output;
   }
@@ -92,3 +114,7 @@ bounds_stay_law p old new s terms k (At l id) keeps replay is = (
       let later = own_lines_stay_law p old new s t keeps replay after in
       bound_stays p old new s t replay later terms is.0 l id (is.4 s replay),
 )
+
+pub reform_stays_law : ReformStays
+reform_stays_law p old new s t row r keeps replay after is =
+    reform_stays p old new s t replay (own_lines_stay_law p old new s t keeps replay after) row r is

@@ -1,10 +1,12 @@
 pub mod OwnLines
 pub mod LaterOutputs
 pub mod LawsKept
+pub mod OwnReforms
 pub mod Restricted
 pub mod BoundLines
 pub mod Roots
 pub mod RootChildren
+pub mod RootOutputs
 pub mod DemandedOutputs
 pub mod KnownOutputs
 pub mod AskedRoot

@@ -1,5 +1,5 @@
 -- The root, as it is handed to a call.
-use Rattle.std.proofs.Common.{◌≡◌, ℕ, ◌+◌, ◌-◌, ◌<◌, Some, List, [], length, get_or, sym, subst, ◌∙◌, arith}
+use Rattle.std.proofs.Common.{◌≡◌, ℕ, ◌-◌, ◌<◌, Some, List, [], length, get_or, sym, subst, ◌∙◌, arith}
 use Rattle.std.specs.Prelude.{slice_get}
 use Rattle.std.proofs.lemmas.Option.{get_or_from_slice_get}
 use Rattle.cutting_planes.proofs.Terms.{Terms}
@@ -55,7 +55,3 @@ module _ (nodes : List Node) (rooted : IsRooted nodes) (long : 1 < length (root_
       asked_of b k o ps asked e =
           subst (λ (qs : List SumOutput). IsAsked a b (root_terms nodes) qs k o ps) (outputs_at e)
           (subst (λ (ts : Terms). IsAsked a b ts os k o ps) root_terms_are asked)
-
-      pub counted_of : (m p q : ℕ) → m + length os ≡ p + q →
-          (e : List SumOutput) → m + length (get_or made place e) ≡ p + q
-      counted_of m p q counted e = subst (λ (qs : List SumOutput). m + length qs ≡ p + q) (outputs_at e) counted

@@ -37,9 +37,9 @@ pub record Fits (a : Snapshot) (t : TotalizerValue) : Type 0 where
   pub asked : (o : SumOutput) (d : List SumOutput) → Contains (slice_index_or t.made (length t.nodes - 1) d) o
       → AreCompleteTo t.nodes t.made (length t.nodes - 1) o.from
 
--- some recorder's lines made it
+-- a recorder's lines, which reach a state, made it
 abbrev pub FitsSome : TotalizerValue → Type 0
-FitsSome t = (a : Snapshot) × Fits a t
+FitsSome t = (a : Snapshot) × (s : StateValue) × IsReached a s × Fits a t
 
 -- ---- a new totalizer
 

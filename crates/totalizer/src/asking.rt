@@ -1,8 +1,7 @@
 // An output of the root that isn't there.
-ghost use Rattle.std.specs.Prelude.{◌≡◌, ◌+◌, ◌-◌, ◌<◌, ◌≤◌, List, length, pos, slice_index_or, IfOk, OnOk};
+ghost use Rattle.std.specs.Prelude.{◌-◌, ◌<◌, ◌≤◌, List, length, pos, slice_index_or, IfOk, OnOk};
 ghost use Rattle.pb_lin.specs.Constraint.{total};
 ghost use Rattle.sum_outputs.specs.Adding.{IsReady, IsRecorded};
-ghost use Rattle.sum_outputs.specs.Totals.{definitions};
 ghost use Rattle.sum_outputs.specs.Falling.{IsAsked};
 ghost use Rattle.sum_outputs.specs.MadeOutputs.{AreCompleteTo, AreMadeNow};
 ghost use Rattle.sum_outputs.specs.declared.sum_output.SumOutput.{SumOutput};
@@ -67,9 +66,6 @@ fn ask_root<R: Recorder>(
     ensures asked { IfOk result (λ r. (e : List SumOutput) → IsAsked (R.seen rec.old)
         (R.seen rec.new)
         (root_terms nodes.now) (slice_index_or made.now (length nodes.now - 1) e) k r.0 r.1) }
-    ensures defined { IfOk result (λ r. (e : List SumOutput)
-        → definitions (R.seen rec.new).lines + length (slice_index_or made.now (length nodes.now - 1) e)
-        ≡ definitions (R.seen rec.old).lines + length r.1) }
 {
     let at = nodes.len() - 1;
     let root = Inner::of(nodes, made, at);

@@ -1,36 +1,50 @@
--- A leaf is complete as it is.
-use Rattle.std.proofs.Common.{◌<◌, length, sym, ◌∙◌, arith}
+-- A node that has all outputs is complete as it is.
+use Rattle.std.proofs.Common.{◌≡◌, ◌⊎◌, ◌+◌, ◌≤◌, List, length, get_or, refl, ap, subst, ◌∙◌, arith}
+use Rattle.std.specs.Prelude.{min}
+use Rattle.sum_outputs.specs.Sums.{last_sum}
+use Rattle.sum_outputs.specs.declared.node.Node.{Node}
+use Rattle.sum_outputs.specs.declared.sum_output.SumOutput.{SumOutput}
 use Rattle.sum_outputs.proofs.LaterStates.{continues_again, recorded_ok}
-use Rattle.sum_outputs.proofs.MadeLists.{complete_leaf, long_node}
-use Rattle.sum_outputs.proofs.GrownOutputs.{grown_again}
+use Rattle.sum_outputs.proofs.GrownOutputs.{extends_none}
+use Rattle.sum_outputs.proofs.LackingNodes.{complete_node, lacking_node}
 use Rattle.sum_outputs.proofs.below_root.extend_node.Goals as goal
 
-pub returns-then-len-eq1-clause-recorded : goal.returns-then-len-eq1-clause-recorded
-returns-then-len-eq1-clause-recorded g c =
+pub returns-then-has_all-clause-recorded : goal.returns-then-has_all-clause-recorded
+returns-then-has_all-clause-recorded g c =
     let R = g.R.Recorder in
     let a = R.seen c.args.rec.now in
-    let x = c.index-nodes-at.result in
-    let short : c.args.at < length c.args.nodes.now = let w = c.requires.at in omega arith in
     recorded_ok a a _ (continues_again a) c.requires.ready.whole
 
-pub returns-then-len-eq1-clause-complete : goal.returns-then-len-eq1-clause-complete
-returns-then-len-eq1-clause-complete g c =
+pub returns-then-has_all-clause-extends : goal.returns-then-has_all-clause-extends
+returns-then-has_all-clause-extends g c =
     let R = g.R.Recorder in
     let a = R.seen c.args.rec.now in
+    let q = c.requires in
+    let nodes = c.args.nodes.now in
+    let made = c.args.made.now in
+    let at = c.args.at in
+    let k = c.args.k in
     let x = c.index-nodes-at.result in
-    let short : c.args.at < length c.args.nodes.now = let w = c.requires.at in omega arith in
-    complete_leaf a c.requires.ready.state c.args.nodes.now c.args.made.now c.args.at c.args.k x (c.requires.made c.requires.ready.state c.requires.ready.reached) short (sym c.len.ensures ∙ c.if-len-eq1.true) c.requires.complete
+    let os = c.outputs_at.result.now in
+    let Has : Node → List SumOutput → Type 0 = λ n ps. (length n.terms ≡ 1) ⊎ (min k n.total ≤ last_sum ps) in
+    let has : Has (get_or nodes at x) (get_or made at os) =
+    subst (λ (n : Node). Has n (get_or made at os)) c.index-nodes-at.is
+    (subst (λ (ps : List SumOutput). Has x ps) (c.outputs_at.ensures os) (c.if-has_all.ensures.all refl)) in
+    extends_none a q.ready nodes made (at + 1) k q.made
+    (complete_node a q.ready.state nodes q.tree made at k (q.made q.ready.state q.ready.reached) q.below q.from_one x os has q.complete)
 
-pub returns-then-len-eq1-clause-grown : goal.returns-then-len-eq1-clause-grown
-returns-then-len-eq1-clause-grown g c =
+pub extend_inner-requires-clause-lacks : goal.extend_inner-requires-clause-lacks
+extend_inner-requires-clause-lacks g c =
     let R = g.R.Recorder in
-    let a = R.seen c.args.rec.now in
-    grown_again a c.args.nodes.now c.args.made.now c.args.k (c.requires.made c.requires.ready.state c.requires.ready.reached).size
-
-pub extend_inner-requires-clause-long : goal.extend_inner-requires-clause-long
-extend_inner-requires-clause-long g c =
-    let R = g.R.Recorder in
-    let a = R.seen c.args.rec.now in
+    let q = c.requires in
+    let nodes = c.args.nodes.now in
+    let made = c.args.made.now in
+    let at = c.args.at in
     let x = c.index-nodes-at.result in
-    let short : c.args.at < length c.args.nodes.now = let w = c.requires.at in omega arith in
-    long_node c.args.nodes.now c.requires.tree c.args.at x short (λ one. c.if-len-eq1.false (c.len.ensures ∙ one))
+    let os = c.outputs_at.result.now in
+    let lacks = c.if-has_all.ensures.lacks refl in
+    let low = lacks.1 in
+    let total = ap (λ (n : Node). n.total) c.index-nodes-at.is in
+    let last = ap last_sum (c.outputs_at.ensures os) in
+    lacking_node (R.seen c.args.rec.now) q.ready.state nodes q.tree made at c.args.k (q.made q.ready.state q.ready.reached) q.below q.from_one x os
+    (λ one. lacks.0 (ap (λ (n : Node). length n.terms) c.index-nodes-at.is ∙ one)) (omega arith)

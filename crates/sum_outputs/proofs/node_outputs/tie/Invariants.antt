@@ -1,14 +1,9 @@
 -- The clauses so far are there.
-use Rattle.std.proofs.Common.{◌≡◌, ℕ, ◌<◌, ◌≤◌, ◌-◌, ◌^◌, slice_index_or}
-use Rattle.sum_outputs.specs.Adding.{DefinesMore}
+use Rattle.std.proofs.Common.{◌-◌, ◌^◌}
 use Rattle.sum_outputs.specs.Joining.{SinglesImply}
-use Rattle.sum_outputs.specs.declared.sum_output.SumOutput.{SumOutput}
-use Rattle.sum_outputs.proofs.OutputsLater.{IsUnderWay}
+use Rattle.sum_outputs.proofs.ClauseCalls.{AreAddedTo}
 use Rattle.sum_outputs.proofs.node_outputs.tie.Given as goal
 
 abbrev pub invariant-loop-at : goal.invariant-loop-at
-invariant-loop-at g l = let R = g.R.Recorder in record {
-  way : IsUnderWay (R.seen l.fn.rec) (R.seen l.rec);
-  defines_none : DefinesMore (R.seen l.fn.rec) (R.seen l.rec) 0;
-  done : (k : ℕ) (d : SumOutput) → 0 ≤ k → k < l.at → SinglesImply (R.seen l.rec) l.greater (slice_index_or l.smaller k d) (2 ^ 64 - 1);
-}
+invariant-loop-at g l = let R = g.R.Recorder in
+    AreAddedTo (R.seen l.fn.rec) (R.seen l.rec) (λ o. SinglesImply (R.seen l.rec) l.greater o (2 ^ 64 - 1)) l.smaller l.at

@@ -19,15 +19,15 @@ pub add_single-requires-clause-ready : goal.add_single-requires-clause-ready
 add_single-requires-clause-ready g c =
     let R = g.R.Recorder in
     let made = c.in_ok-made.ensures in
-    ready_later (R.seen c.args.rec.now) (R.seen c.define.new.rec) c.requires.ready made.recorded.continues made.recorded.whole
+    ready_later (R.seen c.args.rec.now) (R.seen c.define.new.rec) c.requires.may.ready made.recorded.continues made.recorded.whole
 
 pub add_single-requires-clause-can : goal.add_single-requires-clause-can
 add_single-requires-clause-can g c =
     let R = g.R.Recorder in
     let made = c.in_ok-made.ensures in
-    let some : 0 < c.in_ok-made.made.sum = let r = c.requires.least.reaches in let s = made.sum.0 in let f = c.requires.from_one in omega arith in
-    ties_now (R.seen c.args.rec.now) (R.seen c.define.new.rec) c.requires.ready made.recorded.continues c.args.node.now c.args.next.now c.in_ok-made.made
-    c.requires.inner.children c.requires.next some made.defined
+    let some : 0 < c.in_ok-made.made.sum = let r = c.requires.least.reaches in let s = made.sum.0 in let f = c.requires.may.from_one in omega arith in
+    ties_now (R.seen c.args.rec.now) (R.seen c.define.new.rec) c.requires.may.ready made.recorded.continues c.args.node.now c.args.next.now c.in_ok-made.made
+    c.requires.may.inner.children c.requires.next some made.defined
 
 pub returns-in_err-add_single-clause-recorded : goal.returns-in_err-add_single-clause-recorded
 returns-in_err-add_single-clause-recorded g c =
@@ -43,7 +43,7 @@ add_window-requires-clause-ready g c =
     let d = R.seen c.add_single.new.rec in
     let made = c.in_ok-made.ensures in
     let ties = c.in_ok-add_single.ensures in
-    ready_later a d c.requires.ready (continues_twice a b d made.recorded.continues ties.recorded.continues) ties.recorded.whole
+    ready_later a d c.requires.may.ready (continues_twice a b d made.recorded.continues ties.recorded.continues) ties.recorded.whole
 
 pub add_window-requires-clause-children : goal.add_window-requires-clause-children
 add_window-requires-clause-children g c =
@@ -52,7 +52,7 @@ add_window-requires-clause-children g c =
     let b = R.seen c.define.new.rec in
     let d = R.seen c.add_single.new.rec in
     let on = continues_twice a b d c.in_ok-made.ensures.recorded.continues c.in_ok-add_single.ensures.recorded.continues in
-    (inner_later a d c.requires.ready on c.args.node.now c.args.from c.requires.inner).children
+    (inner_later a d c.requires.may.ready on c.args.node.now c.args.from c.requires.may.inner).children
 
 pub add_window-requires-clause-target : goal.add_window-requires-clause-target
 add_window-requires-clause-target g c =
@@ -61,10 +61,10 @@ add_window-requires-clause-target g c =
     let b = R.seen c.define.new.rec in
     let d = R.seen c.add_single.new.rec in
     let made = c.in_ok-made.ensures in
-    let some : 0 < c.in_ok-made.made.sum = let r = c.requires.least.reaches in let s = made.sum.0 in let f = c.requires.from_one in omega arith in
-    let ready_b = ready_later a b c.requires.ready made.recorded.continues made.recorded.whole in
+    let some : 0 < c.in_ok-made.made.sum = let r = c.requires.least.reaches in let s = made.sum.0 in let f = c.requires.may.from_one in omega arith in
+    let ready_b = ready_later a b c.requires.may.ready made.recorded.continues made.recorded.whole in
     target_later b d ready_b c.in_ok-add_single.ensures.recorded.continues c.args.node.now c.in_ok-made.made
-    (target_now a b c.requires.ready made.recorded.continues c.args.node.now c.in_ok-made.made c.requires.inner.children some made.defined)
+    (target_now a b c.requires.may.ready made.recorded.continues c.args.node.now c.in_ok-made.made c.requires.may.inner.children some made.defined)
 
 pub returns-in_err-add_window-clause-recorded : goal.returns-in_err-add_window-clause-recorded
 returns-in_err-add_window-clause-recorded g c =
@@ -99,10 +99,10 @@ returns-clause-made g c =
     record {
       sum = made.sum.0;
       from = made.sum.1;
-      new = output_made a (R.seen c.define.new.rec) (R.seen c.add_single.new.rec) (R.seen c.add_window.new.rec) q.ready
+      new = output_made a (R.seen c.define.new.rec) (R.seen c.add_single.new.rec) (R.seen c.add_window.new.rec) q.may.ready
           made.recorded.continues made.recorded.whole ties.recorded.continues ties.recorded.whole last.recorded.continues
-          node c.args.next.now c.in_ok-made.made c.args.from c.args.below q.inner q.next q.above (λ k e short. let less = q.greater k e short in let s = made.sum.0 in omega arith)
-          q.from_one made.sum.1 (subst (λ (n : ℕ). IsLeastSum node.terms.now c.args.from n) (sym made.sum.0) q.least) made.defined
+          node c.args.next.now c.in_ok-made.made c.args.from c.args.below q.may.inner q.next q.above (λ k e short. let less = q.greater k e short in let s = made.sum.0 in omega arith)
+          q.may.from_one made.sum.1 (subst (λ (n : ℕ). IsLeastSum node.terms.now c.args.from n) (sym made.sum.0) q.least) made.defined
           (2 ^ 64 - 1) (omega arith) ties.says last.says;
       one =
           let defined = made.defined in

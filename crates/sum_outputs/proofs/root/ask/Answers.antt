@@ -1,8 +1,6 @@
 -- The output is there, or it is made.
-use Rattle.std.proofs.Common.{◌≡◌, ℕ, ◌+◌, List, length, refl, ap, sym, subst, ◌∙◌, arith}
+use Rattle.std.proofs.Common.{ℕ, List, refl, sym, subst, arith}
 use Rattle.std.proofs.Math.ListN.{set}
-use Rattle.std.proofs.lemmas.List.{length-set}
-use Rattle.pb_lin.specs.Constraint.{total}
 use Rattle.proof_rules.specs.Recording.{Snapshot}
 use Rattle.sum_outputs.specs.Totals.{IsLeastSum}
 use Rattle.sum_outputs.specs.Adding.{IsReady}
@@ -21,11 +19,26 @@ least_found : (a : Snapshot) → IsReady a → (node : Inner) (k sum : ℕ) → 
 least_found a ready node k sum inner least = least_of_node a ready node k k sum inner (omega arith)
     (subst (λ (n : ℕ). IsLeastOf node.first.outputs.now node.second.outputs.now k n sum) node.total least)
 
+pub least_sum-sum-requires-clause-most : goal.least_sum-sum-requires-clause-most
+least_sum-sum-requires-clause-most g c = let most = c.requires.most in let all = c.args.node.now.total in omega arith
+
+pub place_of-place-requires : goal.place_of-place-requires
+place_of-place-requires g c = let ready = c.requires.may.ready in (c.requires.outputs.outputs ready.state ready.reached).rising.rising
+
+pub has_sum-requires-clause-rising : goal.has_sum-requires-clause-rising
+has_sum-requires-clause-rising g c = let ready = c.requires.may.ready in (c.requires.outputs.outputs ready.state ready.reached).rising.rising
+
+pub has_sum-requires-clause-place : goal.has_sum-requires-clause-place
+has_sum-requires-clause-place g c = c.place_of-place.ensures
+
+pub asked_again-requires : goal.asked_again-requires
+asked_again-requires g c = let there = c.if-has_sum.ensures.there refl in there.0
+
 pub least_sum-sum-requires-clause-rising : goal.least_sum-sum-requires-clause-rising
-least_sum-sum-requires-clause-rising g c = (c.requires.inner.children c.requires.ready.state c.requires.ready.reached).of_first.rising
+least_sum-sum-requires-clause-rising g c = (c.requires.may.inner.children c.requires.may.ready.state c.requires.may.ready.reached).of_first.rising
 
 pub least_sum-sum-requires-clause-rising_too : goal.least_sum-sum-requires-clause-rising_too
-least_sum-sum-requires-clause-rising_too g c = (c.requires.inner.children c.requires.ready.state c.requires.ready.reached).of_second.rising
+least_sum-sum-requires-clause-rising_too g c = (c.requires.may.inner.children c.requires.may.ready.state c.requires.may.ready.reached).of_second.rising
 
 pub returns-in_err-again-clause-recorded : goal.returns-in_err-again-clause-recorded
 returns-in_err-again-clause-recorded g c =
@@ -37,7 +50,7 @@ pub returns-then-has_sum-clause-recorded : goal.returns-then-has_sum-clause-reco
 returns-then-has_sum-clause-recorded g c =
     let R = g.R.Recorder in
     let a = R.seen c.args.rec.now in
-    recorded_ok a a _ (continues_again a) c.requires.ready.whole
+    recorded_ok a a _ (continues_again a) c.requires.may.ready.whole
 
 pub returns-then-has_sum-clause-asked : goal.returns-then-has_sum-clause-asked
 returns-then-has_sum-clause-asked g c =
@@ -46,7 +59,7 @@ returns-then-has_sum-clause-asked g c =
     let node = c.args.node.now in
     let q = c.requires in
     let os = c.args.outputs.now in
-    let least = least_found a q.ready node c.args.k c.least_sum-sum.result q.inner c.least_sum-sum.ensures in
+    let least = least_found a q.may.ready node c.args.k c.least_sum-sum.result q.may.inner c.least_sum-sum.ensures in
     let there = c.if-has_sum.ensures.there refl in
     let r = c.in_ok-again.again in
     let facts = c.in_ok-again.ensures r.0 in
@@ -55,14 +68,25 @@ returns-then-has_sum-clause-asked g c =
     subst (λ (all : List SumOutput). IsAsked a a node.terms.now os c.args.k r.0 all) (sym facts.1)
     (subst (λ (o : SumOutput). IsAsked a a node.terms.now os c.args.k o (set os c.place_of-place.result o)) (sym facts.0) made)
 
-pub returns-then-has_sum-clause-defined : goal.returns-then-has_sum-clause-defined
-returns-then-has_sum-clause-defined g c =
-    let r = c.in_ok-again.again in
-    let facts = c.in_ok-again.ensures r.0 in
-    let size = ap length facts.1 ∙ length-set c.args.outputs.now c.place_of-place.result r.0 in
-    omega arith
-
 pub ask_anew-requires-clause-least : goal.ask_anew-requires-clause-least
 ask_anew-requires-clause-least g c =
     let R = g.R.Recorder in
-    least_found (R.seen c.args.rec.now) c.requires.ready c.args.node.now c.args.k c.least_sum-sum.result c.requires.inner c.least_sum-sum.ensures
+    least_found (R.seen c.args.rec.now) c.requires.may.ready c.args.node.now c.args.k c.least_sum-sum.result c.requires.may.inner c.least_sum-sum.ensures
+
+pub ask_anew-requires-clause-may : goal.ask_anew-requires-clause-may
+ask_anew-requires-clause-may g c = c.requires.may
+
+pub ask_anew-requires-clause-outputs : goal.ask_anew-requires-clause-outputs
+ask_anew-requires-clause-outputs g c = c.requires.outputs
+
+pub ask_anew-requires-clause-place : goal.ask_anew-requires-clause-place
+ask_anew-requires-clause-place g c = c.place_of-place.ensures
+
+pub ask_anew-requires-clause-absent : goal.ask_anew-requires-clause-absent
+ask_anew-requires-clause-absent g c = c.if-has_sum.ensures.absent refl
+
+pub returns-clause-recorded : goal.returns-clause-recorded
+returns-clause-recorded g c = c.ask_anew.ensures.recorded
+
+pub returns-clause-asked : goal.returns-clause-asked
+returns-clause-asked g c = c.ask_anew.ensures.asked

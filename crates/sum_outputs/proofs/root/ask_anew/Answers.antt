@@ -1,6 +1,6 @@
 -- The output is made, tied and put at its place.
-use Rattle.std.proofs.Common.{◌≡◌, ◌-◌, List, [], ◌∷◌, ◌++◌, length, drop, take, ap, sym, subst, ◌∙◌, arith}
-use Rattle.std.proofs.lemmas.List.{length-append, length-take, length-drop, take_rest}
+use Rattle.std.proofs.Common.{◌-◌, List, [], ◌∷◌, length, take, sym, subst, arith}
+use Rattle.std.proofs.lemmas.List.{take_rest}
 use Rattle.std.specs.List.{All}
 use Rattle.sum_outputs.specs.Outputs.{CanImplyNow}
 use Rattle.sum_outputs.specs.Falling.{IsAsked}
@@ -25,7 +25,7 @@ tie_one-requires-clause-ready g c =
     let a = R.seen c.args.rec.now in
     let b = R.seen c.make_between.new.rec in
     let made = c.in_ok-made.ensures in
-    let ready_b = ready_later a b c.requires.ready made.recorded.continues made.recorded.whole in
+    let ready_b = ready_later a b c.requires.may.ready made.recorded.continues made.recorded.whole in
     ready_b
 
 pub tie_one-requires-clause-can : goal.tie_one-requires-clause-can
@@ -34,10 +34,10 @@ tie_one-requires-clause-can g c =
     let a = R.seen c.args.rec.now in
     let b = R.seen c.make_between.new.rec in
     let made = c.in_ok-made.ensures in
-    let ready_b = ready_later a b c.requires.ready made.recorded.continues made.recorded.whole in
-    let weights = node_weights a c.requires.ready c.args.node.now c.requires.inner.children in
+    let ready_b = ready_later a b c.requires.may.ready made.recorded.continues made.recorded.whole in
+    let weights = node_weights a c.requires.may.ready c.args.node.now c.requires.may.inner.children in
     subst (λ (os : List SumOutput). All (CanImplyNow b (c.in_ok-made.made ∷ []) []) os) (sym c.last_of.ensures)
-    (λ i e short. implies_smaller a b c.requires.ready made.recorded.continues c.args.node.now.terms.now weights c.args.outputs.now c.requires.outputs.outputs c.requires.outputs.defined c.args.sum c.args.place c.requires.place c.in_ok-made.made made.made.sum made.made.new (length (take c.args.place c.args.outputs.now) - 1) i e short)
+    (λ i e short. implies_smaller a b c.requires.may.ready made.recorded.continues c.args.node.now.terms.now weights c.args.outputs.now c.requires.outputs.outputs c.requires.outputs.defined c.args.sum c.args.place c.requires.place c.in_ok-made.made made.made.sum made.made.new (length (take c.args.place c.args.outputs.now) - 1) i e short)
 
 pub returns-in_err-tie_one-clause-recorded : goal.returns-in_err-tie_one-clause-recorded
 returns-in_err-tie_one-clause-recorded g c =
@@ -45,7 +45,7 @@ returns-in_err-tie_one-clause-recorded g c =
     let a = R.seen c.args.rec.now in
     let b = R.seen c.make_between.new.rec in
     let made = c.in_ok-made.ensures in
-    let ready_b = ready_later a b c.requires.ready made.recorded.continues made.recorded.whole in
+    let ready_b = ready_later a b c.requires.may.ready made.recorded.continues made.recorded.whole in
     let d = R.seen c.tie_one.new.rec in
     handed_err a b d c.in_err-tie_one.field-0.0 c.from_residual-in_err-tie_one.result made.recorded.continues c.in_err-tie_one.ensures.recorded c.from_residual-in_err-tie_one.ensures.1
 
@@ -55,7 +55,7 @@ returns-in_err-all-clause-recorded g c =
     let a = R.seen c.args.rec.now in
     let b = R.seen c.make_between.new.rec in
     let made = c.in_ok-made.ensures in
-    let ready_b = ready_later a b c.requires.ready made.recorded.continues made.recorded.whole in
+    let ready_b = ready_later a b c.requires.may.ready made.recorded.continues made.recorded.whole in
     let d = R.seen c.tie_one.new.rec in
     memory_err a d c.from_residual-in_err-all.result (continues_twice a b d made.recorded.continues c.in_ok-tie_one.ensures.recorded.continues) c.from_residual-in_err-all.ensures.1
 
@@ -65,7 +65,7 @@ returns-clause-recorded g c =
     let a = R.seen c.args.rec.now in
     let b = R.seen c.make_between.new.rec in
     let made = c.in_ok-made.ensures in
-    let ready_b = ready_later a b c.requires.ready made.recorded.continues made.recorded.whole in
+    let ready_b = ready_later a b c.requires.may.ready made.recorded.continues made.recorded.whole in
     let d = R.seen c.tie_one.new.rec in
     recorded_ok a d _ (continues_twice a b d made.recorded.continues c.in_ok-tie_one.ensures.recorded.continues) c.in_ok-tie_one.ensures.recorded.whole
 
@@ -75,23 +75,9 @@ returns-clause-asked g c =
     let a = R.seen c.args.rec.now in
     let b = R.seen c.make_between.new.rec in
     let made = c.in_ok-made.ensures in
-    let ready_b = ready_later a b c.requires.ready made.recorded.continues made.recorded.whole in
-    let weights = node_weights a c.requires.ready c.args.node.now c.requires.inner.children in
+    let ready_b = ready_later a b c.requires.may.ready made.recorded.continues made.recorded.whole in
+    let weights = node_weights a c.requires.may.ready c.args.node.now c.requires.may.inner.children in
     let d = R.seen c.tie_one.new.rec in
     subst (λ (os : List SumOutput). IsAsked a d c.args.node.now.terms.now c.args.outputs.now c.args.k c.in_ok-made.made os)
     (sym c.in_ok-all.ensures)
-    (is_asked a b c.requires.ready made.recorded.continues c.args.node.now.terms.now weights c.args.outputs.now c.requires.outputs.outputs c.requires.outputs.defined c.args.sum c.args.place c.requires.place c.in_ok-made.made made.made.sum made.made.new d ready_b c.in_ok-tie_one.ensures.recorded.continues c.requires.absent c.args.k c.requires.least made.made.from)
-
-pub returns-clause-defined : goal.returns-clause-defined
-returns-clause-defined g c =
-    let made = c.in_ok-made.made in
-    let outputs = c.args.outputs.now in
-    let place = c.args.place in
-    let within = c.requires.place.bound in
-    let size = ap length c.in_ok-all.ensures ∙ length-append (take place outputs ++ made ∷ []) (drop place outputs) in
-    let front = length-append (take place outputs) (made ∷ []) in
-    let before = length-take place outputs in
-    let after = length-drop place outputs in
-    let one = c.in_ok-made.ensures.made.one in
-    let none = c.in_ok-tie_one.ensures.defines_none in
-    omega arith
+    (is_asked a b c.requires.may.ready made.recorded.continues c.args.node.now.terms.now weights c.args.outputs.now c.requires.outputs.outputs c.requires.outputs.defined c.args.sum c.args.place c.requires.place c.in_ok-made.made made.made.sum made.made.new d ready_b c.in_ok-tie_one.ensures.recorded.continues c.requires.absent c.args.k c.requires.least made.made.from (let one = made.made.one in let none = c.in_ok-tie_one.ensures.defines_none in omega arith))

@@ -8,7 +8,8 @@ use Rattle.sum_outputs.proofs.LaterStates.{continues_again, recorded_ok}
 use Rattle.totalizer.specs.Totalizing.{root_terms}
 use Rattle.totalizer.specs.Knowing.{IsKnown}
 use Rattle.totalizer.proofs.AskedTotalizer.{totalizer_of}
-use Rattle.totalizer.proofs.KnownOutputs.{answered, outputs_apart}
+use Rattle.totalizer.proofs.KnownOutputs.{answered}
+use Rattle.totalizer.proofs.RootOutputs.{outputs_apart}
 use Rattle.totalizer.proofs.Roots.{root_is, weighty_nodes}
 use Rattle.totalizer.proofs.answering.bound_at.Goals as goal
 

@@ -1,12 +1,11 @@
 -- The root is asked with its children.
-use Rattle.std.proofs.Common.{◌≡◌, ℕ, ◌+◌, ◌-◌, ◌≤◌, List, length, get_or, ap, sym, subst, arith}
+use Rattle.std.proofs.Common.{◌-◌, List, length, get_or, ap, arith}
 use Rattle.std.proofs.lemmas.Result.{IfOk-weaker}
 use Rattle.pb_lin.specs.Constraint.{total}
-use Rattle.sum_outputs.specs.Totals.{definitions}
 use Rattle.sum_outputs.specs.Falling.{IsAsked}
 use Rattle.sum_outputs.specs.declared.sum_output.SumOutput.{SumOutput}
 use Rattle.totalizer.specs.Totalizing.{root_terms}
-use Rattle.totalizer.proofs.RootChildren.{in_nodes, long_root, root_terms_are, root_inner, root_outputs, asked_of, counted_of}
+use Rattle.totalizer.proofs.RootChildren.{in_nodes, long_root, root_terms_are, root_inner, root_outputs, asked_of}
 use Rattle.totalizer.proofs.asking.ask_root.Goals as goal
 
 pub of-root-requires-clause-size : goal.of-root-requires-clause-size
@@ -18,12 +17,16 @@ of-root-requires-clause-at g c = in_nodes c.args.nodes.now c.requires.rooted c.r
 pub of-root-requires-clause-long : goal.of-root-requires-clause-long
 of-root-requires-clause-long g c = long_root c.args.nodes.now c.requires.rooted c.requires.long
 
-pub ask-requires-clause-inner : goal.ask-requires-clause-inner
-ask-requires-clause-inner g c =
+pub ask-requires-clause-may : goal.ask-requires-clause-may
+ask-requires-clause-may g c =
     let R = g.R.Recorder in
     let q = c.requires in
-    root_inner c.args.nodes.now q.rooted q.long (R.seen c.args.rec.now) c.args.made.now q.made
-    c.of-root.result c.of-root.ensures c.args.k q.complete
+    record {
+      ready = q.ready;
+      inner = root_inner c.args.nodes.now q.rooted q.long (R.seen c.args.rec.now) c.args.made.now q.made
+          c.of-root.result c.of-root.ensures c.args.k q.complete;
+      from_one = q.from_one;
+    }
 
 pub ask-requires-clause-outputs : goal.ask-requires-clause-outputs
 ask-requires-clause-outputs g c =
@@ -58,19 +61,3 @@ returns-clause-asked g c =
     (λ r asked. asked_of nodes q.rooted q.long a made q.made root c.of-root.ensures
     os _ c.at.ensures c.as_slice.ensures b c.args.k r.0 r.1 asked)
     c.ask.ensures.asked
-
-pub returns-clause-defined : goal.returns-clause-defined
-returns-clause-defined g c =
-    let R = g.R.Recorder in
-    let a = R.seen c.args.rec.now in
-    let nodes = c.args.nodes.now in
-    let made = c.args.made.now in
-    let q = c.requires in
-    let os = c.as_slice.result.now in
-    let before = definitions a.lines in
-    let now = definitions (R.seen c.ask.new.rec).lines in
-    IfOk-weaker c.ask.result (λ r. now + length os ≡ before + length r.1)
-    (λ r. (e : List SumOutput) → now + length (get_or made (length nodes - 1) e) ≡ before + length r.1)
-    (λ r counted. counted_of nodes q.rooted q.long a made q.made c.of-root.result c.of-root.ensures
-    os _ c.at.ensures c.as_slice.ensures now before (length r.1) counted)
-    c.ask.ensures.defined

@@ -4,9 +4,9 @@ use Rattle.std.proofs.lemmas.Result.{err_from_is_err_and}
 use Rattle.sum_outputs.specs.declared.sum_output.SumOutput.{SumOutput}
 use Rattle.sum_outputs.proofs.LaterStates.{continues_twice, handed_on, ready_later, recorded_ok}
 use Rattle.totalizer.specs.Totalizing.{Fits}
-use Rattle.totalizer.specs.Demanding.{MakesDemanded}
+use Rattle.totalizer.specs.Demanding.{AddsDemanded}
 use Rattle.totalizer.proofs.AskedRoot.{IsAskedRoot, asked_bound}
-use Rattle.totalizer.proofs.AskedTotalizer.{totalizer_of, AreCalls, fits_asked, makes_demanded}
+use Rattle.totalizer.proofs.AskedTotalizer.{totalizer_of, AreCalls, fits_asked, adds_demanded}
 use Rattle.totalizer.proofs.asking.make.Goals as goal
 
 pub ask_root-requires-clause-ready : goal.ask_root-requires-clause-ready
@@ -55,7 +55,7 @@ returns-clause-bound g c =
       ready = ready_later a b c.requires.ready first.recorded.continues first.recorded.whole;
       on = second.recorded.continues;
       long = c.requires.long;
-      are = first.made;
+      are = first.extends.made;
       asked = second.asked;
     } in
     asked_bound b d nodes made c.args.k o os last c.requires.from_one c.requires.most
@@ -76,24 +76,23 @@ returns-clause-added g c =
       ready = ready_later a b c.requires.ready first.recorded.continues first.recorded.whole;
       on = second.recorded.continues;
       long = c.requires.long;
-      are = first.made;
+      are = first.extends.made;
       asked = second.asked;
     } in
     let calls : AreCalls a b d nodes c.args.made.now made c.args.k o os = record {
+      ready = c.requires.ready;
       on = first.recorded.continues;
+      from_one = c.requires.from_one;
       fits = c.requires.fits;
-      complete = first.complete;
-      grown = first.grown;
-      defined = first.defined;
+      extends = first.extends;
       last = last;
-      last_defined = second.defined;
     } in
     let before = totalizer_of nodes c.args.made.now in
-    let makes = makes_demanded a b d nodes c.args.made.now made c.args.k o os calls in (
+    let adds = adds_demanded a b d nodes c.args.made.now made c.args.k o os calls in (
       c.args.k,
       refl,
-      subst (λ (ms : List (List SumOutput)). MakesDemanded a d c.args.k before (totalizer_of nodes ms))
-          (sym c.set.ensures) makes,
+      subst (λ (ms : List (List SumOutput)). AddsDemanded a d c.args.k before (totalizer_of nodes ms) o.lit)
+          (sym c.set.ensures) adds,
     )
 
 pub returns-clause-fits : goal.returns-clause-fits
@@ -112,17 +111,16 @@ returns-clause-fits g c =
       ready = ready_later a b c.requires.ready first.recorded.continues first.recorded.whole;
       on = second.recorded.continues;
       long = c.requires.long;
-      are = first.made;
+      are = first.extends.made;
       asked = second.asked;
     } in
     let calls : AreCalls a b d nodes c.args.made.now made c.args.k o os = record {
+      ready = c.requires.ready;
       on = first.recorded.continues;
+      from_one = c.requires.from_one;
       fits = c.requires.fits;
-      complete = first.complete;
-      grown = first.grown;
-      defined = first.defined;
+      extends = first.extends;
       last = last;
-      last_defined = second.defined;
     } in
     subst (λ (ms : List (List SumOutput)). Fits d (totalizer_of nodes ms)) (sym c.set.ensures)
     (fits_asked a b d nodes c.args.made.now made c.args.k o os calls)
