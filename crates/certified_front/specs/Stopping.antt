@@ -4,9 +4,11 @@ use Rattle.scut_base.specs.Faults.{Rose}
 use Rattle.instance.specs.Shape.{InstanceValue}
 use Rattle.pb_lin.specs.Problem.{ProblemValue}
 use Rattle.proof_laws.specs.declared.line.Line.{Line}
+use Rattle.proof_laws.specs.declared.line.Line.TheVariants.{End}
 use Rattle.proof_rules.specs.Recording.{Snapshot, KeepsSurroundings}
 use Rattle.proof_rules.specs.declared.recorder.RecordFault.{RecordFault}
 use Rattle.proof_rules.specs.declared.recorder.RecordFault.TheVariants.{Failed, Full, NoMemory}
+use Rattle.search_base.specs.Turns.{IsEndLine}
 use Rattle.certified_front.specs.Certified.{CoversLogged, IsEnding}
 use Rattle.certified_front.specs.declared.ending.Found.{Found}
 
@@ -23,6 +25,11 @@ abbrev pub IsStop : Snapshot → Snapshot → RecordFault → Type 0
 IsStop a b Failed = Rose a.faults b.faults
 IsStop a b Full = length b.lines ≡ 2 ^ 61
 IsStop a b NoMemory = Unit {0}
+
+-- the line ends the proof, by a live line `0 >= 1`
+abbrev pub EndsBy : Snapshot → Line → Type 0
+EndsBy a (End id) = IsEndLine a.problem a.lines id
+EndsBy a line = ⊥
 
 -- what is found covers what this problem's lines log, and why nothing was found
 pub record SearchesFront (i : InstanceValue) (p : ProblemValue) (a b : Snapshot) (result : Result Found RecordFault)

@@ -5,6 +5,7 @@ ghost use Rattle.front_set.specs.Vector.{AreRising};
 ghost use Rattle.front_set.specs.Front.{vectors_of};
 ghost use Rattle.instance.specs.ParetoFront.{listed_entry};
 ghost use Rattle.instance_normal.specs.NormalForm.{IsNormalFormOf};
+ghost use Rattle.proof_laws.specs.WellFormed.{IsWellFormed};
 ghost use Rattle.sum_outputs.specs.Adding.{IsReady};
 ghost use Rattle.search_base.specs.Boards.{IsBoard, IsModelPair};
 ghost use Rattle.search_base.specs.CostBounds.{FitBounds};
@@ -13,7 +14,7 @@ ghost use Rattle.search_base.specs.Laws.{IsPrepared};
 ghost use Rattle.search_base.specs.Logged.{LogsNone, logged};
 ghost use Rattle.search_base.specs.Turns.{IsEndLine};
 ghost use Rattle.certified_front.specs.Certified.{IsEnding};
-ghost use Rattle.certified_front.specs.Stopping.{IsStop, SearchesFront, StaysWith};
+ghost use Rattle.certified_front.specs.Stopping.{EndsBy, IsStop, SearchesFront, StaysWith};
 
 use crate::{Ending, Found};
 use cdcl_laws::learned_is_counted;
@@ -122,7 +123,22 @@ fn end_proof<O: Oracle>(oracle: &mut O, id: u64) -> Result<Ending, RecordFault>
 {
     // Tells that ids are below the next one.
     let _vars = oracle.state().vars();
-    oracle.add_line(&Line::End { id })?;
+    end_by(oracle, &Line::End { id })
+}
+
+// Ends the proof by this line, which its caller owns.
+fn end_by<O: Oracle>(oracle: &mut O, line: &Line) -> Result<Ending, RecordFault>
+    requires ready { IsReady (O.seen oracle.old) }
+    requires formed { IsWellFormed line.now }
+    requires line { EndsBy (O.seen oracle.old) line.now }
+    ensures ending { IfOk result
+        (IsEnding (O.seen oracle.old).limit (O.seen oracle.new).problem (O.seen oracle.new).lines) }
+    ensures whole { OnOk result ((O.seen oracle.new).broken ≡ false) }
+    ensures logged { LogsNone (O.seen oracle.old).problem (O.seen oracle.old).lines (O.seen oracle.new).lines }
+    ensures stop { IfErr result (IsStop (O.seen oracle.old) (O.seen oracle.new)) }
+    ensures stays { StaysWith (O.seen oracle.old) (O.seen oracle.new) }
+{
+    oracle.add_line(line)?;
     // Tells that the lines still reach a state.
     let _state = oracle.state();
     Ok(Ending::Complete)

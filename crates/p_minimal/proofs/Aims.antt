@@ -1,5 +1,5 @@
 -- The vector that is logged for a model is the new aim.
-use Rattle.std.proofs.Common.{◌≡◌, None, Some, Option, Bool, List, [], ◌∷◌, ◌++◌, length, ap, refl, sym, subst, ◌∙◌, ℤ}
+use Rattle.std.proofs.Common.{◌≡◌, ℕ, ◌<◌, None, Some, Option, Bool, List, [], ◌∷◌, ◌++◌, length, ap, refl, sym, subst, ◌∙◌, arith, ℤ}
 use Rattle.std.specs.Prelude.{IfSome}
 use Rattle.std.specs.List.{last_or}
 use Rattle.std.proofs.lemmas.List.{length-map}
@@ -10,9 +10,9 @@ use Rattle.pb_lin.specs.Problem.{ProblemValue, problem_costs}
 use Rattle.proof_rules.specs.Recording.{Snapshot}
 use Rattle.search_base.specs.Boards.{BoardValue, IsBoard}
 use Rattle.search_base.specs.Logged.{Logs, LogsNone, logged}
-use Rattle.search_base.specs.Turns.{IsTaken}
-use Rattle.search_questions.specs.declared.below.Below.TheVariants.{Model}
-use Rattle.p_minimal.specs.Aiming.{AimsLower, Serves, TellsOfAim}
+use Rattle.search_base.specs.Turns.{IsEndLine, IsTaken}
+use Rattle.search_questions.specs.declared.below.Below.TheVariants.{Model, End, Above}
+use Rattle.p_minimal.specs.Aiming.{AimsLower, GivesUp, Serves, TellsOfAim, own_number}
 
 last_pushed : {A : Type 0} (first : Option A) (xs : List A) (x : A) → last_or first (xs ++ x ∷ []) ≡ Some x
 last_pushed first [] x = refl
@@ -28,6 +28,22 @@ model_told : (m : Snapshot) (aim : Option (List ℤ)) (x : List Bool) → TellsO
     → IfSome aim (λ v. IsBelow (problem_costs m.problem x) v)
 model_told m None x tells = tt
 model_told m (Some v) x tells = tells.1
+
+-- what is told of no model
+pub end_told : (m : Snapshot) (aim : Option (List ℤ)) (id : ℕ) → TellsOfAim m aim (End id)
+    → IsEndLine m.problem m.lines id
+end_told m None id tells = tells
+end_told m (Some v) id tells = tells
+
+pub none_told : (m : Snapshot) (aim : Option (List ℤ)) (stands : List Bool) → TellsOfAim m aim (Above stands)
+    → (0 < own_number aim) × GivesUp m aim None
+none_told m None stands tells = absurd tells
+none_told m (Some v) stands tells =
+    (omega arith, record { costs = v; aimed = refl; none = refl; least = tells.0 })
+
+pub serves_still : (a b : Snapshot) (aim : Option (List ℤ)) → b.problem ≡ a.problem → Serves aim a.problem
+    → Serves aim b.problem
+serves_still a b aim same is = subst (Serves aim) (sym same) is
 
 -- the board's last vector is the one that was logged for the model
 module _ (m b : Snapshot) (x : List Bool) (board : BoardValue) (now : Option (List ℤ)) (taken : IsTaken m b x)

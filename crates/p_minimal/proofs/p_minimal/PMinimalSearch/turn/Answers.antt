@@ -1,6 +1,6 @@
 -- The vector that was logged for the model is the new aim.
 use Rattle.search_base.proofs.Turning.{finds_after, goes_twice}
-use Rattle.p_minimal.proofs.Aims.{aims_lower, serves_after}
+use Rattle.p_minimal.proofs.Aims.{aims_lower, end_told, none_told, serves_after, serves_still}
 use Rattle.p_minimal.proofs.p_minimal.PMinimalSearch.turn.Goals as goal
 
 pub returns-in_err-take-in-Model-clause-goes_on : goal.returns-in_err-take-in-Model-clause-goes_on
@@ -59,3 +59,39 @@ returns-in-Model-clause-aim g c =
     aims_lower m b c.in-Model.model c.take.new.self c.in_ok-self-inside-in-Model.field-0
     call.taken call.goes_on.problem call.good.board c.in_ok-self-inside-in-Model.ensures
     a c.args.self.now asked.goes_on.problem stays.1 tells
+
+-- ---- where none was taken
+
+pub returns-in_err-model-clause-serves : goal.returns-in_err-model-clause-serves
+returns-in_err-model-clause-serves g c =
+    let R = g.O.Recorder in
+    λ order. serves_still (R.seen c.args.oracle.now) (R.seen c.seek.new.oracle) c.args.self.now
+    c.seek.ensures.goes_on.problem c.requires.serves
+
+pub returns-in-End-clause-serves : goal.returns-in-End-clause-serves
+returns-in-End-clause-serves g c =
+    let R = g.O.Recorder in
+    λ order. serves_still (R.seen c.args.oracle.now) (R.seen c.seek.new.oracle) c.args.self.now
+    c.seek.ensures.goes_on.problem c.requires.serves
+
+pub returns-in-End-clause-turn : goal.returns-in-End-clause-turn
+returns-in-End-clause-turn g c =
+    let R = g.O.Recorder in
+    let m = R.seen c.seek.new.oracle in
+    let asked = c.in_ok-model.ensures in
+    let stays = asked.good tt c.args.board.now c.requires.good in
+    (stays.1, end_told m c.args.self.now c.in-End.id (rw c.in-End.is at asked.tells))
+
+pub returns-clause-turn : goal.returns-clause-turn
+returns-clause-turn g c =
+    let R = g.O.Recorder in
+    let m = R.seen c.seek.new.oracle in
+    let asked = c.in_ok-model.ensures in
+    let stays = asked.good tt c.args.board.now c.requires.good in
+    (stays.1, (none_told m c.args.self.now c.in-Above.stands (rw c.in-Above.is at asked.tells)).0)
+
+pub returns-clause-aim : goal.returns-clause-aim
+returns-clause-aim g c =
+    let R = g.O.Recorder in
+    let m = R.seen c.seek.new.oracle in
+    (none_told m c.args.self.now c.in-Above.stands (rw c.in-Above.is at c.in_ok-model.ensures.tells)).1
