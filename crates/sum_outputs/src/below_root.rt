@@ -15,8 +15,8 @@ use scut_base::Items;
 use std::alloc::Global;
 
 /// Makes the outputs of all nodes before the last, each up to its least sum of at least `k`, or all. Costs a
-/// look at each node, and the lines of the new outputs. A recorder's refusal is handed on, as is a want of
-/// memory, and nothing is said of the outputs then.
+/// look at each node, and where one lacks outputs a copy of those that it has and the lines of the new ones.
+/// A recorder's refusal is handed on, as is a want of memory, and nothing is said of the outputs then.
 pub fn extend_all<R: Recorder>(
     alloc: Global,
     rec: &mut R,

@@ -49,8 +49,9 @@ impl Totalizer {
     /// What stands for "the sum is at least `k`". A recorder's refusal is handed on; then the totalizer isn't
     /// asked again.
     ///
-    /// Costs a look-up where that output is there. Else it costs the outputs that it makes at each node:
-    /// for each a definition, at most a line for each output of the node's first child, and five more.
+    /// Costs a look-up where that output is there and has stood for so small a number. Else it costs a look at
+    /// each node, and the outputs that it makes: for each a definition, at most a line for each output of the
+    /// node's first child, and five more.
     pub fn output<R: Recorder>(&mut self, rec: &mut R, k: i64) -> Result<Bound, RecordFault>
         requires ready { IsReady (R.seen rec.old) }
         requires fits { Fits (R.seen rec.old) self.old }

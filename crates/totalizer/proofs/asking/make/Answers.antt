@@ -1,13 +1,44 @@
 -- The nodes below the root are extended, and then it is asked.
-use Rattle.std.proofs.Common.{List, refl, sym, subst}
+use Rattle.std.proofs.Common.{List, refl, sym, subst, arith}
 use Rattle.std.proofs.lemmas.Result.{err_from_is_err_and}
 use Rattle.sum_outputs.specs.declared.sum_output.SumOutput.{SumOutput}
 use Rattle.sum_outputs.proofs.LaterStates.{continues_twice, handed_on, ready_later, recorded_ok}
 use Rattle.totalizer.specs.Totalizing.{Fits}
 use Rattle.totalizer.specs.Demanding.{AddsDemanded}
+use Rattle.totalizer.proofs.Roots.{some_nodes}
 use Rattle.totalizer.proofs.AskedRoot.{IsAskedRoot, asked_bound}
 use Rattle.totalizer.proofs.AskedTotalizer.{totalizer_of, AreCalls, fits_asked, adds_demanded}
 use Rattle.totalizer.proofs.asking.make.Goals as goal
+
+pub extend_all-requires-clause-tree : goal.extend_all-requires-clause-tree
+extend_all-requires-clause-tree g c = c.requires.fits.rooted.tree
+
+pub extend_all-requires-clause-some : goal.extend_all-requires-clause-some
+extend_all-requires-clause-some g c = let long = c.requires.long in some_nodes c.args.nodes.now (omega arith)
+
+pub extend_all-requires-clause-made : goal.extend_all-requires-clause-made
+extend_all-requires-clause-made g c = c.requires.fits.made
+
+pub ask_root-requires-clause-rooted : goal.ask_root-requires-clause-rooted
+ask_root-requires-clause-rooted g c = c.requires.fits.rooted
+
+pub ask_root-requires-clause-made : goal.ask_root-requires-clause-made
+ask_root-requires-clause-made g c = c.in_ok-extend_all.ensures.extends.made
+
+pub ask_root-requires-clause-complete : goal.ask_root-requires-clause-complete
+ask_root-requires-clause-complete g c = c.in_ok-extend_all.ensures.extends.complete
+
+pub ask_root-requires-clause-most : goal.ask_root-requires-clause-most
+ask_root-requires-clause-most g c = c.requires.most
+
+pub ask_root-requires-clause-long : goal.ask_root-requires-clause-long
+ask_root-requires-clause-long g c = c.requires.long
+
+pub overflow_sub-nodes : goal.overflow_sub-nodes
+overflow_sub-nodes g c =
+    let long = c.requires.long in
+    let some = some_nodes c.args.nodes.now (omega arith) in
+    omega arith
 
 pub ask_root-requires-clause-ready : goal.ask_root-requires-clause-ready
 ask_root-requires-clause-ready g c =
