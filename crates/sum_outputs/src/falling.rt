@@ -32,7 +32,8 @@ pub(crate) fn make_falling<R: Recorder>(
     ensures recorded { IsRecorded (R.seen rec.old) (R.seen rec.new) result }
     ensures falling { IfOk result (AreFallingTo (R.seen rec.old) (R.seen rec.new)
         node.now.terms.now last k) }
-    ensures defined { IfOk result (λ os. DefinesMore (R.seen rec.old) (R.seen rec.new) (length os)) }
+    ensures defined { IfOk result (λ os. DefinesMore (R.seen rec.old) (R.seen rec.new)
+        (length os)) }
 {
     let mut sums = new_sums(alloc, node, last, k)?;
     let mut falling = Items::new(alloc);
@@ -57,7 +58,8 @@ fn make_next<R: Recorder>(
     requires greater { All (λ o. run.1 < o.sum) falling.now }
     requires least { IsLeastSum node.now.terms.now run.0 run.1 }
     ensures recorded { IsRecorded (R.seen rec.old) (R.seen rec.new) result }
-    ensures made { IfOk result (IsMade (R.seen rec.old) (R.seen rec.new) node.now.terms.now run.0 run.1) }
+    ensures made { IfOk result (IsMade (R.seen rec.old) (R.seen rec.new)
+        node.now.terms.now run.0 run.1) }
 {
     let next = last_of(falling);
     let below = next_sum(next, node.greatest + 1);

@@ -29,7 +29,8 @@ pub(crate) fn make_output<R: Recorder>(
     requires greater { All (λ o. sum < o.sum) next.now }
     requires least { IsLeastSum node.now.terms.now from sum }
     ensures recorded { IsRecorded (R.seen rec.old) (R.seen rec.new) result }
-    ensures made { IfOk result (IsMade (R.seen rec.old) (R.seen rec.new) node.now.terms.now from sum) }
+    ensures made { IfOk result (IsMade (R.seen rec.old) (R.seen rec.new)
+        node.now.terms.now from sum) }
 {
     let made = define(alloc, rec, node.terms, from, sum)?;
     add_single(alloc, rec, next, &[], &made, u64::MAX)?;

@@ -62,7 +62,8 @@ fn known(terms: &[(Lit, u64)], outputs: &[SumOutput], k: u64) -> Option<Bound>
     requires some { 0 < length terms.now }
     requires rising { AllPairs (λ o q. o.sum < q.sum) outputs.now }
     requires apart { AllPairs (λ o q. o.sum < q.from) outputs.now }
-    ensures { MatchOption result (IsUnknown terms.now outputs.now k) (IsKnown terms.now outputs.now k) }
+    ensures { MatchOption result (IsUnknown terms.now outputs.now k)
+        (IsKnown terms.now outputs.now k) }
 {
     if let [term] = terms {
         return Some(Bound::At {

@@ -56,7 +56,8 @@ impl Totalizer {
         requires ready { IsReady (R.seen rec.old) }
         requires fits { Fits (R.seen rec.old) self.old }
         ensures recorded { IsRecorded (R.seen rec.old) (R.seen rec.new) result }
-        ensures bound { IfOk result (IsBound (R.seen rec.new).problem (R.seen rec.new).lines (terms_of self.old) k) }
+        ensures bound { IfOk result (IsBound (R.seen rec.new).problem (R.seen rec.new).lines
+            (terms_of self.old) k) }
         ensures added { IfOk result (AddsFor (R.seen rec.old)
             (R.seen rec.new) k self.old self.new) }
         ensures fits { OnOk result (Fits (R.seen rec.new) self.new) }
