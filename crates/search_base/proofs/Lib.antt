@@ -1,4 +1,8 @@
 pub mod Places
+pub mod Restricting
+pub mod Recordings
+pub mod SumLines
+pub mod BoundLines
 pub mod TurnLines
 pub mod BoundRows
 pub mod LoggedVectors
