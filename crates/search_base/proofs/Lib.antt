@@ -4,7 +4,11 @@ pub mod Recordings
 pub mod SumLines
 pub mod BoundLines
 pub mod TurnLines
+pub mod OwnReforms
+pub mod RowStays
 pub mod BoundRows
+pub mod AskedRows
+pub mod CoverMeanings
 pub mod LoggedVectors
 pub mod TurnStates
 pub mod GoodStates
