@@ -14,7 +14,6 @@ use Rattle.cutting_planes.proofs.Terms.{Terms}
 use Rattle.proof_laws.specs.State.{StateValue, IsState}
 use Rattle.proof_laws.specs.Steps.{reached_if}
 use Rattle.proof_laws.specs.Refusal.{line_or_none}
-use Rattle.proof_laws.proofs.Replays.{replay_once}
 use Rattle.proof_rules.specs.Recording.{Snapshot}
 use Rattle.sum_outputs.specs.Adding.{IsOwn, IsReached}
 use Rattle.sum_outputs.specs.Totals.{IsLeastSum}
@@ -23,7 +22,7 @@ use Rattle.sum_outputs.proofs.ReplayIds.{replay_ids}
 use Rattle.totalizer.specs.Meaning.{AreTruthsWith, IsBoundAt, IsDefinedFor, IsOwnOrNone}
 use Rattle.totalizer.specs.Reforming.{IsLowerLine, IsReformOf}
 use Rattle.search_base.specs.CostBounds.{BoundsRow, CoversCost, IsCover, LineCovers, StandsFor}
-use Rattle.search_base.specs.OneBound.{CanSum, IsCoveredAt, IsOutputAt, IsSumFor, NeedsCover}
+use Rattle.search_base.specs.OneBound.{IsCoveredAt, IsOutputAt, IsSumFor}
 use Rattle.search_base.specs.declared.objective_bound.Cover.{Cover}
 use Rattle.search_base.specs.declared.objective_bound.ObjectiveBound.{ObjectiveBound}
 use Rattle.search_base.proofs.BoundLines.{ReachesAt, gap, gap_is, leaf_reaches, lower_size, named_normal, output_cases, output_reaches, output_size, reaches_covers, sum_reaches}
@@ -142,6 +141,17 @@ module _ (a : Snapshot) (s : StateValue) (reached : IsReached a s) (row : CostRo
       (λ (defined : (1 < length o.reform.terms) × IsDefinedFor a.problem s o.reform.terms k l id). defined)
       cases
 
+  -- and where there is more than one term, the literal was defined
+  pub defined_long : 1 < length o.reform.terms → IsDefinedFor a.problem s o.reform.terms k l id
+  defined_long long = ⊎_elim
+      (λ (leaf : (weight : ℕ) × (o.reform.terms ≡ (l, weight) ∷ []) × (id ≡ 0) × (k ≤ weight)).
+      let one = ap (λ (ts : Terms). length ts) leaf.1 in absurd (omega arith))
+      (λ (defined : (1 < length o.reform.terms) × IsDefinedFor a.problem s o.reform.terms k l id). defined.1)
+      cases
+
+  pub has_line : 1 < length o.reform.terms → id ≢ 0
+  has_line long = let defined = defined_long long in some_id _ defined.line
+
   -- the literal stands for the least sum of at least k
   pub stands_for : 1 < length o.reform.terms → (defined : IsDefinedFor a.problem s o.reform.terms k l id) →
       StandsFor o defined.sum.degree l
@@ -212,13 +222,9 @@ module _ (a : Snapshot) (s : StateValue) (reached : IsReached a s) (row : CostRo
         let small = weights.small in
         omega arith
 
-    pub can_sum : IsState s → CanSum a o.reform.lower_line id
-    can_sum state = record {
-      lines = λ t after again. subst (λ (u : StateValue). (c : ConstraintValue) × (d : ConstraintValue)
-          × IsOwn a.problem a.lines u o.reform.lower_line c × IsOwn a.problem a.lines u id d
-          × (size c + size d ≤ 2 ^ 100)) (replay_once a.problem a.lines s t reached after)
-          (reform.lower.0, output, lower_own reform.own, output_own at.own, sizes state);
-    }
+    pub sum_lines : IsState s → (c : ConstraintValue) × (d : ConstraintValue)
+        × IsOwn a.problem a.lines s o.reform.lower_line c × IsOwn a.problem a.lines s id d × (size c + size d ≤ 2 ^ 100)
+    sum_lines state = (reform.lower.0, output, lower_own reform.own, output_own at.own, sizes state)
 
     module _ (b : Snapshot) (line : ℕ) (made : IsSumFor a b o.reform.lower_line id line) (t : StateValue)
         (after : IsReached b t) where

@@ -10,6 +10,7 @@ use Rattle.cutting_planes.specs.declared.token.PolToken.{PolToken}
 use Rattle.cutting_planes.specs.declared.token.PolToken.TheVariants.{Id, Add}
 use Rattle.proof_rules.specs.Recording.{Snapshot}
 use Rattle.sum_outputs.specs.Adding.{IsOwn, IsReached}
+use Rattle.sum_outputs.specs.Totals.{definitions}
 use Rattle.totalizer.specs.declared.bound.Bound.{Bound}
 use Rattle.totalizer.specs.declared.bound.Bound.TheVariants.{At}
 use Rattle.totalizer.specs.declared.reform.Reform.{Reform}
@@ -75,6 +76,10 @@ IsCovered a b before l id line = (row : CostRowValue) (k : ℕ) → BoundsRow a 
 abbrev pub IsOneCover : ObjectiveBound → ℕ → Type 0
 IsOneCover b var = (c : Cover) × Contains b.covers.items c × (c.var ≡ var)
 
+-- it is there, and no definition was added
+abbrev pub AddsCover : Snapshot → Snapshot → ObjectiveBound → ℕ → Type 0
+AddsCover a b now var = IsOneCover now var × (definitions b.lines ≡ definitions a.lines)
+
 -- outputs need lines of their own
 abbrev pub NeedsCover : ObjectiveBound → Type 0
 NeedsCover b = (1 < length b.reform.terms) × (b.reform.lower_line ≢ 0)
@@ -84,6 +89,7 @@ pub record MakesCover (a b : Snapshot) (before now : ObjectiveBound) (l : Litera
   pub there : 1 < length before.reform.terms → before.reform.lower_line ≢ 0 → IsOneCover now l.var
   pub again : (1 < length before.reform.terms → before.reform.lower_line ≢ 0 → IsOneCover before l.var)
       → b.lines ≡ a.lines
+  pub defined : definitions b.lines ≡ definitions a.lines
 
 -- no line was made for the output of this variable, whose place is this
 pub record IsPlaceFor (covers : List Cover) (var place : ℕ) : Type 0 where

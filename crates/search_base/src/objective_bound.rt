@@ -3,12 +3,12 @@ ghost use Rattle.std.specs.Prelude.{◌≡◌, ◌≤◌, ◌<◌, length, AllPa
 ghost use Rattle.std.specs.List.{insert};
 ghost use Rattle.pb_lin.specs.CostRow.{CostRowValue};
 ghost use Rattle.sum_outputs.specs.Adding.{IsReady, IsRecorded};
-ghost use Rattle.sum_outputs.specs.Totals.{AreWeights};
+ghost use Rattle.sum_outputs.specs.Totals.{AreWeights, definitions};
 ghost use Rattle.totalizer.specs.Demanding.{AddsFor};
 ghost use Rattle.totalizer.specs.Meaning.{IsBound};
 ghost use Rattle.totalizer.specs.Totalizing.{Fits, FitsSome, terms_of};
 ghost use Rattle.search_base.specs.CostBounds.{AddsBound, BoundsRow, IsAnswerFor, IsCostBound, IsNextValue};
-ghost use Rattle.search_base.specs.OneBound.{CanSum, FitsRow, HasOwnLiteral, IsCovered, IsNewBound, IsOneCover, IsOutputFor, IsPlaceFor, IsSumFor, KeepsBut, KeepsRow, MakesCover, NeedsCover, sum_of};
+ghost use Rattle.search_base.specs.OneBound.{AddsCover, CanSum, FitsRow, HasOwnLiteral, IsCovered, IsNewBound, IsOutputFor, IsPlaceFor, IsSumFor, KeepsBut, KeepsRow, MakesCover, NeedsCover, sum_of};
 
 use cutting_planes::PolToken;
 use proof_laws::Line;
@@ -73,7 +73,10 @@ impl ObjectiveBound {
         reform_stays();
         own_lines_stay();
         let above = i128::from(value) - i128::from(self.reform.offset);
-        match bound_of(&mut self.totalizer, rec, above)? {
+        let bound = bound_of(&mut self.totalizer, rec, above)?;
+        // Tells of which kind the live lines are.
+        let _vars = rec.state().vars();
+        match bound {
             Bound::Always { .. } => Ok(Bound::Always {
                 lower_line: self.reform.lower_line,
             }),
@@ -134,7 +137,7 @@ impl ObjectiveBound {
         requires place { IsPlaceFor self.old.covers.items lit.var place }
         ensures recorded { IsRecorded (R.seen rec.old) (R.seen rec.new) result }
         ensures covers { IfOk result (IsCovered (R.seen rec.old) (R.seen rec.new) self.old lit output_line) }
-        ensures there { OnOk result (IsOneCover self.new lit.var) }
+        ensures added { OnOk result (AddsCover (R.seen rec.old) (R.seen rec.new) self.new lit.var) }
         ensures fits { OnOk result (KeepsRow (R.seen rec.old) (R.seen rec.new) self.old self.new) }
         ensures kept { KeepsBut self.old self.new }
     {
@@ -196,6 +199,7 @@ fn add_sum<R: Recorder>(
     requires fits { CanSum (R.seen rec.old) first second }
     ensures recorded { IsRecorded (R.seen rec.old) (R.seen rec.new) result }
     ensures sum { IfOk result (IsSumFor (R.seen rec.old) (R.seen rec.new) first second) }
+    ensures defined { OnOk result (definitions (R.seen rec.new).lines ≡ definitions (R.seen rec.old).lines) }
 {
     // Tells of which kind the live lines are.
     let _vars = rec.state().vars();

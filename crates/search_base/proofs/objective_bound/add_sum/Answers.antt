@@ -1,10 +1,13 @@
 -- The sum of the two lines is recorded.
-use Rattle.std.proofs.Common.{◌≡◌, ◌++◌, ◌∷◌, [], List, sym, subst, ◌∙◌, ap}
+use Rattle.std.proofs.Common.{◌≡◌, ◌++◌, ◌∷◌, [], List, sym, subst, ◌∙◌, ap, arith}
+use Rattle.std.proofs.lemmas.Result.{on_ok_weaker}
 use Rattle.cutting_planes.specs.declared.token.PolToken.{PolToken}
 use Rattle.proof_laws.specs.WellFormed.{IsWellFormed}
 use Rattle.proof_laws.specs.declared.line.Line.{Line}
 use Rattle.proof_laws.specs.declared.line.Line.TheVariants.{Pol}
 use Rattle.proof_rules.specs.Recording.{MayBeAdded, IsNextId}
+use Rattle.sum_outputs.specs.Totals.{definitions}
+use Rattle.sum_outputs.proofs.DefinitionCounts.{definitions_push}
 use Rattle.sum_outputs.proofs.LaterStates.{continues_again}
 use Rattle.search_base.specs.OneBound.{IsSumFor, sum_of}
 use Rattle.search_base.proofs.Recordings.{if_on, memory_handed}
@@ -50,3 +53,15 @@ returns-clause-sum g c =
     (λ line added id. sum_added a c.state.result.now first second c.vars-vars.ensures.state c.state.ensures.replays
     c.requires.fits b line call.recorded.continues.problem
     (added ∙ ap (λ (ts : List PolToken). a.lines ++ Pol ts ∷ []) is) id) call.added call.id
+
+pub returns-clause-defined : goal.returns-clause-defined
+returns-clause-defined g c =
+    let R = g.R.Recorder in
+    let a = R.seen c.args.rec.now in
+    let b = R.seen c.record.new.rec in
+    on_ok_weaker c.record.result
+    (λ (added : b.lines ≡ a.lines ++ Pol c.in_ok-tokens.tokens ∷ []).
+    let more = definitions_push a.lines (Pol c.in_ok-tokens.tokens) in
+    let all = ap definitions added in
+    omega arith)
+    c.record.ensures.added

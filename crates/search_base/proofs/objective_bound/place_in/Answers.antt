@@ -7,11 +7,6 @@ use Rattle.pb_lin.proofs.Places.{IsNonDecreasingBy-rising, IsPlace-from_point, n
 use Rattle.search_base.specs.declared.objective_bound.Cover.{Cover}
 use Rattle.search_base.proofs.objective_bound.place_in.Goals as goal
 use Rattle.search_base.proofs.objective_bound.place_in.Goals.{else-place-covers-via-then-place-covers+else-covers-place, else-place-covers-via-else-place-covers}
-use Rattle.search_base.proofs.BoundLines.{reaches_covers}
-use Rattle.search_base.proofs.BoundRows.{new_fit}
-use Rattle.search_base.proofs.AskedRows.{row_covered}
-use Rattle.search_base.proofs.CoverMeanings.{can_sum}
-use Rattle.search_base.proofs.OwnReforms.{own_serve}
 
 pub returns : goal.returns
 returns c =
