@@ -9,6 +9,7 @@ pub mod RowStays
 pub mod BoundRows
 pub mod AskedRows
 pub mod CoverMeanings
+pub mod AskedCosts
 pub mod LoggedVectors
 pub mod TurnStates
 pub mod GoodStates
