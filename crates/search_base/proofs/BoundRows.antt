@@ -9,6 +9,7 @@ use Rattle.std.proofs.lemmas.Bool.{cases_lt}
 use Rattle.std.proofs.lemmas.Int.{ints}
 use Rattle.std.proofs.lemmas.List.{get_or_past, get_or-map, length-map}
 use Rattle.std.proofs.lemmas.List.Elements.{All-cons, All-head, All-tail, All-nil}
+use Rattle.std.proofs.lemmas.Slice.Zip.{AllZip-long}
 use Rattle.scut_base.specs.Literal.{Literal}
 use Rattle.scut_base.proofs.Lists.{Contains-nil}
 use Rattle.pb_lin.specs.Constraint.{total}
@@ -17,7 +18,7 @@ use Rattle.pb_lin.specs.Problem.{ProblemValue}
 use Rattle.proof_laws.specs.State.{StateValue}
 use Rattle.proof_rules.specs.Recording.{Snapshot}
 use Rattle.sum_outputs.specs.Tree.{IsTree}
-use Rattle.sum_outputs.specs.Adding.{IsReached}
+use Rattle.sum_outputs.specs.Adding.{IsReached, IsReady}
 use Rattle.sum_outputs.specs.declared.node.Node.{Node}
 use Rattle.sum_outputs.specs.declared.sum_output.SumOutput.{SumOutput}
 use Rattle.totalizer.specs.Demanding.{IsThere}
@@ -25,7 +26,7 @@ use Rattle.totalizer.specs.Keeping.{FittingStays, KeepsOwn, OwnLinesStay, Reform
 use Rattle.totalizer.specs.Reforming.{IsReformOf}
 use Rattle.totalizer.specs.Totalizing.{TotalizerValue, Fits, first_outputs, root_terms, terms_of}
 use Rattle.totalizer.specs.declared.reform.Reform.{Reform}
-use Rattle.search_base.specs.CostBounds.{AreMadeOutside, AreReforms, BoundsRow, FitBounds, IsCover, IsOutside, StandsFor, reforms_of}
+use Rattle.search_base.specs.CostBounds.{AreMadeOutside, AreReforms, BoundsRow, FitBounds, FitSome, IsCover, IsOutside, StandsFor, reforms_of}
 use Rattle.search_base.specs.OneBound.{IsNewBound}
 use Rattle.search_base.specs.declared.objective_bound.Cover.{Cover}
 use Rattle.search_base.specs.declared.objective_bound.ObjectiveBound.{ObjectiveBound}
@@ -219,3 +220,11 @@ above_all n (pos m) small from_one wide =
     ⊎_elim (λ (less : m < 2 ^ 63). absurd (wide (record { sfits = less })))
     (λ (more : 2 ^ 63 ≤ m). omega (arith, ints)) (cases_lt m (2 ^ 63))
 above_all n (negsuc m) small from_one wide = cc
+
+-- of bounds that some recorder's lines made, that at a place is of some row
+pub row_of_bound : (bounds : List ObjectiveBound) (i : ℕ) (o : ObjectiveBound) → FitSome bounds → i < length bounds →
+    o ≡ get_or bounds i o → (a : Snapshot) × IsReady a × (row : CostRowValue) × BoundsRow a row o
+row_of_bound bounds i o (a, ready, fit) short is =
+    let sizes = AllZip-long (BoundsRow a) a.problem.costs bounds fit.rows in
+    let d : CostRowValue = record { terms = []; offset = pos 0 } in
+    (a, ready, get_or a.problem.costs i d, bound_at a bounds i d o fit (omega arith) is)

@@ -10,6 +10,8 @@ pub mod BoundRows
 pub mod AskedRows
 pub mod CoverMeanings
 pub mod AskedCosts
+pub mod AskedBounds
+pub mod NextValues
 pub mod LoggedVectors
 pub mod TurnStates
 pub mod GoodStates

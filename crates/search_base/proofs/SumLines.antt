@@ -1,12 +1,15 @@
 -- The sum of two lines: it may be recorded, and what it makes is one.
 use Rattle.std.proofs.Common.{◌≡◌, ◌⊎◌, inl, inr, ℕ, ◌+◌, ◌<◌, ◌≤◌, Bool, true, false, not, Option, None, Some, List, [], ◌∷◌, ◌++◌, refl, ap, sym, subst, ◌∙◌, arith, Ok, Err}
 use Rattle.std.specs.Prelude.{◌^◌, nat_lt, MatchOption}
-use Rattle.std.specs.FinMap.{get}
+use Rattle.std.specs.FinMap.{get, insert, get-insert}
+use Rattle.std.specs.Cmp.{nat_cmp_total, unsigned_tied}
+use Rattle.std.specs.Ordering.{nat_cmp, eq_by_cmp}
 use Rattle.std.specs.List.{All, flat_map}
-use Rattle.std.proofs.lemmas.Bool.{cond-false, le-ltb}
+use Rattle.std.proofs.lemmas.Bool.{cond-false, cond-true, eq-eqb, le-ltb}
 use Rattle.std.proofs.lemmas.List.Elements.{All-nil, All-cons}
 use Rattle.pb_lin.specs.Constraint.{ConstraintValue, size}
 use Rattle.pb_lin.specs.Given.{Given}
+use Rattle.pb_lin.specs.LineMap.{LineMap}
 use Rattle.pb_lin.specs.Problem.{ProblemValue}
 use Rattle.cutting_planes.specs.Rules.{IsSum}
 use Rattle.cutting_planes.specs.Stack.{named_fault, size_fault, token_fault, IsPushed, IsStep, IsValueOn, Answer}
@@ -30,9 +33,17 @@ use Rattle.proof_laws.proofs.NormalForms.{sum_exists}
 use Rattle.proof_laws.proofs.Replays.{replay_before, replay_once}
 use Rattle.proof_rules.specs.Recording.{Snapshot, IsNextId, MayBeAdded}
 use Rattle.sum_outputs.specs.Adding.{IsOwn, IsReached, IsReady}
-use Rattle.sum_outputs.proofs.ImplyLines.{id_small, put_live}
 use Rattle.sum_outputs.proofs.LaterStates.{new_not_learned}
 use Rattle.search_base.specs.OneBound.{CanSum, IsSumFor, sum_of}
+
+-- ---- live lines
+
+id_small : (s : StateValue) → IsState s → (id : ℕ) (c : ConstraintValue) → get s.live id ≡ Some c → id < 2 ^ 63
+id_small s state id c is = let w = state.ids id c is in let n = state.next_id in let l = state.lines in omega arith
+
+put_live : (lines : LineMap) (id : ℕ) (c : ConstraintValue) → get (insert lines id c) id ≡ Some c
+put_live lines id c = get-insert nat_cmp_total lines id c id
+    ∙ cond-true (eq_by_cmp nat_cmp id id) (Some c) (get lines id) (unsigned_tied id id ∙ eq-eqb id id refl)
 
 -- ---- the value of the tokens
 

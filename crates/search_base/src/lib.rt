@@ -14,6 +14,7 @@ mod costs;
 mod cut;
 mod laws;
 mod logging;
+mod naming;
 mod objective_bound;
 mod reforms;
 mod running;

@@ -153,6 +153,7 @@ impl ObjectiveBound {
     // The least value above `value` that the reform can have, where that is known.
     pub(crate) fn next_value(&self, value: i64) -> Option<i64>
         requires fits { FitsSome self.now.totalizer }
+        requires weights { AreWeights self.now.reform.terms }
         requires terms { terms_of self.now.totalizer ≡ self.now.reform.terms }
         ensures { IfSome result (IsNextValue self.now.reform value) }
     {
