@@ -9,7 +9,7 @@ use Rattle.std.proofs.lemmas.List.Sums.{sum_by-cons}
 use Rattle.std.proofs.lemmas.Slice.Zip.{AllZip-long}
 use Rattle.scut_base.specs.Literal.{Literal}
 use Rattle.scut_base.specs.Assignment.{lit_true, value_of}
-use Rattle.scut_base.proofs.Lists.{Contains-nil, Contains-head, Contains-cons, Contains-cons_cases}
+use Rattle.scut_base.proofs.Lists.{Contains-nil, Contains-cons_cases}
 use Rattle.front_set.specs.Vector.{IsBelow}
 use Rattle.instance_normal.proofs.Distinct.{literal}
 use Rattle.pb_lin.specs.Constraint.{Holds, term_value, total, value}
@@ -26,10 +26,15 @@ use Rattle.search_base.specs.CostBounds.{BoundsRow, FitBounds, HasLiteral, IsAns
 use Rattle.search_base.specs.Cutting.{AreAlike, AreAsked, answered_literal, answered_literals}
 use Rattle.search_base.specs.declared.objective_bound.ObjectiveBound.{ObjectiveBound}
 use Rattle.search_base.proofs.Answered.{AllPossible, value_most}
-use Rattle.search_base.proofs.BoundRows.{row_at}
-use Rattle.search_base.proofs.CutClauses.{values_rise}
+use Rattle.search_base.proofs.BoundRows.{bound_at}
+use Rattle.search_base.proofs.CutClauses.{costs_rise}
 
 -- ---- places
+
+pub some_at : (bounds : List ObjectiveBound) (i : ℕ) → i < length bounds → (o : ObjectiveBound) × (o ≡ get_or bounds i o)
+some_at [] i short = absurd (omega arith)
+some_at (o ∷ bounds) zero short = (o, refl)
+some_at (o ∷ bounds) (suc i) short = some_at bounds i (omega arith)
 
 -- where a literal is answered
 literal_place : (answers : List Bound) (l : Literal) → Contains (answered_literals answers) l →
@@ -51,9 +56,6 @@ too_high v c low o w t high le upper most = omega (arith, ints)
 
 some_weight : (v c o : ℤ) (w : ℕ) → o <ℤ v → v ≤ℤ c → c ≤ℤ (o +ℤ pos w) → 0 < w
 some_weight v c o w high le upper = omega (arith, ints)
-
-cost_rises : (m n : ℕ) (z : ℤ) → m ≤ n → (pos m +ℤ z) ≤ℤ (pos n +ℤ z)
-cost_rises m n z le = omega (arith, ints)
 
 term_true : (x : List Bool) (t : Literal × ℕ) → 0 < value x (t ∷ []) → lit_true x t.0 ≡ true
 term_true x t some = by (lit_true x t.0) refl
@@ -102,18 +104,18 @@ module _ (a : Snapshot) (s : StateValue) (reached : IsReached a s) (bounds : Lis
     reform_here : IsReformOf a.problem a.lines s (row i) (reform i)
     reform_here =
         let sizes = AllZip-long (BoundsRow a) a.problem.costs bounds fit.rows in
-        let o = get_or bounds i no_bound in
-        let at = row_at a a.problem.costs bounds i no_row no_bound fit.rows within in
-        let same : reform i ≡ o.reform =
-        get_or-map (λ (q : ObjectiveBound). q.reform) bounds i no_bound no_reform (omega arith) in
+        let o = some_at bounds i (omega arith) in
+        let at = bound_at a bounds i no_row o.0 fit within o.1 in
+        let same : reform i ≡ o.0.reform =
+        get_or-map (λ (q : ObjectiveBound). q.reform) bounds i o.0 no_reform (omega arith)
+        ∙ sym (ap (λ (q : ObjectiveBound). q.reform) o.1) in
         subst (IsReformOf a.problem a.lines s (row i)) (sym same) (at.reform s reached)
 
     -- the model costs no more than the assignment
     cost_most : row_cost x (row i) ≤ℤ row_cost y (row i)
     cost_most =
-        let rise = All-contains (λ (r : CostRowValue). value x r.terms ≤ value y r.terms) a.problem.costs (row i)
-        (values_rise x y a.problem.costs below) (Contains-get_or a.problem.costs i no_row within) in
-        cost_rises (value x (row i).terms) (value y (row i).terms) (row i).offset rise
+        All-contains (λ (r : CostRowValue). row_cost x r ≤ℤ row_cost y r) a.problem.costs (row i)
+        (costs_rise x y a.problem.costs below) (Contains-get_or a.problem.costs i no_row within)
 
     answer_here : (b : Bound) → IsAnswerFor (reform i) (row_cost x (row i)) (get_or answers i b)
     answer_here b = subst (λ (v : ℤ). IsAnswerFor (reform i) v (get_or answers i b))

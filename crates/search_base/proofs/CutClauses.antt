@@ -22,8 +22,8 @@ use Rattle.proof_laws.specs.Refusal.{is_clause}
 use Rattle.proof_laws.specs.declared.line.Line.{Line}
 use Rattle.sum_outputs.specs.Adding.{KeptHold}
 use Rattle.totalizer.specs.declared.bound.Bound.{Bound}
-use Rattle.search_base.specs.Cutting.{IsCutOf, answered_literals}
-use Rattle.search_base.proofs.Answered.{IsAnswerAt, row_of}
+use Rattle.search_base.specs.Cutting.{IsAnswerAt, IsCutOf, answered_literals}
+use Rattle.search_base.proofs.Answered.{row_of}
 
 -- ---- clauses
 
@@ -61,31 +61,28 @@ opposite_false y l = by l.neg (value_of y l.var)
 le_from_test : (x y : ℤ) → not (int_lt y x) ≡ true → x ≤ℤ y
 le_from_test x y h = grind (arith, ints, not-true (int_lt y x) h)
 
-same_offset : (m n : ℕ) (z : ℤ) → (pos m +ℤ z) ≤ℤ (pos n +ℤ z) → m ≤ n
-same_offset m n z le = omega (arith, ints)
-
-values_rise : (x y : List Bool) (rows : List CostRowValue) → IsBelow (map (row_cost x) rows) (map (row_cost y) rows) →
-    All (λ r. value x r.terms ≤ value y r.terms) rows
-values_rise x y [] below = All-nil (λ r. value x r.terms ≤ value y r.terms)
-values_rise x y (r ∷ rows) below =
+pub costs_rise : (x y : List Bool) (rows : List CostRowValue) → IsBelow (map (row_cost x) rows) (map (row_cost y) rows) →
+    All (λ r. row_cost x r ≤ℤ row_cost y r) rows
+costs_rise x y [] below = All-nil (λ r. row_cost x r ≤ℤ row_cost y r)
+costs_rise x y (r ∷ rows) below =
     let parts = and_parts (not (int_lt (row_cost y r) (row_cost x r)))
     (is_below (map (row_cost x) rows) (map (row_cost y) rows)) below in
-    All-cons (λ q. value x q.terms ≤ value y q.terms) r rows
-    (same_offset (value x r.terms) (value y r.terms) r.offset (le_from_test (row_cost x r) (row_cost y r) parts.0))
-    (values_rise x y rows parts.1)
+    All-cons (λ q. row_cost x q ≤ℤ row_cost y q) r rows (le_from_test (row_cost x r) (row_cost y r) parts.0)
+    (costs_rise x y rows parts.1)
 
 -- ---- the cut
 
 module _ (p : ProblemValue) (lines : List Line) (s : StateValue) (x : List Bool) (answers : List Bound)
-    (cut : List Literal) (zip : AllZip (IsAnswerAt p lines s x) p.costs answers) (exact : IsCutOf answers cut)
-    (y : List Bool) (hold : KeptHold p lines s y) (below : IsBelow (problem_costs p x) (problem_costs p y)) where
+    (cut : List Literal) (zip : AllZip (IsAnswerAt p lines s x (answered_literals answers)) p.costs answers)
+    (exact : IsCutOf answers cut) (y : List Bool) (rows : All (Holds y) p.rows) (hold : KeptHold p lines s y)
+    (below : IsBelow (problem_costs p x) (problem_costs p y)) where
   -- each literal that was answered is true
   answered_true : (l : Literal) → Contains (answered_literals answers) l → lit_true y l ≡ true
   answered_true l there =
-      let has = row_of p lines s x p.costs answers l zip there in
-      has.bound.follows y hold
-      (All-contains (λ (r : CostRowValue). value x r.terms ≤ value y r.terms) p.costs has.row
-      (values_rise x y p.costs below) has.there)
+      let has = row_of p lines s x (answered_literals answers) p.costs answers l zip there in
+      has.bound.follows y rows hold
+      (All-contains (λ (r : CostRowValue). row_cost x r ≤ℤ row_cost y r) p.costs has.row (costs_rise x y p.costs below)
+      has.there)
 
   cut_false : (l : Literal) → Contains cut l → lit_true y l ≡ false
   cut_false l there =

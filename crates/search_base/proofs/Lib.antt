@@ -20,13 +20,16 @@ pub mod Turning
 pub mod Cuts
 pub mod ModelLiterals
 pub mod Answered
+pub mod CutClauses
+pub mod AlikeAnswers
 pub mod SolLines
 pub mod ModelLines
 pub mod Covering
+pub mod NamedAnswers
+pub mod TakenLines
 pub mod AskedAnswers
 pub mod PutEntries
 pub mod ModelPairs
-pub mod CutClauses
 pub mod LoggedStates
 pub mod Takable
 pub mod Taking

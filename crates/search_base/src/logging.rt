@@ -4,6 +4,7 @@ ghost use Rattle.pb_lin.specs.Problem.{IsProblem, IsProblemModel};
 ghost use Rattle.sum_outputs.specs.Adding.{IsFaultAt, IsReady};
 ghost use Rattle.search_base.specs.Cutting.{AreAlike, AreAnswersAt, IsModelLine, LogsModel, answered_literals, literals_at};
 ghost use Rattle.search_base.specs.Good.{GoesOn};
+ghost use Rattle.search_base.specs.Logged.{AddsTakenLines};
 
 use crate::cut::{cut_of, lines_of};
 use proof_laws::Line;
@@ -30,6 +31,7 @@ pub(crate) fn log_model<R: Recorder>(
         (R.seen rec.new) model.now answers.now) }
     ensures fault { IfErr result (IsFaultAt (R.seen rec.old) (R.seen rec.new)) }
     ensures goes_on { GoesOn (R.seen rec.old) (R.seen rec.new) }
+    ensures lines { AddsTakenLines (R.seen rec.old).lines (R.seen rec.new).lines }
 {
     // Tells that the lines so far reach a state.
     let _vars = rec.state().vars();
