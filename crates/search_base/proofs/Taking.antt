@@ -62,7 +62,27 @@ pub record WasAsked (a m : Snapshot) (before : List ObjectiveBound) (x : List Bo
   pub on : Continues a m
   pub asked : AreAsked (reforms_of before) (problem_costs a.problem x) answers
   pub answered : AreAnswers m.problem m.lines (problem_costs a.problem x) answers
-  pub named : AreNamed a.problem (problem_costs a.problem x) answers named
+  pub lines : AreNamed a.problem (problem_costs a.problem x) answers named
+
+pub was_asked : (a m : Snapshot) (before : List ObjectiveBound) (p : ProblemValue) (costs : List ℤ) (x : List Bool)
+    (answers given named : List Bound) → p ≡ a.problem → costs ≡ problem_costs p x → given ≡ answers → Continues a m →
+    AreAsked (reforms_of before) costs answers → AreAnswers m.problem m.lines costs answers →
+    AreNamed p costs given named → WasAsked a m before x answers named
+was_asked a m before p costs x answers given named same is again on asked answered lines =
+    let whole : costs ≡ problem_costs a.problem x = is ∙ ap (λ (q : ProblemValue). problem_costs q x) same in
+    record {
+      on = on;
+      asked = subst (λ (vs : List ℤ). AreAsked (reforms_of before) vs answers) whole asked;
+      answered = subst (λ (vs : List ℤ). AreAnswers m.problem m.lines vs answers) whole answered;
+      lines = subst (λ (q : ProblemValue). AreNamed q (problem_costs a.problem x) answers named) same
+          (subst (λ (vs : List ℤ). AreNamed p vs answers named) whole
+          (subst (λ (bs : List Bound). AreNamed p costs bs named) again lines));
+    }
+
+pub tight_below : (i : InstanceValue) (p : ProblemValue) (y x : List Bool) → IsTightened i p y x →
+    IsBelow (problem_costs p x) (problem_costs p y)
+tight_below i p y x tight =
+    subst (λ (v : List ℤ). IsBelow (problem_costs p x) v) (costs_kept p y tight.problem) tight.below
 
 -- What is named covers the costs, and none of its literals are opposite: the taken assignment makes them true.
 pub named_serve : (a m : Snapshot) (s : StateValue) (before : List ObjectiveBound) (y x : List Bool)
@@ -80,8 +100,8 @@ named_serve a m s before y x answers named reached takable fit below was =
       named_answers_at m.problem m.lines x answers named
           (all_possible a s reached before x y answers fit is.rows hold below count was.asked)
           (subst (λ (q : ProblemValue). AreAnswers m.problem m.lines (problem_costs q x) answers) (sym same) was.answered)
-          (subst (λ (q : ProblemValue). AreNamed q (problem_costs q x) answers named) (sym same) was.named),
-      subst AreAlike (sym (named_literals a.problem (problem_costs a.problem x) answers named was.named))
+          (subst (λ (q : ProblemValue). AreNamed q (problem_costs q x) answers named) (sym same) was.lines),
+      subst AreAlike (sym (named_literals a.problem (problem_costs a.problem x) answers named was.lines))
           (all_alike a s reached before x y answers fit is.rows hold below count was.asked),
     )
 
@@ -117,8 +137,7 @@ pub is_taken : (a m b : Snapshot) (s : StateValue) (before asked : List Objectiv
     IsTightened i a.problem y x → IsGood a before old → IsLoggedAfter a m b asked x answers → IsTaken a b y
 is_taken a m b s before asked old i y x answers reached takable tight good log =
     let p = a.problem in
-    let below : IsBelow (problem_costs p x) (problem_costs p y) =
-    subst (λ (v : List ℤ). IsBelow (problem_costs p x) v) (costs_kept p y tight.problem) tight.below in
+    let below : IsBelow (problem_costs p x) (problem_costs p y) = tight_below i p y x tight in
     let last : Logs p m.lines b.lines (problem_costs p x) =
     subst (λ (q : ProblemValue). Logs q m.lines b.lines (problem_costs q x)) log.on.problem
     (logs_model m b x answers log.logs) in
