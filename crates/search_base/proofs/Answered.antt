@@ -1,8 +1,7 @@
 -- What the answers for the costs of a model say, row by row.
-use Rattle.std.proofs.Common.{◌≡◌, ◌⊎◌, ⊎_elim, inl, inr, ℕ, suc, ◌+◌, ◌-◌, ◌<◌, ◌≤◌, Bool, true, false, List, [], ◌∷◌, ◌++◌, length, get_or, refl, sym, ap, ◌∙◌, subst, arith, ℤ, pos, ◌+ℤ◌, ◌≤ℤ◌, cond, sum_by, if◌then◌else◌, ◌&&◌, ◌==◌}
+use Rattle.std.proofs.Common.{◌≡◌, inl, inr, ℕ, suc, ◌<◌, ◌≤◌, Bool, true, false, List, [], ◌∷◌, ◌++◌, length, get_or, refl, sym, ap, ◌∙◌, subst, arith, ℤ, pos, ◌+ℤ◌, ◌≤ℤ◌, sum_by, if◌then◌else◌, ◌&&◌, ◌==◌}
 use Rattle.std.proofs.Math.Bool.{beq}
-use Rattle.std.specs.List.{AllZip, Contains, list_any}
-use Rattle.std.proofs.lemmas.Bool.{false_from_ne_true}
+use Rattle.std.specs.List.{AllZip, Contains}
 use Rattle.std.proofs.lemmas.Int.{ints}
 use Rattle.std.proofs.lemmas.List.{get_or-map, length-map}
 use Rattle.std.proofs.lemmas.List.Sums.{sum_by-le-sum_by}
@@ -19,7 +18,7 @@ use Rattle.proof_laws.specs.Replay.{IsReplay}
 use Rattle.proof_laws.specs.declared.line.Line.{Line}
 use Rattle.totalizer.specs.declared.bound.Bound.{Bound}
 use Rattle.totalizer.specs.declared.bound.Bound.TheVariants.{Always, Never, At}
-use Rattle.search_base.specs.CostBounds.{IsAlwaysOver, IsCostBound, IsOverAt, LineCovers}
+use Rattle.search_base.specs.CostBounds.{IsAlwaysOver, IsCostBound, IsOverAt}
 use Rattle.search_base.specs.Cutting.{AreAnswers, AreAnswersAt, AreNamed, AreThese, IsAlwaysAt, IsAnswerAt, IsNamed, answered_literal, answered_literals}
 use Rattle.search_base.proofs.Restricting.{nothing_covers}
 

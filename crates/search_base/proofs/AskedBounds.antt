@@ -1,10 +1,9 @@
 -- The bounds of all objectives after one was asked.
-use Rattle.std.proofs.Common.{◌≡◌, ◌≢◌, ◌⊎◌, inl, inr, ⊎_elim, ℕ, zero, suc, ◌+◌, ◌-◌, ◌<◌, ◌≤◌, List, [], ◌∷◌, length, map, get_or, ap, refl, sym, subst, ◌∙◌, arith, ℤ, pos, ◌+ℤ◌}
-use Rattle.std.proofs.Math.ListN.{set, length-set}
+use Rattle.std.proofs.Common.{◌≡◌, inl, inr, ℕ, zero, suc, ◌-◌, ◌<◌, List, [], ◌∷◌, length, get_or, ap, sym, subst, ◌∙◌, arith, ℤ, pos}
+use Rattle.std.proofs.Math.ListN.{set}
 use Rattle.std.specs.List.{All, AllZip}
-use Rattle.std.proofs.lemmas.List.{get_or_default, get_or-map, get_or-set_other, length-map}
+use Rattle.std.proofs.lemmas.List.{get_or-set_other}
 use Rattle.std.proofs.lemmas.List.Elements.{All-cons, All-head, All-nil, All-tail}
-use Rattle.scut_base.specs.Literal.{Literal}
 use Rattle.pb_lin.specs.Constraint.{IsVariable}
 use Rattle.pb_lin.specs.CostRow.{CostRowValue}
 use Rattle.pb_lin.specs.Problem.{ProblemValue}
@@ -12,15 +11,13 @@ use Rattle.cutting_planes.proofs.Terms.{Terms}
 use Rattle.proof_laws.specs.State.{StateValue}
 use Rattle.proof_rules.specs.Recording.{Snapshot}
 use Rattle.sum_outputs.specs.Adding.{Continues, IsReached}
-use Rattle.sum_outputs.specs.declared.node.Node.{Node}
-use Rattle.totalizer.specs.Demanding.{IsThere, MakesDemanded}
 use Rattle.totalizer.specs.Keeping.{FittingStays, OwnLinesStay, ReformStays}
-use Rattle.totalizer.specs.Totalizing.{root_terms, terms_of}
+use Rattle.totalizer.specs.Totalizing.{terms_of}
 use Rattle.totalizer.specs.declared.bound.Bound.{Bound}
 use Rattle.totalizer.specs.declared.bound.Bound.TheVariants.{Always, Never, At}
 use Rattle.totalizer.specs.declared.reform.Reform.{Reform}
 use Rattle.totalizer.proofs.Roots.{root_is, some_nodes}
-use Rattle.search_base.specs.CostBounds.{AddsBound, AreMadeOutside, BoundsRow, FitBounds, HasLiteral, IsOutside, KeepsOthers, reforms_of}
+use Rattle.search_base.specs.CostBounds.{AddsBound, AreMadeOutside, BoundsRow, FitBounds, HasLiteral, KeepsOthers, reforms_of}
 use Rattle.search_base.specs.OneBound.{HasOwnLiteral, KeepsRow}
 use Rattle.search_base.specs.declared.objective_bound.ObjectiveBound.{ObjectiveBound}
 use Rattle.search_base.proofs.AskedRows.{asked_outside}

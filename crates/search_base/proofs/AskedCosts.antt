@@ -1,9 +1,8 @@
 -- What is answered for an objective's cost, by what a totalizer answers for its reform's terms.
-use Rattle.std.proofs.Common.{◌≡◌, ◌⊎◌, inl, inr, ⊎_elim, ℕ, ◌+◌, ◌-◌, ◌<◌, ◌≤◌, Bool, true, List, [], ◌∷◌, length, ap, refl, sym, subst, ◌∙◌, arith, ℤ, pos, ◌+ℤ◌, ◌-ℤ◌, ◌≤ℤ◌, ◌<ℤ◌}
+use Rattle.std.proofs.Common.{◌≡◌, inl, inr, ⊎_elim, ℕ, ◌-◌, ◌<◌, ◌≤◌, [], ◌∷◌, length, ap, refl, sym, subst, ◌∙◌, arith, ℤ, pos, ◌+ℤ◌, ◌-ℤ◌, ◌≤ℤ◌, ◌<ℤ◌}
 use Rattle.std.specs.List.{All}
 use Rattle.std.proofs.lemmas.Int.{ints}
 use Rattle.scut_base.specs.Literal.{Literal}
-use Rattle.scut_base.specs.Assignment.{lit_true}
 use Rattle.pb_lin.specs.Constraint.{Holds, total, value}
 use Rattle.pb_lin.specs.CostRow.{CostRowValue, row_cost}
 use Rattle.pb_lin.specs.Problem.{ProblemValue}
@@ -12,17 +11,14 @@ use Rattle.proof_laws.specs.State.{StateValue, IsState}
 use Rattle.proof_laws.proofs.Replays.{replay_once}
 use Rattle.proof_rules.specs.Recording.{Snapshot}
 use Rattle.sum_outputs.specs.Adding.{Continues, IsLater, IsReached, KeptHold}
-use Rattle.sum_outputs.specs.Totals.{definitions}
 use Rattle.sum_outputs.proofs.Glue.{value-le-total}
-use Rattle.totalizer.specs.Demanding.{AddsDemanded, AddsFor, IsAnswered, IsThere, MakesDemanded}
+use Rattle.totalizer.specs.Demanding.{AddsFor, IsAnswered, IsThere, MakesDemanded}
 use Rattle.totalizer.specs.Keeping.{FittingStays, OwnLinesStay, ReformStays}
 use Rattle.totalizer.specs.Meaning.{AreTruthsWith, IsBound, IsBoundAt, IsDefinedFor}
-use Rattle.totalizer.specs.Reforming.{IsReformOf}
 use Rattle.totalizer.specs.Totalizing.{TotalizerValue, Fits, terms_of}
-use Rattle.totalizer.specs.declared.bound.Bound.{Bound}
 use Rattle.totalizer.specs.declared.bound.Bound.TheVariants.{Always, Never, At}
 use Rattle.totalizer.specs.declared.reform.Reform.{Reform}
-use Rattle.search_base.specs.CostBounds.{AddsBound, AddsCost, BoundsRow, IsAlwaysOver, IsAnswerFor, IsCostBound, IsKnownAt, IsNeverOver, IsOverAt, LineCovers, StandsFor}
+use Rattle.search_base.specs.CostBounds.{AddsBound, BoundsRow, IsAnswerFor, IsCostBound, LineCovers, StandsFor}
 use Rattle.search_base.specs.OneBound.{HasOwnLiteral, IsCoveredAt, IsOutputAt, KeepsBut, MakesCover}
 use Rattle.search_base.specs.declared.objective_bound.ObjectiveBound.{ObjectiveBound}
 use Rattle.search_base.proofs.AskedRows.{row_asked}

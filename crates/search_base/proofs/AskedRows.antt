@@ -1,5 +1,5 @@
 -- The bounds of an objective after its totalizer was asked, and after a line was made for an output.
-use Rattle.std.proofs.Common.{◌≡◌, ◌≢◌, ◌⊎◌, inl, inr, ⊎_elim, ℕ, ◌+◌, ◌-◌, ◌<◌, ◌≤◌, ◌==◌, Bool, false, List, [], ◌∷◌, ◌++◌, length, take, drop, get_or, ap, refl, sym, subst, ◌∙◌, arith, ℤ, pos, ◌+ℤ◌}
+use Rattle.std.proofs.Common.{◌≡◌, ◌⊎◌, inl, inr, ⊎_elim, ℕ, ◌+◌, ◌-◌, ◌<◌, ◌≤◌, false, List, [], ◌∷◌, length, take, drop, get_or, ap, sym, subst, ◌∙◌, arith, pos, ◌+ℤ◌}
 use Rattle.std.specs.List.{All, AllPairs, Contains, insert}
 use Rattle.std.proofs.lemmas.Bool.{cases_lt, cases_order}
 use Rattle.std.proofs.lemmas.List.{get_or_past}
@@ -8,8 +8,7 @@ use Rattle.std.proofs.lemmas.List.Edits.{get_or-insert_above, get_or-insert_at, 
 use Rattle.scut_base.specs.Literal.{Literal}
 use Rattle.scut_base.proofs.Lists.{Contains-head, Contains-nil}
 use Rattle.pb_lin.specs.CostRow.{CostRowValue}
-use Rattle.pb_lin.specs.Constraint.{IsVariable, total}
-use Rattle.pb_lin.specs.Problem.{ProblemValue}
+use Rattle.pb_lin.specs.Constraint.{IsVariable}
 use Rattle.cutting_planes.proofs.Terms.{Terms}
 use Rattle.proof_laws.specs.State.{StateValue}
 use Rattle.proof_rules.specs.Recording.{Snapshot}

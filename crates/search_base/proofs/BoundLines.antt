@@ -1,20 +1,18 @@
 -- Lines that say of an objective what an output says of its reform's terms.
-use Rattle.std.proofs.Common.{◌≡◌, ◌≢◌, ◌⊎◌, inl, inr, ℕ, ◌+◌, ◌-◌, ◌*◌, ◌<◌, ◌≤◌, ◌==◌, ◌^◌, Bool, true, false, not, if◌then◌else◌, Option, Some, List, [], ◌∷◌, ◌++◌, length, sum_by, refl, ap, sym, subst, ◌∙◌, arith, ℤ, pos, negsuc, ◌+ℤ◌, ◌-ℤ◌, ◌≤ℤ◌, ◌<ℤ◌}
+use Rattle.std.proofs.Common.{◌≡◌, ◌⊎◌, inl, inr, ℕ, ◌+◌, ◌*◌, ◌<◌, ◌≤◌, ◌==◌, ◌^◌, Bool, true, false, not, if◌then◌else◌, Some, List, [], ◌∷◌, length, sum_by, refl, ap, sym, subst, ◌∙◌, arith, ℤ, pos, negsuc, ◌+ℤ◌, ◌-ℤ◌, ◌≤ℤ◌, ◌<ℤ◌}
 use Rattle.std.specs.Prelude.{unsigned_abs}
 use Rattle.std.specs.FinMap.{get}
-use Rattle.std.specs.List.{All}
-use Rattle.std.proofs.lemmas.Bool.{cond-true, cond-false, eqb-true}
+use Rattle.std.proofs.lemmas.Bool.{cond-true}
 use Rattle.std.proofs.lemmas.Int.{ints}
 use Rattle.std.proofs.lemmas.List.Elements.{All-nil}
 use Rattle.std.proofs.lemmas.List.Sorted.{sum_by-IsPermutation}
 use Rattle.std.proofs.lemmas.List.Sums.{sum_by-cons, sum_by-append}
 use Rattle.scut_base.specs.Literal.{Literal}
 use Rattle.scut_base.specs.Assignment.{lit_true, value_of}
-use Rattle.pb_lin.specs.Constraint.{ConstraintValue, Covers, IsNormal, size, term_value, total, value}
-use Rattle.pb_lin.specs.CostRow.{CostRowValue, IsCostRow, row_cost}
-use Rattle.pb_lin.specs.LineMap.{LineMap}
+use Rattle.pb_lin.specs.Constraint.{ConstraintValue, IsNormal, size, term_value, total, value}
+use Rattle.pb_lin.specs.CostRow.{CostRowValue, IsCostRow}
 use Rattle.pb_lin.specs.Problem.{ProblemValue}
-use Rattle.pb_lin.specs.Restriction.{met_value, restriction}
+use Rattle.pb_lin.specs.Restriction.{met_value}
 use Rattle.cutting_planes.specs.Rules.{IsSum}
 use Rattle.cutting_planes.proofs.Terms.{Terms}
 use Rattle.proof_laws.specs.State.{StateValue, IsState}
@@ -23,7 +21,7 @@ use Rattle.proof_laws.specs.Refusal.{line_or_none}
 use Rattle.proof_laws.proofs.Semantics.{AreWithin}
 use Rattle.sum_outputs.specs.Outputs.{IsInOrder}
 use Rattle.sum_outputs.specs.Totals.{AreWeights}
-use Rattle.sum_outputs.proofs.Glue.{AreApart, all_true, apart_from_rising, bound, bound_within, none_true, value-le-total, within_more}
+use Rattle.sum_outputs.proofs.Glue.{all_true, apart_from_rising, bound, bound_within, none_true, value-le-total, within_more}
 use Rattle.totalizer.specs.Meaning.{AreTruthsWith, IsDefinedFor, IsOutput}
 use Rattle.totalizer.specs.Reforming.{IsLowerLine}
 use Rattle.search_base.specs.CostBounds.{AreApartWithin, CoversCost}

@@ -2,7 +2,7 @@
 use lib.Signed.{lt_z}
 use mir.Val.{SFits}
 use mir.Syntax.{w64}
-use Rattle.std.proofs.Common.{◌≡◌, ◌≢◌, ⊎_elim, false, ℕ, zero, suc, ◌-◌, ◌<◌, ◌≤◌, ◌^◌, List, [], ◌∷◌, length, map, get_or, ap, refl, sym, subst, ◌∙◌, arith, ℤ, pos, negsuc, ◌<ℤ◌}
+use Rattle.std.proofs.Common.{◌≡◌, ⊎_elim, false, ℕ, zero, suc, ◌-◌, ◌<◌, ◌≤◌, ◌^◌, List, [], ◌∷◌, length, get_or, ap, refl, sym, subst, ◌∙◌, arith, ℤ, pos, negsuc, ◌<ℤ◌}
 use Rattle.std.proofs.Math.ListN.{set}
 use Rattle.std.specs.List.{All, AllPairs, AllZip, Contains}
 use Rattle.std.proofs.lemmas.Bool.{cases_lt}
@@ -21,12 +21,11 @@ use Rattle.sum_outputs.specs.Tree.{IsTree}
 use Rattle.sum_outputs.specs.Adding.{IsReached, IsReady}
 use Rattle.sum_outputs.specs.declared.node.Node.{Node}
 use Rattle.sum_outputs.specs.declared.sum_output.SumOutput.{SumOutput}
-use Rattle.totalizer.specs.Demanding.{IsThere}
 use Rattle.totalizer.specs.Keeping.{FittingStays, KeepsOwn, OwnLinesStay, ReformStays}
 use Rattle.totalizer.specs.Reforming.{IsReformOf}
 use Rattle.totalizer.specs.Totalizing.{TotalizerValue, Fits, first_outputs, root_terms, terms_of}
 use Rattle.totalizer.specs.declared.reform.Reform.{Reform}
-use Rattle.search_base.specs.CostBounds.{AreMadeOutside, AreReforms, BoundsRow, FitBounds, FitSome, IsCover, IsOutside, StandsFor, reforms_of}
+use Rattle.search_base.specs.CostBounds.{AreMadeOutside, AreReforms, BoundsRow, FitBounds, FitSome, IsCover, StandsFor, reforms_of}
 use Rattle.search_base.specs.OneBound.{IsNewBound}
 use Rattle.search_base.specs.declared.objective_bound.Cover.{Cover}
 use Rattle.search_base.specs.declared.objective_bound.ObjectiveBound.{ObjectiveBound}

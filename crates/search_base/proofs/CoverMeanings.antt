@@ -1,15 +1,11 @@
 -- What the lines for outputs say of an objective.
-use Rattle.std.proofs.Common.{◌≡◌, ◌≢◌, ◌⊎◌, inl, inr, ⊎_elim, ℕ, ◌+◌, ◌-◌, ◌<◌, ◌≤◌, ◌==◌, ◌^◌, Bool, true, false, Option, Some, List, [], ◌∷◌, length, ap, sym, subst, ◌∙◌, arith, ℤ, pos, ◌+ℤ◌, ◌≤ℤ◌}
+use Rattle.std.proofs.Common.{◌≡◌, ◌≢◌, ◌⊎◌, inl, inr, ⊎_elim, ℕ, ◌+◌, ◌-◌, ◌<◌, ◌≤◌, ◌==◌, ◌^◌, false, Option, Some, List, [], ◌∷◌, length, ap, sym, subst, ◌∙◌, arith, ℤ, pos, ◌+ℤ◌, ◌≤ℤ◌}
 use Rattle.std.specs.FinMap.{get}
-use Rattle.std.specs.List.{All, Contains}
 use Rattle.std.proofs.lemmas.Bool.{cond-false, ne_eqb}
 use Rattle.std.proofs.lemmas.Int.{ints}
-use Rattle.std.proofs.lemmas.List.Elements.{All-contains}
 use Rattle.scut_base.specs.Literal.{Literal}
-use Rattle.pb_lin.specs.Constraint.{ConstraintValue, Covers, IsNormal, size, total}
+use Rattle.pb_lin.specs.Constraint.{ConstraintValue, size}
 use Rattle.pb_lin.specs.CostRow.{CostRowValue}
-use Rattle.pb_lin.specs.Restriction.{met_value, restriction}
-use Rattle.cutting_planes.specs.Rules.{IsSum}
 use Rattle.cutting_planes.proofs.Terms.{Terms}
 use Rattle.proof_laws.specs.State.{StateValue, IsState}
 use Rattle.proof_laws.specs.Steps.{reached_if}
@@ -25,7 +21,7 @@ use Rattle.search_base.specs.CostBounds.{BoundsRow, CoversCost, IsCover, LineCov
 use Rattle.search_base.specs.OneBound.{IsCoveredAt, IsOutputAt, IsSumFor}
 use Rattle.search_base.specs.declared.objective_bound.Cover.{Cover}
 use Rattle.search_base.specs.declared.objective_bound.ObjectiveBound.{ObjectiveBound}
-use Rattle.search_base.proofs.BoundLines.{ReachesAt, gap, gap_is, leaf_reaches, lower_size, named_normal, output_cases, output_reaches, output_size, reaches_covers, sum_reaches}
+use Rattle.search_base.proofs.BoundLines.{gap, gap_is, leaf_reaches, lower_size, named_normal, output_cases, output_reaches, output_size, reaches_covers, sum_reaches}
 
 value_at : (k n g : ℕ) (low high : ℤ) → high ≡ pos g +ℤ low → k ≤ n → (pos k +ℤ high) ≤ℤ (pos (g + n) +ℤ low)
 value_at k n g low high is le = omega (arith, ints)

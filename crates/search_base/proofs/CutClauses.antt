@@ -1,5 +1,5 @@
 -- Where the clause of a cut holds, no logged vector of its model is below the costs.
-use Rattle.std.proofs.Common.{◌≡◌, ℕ, ◌≤◌, Bool, true, false, not, cond, List, [], ◌∷◌, map, refl, ap, ◌∙◌, subst, arith, ℤ, pos, ◌+ℤ◌, ◌≤ℤ◌, Some}
+use Rattle.std.proofs.Common.{◌≡◌, ℕ, Bool, true, false, not, cond, List, [], ◌∷◌, map, refl, ap, ◌∙◌, subst, arith, ℤ, ◌≤ℤ◌, Some}
 use Rattle.std.specs.Prelude.{int_lt, ◌==◌, ◌&&◌}
 use Rattle.std.specs.FinMap.{get, insert, get-insert}
 use Rattle.std.specs.Ordering.{nat_cmp, eq_by_cmp}

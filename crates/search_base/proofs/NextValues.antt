@@ -2,12 +2,11 @@
 use lib.IntN.{nat_abs}
 use mir.Val.{SFits, of_z, to_z}
 use mir.Syntax.{w64, w128}
-use Rattle.std.proofs.Common.{◌≡◌, ℕ, Option, Some, Result, Ok, Err, ◌+◌, ◌<◌, ◌≤◌, ◌^◌, List, refl, sym, subst, ◌∙◌, arith, ℤ, pos, ◌+ℤ◌, ◌-ℤ◌, ◌≤ℤ◌, ◌<ℤ◌}
+use Rattle.std.proofs.Common.{◌≡◌, ℕ, Option, Some, Result, Ok, Err, ◌<◌, ◌^◌, sym, subst, ◌∙◌, arith, ℤ, pos, ◌+ℤ◌, ◌-ℤ◌, ◌<ℤ◌}
 use Rattle.std.specs.Prelude.{IfSome, OkIff}
 use Rattle.std.specs.Int.{FitsUnsigned}
 use Rattle.std.specs.Result.{result_ok}
 use Rattle.std.proofs.lemmas.Int.{ints}
-use Rattle.pb_lin.specs.Constraint.{total}
 use Rattle.sum_outputs.specs.Totals.{AreWeights, IsLeastSum}
 use Rattle.sum_outputs.proofs.Glue.{bound, bound_within, none_true, value-le-total}
 use Rattle.totalizer.specs.declared.reform.Reform.{Reform}

@@ -1,25 +1,23 @@
 -- Bounds of an objective, and what they answered, mean the same after later lines.
-use Rattle.std.proofs.Common.{◌≡◌, ◌⊎◌, inl, inr, ℕ, ◌<◌, ◌≤◌, ◌==◌, Bool, true, if◌then◌else◌, Option, Some, List, [], ap, sym, subst, ◌∙◌, arith, ℤ, pos, ◌+ℤ◌, ◌≤ℤ◌}
-use Rattle.std.specs.FinMap.{get}
+use Rattle.std.proofs.Common.{◌≡◌, inl, inr, ℕ, ◌==◌, Bool, if◌then◌else◌, Option, Some, List, [], ap, sym, subst, ◌∙◌, arith, ℤ, pos, ◌+ℤ◌}
 use Rattle.std.specs.List.{All}
 use Rattle.std.proofs.lemmas.List.Elements.{All-weaker}
 use Rattle.scut_base.specs.Literal.{Literal}
-use Rattle.scut_base.specs.Assignment.{lit_true}
-use Rattle.pb_lin.specs.Constraint.{ConstraintValue, Holds}
-use Rattle.pb_lin.specs.CostRow.{CostRowValue, row_cost}
+use Rattle.pb_lin.specs.Constraint.{ConstraintValue}
+use Rattle.pb_lin.specs.CostRow.{CostRowValue}
 use Rattle.pb_lin.specs.Problem.{ProblemValue}
 use Rattle.proof_laws.specs.State.{StateValue}
 use Rattle.proof_laws.specs.Refusal.{line_or_none}
 use Rattle.proof_laws.specs.Replay.{IsReplay}
 use Rattle.proof_laws.specs.declared.line.Line.{Line}
 use Rattle.proof_rules.specs.Recording.{Snapshot}
-use Rattle.sum_outputs.specs.Adding.{IsLater, IsOwn, IsReached, KeptHold}
+use Rattle.sum_outputs.specs.Adding.{IsLater, IsReached, KeptHold}
 use Rattle.totalizer.specs.Keeping.{FittingStays, KeepsOwn, OwnLinesStay, ReformStays}
 use Rattle.totalizer.specs.Meaning.{IsOwnOrNone}
 use Rattle.totalizer.specs.Reforming.{IsReformOf}
 use Rattle.totalizer.specs.declared.bound.Bound.{Bound}
 use Rattle.totalizer.specs.declared.bound.Bound.TheVariants.{Always, Never, At}
-use Rattle.search_base.specs.CostBounds.{BoundsRow, IsAlwaysOver, IsCostBound, IsCover, IsNeverOver, IsOverAt, LineCovers}
+use Rattle.search_base.specs.CostBounds.{BoundsRow, IsAlwaysOver, IsCostBound, IsCover, IsOverAt, LineCovers}
 use Rattle.search_base.specs.declared.objective_bound.Cover.{Cover}
 use Rattle.search_base.specs.declared.objective_bound.ObjectiveBound.{ObjectiveBound}
 

@@ -1,5 +1,5 @@
 -- The line that logs a model is legal.
-use Rattle.std.proofs.Common.{◌≡◌, ◌⊎◌, inl, inr, ℕ, ◌+◌, ◌-◌, ◌<◌, ◌≤◌, ◌^◌, Bool, false, Option, None, Some, List, [], ◌∷◌, map, sum_by, refl, sym, ap, ◌∙◌, subst, arith}
+use Rattle.std.proofs.Common.{◌≡◌, ◌⊎◌, inl, inr, ℕ, ◌+◌, ◌<◌, ◌≤◌, ◌^◌, Bool, false, Option, None, Some, List, [], ◌∷◌, map, refl, sym, ap, ◌∙◌, subst, arith}
 use Rattle.std.specs.Prelude.{nat_lt, option_map, MatchOption}
 use Rattle.std.specs.List.{All, AllZip, Contains, position_from}
 use Rattle.std.proofs.lemmas.Bool.{cond-false, le-ltb}
@@ -9,10 +9,9 @@ use Rattle.scut_base.proofs.Lists.{Contains-from_map, Contains-map, Contains-hea
 use Rattle.pb_lin.specs.Constraint.{ConstraintValue, Holds, IsVariable, opposite, value}
 use Rattle.pb_lin.specs.CostRow.{CostRowValue}
 use Rattle.pb_lin.specs.Problem.{ProblemValue, IsProblem, IsProblemModel}
-use Rattle.pb_lin.specs.Restriction.{met_value}
 use Rattle.proof_laws.specs.State.{StateValue, IsState}
 use Rattle.proof_laws.specs.Legal.{IsLegal, IsRefused}
-use Rattle.proof_laws.specs.Refusal.{IsCutFault, IsSolFault, Bounds, assignment_of, broken_row, line_or_none, misplaced, range_fault}
+use Rattle.proof_laws.specs.Refusal.{IsCutFault, IsSolFault, Bounds, assignment_of, broken_row, misplaced, range_fault}
 use Rattle.proof_laws.specs.Replay.{IsReplay}
 use Rattle.proof_laws.specs.WellFormed.{IsWellFormed, IsId, IsVariable as IsLogVariable}
 use Rattle.proof_laws.specs.declared.line.Line.{Line}

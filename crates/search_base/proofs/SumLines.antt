@@ -4,7 +4,6 @@ use Rattle.std.specs.Prelude.{◌^◌, nat_lt, MatchOption}
 use Rattle.std.specs.FinMap.{get, insert, get-insert}
 use Rattle.std.specs.Cmp.{nat_cmp_total, unsigned_tied}
 use Rattle.std.specs.Ordering.{nat_cmp, eq_by_cmp}
-use Rattle.std.specs.List.{All, flat_map}
 use Rattle.std.proofs.lemmas.Bool.{cond-false, cond-true, eq-eqb, le-ltb}
 use Rattle.std.proofs.lemmas.List.Elements.{All-nil, All-cons}
 use Rattle.pb_lin.specs.Constraint.{ConstraintValue, size}
@@ -21,13 +20,12 @@ use Rattle.cutting_planes.proofs.OneValue.{at_most_one}
 use Rattle.proof_laws.specs.State.{StateValue, IsState}
 use Rattle.proof_laws.specs.Steps.{with_line}
 use Rattle.proof_laws.specs.WellFormed.{IsToken, IsWellFormed}
-use Rattle.proof_laws.specs.Refusal.{given_in, range_fault, fault_unless, token_variables, FirstOf, IsPolFault}
+use Rattle.proof_laws.specs.Refusal.{given_in, fault_unless, FirstOf, IsPolFault}
 use Rattle.proof_laws.specs.Legal.{IsLegal, IsNext, IsRefused}
 use Rattle.proof_laws.specs.Replay.{IsReplay}
 use Rattle.proof_laws.specs.Earned.{IsLearnedId}
 use Rattle.proof_laws.specs.declared.line.Line.{Line}
 use Rattle.proof_laws.specs.declared.line.Line.TheVariants.{Pol}
-use Rattle.proof_laws.specs.declared.why.Why.{Why}
 use Rattle.proof_laws.specs.declared.why.Why.TheVariants.{AfterEnd, LogLong}
 use Rattle.proof_laws.proofs.NormalForms.{sum_exists}
 use Rattle.proof_laws.proofs.Replays.{replay_before, replay_once}

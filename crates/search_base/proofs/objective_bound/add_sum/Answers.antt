@@ -3,7 +3,6 @@ use Rattle.std.proofs.Common.{◌≡◌, ◌++◌, ◌∷◌, [], List, sym, sub
 use Rattle.std.proofs.lemmas.Result.{on_ok_weaker}
 use Rattle.cutting_planes.specs.declared.token.PolToken.{PolToken}
 use Rattle.proof_laws.specs.WellFormed.{IsWellFormed}
-use Rattle.proof_laws.specs.declared.line.Line.{Line}
 use Rattle.proof_laws.specs.declared.line.Line.TheVariants.{Pol}
 use Rattle.proof_rules.specs.Recording.{MayBeAdded, IsNextId}
 use Rattle.sum_outputs.specs.Totals.{definitions}

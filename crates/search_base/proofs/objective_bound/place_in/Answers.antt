@@ -1,5 +1,5 @@
 -- The place is by binary search; where the cover there is of another variable, none has this one.
-use Rattle.std.proofs.Common.{◌≡◌, ◌<◌, length, ltb, rules, ap, ◌∙◌, arith}
+use Rattle.std.proofs.Common.{ltb, rules, ap, ◌∙◌, arith}
 use Rattle.std.proofs.lemmas.List.{get_or_default}
 use Rattle.std.proofs.lemmas.List.Sorted.{IsPartitionPoint-from_clause, IsPartitionedBy-ltb}
 use Rattle.pb_lin.specs.Place.{IsPlace}

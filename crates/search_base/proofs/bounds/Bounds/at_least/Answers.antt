@@ -1,7 +1,6 @@
 -- The objective's own bounds are asked; the others stay as they are.
-use mir.Val.{of_z, to_z}
 use mir.Syntax.{w64}
-use Rattle.std.proofs.Common.{◌≡◌, ◌<◌, List, [], get_or, length, sym, subst, ap, ◌∙◌, arith, ℤ, pos}
+use Rattle.std.proofs.Common.{◌<◌, List, [], get_or, length, sym, subst, ◌∙◌, arith, ℤ, pos}
 use Rattle.std.proofs.Math.ListN.{set}
 use Rattle.std.proofs.lemmas.Int.{to_z-of_z}
 use Rattle.std.proofs.lemmas.List.{get_or_default, get_or-set_same}
@@ -9,7 +8,6 @@ use Rattle.std.specs.Prelude.{IfOk}
 use Rattle.std.proofs.lemmas.Result.{IfOk-weaker}
 use Rattle.std.proofs.lemmas.Slice.Zip.{AllZip-long}
 use Rattle.pb_lin.specs.CostRow.{CostRowValue}
-use Rattle.totalizer.specs.declared.bound.Bound.{Bound}
 use Rattle.search_base.specs.CostBounds.{AddsBound, BoundsRow, FitBounds, HasLiteral, IsAnswerFor, IsCostBound, KeepsOthers, reforms_of}
 use Rattle.search_base.specs.OneBound.{HasOwnLiteral, KeepsRow}
 use Rattle.search_base.specs.declared.objective_bound.ObjectiveBound.{ObjectiveBound}

@@ -1,5 +1,4 @@
-use Rattle.std.proofs.Common.{◌≡◌, ◌++◌, List}
-use Rattle.totalizer.specs.declared.reform.Reform.{Reform}
+use Rattle.std.proofs.Common.{◌≡◌, ◌++◌}
 use Rattle.search_base.proofs.BoundRows.{AreNew}
 use Rattle.search_base.proofs.bounds.Bounds.new.Given as goal
 

@@ -1,5 +1,5 @@
 use Rattle.search_base.proofs.BoundRows.{row_of_bound}
-use Rattle.std.proofs.Common.{◌≡◌, length, ap, sym, subst, arith}
+use Rattle.std.proofs.Common.{length, ap, sym, subst, arith}
 use Rattle.search_base.specs.CostBounds.{FitSome}
 use Rattle.search_base.proofs.bounds.Bounds.next_value.Goals as goal
 

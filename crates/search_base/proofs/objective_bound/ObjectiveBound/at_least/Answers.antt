@@ -1,17 +1,14 @@
 -- What is left of the value above the offset is asked of the totalizer, and its line is that for the objective.
 use mir.Val.{SFits, of_z, to_z}
 use mir.Syntax.{w64, w128}
-use Rattle.std.proofs.Common.{◌≡◌, ◌-ℤ◌, ap, refl, sym, subst, rules, arith, ℤ, ◌∙◌}
+use Rattle.std.proofs.Common.{◌≡◌, ◌-ℤ◌, subst, rules, arith, ℤ}
 use Rattle.std.proofs.lemmas.Int.{ints}
-use Rattle.proof_laws.specs.State.{StateValue, IsState}
-use Rattle.sum_outputs.specs.Adding.{IsReached}
 use Rattle.sum_outputs.proofs.LaterStates.{continues_twice, handed_err, ready_later, recorded_ok}
 use Rattle.totalizer.specs.Demanding.{AddsFor}
 use Rattle.totalizer.specs.Meaning.{IsBound}
-use Rattle.totalizer.specs.Totalizing.{TotalizerValue, terms_of}
-use Rattle.totalizer.specs.declared.bound.Bound.{Bound}
+use Rattle.totalizer.specs.Totalizing.{terms_of}
 use Rattle.totalizer.specs.declared.bound.Bound.TheVariants.{Always, Never, At}
-use Rattle.search_base.specs.CostBounds.{BoundsRow, IsCostBound}
+use Rattle.search_base.specs.CostBounds.{BoundsRow}
 use Rattle.search_base.specs.OneBound.{IsOutputAt}
 use Rattle.search_base.specs.declared.objective_bound.ObjectiveBound.{ObjectiveBound}
 use Rattle.search_base.proofs.AskedCosts.{adds_cost, always_answer, always_over, asked_output, asked_row, at_answer, never_answer, never_over, over_at, own_literal, same_row, states_of, value_is}

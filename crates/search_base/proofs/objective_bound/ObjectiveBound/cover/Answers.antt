@@ -1,9 +1,9 @@
 -- The line is that of the output, that of the reform, one that was made before, or a new one.
-use Rattle.std.proofs.Common.{◌≡◌, ◌≢◌, ℕ, ◌<◌, List, length, refl, sym, subst}
+use Rattle.std.proofs.Common.{ℕ, List, refl, subst}
 use Rattle.std.specs.List.{Contains}
 use Rattle.std.proofs.lemmas.List.Elements.{All-contains}
 use Rattle.std.proofs.lemmas.Result.{on_ok_weaker}
-use Rattle.proof_laws.specs.State.{StateValue, IsState}
+use Rattle.proof_laws.specs.State.{IsState}
 use Rattle.proof_laws.proofs.Replays.{replay_once}
 use Rattle.sum_outputs.proofs.LaterStates.{continues_again, recorded_ok}
 use Rattle.search_base.specs.CostBounds.{IsCover}

@@ -1,4 +1,4 @@
-use Rattle.std.proofs.Common.{◌≡◌, List, refl, subst, ℕ}
+use Rattle.std.proofs.Common.{List, refl, subst, ℕ}
 use Rattle.scut_base.specs.Literal.{Literal}
 use Rattle.proof_rules.specs.Recording.{Snapshot}
 use Rattle.totalizer.specs.Totalizing.{Fits, HasVariables, IsBuilt}

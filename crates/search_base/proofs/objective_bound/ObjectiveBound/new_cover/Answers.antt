@@ -1,5 +1,5 @@
 -- The sum of the line below the objective and that of the output is recorded, and kept in its place.
-use Rattle.std.proofs.Common.{◌≡◌, List, ℕ, refl, sym, subst, ap}
+use Rattle.std.proofs.Common.{◌≡◌, List, ℕ, refl, sym, subst}
 use Rattle.std.specs.List.{insert, Contains}
 use Rattle.search_base.specs.CostBounds.{IsCover}
 use Rattle.search_base.specs.OneBound.{IsPlaceFor}

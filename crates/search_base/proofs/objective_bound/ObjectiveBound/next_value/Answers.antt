@@ -2,7 +2,7 @@
 use lib.Signed.{lt_z}
 use mir.Val.{SFits, of_z, to_z}
 use mir.Syntax.{w64, w128}
-use Rattle.std.proofs.Common.{◌≡◌, true, ℕ, ◌<◌, ◌^◌, List, ap, sym, subst, ◌∙◌, rules, arith, ℤ, pos, ◌+ℤ◌, ◌-ℤ◌, ◌<ℤ◌}
+use Rattle.std.proofs.Common.{◌≡◌, true, ℕ, List, sym, subst, rules, arith, ℤ, pos, ◌+ℤ◌, ◌-ℤ◌, ◌<ℤ◌}
 use Rattle.std.proofs.lemmas.Int.{ints, to_z-of_z}
 use Rattle.scut_base.specs.Literal.{Literal}
 use Rattle.sum_outputs.specs.Totals.{IsLeastSum}
