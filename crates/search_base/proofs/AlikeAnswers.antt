@@ -77,7 +77,6 @@ same_signs false true false one other = cc
 same_signs false false true one other = cc
 same_signs false false false one other = refl
 
-
 -- ---- one assignment that makes all true
 
 module _ (a : Snapshot) (s : StateValue) (reached : IsReached a s) (bounds : List ObjectiveBound) (x y : List Bool)

@@ -159,8 +159,7 @@ module _ (own : OwnLinesStay) (fitting : FittingStays) (reforms : ReformStays) (
     adds_cost b q v line above kept makes =
         let demanded = added.2 in
         let made = demanded.makes in
-        let same : t ≡ q.totalizer = sym kept.totalizer in
-        (
+        let same : t ≡ q.totalizer = sym kept.totalizer in (
           added.0,
           value_is v k o.reform.offset added.0 above added.1,
           record {

@@ -168,7 +168,7 @@ module _ (own : OwnLinesStay) (fitting : FittingStays) (reforms : ReformStays) (
     once = λ l m n one other.
         let has = on.states s reached in
         asked_once a b s reached k o.totalizer t is.fits nodes makes is.once l m n
-            (some_node b has.state t m l fits has.reached one) one other;
+        (some_node b has.state t m l fits has.reached one) one other;
   }
 
 -- ---- one line more

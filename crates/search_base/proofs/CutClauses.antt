@@ -1,20 +1,16 @@
 -- Where the clause of a cut holds, no logged vector of its model is below the costs.
-use Rattle.std.proofs.Common.{◌≡◌, ℕ, Bool, true, false, not, cond, List, [], ◌∷◌, map, refl, ap, ◌∙◌, subst, arith, ℤ, ◌≤ℤ◌, Some}
+use Rattle.std.proofs.Common.{◌≡◌, ℕ, Bool, true, false, not, cond, List, [], ◌∷◌, map, refl, ap, subst, arith, ℤ, ◌≤ℤ◌}
 use Rattle.std.specs.Prelude.{int_lt, ◌==◌, ◌&&◌}
-use Rattle.std.specs.FinMap.{get, insert, get-insert}
-use Rattle.std.specs.Ordering.{nat_cmp, eq_by_cmp}
-use Rattle.std.specs.Cmp.{nat_cmp_total, unsigned_tied}
 use Rattle.std.specs.List.{All, AllZip, Contains, list_all}
-use Rattle.std.proofs.lemmas.Bool.{and_parts, cond-false, cond-true, eq-eqb, not-true}
+use Rattle.std.proofs.lemmas.Bool.{and_parts, cond-false, not-true}
 use Rattle.std.proofs.lemmas.Int.{ints}
 use Rattle.std.proofs.lemmas.List.Elements.{All-nil, All-cons, All-contains, All-contains_itself, All-map, All-weaker}
 use Rattle.scut_base.specs.Literal.{Literal}
 use Rattle.scut_base.specs.Assignment.{lit_true, value_of}
 use Rattle.scut_base.proofs.Lists.{Contains-from_map, sum_by_zero}
 use Rattle.front_set.specs.Vector.{IsBelow, is_below}
-use Rattle.pb_lin.specs.Constraint.{ConstraintValue, Holds, opposite, term_value, value}
+use Rattle.pb_lin.specs.Constraint.{Holds, opposite, term_value, value}
 use Rattle.pb_lin.specs.CostRow.{CostRowValue, row_cost}
-use Rattle.pb_lin.specs.LineMap.{LineMap}
 use Rattle.pb_lin.specs.Problem.{ProblemValue, problem_costs}
 use Rattle.proof_laws.specs.State.{StateValue}
 use Rattle.proof_laws.specs.Steps.{clause}
@@ -33,10 +29,6 @@ ones_tested (l ∷ lits) = ones_tested lits
 
 pub clause_tested : (lits : List Literal) → is_clause (clause lits) ≡ true
 clause_tested lits = ap (λ (b : Bool). b && true) (ones_tested lits)
-
-pub clause_put : (live : LineMap) (id : ℕ) (c : ConstraintValue) → get (insert live id c) id ≡ Some c
-clause_put live id c = get-insert nat_cmp_total live id c id
-    ∙ cond-true (eq_by_cmp nat_cmp id id) (Some c) (get live id) (unsigned_tied id id ∙ eq-eqb id id refl)
 
 -- a clause whose literals are all false doesn't hold
 clause_fails : (y : List Bool) (lits : List Literal) → All (λ l. lit_true y l ≡ false) lits → Holds y (clause lits) → ⊥

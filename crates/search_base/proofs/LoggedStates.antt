@@ -27,10 +27,11 @@ use Rattle.search_base.specs.Cutting.{AreAnswersAt, IsAnswerAt, IsCutOf, IsPut, 
 use Rattle.search_base.specs.Good.{GoesOn, IsGood}
 use Rattle.search_base.specs.declared.objective_bound.ObjectiveBound.{ObjectiveBound}
 use Rattle.search_base.proofs.BoundRows.{bounds_later}
-use Rattle.search_base.proofs.CutClauses.{clause_put, clause_tested, cut_fails}
+use Rattle.search_base.proofs.CutClauses.{clause_tested, cut_fails}
 use Rattle.search_base.proofs.LoggedVectors.{logged_append}
 use Rattle.search_base.proofs.ModelLiterals.{assignment_again}
 use Rattle.search_base.proofs.PutEntries.{put_board}
+use Rattle.search_base.proofs.SumLines.{put_live}
 use Rattle.search_base.proofs.TurnLines.{own_law}
 use Rattle.search_base.proofs.TurnStates.{ready_after}
 
@@ -69,7 +70,7 @@ module _ (p : ProblemValue) (lines : List Line) (s : StateValue) (x : List Bool)
       clause_holds t y after hold =
           let makes = (made_of t after).makes in
           let live : get t.live s.next_id ≡ Some (clause cut) = ap (λ (u : StateValue). get u.live s.next_id) makes
-          ∙ clause_put s.live s.next_id (clause cut) in
+          ∙ put_live s.live s.next_id (clause cut) in
           hold s.next_id (clause cut) (live, clause_tested cut, new_not_learned p lines line s reached refl)
 
       pub new_still : NewAfter p lines → NewAfter p (lines ++ line ∷ [])

@@ -32,21 +32,21 @@ pub named_more : (p : ProblemValue) (values : List ℤ) (answers named : List Bo
     IsNamed row value (answered_literals answers) answer new → AreNamedSoFar p values answers (named ++ new ∷ [])
 named_more p values answers named row value answer new are in_rows in_values in_answers row_is value_is answer_is is
     i r v b c short = elim (cases_lt i (length named)) [
-  | inl before ↦ subst (λ (d : Bound). IsNamed (get_or p.costs i r) (get_or values i v) (answered_literals answers)
-      (get_or answers i b) d) (sym (get_or_append_left named (new ∷ []) c i before)) (are i r v b c before)
-  | inr after ↦ (
-      let sizes = length-append named (new ∷ []) in
-      let at : length named ≡ i = omega arith in
-      let here : IsNamed (get_or p.costs (length named) r) (get_or values (length named) v) (answered_literals answers)
-      (get_or answers (length named) b) new =
-      subst (λ (q : CostRowValue). IsNamed q (get_or values (length named) v) (answered_literals answers)
-      (get_or answers (length named) b) new) (row_is ∙ get_or_default p.costs (length named) row r in_rows)
-      (subst (λ (u : ℤ). IsNamed row u (answered_literals answers) (get_or answers (length named) b) new)
-      (value_is ∙ get_or_default values (length named) value v in_values)
-      (subst (λ (d : Bound). IsNamed row value (answered_literals answers) d new)
-      (answer_is ∙ get_or_default answers (length named) answer b in_answers) is)) in
-      subst (λ (d : Bound). IsNamed (get_or p.costs i r) (get_or values i v) (answered_literals answers)
-      (get_or answers i b) d) (sym (get_or_push named new c i at))
-      (subst (λ (k : ℕ). IsNamed (get_or p.costs k r) (get_or values k v) (answered_literals answers)
-      (get_or answers k b) new) at here))
-]
+      | inl before ↦ subst (λ (d : Bound). IsNamed (get_or p.costs i r) (get_or values i v) (answered_literals answers)
+          (get_or answers i b) d) (sym (get_or_append_left named (new ∷ []) c i before)) (are i r v b c before)
+      | inr after ↦ (
+          let sizes = length-append named (new ∷ []) in
+          let at : length named ≡ i = omega arith in
+          let here : IsNamed (get_or p.costs (length named) r) (get_or values (length named) v) (answered_literals answers)
+          (get_or answers (length named) b) new =
+          subst (λ (q : CostRowValue). IsNamed q (get_or values (length named) v) (answered_literals answers)
+          (get_or answers (length named) b) new) (row_is ∙ get_or_default p.costs (length named) row r in_rows)
+          (subst (λ (u : ℤ). IsNamed row u (answered_literals answers) (get_or answers (length named) b) new)
+          (value_is ∙ get_or_default values (length named) value v in_values)
+          (subst (λ (d : Bound). IsNamed row value (answered_literals answers) d new)
+          (answer_is ∙ get_or_default answers (length named) answer b in_answers) is)) in
+          subst (λ (d : Bound). IsNamed (get_or p.costs i r) (get_or values i v) (answered_literals answers)
+          (get_or answers i b) d) (sym (get_or_push named new c i at))
+          (subst (λ (k : ℕ). IsNamed (get_or p.costs k r) (get_or values k v) (answered_literals answers)
+          (get_or answers k b) new) at here))
+    ]

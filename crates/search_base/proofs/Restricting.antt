@@ -43,10 +43,12 @@ both_signs v [] apart set = cc
 both_signs v (l ∷ truths) apart set =
     joined (l.var == v) l.neg (is_among truths (record { var = v; neg = true }))
     (is_among truths (record { var = v; neg = false }))
-    (λ same. (not_among truths (record { var = v; neg = true }) (others same),
-        not_among truths (record { var = v; neg = false }) (others same)))
+    (λ same. (
+      not_among truths (record { var = v; neg = true }) (others same),
+      not_among truths (record { var = v; neg = false }) (others same),
+    ))
     (λ other. both_signs v truths (λ i j d less short. apart (suc i) (suc j) d (omega arith) (omega arith))
-        (still_set (l.var == v) (is_set truths v) other set))
+    (still_set (l.var == v) (is_set truths v) other set))
   where
     others : (l.var == v) ≡ true → All (λ m. m.var ≢ v) truths
     others same k d short e = apart 0 (suc k) d (omega arith) (omega arith) (eqb-true l.var v same ∙ sym e)
@@ -120,35 +122,35 @@ module _ (n : ℕ) (truths : List Literal) (apart : AllPairs (λ l m. l.var ≢ 
 
 module _ (n : ℕ) (truths : List Literal) (apart : AllPairs (λ l m. l.var ≢ m.var) truths) (c g : ConstraintValue)
     (within : AreWithin n c.terms) (goal_within : AreWithin n g.terms) (u v : ℕ) (enough : v + g.degree ≤ c.degree + u)
-    where
-  abbrev is_left : Literal × ℕ → Bool
-  is_left t = not (is_set truths t.0.var)
+  where
+    abbrev is_left : Literal × ℕ → Bool
+    is_left t = not (is_set truths t.0.var)
 
-  -- Where both differ by as much wherever the literals are true, the line covers the goal.
-  pub covers_same : AreApart c.terms → ((x : List Bool) →
-      value (with_truths n truths x) c.terms + u ≡ value (with_truths n truths x) g.terms + v) →
-      Covers (restriction c truths) (restriction g truths)
-  covers_same distinct same x =
-      let none = none_true n (filter is_left c.terms) (AllPairs-filter (λ s t. s.0.var ≢ t.0.var) is_left c.terms distinct)
-      (All-filter is_left (λ t. (0 < t.0.var) × (t.0.var ≤ n)) c.terms within) in
-      let zero = none.1 in
-      let least = same none.0 in
-      let least_line = value_split n truths apart none.0 c.terms within in
-      let least_goal = value_split n truths apart none.0 g.terms goal_within in
-      let here = same x in
-      let line = value_split n truths apart x c.terms within in
-      let goal = value_split n truths apart x g.terms goal_within in
-      omega arith
+    -- Where both differ by as much wherever the literals are true, the line covers the goal.
+    pub covers_same : AreApart c.terms → ((x : List Bool) →
+        value (with_truths n truths x) c.terms + u ≡ value (with_truths n truths x) g.terms + v) →
+        Covers (restriction c truths) (restriction g truths)
+    covers_same distinct same x =
+        let none = none_true n (filter is_left c.terms) (AllPairs-filter (λ s t. s.0.var ≢ t.0.var) is_left c.terms distinct)
+        (All-filter is_left (λ t. (0 < t.0.var) × (t.0.var ≤ n)) c.terms within) in
+        let zero = none.1 in
+        let least = same none.0 in
+        let least_line = value_split n truths apart none.0 c.terms within in
+        let least_goal = value_split n truths apart none.0 g.terms goal_within in
+        let here = same x in
+        let line = value_split n truths apart x c.terms within in
+        let goal = value_split n truths apart x g.terms goal_within in
+        omega arith
 
-  -- and where it exceeds the goal by no more, and the literals' weights are within the goal's degree
-  pub covers_within : sum_by (met_value truths) g.terms ≤ g.degree → ((x : List Bool) →
-      value (with_truths n truths x) c.terms + u ≤ value (with_truths n truths x) g.terms + v) →
-      Covers (restriction c truths) (restriction g truths)
-  covers_within met most x =
-      let here = most x in
-      let line = value_split n truths apart x c.terms within in
-      let goal = value_split n truths apart x g.terms goal_within in
-      omega arith
+    -- and where it exceeds the goal by no more, and the literals' weights are within the goal's degree
+    pub covers_within : sum_by (met_value truths) g.terms ≤ g.degree → ((x : List Bool) →
+        value (with_truths n truths x) c.terms + u ≤ value (with_truths n truths x) g.terms + v) →
+        Covers (restriction c truths) (restriction g truths)
+    covers_within met most x =
+        let here = most x in
+        let line = value_split n truths apart x c.terms within in
+        let goal = value_split n truths apart x g.terms goal_within in
+        omega arith
 
 -- "0 >= 0" covers a goal that the literals reach by themselves
 pub nothing_covers : (truths : List Literal) (g : ConstraintValue) → g.degree ≤ sum_by (met_value truths) g.terms →

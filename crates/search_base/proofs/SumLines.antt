@@ -39,7 +39,7 @@ use Rattle.search_base.specs.OneBound.{CanSum, IsSumFor, sum_of}
 id_small : (s : StateValue) → IsState s → (id : ℕ) (c : ConstraintValue) → get s.live id ≡ Some c → id < 2 ^ 63
 id_small s state id c is = let w = state.ids id c is in let n = state.next_id in let l = state.lines in omega arith
 
-put_live : (lines : LineMap) (id : ℕ) (c : ConstraintValue) → get (insert lines id c) id ≡ Some c
+pub put_live : (lines : LineMap) (id : ℕ) (c : ConstraintValue) → get (insert lines id c) id ≡ Some c
 put_live lines id c = get-insert nat_cmp_total lines id c id
     ∙ cond-true (eq_by_cmp nat_cmp id id) (Some c) (get lines id) (unsigned_tied id id ∙ eq-eqb id id refl)
 
@@ -109,8 +109,8 @@ module _ (a : Snapshot) (s : StateValue) (first second : ℕ) (state : IsState s
       let has = can.lines s reached state in (
         (λ none. cc),
         All-cons IsToken (Id first) (Id second ∷ Add ∷ []) (id_small s state first has.0 has.2.0)
-        (All-cons IsToken (Id second) (Add ∷ []) (id_small s state second has.1 has.3.0)
-        (All-cons IsToken Add [] tt (All-nil IsToken))),
+            (All-cons IsToken (Id second) (Add ∷ []) (id_small s state second has.1 has.3.0)
+            (All-cons IsToken Add [] tt (All-nil IsToken))),
       )
 
   pub sum_may : IsReady a → MayBeAdded a.problem a.lines (Pol (sum_of first second))

@@ -25,7 +25,8 @@ pub(crate) fn log_model<R: Recorder>(
     requires ready { IsReady (R.seen rec.old) }
     requires problem { IsProblem (R.seen rec.old).problem }
     requires model { IsProblemModel (R.seen rec.old).problem model.now }
-    requires answers { AreAnswersAt (R.seen rec.old).problem (R.seen rec.old).lines model.now answers.now }
+    requires answers { AreAnswersAt (R.seen rec.old).problem (R.seen rec.old).lines
+        model.now answers.now }
     requires alike { AreAlike (answered_literals answers.now) }
     ensures logged { OnOk result (LogsModel (R.seen rec.old)
         (R.seen rec.new) model.now answers.now) }

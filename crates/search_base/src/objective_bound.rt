@@ -60,11 +60,13 @@ impl ObjectiveBound {
         requires ready { IsReady (R.seen rec.old) }
         requires fits { FitsRow (R.seen rec.old) self.old }
         ensures recorded { IsRecorded (R.seen rec.old) (R.seen rec.new) result }
-        ensures bound { IfOk result (λ bound. (row : CostRowValue) → BoundsRow (R.seen rec.old) row self.old
+        ensures bound { IfOk result (λ bound. (row : CostRowValue)
+            → BoundsRow (R.seen rec.old) row self.old
             → IsCostBound (R.seen rec.new).problem (R.seen rec.new).lines row value bound) }
         ensures answer { IfOk result (IsAnswerFor self.old.reform value) }
         ensures literal { IfOk result (HasOwnLiteral self.new) }
-        ensures added { IfOk result (AddsBound (R.seen rec.old) (R.seen rec.new) value self.old self.new) }
+        ensures added { IfOk result (AddsBound (R.seen rec.old) (R.seen rec.new)
+            value self.old self.new) }
         ensures fits { OnOk result (KeepsRow (R.seen rec.old) (R.seen rec.new) self.old self.new) }
         ensures reform { self.new.reform ≡ self.old.reform }
         ensures nodes { self.new.totalizer.nodes ≡ self.old.totalizer.nodes }
@@ -101,8 +103,10 @@ impl ObjectiveBound {
         requires fits { FitsRow (R.seen rec.old) self.old }
         requires output { IsOutputFor (R.seen rec.old) self.old lit output_line }
         ensures recorded { IsRecorded (R.seen rec.old) (R.seen rec.new) result }
-        ensures covers { IfOk result (IsCovered (R.seen rec.old) (R.seen rec.new) self.old lit output_line) }
-        ensures added { OnOk result (MakesCover (R.seen rec.old) (R.seen rec.new) self.old self.new lit) }
+        ensures covers { IfOk result (IsCovered (R.seen rec.old) (R.seen rec.new)
+            self.old lit output_line) }
+        ensures added { OnOk result (MakesCover (R.seen rec.old) (R.seen rec.new)
+            self.old self.new lit) }
         ensures fits { OnOk result (KeepsRow (R.seen rec.old) (R.seen rec.new) self.old self.new) }
         ensures kept { KeepsBut self.old self.new }
     {
@@ -136,7 +140,8 @@ impl ObjectiveBound {
         requires needs { NeedsCover self.old }
         requires place { IsPlaceFor self.old.covers.items lit.var place }
         ensures recorded { IsRecorded (R.seen rec.old) (R.seen rec.new) result }
-        ensures covers { IfOk result (IsCovered (R.seen rec.old) (R.seen rec.new) self.old lit output_line) }
+        ensures covers { IfOk result (IsCovered (R.seen rec.old) (R.seen rec.new)
+            self.old lit output_line) }
         ensures added { OnOk result (AddsCover (R.seen rec.old) (R.seen rec.new) self.new lit.var) }
         ensures fits { OnOk result (KeepsRow (R.seen rec.old) (R.seen rec.new) self.old self.new) }
         ensures kept { KeepsBut self.old self.new }
@@ -200,7 +205,8 @@ fn add_sum<R: Recorder>(
     requires fits { CanSum (R.seen rec.old) first second }
     ensures recorded { IsRecorded (R.seen rec.old) (R.seen rec.new) result }
     ensures sum { IfOk result (IsSumFor (R.seen rec.old) (R.seen rec.new) first second) }
-    ensures defined { OnOk result (definitions (R.seen rec.new).lines ≡ definitions (R.seen rec.old).lines) }
+    ensures defined { OnOk result
+        (definitions (R.seen rec.new).lines ≡ definitions (R.seen rec.old).lines) }
 {
     // Tells of which kind the live lines are.
     let _vars = rec.state().vars();

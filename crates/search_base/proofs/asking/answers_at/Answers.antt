@@ -107,8 +107,7 @@ loop-objective-preserved g c =
     let o = some_at c.loop-objective.bounds i (omega (arith, c.requires.count)) in
     let here : get_or before i r ≡ (get_or c.loop-objective.bounds i o.0).reform =
     ap (λ (rs : List Reform). get_or rs i r) (sym was.reforms)
-    ∙ get_or-map (λ (q : ObjectiveBound). q.reform) c.loop-objective.bounds i o.0 r (omega (arith, c.requires.count)) in
-    (
+    ∙ get_or-map (λ (q : ObjectiveBound). q.reform) c.loop-objective.bounds i o.0 r (omega (arith, c.requires.count)) in (
       subst (λ (q : Reform). IsAnswerFor q v c.in_ok-answer.answer) (sym here)
           (subst (λ (w : ℤ). IsAnswerFor (get_or c.loop-objective.bounds i o.0).reform w c.in_ok-answer.answer) value
           (call.answer o.0)),

@@ -51,7 +51,12 @@ returns c =
     let items : length c.costs-row-items.result.now ≡ length c.args.problem.now.costs =
     ap (λ (rs : List CostRowValue). length rs) c.costs-row-items.ensures in
     record {
-      count = omega (arith, c.requires.answers, c.loop-objective-test.false, c.loop-objective.auto.objective-end,
-          c.loop-objective.invariant.count);
+      count = omega (
+        arith,
+        c.requires.answers,
+        c.loop-objective-test.false,
+        c.loop-objective.auto.objective-end,
+        c.loop-objective.invariant.count,
+      );
       each = c.loop-objective.invariant.each;
     }

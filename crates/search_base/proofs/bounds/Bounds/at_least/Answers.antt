@@ -32,9 +32,10 @@ at_least-requires-clause-fits g c =
     let items = c.self.inside.bounds.items in
     let fit : FitBounds a items = subst (FitBounds a) (sym c.self.view_is) c.requires.fits in
     let d : CostRowValue = record { terms = []; offset = pos 0 } in
-    let bound = c.index_mut-bound in
-    (get_or a.problem.costs c.args.objective d,
-    bound_at a items c.args.objective d bound.result.now fit c.requires.there bound.ensures.value)
+    let bound = c.index_mut-bound in (
+      get_or a.problem.costs c.args.objective d,
+      bound_at a items c.args.objective d bound.result.now fit c.requires.there bound.ensures.value,
+    )
 
 pub returns-clause-bound : goal.returns-clause-bound
 returns-clause-bound g c =

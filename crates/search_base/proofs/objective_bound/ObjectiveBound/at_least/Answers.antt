@@ -41,10 +41,12 @@ cover-requires-clause-fits g c =
     let call = c.in_ok-bound.ensures in
     let added : AddsFor a m k o.totalizer t (At c.in-At.lit c.in-At.lower_line) =
     subst (AddsFor a m k o.totalizer t) c.in-At.is call.added in
-    let row = c.requires.fits.0 in
-    (row, asked_row c.own_lines_stay.ensures c.fitting_stays.ensures c.reform_stays.ensures a m c.requires.ready.state
-    c.requires.ready.reached call.recorded.continues o t k c.bound_of.ensures.nodes call.fits c.in-At.lit c.in-At.lower_line
-    added row c.requires.fits.1)
+    let row = c.requires.fits.0 in (
+      row,
+      asked_row c.own_lines_stay.ensures c.fitting_stays.ensures c.reform_stays.ensures a m c.requires.ready.state
+          c.requires.ready.reached call.recorded.continues o t k c.bound_of.ensures.nodes call.fits c.in-At.lit c.in-At.lower_line
+          added row c.requires.fits.1,
+    )
 
 pub cover-requires-clause-output : goal.cover-requires-clause-output
 cover-requires-clause-output g c =
@@ -58,10 +60,12 @@ cover-requires-clause-output g c =
     let added : AddsFor a m k o.totalizer t (At c.in-At.lit c.in-At.lower_line) =
     subst (AddsFor a m k o.totalizer t) c.in-At.is call.added in
     let bound : IsBound m.problem m.lines (terms_of o.totalizer) k (At c.in-At.lit c.in-At.lower_line) =
-    subst (IsBound m.problem m.lines (terms_of o.totalizer) k) c.in-At.is call.bound in
-    (bound.0, asked_output c.own_lines_stay.ensures c.fitting_stays.ensures c.reform_stays.ensures a m
-    c.requires.ready.state c.requires.ready.reached call.recorded.continues o t k c.bound_of.ensures.nodes call.fits c.in-At.lit
-    c.in-At.lower_line added c.requires.fits.1.terms bound)
+    subst (IsBound m.problem m.lines (terms_of o.totalizer) k) c.in-At.is call.bound in (
+      bound.0,
+      asked_output c.own_lines_stay.ensures c.fitting_stays.ensures c.reform_stays.ensures a m
+          c.requires.ready.state c.requires.ready.reached call.recorded.continues o t k c.bound_of.ensures.nodes call.fits c.in-At.lit
+          c.in-At.lower_line added c.requires.fits.1.terms bound,
+    )
 
 pub returns-in_err-lower_line-in-At-clause-recorded : goal.returns-in_err-lower_line-in-At-clause-recorded
 returns-in_err-lower_line-in-At-clause-recorded g c =

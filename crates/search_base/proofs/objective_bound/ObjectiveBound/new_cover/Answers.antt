@@ -46,9 +46,14 @@ returns-clause-added g c =
     let cover : Cover = record { var = c.var-var.result; line = c.in_ok-line.line } in
     let old = c.args.self.now.covers.items in
     let put : c.insert_cover.new.covers.items ≡ insert old c.args.place cover =
-    rw c.in_ok-in_memory.ensures.ok at c.insert_cover.ensures in
-    ((cover, subst (λ (cs : List Cover). Contains cs cover) (sym put) (inserted_there old cover c.args.place),
-    c.var-var.ensures.value), c.in_ok-line.ensures.defined)
+    rw c.in_ok-in_memory.ensures.ok at c.insert_cover.ensures in (
+      (
+        cover,
+        subst (λ (cs : List Cover). Contains cs cover) (sym put) (inserted_there old cover c.args.place),
+        c.var-var.ensures.value,
+      ),
+      c.in_ok-line.ensures.defined,
+    )
 
 pub returns-clause-fits : goal.returns-clause-fits
 returns-clause-fits g c =
