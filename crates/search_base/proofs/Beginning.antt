@@ -1,16 +1,17 @@
--- A new proof is a good state.
-use Rattle.std.proofs.Common.{◌≡◌, ℕ, Option, None, Some, List, [], ap, refl, sym, subst, arith}
+-- Lines that log nothing lead to a good state, and a new proof has such lines.
+use Rattle.std.proofs.Common.{◌≡◌, ℕ, Option, None, Some, List, [], ap, refl, sym, subst, arith, ℤ}
+use Rattle.std.specs.List.{Contains}
 use Rattle.scut_base.proofs.Lists.{Contains-nil}
-use Rattle.pb_lin.specs.Problem.{ProblemValue, problem_costs}
+use Rattle.pb_lin.specs.Problem.{ProblemValue}
 use Rattle.proof_laws.specs.State.{StateValue, start}
 use Rattle.proof_laws.specs.Replay.{IsReplay}
 use Rattle.proof_laws.specs.Earned.{IsEarned}
 use Rattle.proof_laws.specs.declared.line.Line.{Line}
 use Rattle.proof_laws.specs.declared.line.Line.TheVariants.{Learn, Del, Reduce}
 use Rattle.oracle.specs.Solving.{AreEarned, IsWithin}
-use Rattle.search_base.specs.Logged.{IsCovered, logged}
+use Rattle.search_base.specs.Logged.{logged}
 use Rattle.search_base.specs.Boards.{IsBoard}
-use Rattle.search_base.specs.Laws.{BeginningIsGood}
+use Rattle.search_base.specs.Laws.{BeginningIsGood, NoLinesArePrepared}
 use Rattle.search_base.proofs.Places.{not_empty}
 
 nothing_earned : (p : ProblemValue) → IsEarned p [] 0
@@ -27,18 +28,25 @@ nothing_spent p None = tt
 nothing_spent p (Some limit) = λ s replay. let none : s.learned ≡ 0 = ap (λ (t : StateValue). t.learned) replay in
     omega arith
 
-pub beginning_law : BeginningIsGood
-beginning_law a s bounds board is_problem none whole reached same is_board fit =
+-- a new proof has no line, and so is prepared
+pub no_lines_law : NoLinesArePrepared
+no_lines_law a s is_problem none whole reached =
     let first : IsReplay a.problem [] s = subst (λ (ls : List Line). IsReplay a.problem ls s) none reached in
     record {
       ready = record { whole = whole; state = s; reached = reached; unended = ap (λ (t : StateValue). t.ended) first };
-      problem = same;
-      board = subst (λ (ls : List Line). IsBoard board (logged a.problem ls)) (sym none) is_board;
-      bounds = fit;
+      none = ap (logged a.problem) none;
       earned = subst (λ (ls : List Line). AreEarned a.problem ls) (sym none) (0, nothing_earned a.problem);
       within = subst (λ (ls : List Line). IsWithin a.limit a.problem ls) (sym none) (nothing_spent a.problem a.limit);
-      new = λ t after x rows hold covered.
-          let old : IsCovered a.problem [] (problem_costs a.problem x) =
-          subst (λ (ls : List Line). IsCovered a.problem ls (problem_costs a.problem x)) none covered in
-          Contains-nil old.0 old.1;
     }
+
+pub beginning_law : BeginningIsGood
+beginning_law a bounds board prepared same is_board fit = record {
+  ready = prepared.ready;
+  problem = same;
+  board = subst (IsBoard board) (sym prepared.none) is_board;
+  bounds = fit;
+  earned = prepared.earned;
+  within = prepared.within;
+  new = λ t after x rows hold covered.
+      Contains-nil covered.0 (subst (λ (vs : List (List ℤ)). Contains vs covered.0) prepared.none covered.1);
+}

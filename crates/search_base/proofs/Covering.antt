@@ -18,7 +18,7 @@ use Rattle.search_base.proofs.Answered.{value_most}
 
 -- ---- the cost box
 
-in_piece : {X Y : Type 0} (f : X → List Y) (xs : List X) (x : X) (y : Y) → Contains xs x → Contains (f x) y →
+pub in_piece : {X Y : Type 0} (f : X → List Y) (xs : List X) (x : X) (y : Y) → Contains xs x → Contains (f x) y →
     Contains (flat_map f xs) y
 in_piece f [] x y there has = absurd (Contains-nil x there)
 in_piece f (z ∷ xs) x y there has = elim (Contains-cons_cases z x xs there) [

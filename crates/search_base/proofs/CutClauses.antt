@@ -1,20 +1,16 @@
 -- Where the clause of a cut holds, no logged vector of its model is below the costs.
-use Rattle.std.proofs.Common.{◌≡◌, ℕ, ◌≤◌, Bool, true, false, not, cond, List, [], ◌∷◌, map, refl, ap, ◌∙◌, subst, arith, ℤ, pos, ◌+ℤ◌, ◌≤ℤ◌, Some}
+use Rattle.std.proofs.Common.{◌≡◌, ℕ, Bool, true, false, not, cond, List, [], ◌∷◌, map, refl, ap, subst, arith, ℤ, ◌≤ℤ◌}
 use Rattle.std.specs.Prelude.{int_lt, ◌==◌, ◌&&◌}
-use Rattle.std.specs.FinMap.{get, insert, get-insert}
-use Rattle.std.specs.Ordering.{nat_cmp, eq_by_cmp}
-use Rattle.std.specs.Cmp.{nat_cmp_total, unsigned_tied}
 use Rattle.std.specs.List.{All, AllZip, Contains, list_all}
-use Rattle.std.proofs.lemmas.Bool.{and_parts, cond-false, cond-true, eq-eqb, not-true}
+use Rattle.std.proofs.lemmas.Bool.{and_parts, cond-false, not-true}
 use Rattle.std.proofs.lemmas.Int.{ints}
 use Rattle.std.proofs.lemmas.List.Elements.{All-nil, All-cons, All-contains, All-contains_itself, All-map, All-weaker}
 use Rattle.scut_base.specs.Literal.{Literal}
 use Rattle.scut_base.specs.Assignment.{lit_true, value_of}
 use Rattle.scut_base.proofs.Lists.{Contains-from_map, sum_by_zero}
 use Rattle.front_set.specs.Vector.{IsBelow, is_below}
-use Rattle.pb_lin.specs.Constraint.{ConstraintValue, Holds, opposite, term_value, value}
+use Rattle.pb_lin.specs.Constraint.{Holds, opposite, term_value, value}
 use Rattle.pb_lin.specs.CostRow.{CostRowValue, row_cost}
-use Rattle.pb_lin.specs.LineMap.{LineMap}
 use Rattle.pb_lin.specs.Problem.{ProblemValue, problem_costs}
 use Rattle.proof_laws.specs.State.{StateValue}
 use Rattle.proof_laws.specs.Steps.{clause}
@@ -22,8 +18,8 @@ use Rattle.proof_laws.specs.Refusal.{is_clause}
 use Rattle.proof_laws.specs.declared.line.Line.{Line}
 use Rattle.sum_outputs.specs.Adding.{KeptHold}
 use Rattle.totalizer.specs.declared.bound.Bound.{Bound}
-use Rattle.search_base.specs.Cutting.{IsCutOf, answered_literals}
-use Rattle.search_base.proofs.Answered.{IsAnswerAt, row_of}
+use Rattle.search_base.specs.Cutting.{IsAnswerAt, IsCutOf, answered_literals}
+use Rattle.search_base.proofs.Answered.{row_of}
 
 -- ---- clauses
 
@@ -33,10 +29,6 @@ ones_tested (l ∷ lits) = ones_tested lits
 
 pub clause_tested : (lits : List Literal) → is_clause (clause lits) ≡ true
 clause_tested lits = ap (λ (b : Bool). b && true) (ones_tested lits)
-
-pub clause_put : (live : LineMap) (id : ℕ) (c : ConstraintValue) → get (insert live id c) id ≡ Some c
-clause_put live id c = get-insert nat_cmp_total live id c id
-    ∙ cond-true (eq_by_cmp nat_cmp id id) (Some c) (get live id) (unsigned_tied id id ∙ eq-eqb id id refl)
 
 -- a clause whose literals are all false doesn't hold
 clause_fails : (y : List Bool) (lits : List Literal) → All (λ l. lit_true y l ≡ false) lits → Holds y (clause lits) → ⊥
@@ -61,31 +53,28 @@ opposite_false y l = by l.neg (value_of y l.var)
 le_from_test : (x y : ℤ) → not (int_lt y x) ≡ true → x ≤ℤ y
 le_from_test x y h = grind (arith, ints, not-true (int_lt y x) h)
 
-same_offset : (m n : ℕ) (z : ℤ) → (pos m +ℤ z) ≤ℤ (pos n +ℤ z) → m ≤ n
-same_offset m n z le = omega (arith, ints)
-
-values_rise : (x y : List Bool) (rows : List CostRowValue) → IsBelow (map (row_cost x) rows) (map (row_cost y) rows) →
-    All (λ r. value x r.terms ≤ value y r.terms) rows
-values_rise x y [] below = All-nil (λ r. value x r.terms ≤ value y r.terms)
-values_rise x y (r ∷ rows) below =
+pub costs_rise : (x y : List Bool) (rows : List CostRowValue) → IsBelow (map (row_cost x) rows) (map (row_cost y) rows) →
+    All (λ r. row_cost x r ≤ℤ row_cost y r) rows
+costs_rise x y [] below = All-nil (λ r. row_cost x r ≤ℤ row_cost y r)
+costs_rise x y (r ∷ rows) below =
     let parts = and_parts (not (int_lt (row_cost y r) (row_cost x r)))
     (is_below (map (row_cost x) rows) (map (row_cost y) rows)) below in
-    All-cons (λ q. value x q.terms ≤ value y q.terms) r rows
-    (same_offset (value x r.terms) (value y r.terms) r.offset (le_from_test (row_cost x r) (row_cost y r) parts.0))
-    (values_rise x y rows parts.1)
+    All-cons (λ q. row_cost x q ≤ℤ row_cost y q) r rows (le_from_test (row_cost x r) (row_cost y r) parts.0)
+    (costs_rise x y rows parts.1)
 
 -- ---- the cut
 
 module _ (p : ProblemValue) (lines : List Line) (s : StateValue) (x : List Bool) (answers : List Bound)
-    (cut : List Literal) (zip : AllZip (IsAnswerAt p lines s x) p.costs answers) (exact : IsCutOf answers cut)
-    (y : List Bool) (hold : KeptHold p lines s y) (below : IsBelow (problem_costs p x) (problem_costs p y)) where
+    (cut : List Literal) (zip : AllZip (IsAnswerAt p lines s x (answered_literals answers)) p.costs answers)
+    (exact : IsCutOf answers cut) (y : List Bool) (rows : All (Holds y) p.rows) (hold : KeptHold p lines s y)
+    (below : IsBelow (problem_costs p x) (problem_costs p y)) where
   -- each literal that was answered is true
   answered_true : (l : Literal) → Contains (answered_literals answers) l → lit_true y l ≡ true
   answered_true l there =
-      let has = row_of p lines s x p.costs answers l zip there in
-      has.bound.follows y hold
-      (All-contains (λ (r : CostRowValue). value x r.terms ≤ value y r.terms) p.costs has.row
-      (values_rise x y p.costs below) has.there)
+      let has = row_of p lines s x (answered_literals answers) p.costs answers l zip there in
+      has.bound.follows y rows hold
+      (All-contains (λ (r : CostRowValue). row_cost x r ≤ℤ row_cost y r) p.costs has.row (costs_rise x y p.costs below)
+      has.there)
 
   cut_false : (l : Literal) → Contains cut l → lit_true y l ≡ false
   cut_false l there =

@@ -17,7 +17,7 @@ use Rattle.proof_rules.specs.Recording.{Snapshot}
 use Rattle.oracle.specs.Solving.{AreEarned, IsWithin}
 use Rattle.sum_outputs.specs.Totals.{IsTotalizerLine}
 use Rattle.sum_outputs.specs.Adding.{Continues, IsLater, IsReached, KeptHold}
-use Rattle.totalizer.specs.Keeping.{FittingStays, KeepsOwn, OwnLinesStay}
+use Rattle.totalizer.specs.Keeping.{FittingStays, KeepsOwn, OwnLinesStay, ReformStays}
 use Rattle.search_base.specs.Logged.{AddsTurnLines, IsCovered, LogsNone, logged}
 use Rattle.search_base.specs.Boards.{BoardValue, IsBoard}
 use Rattle.search_base.specs.Good.{AllIsNew}
@@ -58,8 +58,8 @@ board_after a b board problem none is =
 
 -- ---- an oracle's call
 
-pub asking_law : OwnLinesStay → FittingStays → AskingStaysGood
-asking_law own fitting a b t bounds board good reached on =
+pub asking_law : OwnLinesStay → FittingStays → ReformStays → AskingStaysGood
+asking_law own fitting reforms a b t bounds board good reached on =
     let adds : AddsTurnLines a.problem a.lines b.lines = search_lines a.problem a.lines b.lines on.lines in
     let keeps : KeepsOwn a.problem a.lines b.lines = own_law a.problem a.lines b.lines adds in
     let none : LogsNone a.problem a.lines b.lines = search_logs_none a.problem a.lines b.lines on.lines in
@@ -68,7 +68,7 @@ asking_law own fitting a b t bounds board good reached on =
         ready = ready_after a b t good.ready adds on.problem on.whole reached;
         problem = good.problem ∙ sym on.problem;
         board = board_after a b board on.problem none good.board;
-        bounds = bounds_later fitting a b s bounds on.problem keeps good.ready.reached good.bounds;
+        bounds = bounds_later own fitting reforms a b s bounds on.problem keeps good.ready.reached good.bounds;
         earned = on.earned;
         within = on.within;
         new = new_after own a b s on.problem keeps good.ready.reached none good.new;

@@ -19,19 +19,19 @@ use Rattle.proof_rules.specs.Recording.{Snapshot}
 use Rattle.oracle.specs.Solving.{AreEarned, IsWithin}
 use Rattle.sum_outputs.specs.Adding.{IsLater, KeptHold}
 use Rattle.sum_outputs.proofs.LaterStates.{new_not_learned, own_later}
-use Rattle.totalizer.specs.Keeping.{FittingStays}
+use Rattle.totalizer.specs.Keeping.{FittingStays, OwnLinesStay, ReformStays}
 use Rattle.totalizer.specs.declared.bound.Bound.{Bound}
 use Rattle.search_base.specs.Logged.{IsCovered, Logs, logged}
 use Rattle.search_base.specs.Boards.{BoardValue, IsBoard, IsModelPair}
-use Rattle.search_base.specs.Cutting.{AreAnswers, IsCutOf, IsPut, LogsModel, answered_line, literals_at}
+use Rattle.search_base.specs.Cutting.{AreAnswersAt, IsAnswerAt, IsCutOf, IsPut, LogsModel, answered_line, answered_literals, literals_at}
 use Rattle.search_base.specs.Good.{GoesOn, IsGood}
 use Rattle.search_base.specs.declared.objective_bound.ObjectiveBound.{ObjectiveBound}
-use Rattle.search_base.proofs.Answered.{IsAnswerAt, answers_at}
 use Rattle.search_base.proofs.BoundRows.{bounds_later}
-use Rattle.search_base.proofs.CutClauses.{clause_put, clause_tested, cut_fails}
+use Rattle.search_base.proofs.CutClauses.{clause_tested, cut_fails}
 use Rattle.search_base.proofs.LoggedVectors.{logged_append}
 use Rattle.search_base.proofs.ModelLiterals.{assignment_again}
 use Rattle.search_base.proofs.PutEntries.{put_board}
+use Rattle.search_base.proofs.SumLines.{put_live}
 use Rattle.search_base.proofs.TurnLines.{own_law}
 use Rattle.search_base.proofs.TurnStates.{ready_after}
 
@@ -52,7 +52,7 @@ module _ (p : ProblemValue) (lines : List Line) (s : StateValue) (x : List Bool)
   logs_costs = logged_append p lines (line ∷ [])
       ∙ ap (λ (a : List Bool). logged p lines ++ problem_costs p a ∷ []) (assignment_again 1 x)
 
-  module _ (reached : IsReplay p lines s) (zip : AllZip (IsAnswerAt p lines s x) p.costs answers)
+  module _ (reached : IsReplay p lines s) (zip : AllZip (IsAnswerAt p lines s x (answered_literals answers)) p.costs answers)
     where
       made_of : (t : StateValue) → IsReplay p (lines ++ line ∷ []) t → IsNext p s line t
       made_of t after = replay_before p lines line s t reached after
@@ -70,7 +70,7 @@ module _ (p : ProblemValue) (lines : List Line) (s : StateValue) (x : List Bool)
       clause_holds t y after hold =
           let makes = (made_of t after).makes in
           let live : get t.live s.next_id ≡ Some (clause cut) = ap (λ (u : StateValue). get u.live s.next_id) makes
-          ∙ clause_put s.live s.next_id (clause cut) in
+          ∙ put_live s.live s.next_id (clause cut) in
           hold s.next_id (clause cut) (live, clause_tested cut, new_not_learned p lines line s reached refl)
 
       pub new_still : NewAfter p lines → NewAfter p (lines ++ line ∷ [])
@@ -79,7 +79,7 @@ module _ (p : ProblemValue) (lines : List Line) (s : StateValue) (x : List Bool)
           elim (Contains-push_cases (logged p lines) (problem_costs p x) u
           (subst (λ (vs : List (List ℤ)). Contains vs u) logs_costs there)) [
             | inl old ↦ new s reached y rows kept (u, old, below)
-            | inr same ↦ cut_fails p lines s x answers cut zip exact y kept
+            | inr same ↦ cut_fails p lines s x answers cut zip exact y rows kept
                 (subst (λ (v : List ℤ). IsBelow v (problem_costs p y)) (sym same) below) (clause_holds t y after hold)
           ]
 
@@ -106,15 +106,15 @@ module _ (a b : Snapshot) (x : List Bool) (answers : List Bound) (logs : LogsMod
   pub logs_model : Logs a.problem a.lines b.lines (problem_costs a.problem x)
   logs_model = ap (logged a.problem) lines_are ∙ logs_costs a.problem a.lines logs.before x answers logs.is.cut cut_is
 
-  pub good_after : FittingStays → (bounds : List ObjectiveBound) (old new : BoardValue) → IsGood a bounds old →
-      GoesOn a b → AreAnswers a.problem a.lines (problem_costs a.problem x) answers
+  pub good_after : OwnLinesStay → FittingStays → ReformStays → (bounds : List ObjectiveBound) (old new : BoardValue) → IsGood a bounds old →
+      GoesOn a b → AreAnswersAt a.problem a.lines x answers
       → IsPut old new (problem_costs a.problem x) x →
       IsModelPair old.instance (record { costs = problem_costs a.problem x; model = take old.instance.vars x }) →
       IsGood b bounds new
-  good_after fitting bounds old new good on are put pair =
+  good_after own fitting reforms bounds old new good on are put pair =
       let p = a.problem in
       let s = logs.before in
-      let zip = answers_at p a.lines s x answers logs.stood are in
+      let zip = are s logs.stood in
       let after : IsReplay p b.lines logs.state =
       subst (λ (q : ProblemValue). IsReplay q b.lines logs.state) on.problem logs.reached in
       let after' : IsReplay p (a.lines ++ line p a.lines s x answers logs.is.cut cut_is ∷ []) logs.state =
@@ -125,7 +125,7 @@ module _ (a b : Snapshot) (x : List Bool) (answers : List Bound) (logs : LogsMod
         board = subst (λ (q : ProblemValue). IsBoard new (logged q b.lines)) (sym on.problem)
             (subst (λ (vs : List (List ℤ)). IsBoard new vs) (sym logs_model)
             (put_board old new (problem_costs p x) x (logged p a.lines) put pair good.board));
-        bounds = bounds_later fitting a b s bounds on.problem (own_law p a.lines b.lines on.lines) logs.stood
+        bounds = bounds_later own fitting reforms a b s bounds on.problem (own_law p a.lines b.lines on.lines) logs.stood
             good.bounds;
         earned = subst (λ (q : ProblemValue). AreEarned q b.lines) (sym on.problem)
             (subst (λ (ls : List Line). AreEarned p ls) (sym lines_are)

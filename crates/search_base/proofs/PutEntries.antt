@@ -1,6 +1,6 @@
 -- A board after a pair was put onto it.
-use Rattle.std.proofs.Common.{◌≡◌, Bool, true, false, not, List, [], ◌∷◌, ◌++◌, take, refl, sym, ap, subst, ℤ}
-use Rattle.std.specs.List.{All, Contains}
+use Rattle.std.proofs.Common.{◌≡◌, None, Some, Bool, true, false, not, List, [], ◌∷◌, ◌++◌, take, refl, sym, ap, subst, ◌∙◌, ℤ}
+use Rattle.std.specs.List.{All, Contains, last_or}
 use Rattle.std.proofs.lemmas.List.Elements.{All-filter, All-push, All-weaker, Contains-append_left, Contains-push}
 use Rattle.front_set.specs.Vector.{IsBelow, is_below}
 use Rattle.front_set.specs.Front.{AreIncomparable, IsInserted, not_above}
@@ -57,6 +57,11 @@ own_below old new p (Added removed) is =
     subst (λ (es : List Entry). HasBelow es p.costs) (sym is.1)
     (p, Contains-push (not_above p.costs old) p, IsBelow-refl p.costs)
 
+last_of_more : (vectors : List (List ℤ)) (v : List ℤ) → last_or None (vectors ++ v ∷ []) ≡ Some v
+last_of_more [] v = refl
+last_of_more (u ∷ []) v = refl
+last_of_more (u ∷ w ∷ vectors) v = last_of_more (w ∷ vectors) v
+
 -- its costs are logged besides
 pub put_board : (old new : BoardValue) (costs : List ℤ) (x : List Bool) (vectors : List (List ℤ)) →
     IsPut old new costs x → IsModelPair old.instance (record { costs = costs; model = take old.instance.vars x }) →
@@ -69,6 +74,7 @@ put_board old new costs x vectors put pair board =
       models = subst (λ (i : InstanceValue). All (IsModelPair i) new.entries) (sym put.instance)
           (all_after (IsModelPair old.instance) old.entries new.entries p put.done put.inserted pair board.models);
       apart = apart_after old.entries new.entries p put.done put.inserted board.apart;
+      last = put.last ∙ sym (last_of_more vectors costs);
       below = All-push (HasBelow new.entries) vectors costs
           (All-weaker (HasBelow old.entries) (HasBelow new.entries)
           (below_after old.entries new.entries p put.done put.inserted) vectors board.below)

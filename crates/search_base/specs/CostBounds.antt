@@ -1,12 +1,12 @@
 -- Bounds of objectives.
-use Rattle.std.specs.Prelude.{◌≡◌, ◌≢◌, ◌⊎◌, ℕ, ◌-◌, ◌<◌, Bool, true, false, List, [], ◌∷◌, length, map, slice_index_or, All, AllPairs, Contains, Some, ℤ, pos, ◌+ℤ◌, ◌-ℤ◌, ◌≤ℤ◌, ◌<ℤ◌}
+use Rattle.std.specs.Prelude.{◌≡◌, ◌≢◌, ◌⊎◌, ℕ, ◌-◌, ◌<◌, Bool, true, false, List, [], ◌∷◌, length, map, sum_by, slice_index_or, All, AllPairs, Contains, Some, ℤ, pos, ◌+ℤ◌, ◌≤ℤ◌, ◌<ℤ◌}
 use Rattle.std.specs.List.{AllZip}
 use Rattle.scut_base.specs.Literal.{Literal}
 use Rattle.scut_base.specs.Assignment.{lit_true}
 use Rattle.pb_lin.specs.Constraint.{ConstraintValue, Covers, Holds, IsVariable, total}
-use Rattle.pb_lin.specs.CostRow.{CostRowValue, row_cost}
+use Rattle.pb_lin.specs.CostRow.{CostRowValue, IsCostRow, row_cost}
 use Rattle.pb_lin.specs.Problem.{ProblemValue}
-use Rattle.pb_lin.specs.Restriction.{restriction}
+use Rattle.pb_lin.specs.Restriction.{met_value, restriction}
 use Rattle.proof_laws.specs.State.{StateValue}
 use Rattle.proof_laws.specs.Refusal.{line_or_none}
 use Rattle.proof_laws.specs.declared.line.Line.{Line}
@@ -31,6 +31,11 @@ use Rattle.search_base.specs.declared.objective_bound.ObjectiveBound.{ObjectiveB
 abbrev pub AreApart : List Literal → Type 0
 AreApart lits = AllPairs (λ l m. l.var ≢ m.var) lits
 
+-- such literals, whose weights in the row come to no more than the value
+pub record AreApartWithin (row : CostRowValue) (value : ℤ) (truths : List Literal) : Type 0 where
+  pub apart : AreApart truths
+  pub within : (pos (sum_by (met_value truths) row.terms) +ℤ row.offset) ≤ℤ value
+
 -- where these literals are true, the constraint covers "the row costs at least value"
 abbrev pub CoversCost : CostRowValue → ℤ → ConstraintValue → List Literal → Type 0
 CoversCost row value c truths = (n : ℕ) → value ≡ pos n +ℤ row.offset
@@ -45,7 +50,7 @@ LineCovers s row value id IsKind = (c : ConstraintValue) × (line_or_none s.live
 pub record IsAlwaysOver (p : ProblemValue) (lines : List Line) (row : CostRowValue) (value : ℤ) (id : ℕ)
     (s : StateValue) : Type 0 where
   pub own : IsOwnOrNone p lines s id
-  pub covers : LineCovers s row value id AreApart
+  pub covers : LineCovers s row value id (AreApartWithin row value)
 
 -- no assignment that makes the rows and the kept clauses hold costs so much
 abbrev pub IsNeverOver : ProblemValue → List Line → CostRowValue → ℤ → StateValue → Type 0
@@ -108,11 +113,14 @@ pub record IsCover (p : ProblemValue) (lines : List Line) (s : StateValue) (row 
 
 -- an objective in other terms, a totalizer of these that may be asked, and the lines that were made for its outputs
 pub record BoundsRow (a : Snapshot) (row : CostRowValue) (b : ObjectiveBound) : Type 0 where
+  pub weights : IsCostRow row.terms row.offset
   pub reform : (s : StateValue) → IsReached a s → IsReformOf a.problem a.lines s row b.reform
   pub terms : terms_of b.totalizer ≡ b.reform.terms
   pub fits : Fits a b.totalizer
   pub covers : (s : StateValue) → IsReached a s → All (IsCover a.problem a.lines s row b) b.covers.items
   pub rising : AllPairs (λ c d. c.var < d.var) b.covers.items
+  -- each literal of an output stands for one sum
+  pub once : (l : Literal) (m n : ℕ) → StandsFor b m l → StandsFor b n l → m ≡ n
 
 -- the variables of outputs that were made are in no term of a reform
 abbrev pub AreMadeOutside : List Reform → ObjectiveBound → Type 0
@@ -129,8 +137,10 @@ abbrev pub FitSome : List ObjectiveBound → Type 0
 FitSome bounds = (a : Snapshot) × IsReady a × FitBounds a bounds
 
 -- each objective in other terms, in order
-abbrev pub AreReforms : Snapshot → List Reform → Type 0
-AreReforms a reforms = (s : StateValue) → IsReached a s → AllZip (IsReformOf a.problem a.lines s) a.problem.costs reforms
+pub record AreReforms (a : Snapshot) (reforms : List Reform) : Type 0 where
+  pub rows : All (λ r. IsCostRow r.terms r.offset) a.problem.costs
+  pub count : length reforms ≡ length a.problem.costs
+  pub each : (s : StateValue) → IsReached a s → AllZip (IsReformOf a.problem a.lines s) a.problem.costs reforms
 
 -- ---- what a bound adds
 

@@ -1,22 +1,26 @@
 -- The cut of a model, and the line that logs it.
-use Rattle.std.specs.Prelude.{◌≡◌, ℕ, ◌+◌, ◌<◌, Bool, false, not, List, [], ◌∷◌, ◌++◌, length, map, slice_index_or, take, Some, ℤ, Contains}
-use Rattle.std.specs.List.{flat_map}
+use Rattle.std.specs.Prelude.{◌≡◌, ◌↔◌, ◌⊎◌, ℕ, ◌+◌, ◌<◌, Bool, false, not, List, [], ◌∷◌, ◌++◌, length, map, slice_index_or, sum_by, take, Some, ℤ, pos, ◌+ℤ◌, ◌≤ℤ◌, Contains}
+use Rattle.std.specs.List.{AllZip, flat_map}
 use Rattle.scut_base.specs.Literal.{Literal}
 use Rattle.front_set.specs.declared.set.Inserted.{Inserted}
 use Rattle.front_set.specs.Front.{IsInserted}
 use Rattle.instance_normal.specs.NormalForm.{AreDistinct}
 use Rattle.pb_lin.specs.Constraint.{opposite}
-use Rattle.pb_lin.specs.CostRow.{CostRowValue}
+use Rattle.pb_lin.specs.CostRow.{CostRowValue, row_cost}
 use Rattle.pb_lin.specs.Problem.{ProblemValue}
+use Rattle.pb_lin.specs.Restriction.{met_value}
 use Rattle.proof_laws.specs.State.{StateValue, IsState}
 use Rattle.proof_laws.specs.declared.line.Line.{Line}
 use Rattle.proof_laws.specs.declared.line.Line.TheVariants.{Sol}
 use Rattle.proof_rules.specs.Recording.{Snapshot}
 use Rattle.sum_outputs.specs.Adding.{IsReached}
+use Rattle.oracle.specs.Solving.{Reaches}
+use Rattle.totalizer.specs.Meaning.{IsOwnOrNone}
+use Rattle.totalizer.specs.declared.reform.Reform.{Reform}
 use Rattle.totalizer.specs.declared.bound.Bound.{Bound}
 use Rattle.totalizer.specs.declared.bound.Bound.TheVariants.{Always, Never, At}
 use Rattle.search_base.specs.Boards.{BoardValue}
-use Rattle.search_base.specs.CostBounds.{IsCostBound}
+use Rattle.search_base.specs.CostBounds.{AreApart, HasLiteral, IsAnswerFor, IsCostBound, IsOverAt, LineCovers}
 
 -- ---- answers
 
@@ -41,6 +45,50 @@ pub record AreAnswers (p : ProblemValue) (lines : List Line) (values : List ℤ)
   pub count : length answers ≡ length values
   pub each : (i : ℕ) (r : CostRowValue) (v : ℤ) (b : Bound) → i < length answers
       → IsCostBound p lines (slice_index_or p.costs i r) (slice_index_or values i v) (slice_index_or answers i b)
+
+-- each is that of the objective's reform, and has a literal of it or of an output
+pub record AreAsked (reforms : List Reform) (values : List ℤ) (answers : List Bound) : Type 0 where
+  pub each : (i : ℕ) (r : Reform) (v : ℤ) (b : Bound) → i < length answers
+      → IsAnswerFor (slice_index_or reforms i r) (slice_index_or values i v) (slice_index_or answers i b)
+      × HasLiteral reforms (slice_index_or reforms i r) (slice_index_or answers i b)
+
+-- ---- the lines that are named
+
+-- The line of an objective that always costs so much is named only where the weights of these literals in its row come
+-- to no more than that. No line is named where they come to as much by themselves.
+abbrev pub IsNamed : CostRowValue → ℤ → List Literal → Bound → Bound → Type 0
+IsNamed row value lits (Always id) named =
+    ((named ≡ Always 0) × (value ≤ℤ (pos (sum_by (met_value lits) row.terms) +ℤ row.offset)))
+    ⊎ ((named ≡ Always id) × ((pos (sum_by (met_value lits) row.terms) +ℤ row.offset) ≤ℤ value))
+IsNamed row value lits answer named = named ≡ answer
+
+pub record AreNamed (p : ProblemValue) (values : List ℤ) (answers named : List Bound) : Type 0 where
+  pub count : length named ≡ length answers
+  pub each : (i : ℕ) (r : CostRowValue) (v : ℤ) (b c : Bound) → i < length named
+      → IsNamed (slice_index_or p.costs i r) (slice_index_or values i v) (answered_literals answers)
+      (slice_index_or answers i b) (slice_index_or named i c)
+
+-- literals of distinct variables, which are these
+pub record AreThese (lits truths : List Literal) : Type 0 where
+  pub apart : AreApart truths
+  pub same : (l : Literal) → Contains truths l ↔ Contains lits l
+
+-- the line covers the row's value, wherever these literals are true
+pub record IsAlwaysAt (p : ProblemValue) (lines : List Line) (s : StateValue) (row : CostRowValue) (value : ℤ)
+    (lits : List Literal) (id : ℕ) : Type 0 where
+  pub own : IsOwnOrNone p lines s id
+  pub covers : LineCovers s row value id (AreThese lits)
+
+-- What is answered for a row at its value under x, beside answers with these literals.
+abbrev pub IsAnswerAt : ProblemValue → List Line → StateValue → List Bool → List Literal → CostRowValue → Bound → Type 0
+IsAnswerAt p lines s x lits r (Always id) = IsAlwaysAt p lines s r (row_cost x r) lits id
+IsAnswerAt p lines s x lits r Never = ⊥
+IsAnswerAt p lines s x lits r (At l id) = IsOverAt p lines r (row_cost x r) l id s
+
+-- for each objective, in order
+abbrev pub AreAnswersAt : ProblemValue → List Line → List Bool → List Bound → Type 0
+AreAnswersAt p lines x answers = Reaches p lines
+    (λ s. AllZip (IsAnswerAt p lines s x (answered_literals answers)) p.costs answers)
 
 -- ---- cuts
 

@@ -4,6 +4,7 @@ pub use Rattle.instance_normal.specs.NormalForm
 pub mod Logged
 pub mod CostBox
 pub mod CostBounds
+pub mod OneBound
 pub mod Boards
 pub mod Cutting
 pub mod Good

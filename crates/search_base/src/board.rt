@@ -13,6 +13,7 @@ use crate::asking::answers_at;
 use crate::costs::costs_at;
 use crate::laws::bounding_stays_good;
 use crate::logging::log_model;
+use crate::naming::named_answers;
 use front_set::{CostVec, FrontSet};
 use instance::Instance;
 use instance_normal::tighten;
@@ -22,7 +23,7 @@ use scut_base::{Assignment, Duplicate, Lit, NoMemory};
 use std::alloc::Global;
 use std::marker::Model;
 use sum_outputs::in_memory;
-use totalizer::fitting_stays;
+use totalizer::{fitting_stays, own_lines_stay, reform_stays};
 
 /// The one front of an instance that searches write: pairs of a cost vector, as the problem has it, and a
 /// model of the instance. None weakly dominates another.
@@ -95,12 +96,15 @@ impl<'a> Board<'a> {
         let _problem = self.problem.vars();
         let _instance = self.instance.vars();
         let _state = rec.state();
+        own_lines_stay();
         fitting_stays();
+        reform_stays();
         bounding_stays_good();
         let b = in_memory(tighten(self.alloc, self.problem, self.instance, a))?;
         let costs = in_memory(costs_at(self.alloc, self.problem, &b))?;
         let answers = answers_at(self.alloc, rec, bounds, &costs)?;
-        log_model(self.alloc, rec, &b, answers.as_slice())?;
+        let named = in_memory(named_answers(self.alloc, self.problem, &costs, answers.as_slice()))?;
+        log_model(self.alloc, rec, &b, named.as_slice())?;
         in_memory(self.put(costs, &b))
     }
 

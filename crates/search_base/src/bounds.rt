@@ -12,7 +12,7 @@ use proof_rules::{RecordFault, Recorder};
 use scut_base::NoMemory;
 use std::alloc::Global;
 use std::marker::Model;
-use totalizer::{Bound, Reform, fitting_stays, reform_stays};
+use totalizer::{Bound, Reform, fitting_stays, own_lines_stay, reform_stays};
 
 /// The bounds of all objectives of a problem, in order.
 #[derive(Drop)]
@@ -76,6 +76,7 @@ impl Bounds {
     {
         fitting_stays();
         reform_stays();
+        own_lines_stay();
         let bound = &mut self.bounds[objective];
         bound.at_least(self.alloc, rec, value)
     }

@@ -1,7 +1,7 @@
 // Laws of good states.
 ghost use Rattle.search_base.specs.Laws.{AskingStaysGood, BeginningIsGood, BoundingStaysGood, LoggedIsReached, NoLinesArePrepared, TurnLinesJoin, TurnLinesKeepOwn};
 
-use totalizer::{fitting_stays, own_lines_stay};
+use totalizer::{fitting_stays, own_lines_stay, reform_stays};
 
 /// Law: a state has exactly the vectors that its lines have logged.
 pub fn logged_is_reached()
@@ -24,6 +24,7 @@ pub fn asking_stays_good()
 {
     own_lines_stay();
     fitting_stays();
+    reform_stays();
 }
 
 /// Law: a bound that is asked for keeps a good state good.

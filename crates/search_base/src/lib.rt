@@ -1,9 +1,10 @@
 //! What searches for a front stand on: bounds of objectives as literals, the board that they share, and
 //! what a search is.
 //!
-//! Its public contract: `Bounds::at_least` answers a literal that stands for "this objective's cost is at
-//! least a value"; `Board::take` logs a model and puts it onto the board; a `Search` takes turns, and
-//! `run_search` goes on until a line says that nothing is left. All keep a good state good: the board has a
+//! Its public contract: `Bounds::new` takes the objectives as reforms, of which `own_reforms` are the first;
+//! `Bounds::at_least` answers a literal that stands for "this objective's cost is at least a value";
+//! `Board::take` logs a model and puts it onto the board; a `Search` takes turns, and `run_search` goes on
+//! until a line says that nothing is left. All keep a good state good: the board has a
 //! model for each logged vector, and whatever is left is new. It knows no order of search.
 #![tactic(auto)]
 
@@ -14,6 +15,7 @@ mod costs;
 mod cut;
 mod laws;
 mod logging;
+mod naming;
 mod objective_bound;
 mod reforms;
 mod running;

@@ -1,9 +1,10 @@
 // The line that logs a model.
 ghost use Rattle.std.specs.Prelude.{◌≡◌, ◌<◌, ◌^◌, length, IfOk, IfErr, OnOk};
-ghost use Rattle.pb_lin.specs.Problem.{IsProblem, IsProblemModel, problem_costs};
+ghost use Rattle.pb_lin.specs.Problem.{IsProblem, IsProblemModel};
 ghost use Rattle.sum_outputs.specs.Adding.{IsFaultAt, IsReady};
-ghost use Rattle.search_base.specs.Cutting.{AreAlike, AreAnswers, IsModelLine, LogsModel, answered_literals, literals_at};
+ghost use Rattle.search_base.specs.Cutting.{AreAlike, AreAnswersAt, IsModelLine, LogsModel, answered_literals, literals_at};
 ghost use Rattle.search_base.specs.Good.{GoesOn};
+ghost use Rattle.search_base.specs.Logged.{AddsTakenLines};
 
 use crate::cut::{cut_of, lines_of};
 use proof_laws::Line;
@@ -24,12 +25,14 @@ pub(crate) fn log_model<R: Recorder>(
     requires ready { IsReady (R.seen rec.old) }
     requires problem { IsProblem (R.seen rec.old).problem }
     requires model { IsProblemModel (R.seen rec.old).problem model.now }
-    requires answers { AreAnswers (R.seen rec.old).problem (R.seen rec.old).lines
-        (problem_costs (R.seen rec.old).problem model.now) answers.now }
+    requires answers { AreAnswersAt (R.seen rec.old).problem (R.seen rec.old).lines
+        model.now answers.now }
+    requires alike { AreAlike (answered_literals answers.now) }
     ensures logged { OnOk result (LogsModel (R.seen rec.old)
         (R.seen rec.new) model.now answers.now) }
     ensures fault { IfErr result (IsFaultAt (R.seen rec.old) (R.seen rec.new)) }
     ensures goes_on { GoesOn (R.seen rec.old) (R.seen rec.new) }
+    ensures lines { AddsTakenLines (R.seen rec.old).lines (R.seen rec.new).lines }
 {
     // Tells that the lines so far reach a state.
     let _vars = rec.state().vars();

@@ -1,10 +1,14 @@
 // The bounds of one objective.
-ghost use Rattle.std.specs.Prelude.{◌≡◌, ◌<◌, ◌≤◌, ◌≢◌, length, pos, IfOk, IfSome, OnOk};
+ghost use Rattle.std.specs.Prelude.{◌≡◌, ◌≤◌, ◌<◌, length, AllPairs, Contains, IfOk, IfSome, MatchResult, OnOk};
+ghost use Rattle.std.specs.List.{insert};
 ghost use Rattle.pb_lin.specs.CostRow.{CostRowValue};
 ghost use Rattle.sum_outputs.specs.Adding.{IsReady, IsRecorded};
-ghost use Rattle.sum_outputs.specs.Totals.{AreWeights};
+ghost use Rattle.sum_outputs.specs.Totals.{AreWeights, definitions};
+ghost use Rattle.totalizer.specs.Demanding.{AddsFor};
 ghost use Rattle.totalizer.specs.Meaning.{IsBound};
-ghost use Rattle.totalizer.specs.Totalizing.{Fits, terms_of};
+ghost use Rattle.totalizer.specs.Totalizing.{Fits, FitsSome, terms_of};
+ghost use Rattle.search_base.specs.CostBounds.{AddsBound, BoundsRow, IsAnswerFor, IsCostBound, IsNextValue};
+ghost use Rattle.search_base.specs.OneBound.{AddsCover, CanSum, FitsRow, HasOwnLiteral, IsCovered, IsNewBound, IsOutputFor, IsPlaceFor, IsSumFor, KeepsBut, KeepsRow, MakesCover, NeedsCover, sum_of};
 
 use cutting_planes::PolToken;
 use proof_laws::Line;
@@ -12,7 +16,7 @@ use proof_rules::{RecordFault, Recorder};
 use scut_base::{Items, Lit, NoMemory};
 use std::alloc::Global;
 use sum_outputs::{in_memory, record};
-use totalizer::{Bound, Reform, Totalizer};
+use totalizer::{Bound, Reform, Totalizer, fitting_stays, own_lines_stay, reform_stays};
 
 /// The line that says of the objective what the line of an output says of the reform's terms.
 #[derive(Clone, Copy, Debug)]
@@ -34,7 +38,10 @@ pub struct ObjectiveBound {
 
 impl ObjectiveBound {
     // Those of a reform, of which nothing has been asked.
-    pub(crate) fn new(alloc: Global, reform: Reform) -> Result<ObjectiveBound, NoMemory> {
+    pub(crate) fn new(alloc: Global, reform: Reform) -> Result<ObjectiveBound, NoMemory>
+        requires { AreWeights reform.terms }
+        ensures { IfOk result (IsNewBound reform) }
+    {
         let totalizer = Totalizer::build(alloc, reform.terms.as_slice())?;
         Ok(ObjectiveBound {
             reform,
@@ -49,9 +56,29 @@ impl ObjectiveBound {
         alloc: Global,
         rec: &mut R,
         value: i64,
-    ) -> Result<Bound, RecordFault> {
+    ) -> Result<Bound, RecordFault>
+        requires ready { IsReady (R.seen rec.old) }
+        requires fits { FitsRow (R.seen rec.old) self.old }
+        ensures recorded { IsRecorded (R.seen rec.old) (R.seen rec.new) result }
+        ensures bound { IfOk result (λ bound. (row : CostRowValue)
+            → BoundsRow (R.seen rec.old) row self.old
+            → IsCostBound (R.seen rec.new).problem (R.seen rec.new).lines row value bound) }
+        ensures answer { IfOk result (IsAnswerFor self.old.reform value) }
+        ensures literal { IfOk result (HasOwnLiteral self.new) }
+        ensures added { IfOk result (AddsBound (R.seen rec.old) (R.seen rec.new)
+            value self.old self.new) }
+        ensures fits { OnOk result (KeepsRow (R.seen rec.old) (R.seen rec.new) self.old self.new) }
+        ensures reform { self.new.reform ≡ self.old.reform }
+        ensures nodes { self.new.totalizer.nodes ≡ self.old.totalizer.nodes }
+    {
+        fitting_stays();
+        reform_stays();
+        own_lines_stay();
         let above = i128::from(value) - i128::from(self.reform.offset);
-        match bound_of(&mut self.totalizer, rec, above)? {
+        let bound = bound_of(&mut self.totalizer, rec, above)?;
+        // Tells of which kind the live lines are.
+        let _vars = rec.state().vars();
+        match bound {
             Bound::Always { .. } => Ok(Bound::Always {
                 lower_line: self.reform.lower_line,
             }),
@@ -71,7 +98,20 @@ impl ObjectiveBound {
         rec: &mut R,
         lit: Lit,
         output_line: u64,
-    ) -> Result<u64, RecordFault> {
+    ) -> Result<u64, RecordFault>
+        requires ready { IsReady (R.seen rec.old) }
+        requires fits { FitsRow (R.seen rec.old) self.old }
+        requires output { IsOutputFor (R.seen rec.old) self.old lit output_line }
+        ensures recorded { IsRecorded (R.seen rec.old) (R.seen rec.new) result }
+        ensures covers { IfOk result (IsCovered (R.seen rec.old) (R.seen rec.new)
+            self.old lit output_line) }
+        ensures added { OnOk result (MakesCover (R.seen rec.old) (R.seen rec.new)
+            self.old self.new lit) }
+        ensures fits { OnOk result (KeepsRow (R.seen rec.old) (R.seen rec.new) self.old self.new) }
+        ensures kept { KeepsBut self.old self.new }
+    {
+        // Tells of which kind the live lines are.
+        let _vars = rec.state().vars();
         let lower_line = self.reform.lower_line;
         if lower_line == 0 {
             return Ok(output_line);
@@ -79,19 +119,49 @@ impl ObjectiveBound {
         if output_line == 0 {
             return Ok(lower_line);
         }
-        let var = lit.var();
-        let place = self.covers.partition_point(|cover| cover.var < var);
-        if place < self.covers.len() && self.covers[place].var == var {
-            return Ok(self.covers[place].line);
+        match place_in(self.covers.as_slice(), lit.var()) {
+            Ok(line) => Ok(line),
+            Err(place) => self.new_cover(alloc, rec, lit, output_line, place),
         }
-        let tokens = in_memory(sum_tokens(alloc, lower_line, output_line))?;
-        let line = record(rec, Line::Pol { tokens })?;
+    }
+
+    // Makes that line, for a literal that has none.
+    fn new_cover<R: Recorder>(
+        &mut self,
+        alloc: Global,
+        rec: &mut R,
+        lit: Lit,
+        output_line: u64,
+        place: usize,
+    ) -> Result<u64, RecordFault>
+        requires ready { IsReady (R.seen rec.old) }
+        requires fits { FitsRow (R.seen rec.old) self.old }
+        requires output { IsOutputFor (R.seen rec.old) self.old lit output_line }
+        requires needs { NeedsCover self.old }
+        requires place { IsPlaceFor self.old.covers.items lit.var place }
+        ensures recorded { IsRecorded (R.seen rec.old) (R.seen rec.new) result }
+        ensures covers { IfOk result (IsCovered (R.seen rec.old) (R.seen rec.new)
+            self.old lit output_line) }
+        ensures added { OnOk result (AddsCover (R.seen rec.old) (R.seen rec.new) self.new lit.var) }
+        ensures fits { OnOk result (KeepsRow (R.seen rec.old) (R.seen rec.new) self.old self.new) }
+        ensures kept { KeepsBut self.old self.new }
+    {
+        fitting_stays();
+        reform_stays();
+        own_lines_stay();
+        let var = lit.var();
+        let line = add_sum(alloc, rec, self.reform.lower_line, output_line)?;
         in_memory(insert_cover(&mut self.covers, place, Cover { var, line }))?;
         Ok(line)
     }
 
     // The least value above `value` that the reform can have, where that is known.
-    pub(crate) fn next_value(&self, value: i64) -> Option<i64> {
+    pub(crate) fn next_value(&self, value: i64) -> Option<i64>
+        requires fits { FitsSome self.now.totalizer }
+        requires weights { AreWeights self.now.reform.terms }
+        requires terms { terms_of self.now.totalizer ≡ self.now.reform.terms }
+        ensures { IfSome result (IsNextValue self.now.reform value) }
+    {
         let offset = i128::from(self.reform.offset);
         if i128::from(value) < offset {
             return Some(self.reform.offset);
@@ -102,16 +172,52 @@ impl ObjectiveBound {
     }
 }
 
+// The line that was made for the output of a variable, or the place where it would stand.
+fn place_in(covers: &[Cover], var: u64) -> Result<u64, usize>
+    requires { AllPairs (λ c d. c.var < d.var) covers.now }
+    ensures { MatchResult result (λ line. Contains covers.now (record { var = var; line = line }))
+        (IsPlaceFor covers.now var) }
+{
+    let place = covers.partition_point(|cover| cover.var < var);
+    if place < covers.len() && covers[place].var == var {
+        return Ok(covers[place].line);
+    }
+    Err(place)
+}
+
 // Puts a line between those of lower and those of greater variables.
 fn insert_cover(covers: &mut Vec<Cover>, place: usize, cover: Cover) -> Result<(), NoMemory>
     requires { place ≤ length covers.old.items }
+    ensures { OnOk result (covers.new.items ≡ insert covers.old.items place cover) }
 {
     covers.insert(place, cover)?;
     Ok(())
 }
 
+// Records the sum of two lines, and answers its id.
+fn add_sum<R: Recorder>(
+    alloc: Global,
+    rec: &mut R,
+    first: u64,
+    second: u64,
+) -> Result<u64, RecordFault>
+    requires ready { IsReady (R.seen rec.old) }
+    requires fits { CanSum (R.seen rec.old) first second }
+    ensures recorded { IsRecorded (R.seen rec.old) (R.seen rec.new) result }
+    ensures sum { IfOk result (IsSumFor (R.seen rec.old) (R.seen rec.new) first second) }
+    ensures defined { OnOk result
+        (definitions (R.seen rec.new).lines ≡ definitions (R.seen rec.old).lines) }
+{
+    // Tells of which kind the live lines are.
+    let _vars = rec.state().vars();
+    let tokens = in_memory(sum_tokens(alloc, first, second))?;
+    record(rec, Line::Pol { tokens })
+}
+
 // The sum of two lines.
-fn sum_tokens(alloc: Global, first: u64, second: u64) -> Result<Items<PolToken>, NoMemory> {
+fn sum_tokens(alloc: Global, first: u64, second: u64) -> Result<Items<PolToken>, NoMemory>
+    ensures { IfOk result (λ tokens. tokens ≡ sum_of first second) }
+{
     let mut tokens = Items::with_capacity(alloc, 3)?;
     tokens.push(PolToken::Id(first))?;
     tokens.push(PolToken::Id(second))?;
@@ -130,8 +236,10 @@ fn bound_of<R: Recorder>(
     ensures recorded { IsRecorded (R.seen rec.old) (R.seen rec.new) result }
     ensures bound { IfOk result (IsBound (R.seen rec.new).problem (R.seen rec.new).lines
         (terms_of totalizer.old) k) }
+    ensures added { IfOk result (AddsFor (R.seen rec.old) (R.seen rec.new)
+        k totalizer.old totalizer.new) }
     ensures fits { OnOk result (Fits (R.seen rec.new) totalizer.new) }
-    ensures terms { terms_of totalizer.new ≡ terms_of totalizer.old }
+    ensures nodes { totalizer.new.nodes ≡ totalizer.old.nodes }
 {
     if k < 1 {
         return Ok(Bound::Always { lower_line: 0 });

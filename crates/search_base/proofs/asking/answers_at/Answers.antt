@@ -1,9 +1,10 @@
 -- Each objective is asked for after the others, whose answers still mean what they did.
 use mir.Val.{SFits, of_z, to_z}
 use mir.Syntax.{w64}
-use Rattle.std.proofs.Common.{rules, ◌≡◌, ℕ, ◌<◌, List, [], ◌∷◌, ◌++◌, length, take, get_or, Err, sym, ap, ◌∙◌, subst, arith, ℤ, pos}
+use Rattle.std.proofs.Common.{rules, ◌≡◌, ℕ, ◌<◌, List, [], ◌∷◌, ◌++◌, length, take, get_or, Err, refl, sym, ap, ◌∙◌, subst, arith, ℤ, pos}
 use Rattle.std.proofs.lemmas.Int.{to_z-of_z}
-use Rattle.std.proofs.lemmas.List.{take_more, take_all, length-take}
+use Rattle.std.proofs.lemmas.List.{get_or-map, take_more, take_all, length-take}
+use Rattle.std.proofs.lemmas.Slice.Zip.{AllZip-long}
 use Rattle.std.proofs.lemmas.Result.{err_from_is_err_and}
 use Rattle.pb_lin.specs.CostRow.{CostRowValue}
 use Rattle.pb_lin.specs.Problem.{ProblemValue}
@@ -11,9 +12,12 @@ use Rattle.proof_rules.specs.declared.recorder.RecordFault.{RecordFault}
 use Rattle.proof_rules.specs.declared.recorder.RecordFault.TheVariants.{NoMemory}
 use Rattle.sum_outputs.proofs.LaterStates.{continues_again, continues_twice, handed_on, ready_later, recorded_err}
 use Rattle.totalizer.specs.declared.bound.Bound.{Bound}
-use Rattle.search_base.specs.CostBounds.{IsCostBound}
-use Rattle.search_base.specs.Cutting.{AreAnswers}
-use Rattle.search_base.proofs.AskedAnswers.{no_answers, answers_later, answers_more}
+use Rattle.totalizer.specs.declared.reform.Reform.{Reform}
+use Rattle.search_base.specs.declared.objective_bound.ObjectiveBound.{ObjectiveBound}
+use Rattle.search_base.specs.CostBounds.{BoundsRow, HasLiteral, IsAnswerFor, IsCostBound, reforms_of}
+use Rattle.search_base.specs.Cutting.{AreAnswers, AreAsked}
+use Rattle.search_base.proofs.AlikeAnswers.{some_at}
+use Rattle.search_base.proofs.AskedAnswers.{no_answers, no_asked, answers_later, answers_more, asked_more}
 use Rattle.search_base.proofs.asking.answers_at.Goals as goal
 
 pub loop-objective-init : goal.loop-objective-init
@@ -23,6 +27,8 @@ loop-objective-init g c =
     record {
       on = record { on = continues_again a; whole = c.requires.ready.whole };
       fits = c.requires.fits;
+      reforms = refl;
+      asked = no_asked (reforms_of c.args.bounds.now) c.new-answers.result c.new-answers.ensures;
       done = no_answers (R.seen c.args.rec.now).problem (R.seen c.args.rec.now).lines c.new-answers.result c.new-answers.ensures;
     }
 
@@ -91,12 +97,37 @@ loop-objective-preserved g c =
     (sym call.recorded.continues.problem)
     (subst (λ (w : ℤ). IsCostBound d.problem d.lines (get_or b.problem.costs i e) w c.in_ok-answer.answer) value
     (call.bound e))) in
+    let before = reforms_of c.args.bounds.now in
+    let others = call.others in
+    let fit = was.fits in
+    let bounds_long = AllZip-long (BoundsRow b) b.problem.costs c.loop-objective.bounds fit.rows in
+    let problems = ap (λ (p : ProblemValue). length p.costs) was.on.on.problem in
+    let asked_here : (r : Reform) → IsAnswerFor (get_or before i r) v c.in_ok-answer.answer
+    × HasLiteral before (get_or before i r) c.in_ok-answer.answer = λ r.
+    let o = some_at c.loop-objective.bounds i (omega (arith, c.requires.count)) in
+    let here : get_or before i r ≡ (get_or c.loop-objective.bounds i o.0).reform =
+    ap (λ (rs : List Reform). get_or rs i r) (sym was.reforms)
+    ∙ get_or-map (λ (q : ObjectiveBound). q.reform) c.loop-objective.bounds i o.0 r (omega (arith, c.requires.count)) in (
+      subst (λ (q : Reform). IsAnswerFor q v c.in_ok-answer.answer) (sym here)
+          (subst (λ (w : ℤ). IsAnswerFor (get_or c.loop-objective.bounds i o.0).reform w c.in_ok-answer.answer) value
+          (call.answer o.0)),
+      subst (λ (q : Reform). HasLiteral before q c.in_ok-answer.answer) (sym here)
+          (subst (λ (rs : List Reform). HasLiteral rs (get_or c.loop-objective.bounds i o.0).reform c.in_ok-answer.answer)
+          was.reforms (call.literal o.0)),
+    ) in
     let later : AreAnswers d.problem d.lines (take i vs) c.loop-objective.answers =
-    answers_later c.bounds_stay.ensures b d (take i vs) c.loop-objective.answers ready call.recorded.continues
+    answers_later c.own_lines_stay.ensures b d (take i vs) c.loop-objective.answers ready call.recorded.continues
     was.done in
     record {
       on = record { on = continues_twice a b d was.on.on call.recorded.continues; whole = call.recorded.whole };
       fits = call.fits;
+      reforms = others.reforms ∙ was.reforms;
+      asked =
+          subst (λ (us : List ℤ). AreAsked before us c.push.new.self) (sym (take_more vs i (pos 0) short))
+          (subst (λ (bs : List Bound). AreAsked before (take i vs ++ v ∷ []) bs) (sym pushed)
+          (asked_more before (take i vs) c.loop-objective.answers v c.in_ok-answer.answer was.done.count was.asked
+          (λ r. subst (λ (k : ℕ). IsAnswerFor (get_or before k r) v c.in_ok-answer.answer
+          × HasLiteral before (get_or before k r) c.in_ok-answer.answer) (sym count) (asked_here r))));
       done =
           subst (λ (us : List ℤ). AreAnswers d.problem d.lines us c.push.new.self) (sym (take_more vs i (pos 0) short))
           (subst (λ (bs : List Bound). AreAnswers d.problem d.lines (take i vs ++ v ∷ []) bs) (sym pushed)
@@ -113,3 +144,12 @@ returns-clause-answers g c =
     c.loop-objective.answers)
     (take_all c.loop-objective.objective vs (omega (arith, c.loop-objective-test.false)))
     c.loop-objective.invariant.done
+
+pub returns-clause-asked : goal.returns-clause-asked
+returns-clause-asked g c =
+    let vs = c.args.costs.now in
+    let sizes : length c.as_slice-value-items.result.now ≡ length vs =
+    ap (λ (us : List ℤ). length us) c.as_slice-value-items.ensures in
+    subst (λ (us : List ℤ). AreAsked (reforms_of c.args.bounds.now) us c.loop-objective.answers)
+    (take_all c.loop-objective.objective vs (omega (arith, c.loop-objective-test.false)))
+    c.loop-objective.invariant.asked

@@ -1,6 +1,6 @@
-use Rattle.std.proofs.Common.{take}
-use Rattle.search_base.specs.CostBounds.{FitBounds}
-use Rattle.search_base.specs.Cutting.{AreAnswers}
+use Rattle.std.proofs.Common.{◌≡◌, take}
+use Rattle.search_base.specs.CostBounds.{FitBounds, reforms_of}
+use Rattle.search_base.specs.Cutting.{AreAnswers, AreAsked}
 use Rattle.sum_outputs.proofs.OutputsLater.{IsUnderWay}
 use Rattle.search_base.proofs.asking.answers_at.Given as goal
 
@@ -11,5 +11,7 @@ invariant-loop-objective g l =
     record {
       on : IsUnderWay (R.seen l.initial.rec) b;
       fits : FitBounds b l.bounds;
+      reforms : reforms_of l.bounds ≡ reforms_of l.initial.bounds;
+      asked : AreAsked (reforms_of l.initial.bounds) (take l.objective l.costs) l.answers;
       done : AreAnswers (R.seen l.rec).problem (R.seen l.rec).lines (take l.objective l.costs) l.answers;
     }

@@ -1,24 +1,20 @@
--- The totalizer of the objective answers for what is left of the value above the offset.
-use mir.Val.{SFits, of_z, to_z}
-use mir.Syntax.{w64, w128}
-use Rattle.std.proofs.Common.{◌≡◌, [], get_or, sym, subst, arith, rules, ℤ, pos, ◌-ℤ◌}
-use Rattle.std.proofs.lemmas.Int.{ints}
-use Rattle.std.proofs.lemmas.Result.{IfOk-weaker, on_ok_weaker}
+-- The objective's own bounds are asked; the others stay as they are.
+use mir.Syntax.{w64}
+use Rattle.std.proofs.Common.{◌<◌, List, [], get_or, length, sym, subst, ◌∙◌, arith, ℤ, pos}
+use Rattle.std.proofs.Math.ListN.{set}
+use Rattle.std.proofs.lemmas.Int.{to_z-of_z}
+use Rattle.std.proofs.lemmas.List.{get_or_default, get_or-set_same}
+use Rattle.std.specs.Prelude.{IfOk}
+use Rattle.std.proofs.lemmas.Result.{IfOk-weaker}
 use Rattle.std.proofs.lemmas.Slice.Zip.{AllZip-long}
 use Rattle.pb_lin.specs.CostRow.{CostRowValue}
-use Rattle.totalizer.specs.Meaning.{IsBound}
-use Rattle.totalizer.specs.Totalizing.{Fits, terms_of}
-use Rattle.search_base.specs.CostBounds.{BoundsRow, FitBounds, IsCostBound}
-use Rattle.search_base.proofs.BoundRows.{bound_at, cost_bound, fit_after}
+use Rattle.search_base.specs.CostBounds.{AddsBound, BoundsRow, FitBounds, HasLiteral, IsAnswerFor, IsCostBound, KeepsOthers, reforms_of}
+use Rattle.search_base.specs.OneBound.{HasOwnLiteral, KeepsRow}
+use Rattle.search_base.specs.declared.objective_bound.ObjectiveBound.{ObjectiveBound}
+use Rattle.search_base.proofs.AskedBounds.{fit_asked, has_literal, others_kept, outside_after}
+use Rattle.search_base.proofs.BoundRows.{bound_at}
+use Rattle.search_base.proofs.Recordings.{if_on_both, on_if}
 use Rattle.search_base.proofs.bounds.Bounds.at_least.Goals as goal
-
--- how far the value is above the offset
-abbrev above : ℤ → ℤ → ℤ
-above value offset = to_z w128 (of_z w128 (to_z w128 (of_z w128 value) -ℤ to_z w128 (of_z w128 offset)))
-
-difference : (value offset v o : ℤ) → SFits w64 value → SFits w64 offset → v ≡ to_z w64 (of_z w64 value) →
-    o ≡ to_z w64 (of_z w64 offset) → above v o ≡ value -ℤ offset
-difference value offset v o first second e f = omega (arith, ints)
 
 pub index_mut-bound-requires : goal.index_mut-bound-requires
 index_mut-bound-requires g c =
@@ -26,54 +22,146 @@ index_mut-bound-requires g c =
     let a = R.seen c.args.rec.now in
     let items = c.self.inside.bounds.items in
     let fit : FitBounds a items = subst (FitBounds a) (sym c.self.view_is) c.requires.fits in
-    let same = AllZip-long (BoundsRow a) a.problem.costs items fit in
+    let same = AllZip-long (BoundsRow a) a.problem.costs items fit.rows in
     omega (arith, same, c.self.inside.bounds.ok.0, c.requires.there)
 
-pub bound_of-requires-clause-fits : goal.bound_of-requires-clause-fits
-bound_of-requires-clause-fits g c =
+pub at_least-requires-clause-fits : goal.at_least-requires-clause-fits
+at_least-requires-clause-fits g c =
     let R = g.R.Recorder in
     let a = R.seen c.args.rec.now in
     let items = c.self.inside.bounds.items in
     let fit : FitBounds a items = subst (FitBounds a) (sym c.self.view_is) c.requires.fits in
     let d : CostRowValue = record { terms = []; offset = pos 0 } in
-    let bound = c.index_mut-bound in
-    (bound_at a items c.args.objective d bound.result.now fit c.requires.there bound.ensures.value).fits
+    let bound = c.index_mut-bound in (
+      get_or a.problem.costs c.args.objective d,
+      bound_at a items c.args.objective d bound.result.now fit c.requires.there bound.ensures.value,
+    )
 
 pub returns-clause-bound : goal.returns-clause-bound
 returns-clause-bound g c =
     let R = g.R.Recorder in
     let a = R.seen c.args.rec.now in
+    let b = R.seen c.at_least.new.rec in
     let items = c.self.inside.bounds.items in
     let fit : FitBounds a items = subst (FitBounds a) (sym c.self.view_is) c.requires.fits in
     let i = c.args.objective in
     let o = c.index_mut-bound.result.now in
+    IfOk-weaker c.at_least.result
+    (λ bound. (row : CostRowValue) → BoundsRow a row o → IsCostBound b.problem b.lines row c.args.value bound)
+    (λ bound. (d : CostRowValue) → IsCostBound b.problem b.lines (get_or a.problem.costs i d) c.args.value bound)
+    (λ bound all d. all (get_or a.problem.costs i d) (bound_at a items i d o fit c.requires.there
+    c.index_mut-bound.ensures.value))
+    (subst (λ (v : ℤ). IfOk c.at_least.result (λ bound. (row : CostRowValue) → BoundsRow a row o
+    → IsCostBound b.problem b.lines row v bound)) (to_z-of_z w64 c.args.value c.ranges.value) c.at_least.ensures.bound)
+
+pub returns-clause-answer : goal.returns-clause-answer
+returns-clause-answer g c =
+    let R = g.R.Recorder in
+    let a = R.seen c.args.rec.now in
+    let items = c.self.inside.bounds.items in
+    let fit : FitBounds a items = subst (FitBounds a) (sym c.self.view_is) c.requires.fits in
+    let same = AllZip-long (BoundsRow a) a.problem.costs items fit.rows in
+    let i = c.args.objective in
+    let o = c.index_mut-bound.result.now in
+    let short : i < length items = omega (arith, same, c.requires.there) in
+    subst (λ (bs : List ObjectiveBound). IfOk c.at_least.result
+    (λ bound. (e : ObjectiveBound) → IsAnswerFor (get_or bs i e).reform c.args.value bound)) c.self.view_is
+    (IfOk-weaker c.at_least.result (IsAnswerFor o.reform c.args.value)
+    (λ bound. (e : ObjectiveBound) → IsAnswerFor (get_or items i e).reform c.args.value bound)
+    (λ bound is e. subst (λ (q : ObjectiveBound). IsAnswerFor q.reform c.args.value bound)
+    (c.index_mut-bound.ensures.value ∙ get_or_default items i o e short) is)
+    (subst (λ (v : ℤ). IfOk c.at_least.result (IsAnswerFor o.reform v)) (to_z-of_z w64 c.args.value c.ranges.value)
+    c.at_least.ensures.answer))
+
+pub returns-clause-literal : goal.returns-clause-literal
+returns-clause-literal g c =
+    let R = g.R.Recorder in
+    let a = R.seen c.args.rec.now in
+    let b = R.seen c.at_least.new.rec in
+    let items = c.self.inside.bounds.items in
+    let fit : FitBounds a items = subst (FitBounds a) (sym c.self.view_is) c.requires.fits in
+    let same = AllZip-long (BoundsRow a) a.problem.costs items fit.rows in
+    let i = c.args.objective in
+    let o = c.index_mut-bound.result.now in
+    let q = c.at_least.new.self in
     let is = c.index_mut-bound.ensures.value in
-    let p = (R.seen c.bound_of.new.rec).problem in
-    let lines = (R.seen c.bound_of.new.rec).lines in
-    let value = c.args.value in
-    let k = above c.from.result c.from-2.result in
-    let in_range : SFits w64 o.offset = search rules in
-    let same : k ≡ value -ℤ o.offset =
-    difference value o.offset c.from.result c.from-2.result c.ranges.value in_range c.from.ensures c.from-2.ensures in
-    IfOk-weaker c.bound_of.result
-    (IsBound p lines (terms_of o.totalizer) k)
-    (λ bound. (d : CostRowValue) → IsCostBound p lines (get_or a.problem.costs i d) value bound)
-    (λ bound answers d. cost_bound a p lines (get_or a.problem.costs i d) o value k bound
-    (bound_at a items i d o fit c.requires.there is) same answers)
-    c.bound_of.ensures.bound
+    let short : i < length items = omega (arith, same, c.requires.there) in
+    let s = c.requires.ready.state in
+    let reached = c.requires.ready.reached in
+    let call = c.at_least.ensures in
+    subst (λ (bs : List ObjectiveBound). IfOk c.at_least.result
+    (λ bound. (e : ObjectiveBound) → HasLiteral (reforms_of bs) (get_or bs i e).reform bound)) c.self.view_is
+    (if_on_both c.at_least.result (KeepsRow a b o q) (HasOwnLiteral q) (AddsBound a b c.args.value o q)
+    (λ bound. (e : ObjectiveBound) → HasLiteral (reforms_of items) (get_or items i e).reform bound)
+    (λ bound keeps has added e. subst (λ (p : ObjectiveBound). HasLiteral (reforms_of items) p.reform bound)
+    (is ∙ get_or_default items i o e short)
+    (has_literal a b s reached items i o q fit c.requires.there short is call.reform c.own_lines_stay.ensures
+    c.fitting_stays.ensures c.reform_stays.ensures call.recorded.continues keeps
+    (outside_after a b s reached items i o q fit c.requires.there short is call.reform c.args.value bound call.nodes added)
+    bound has)) call.fits call.literal
+    (subst (λ (v : ℤ). IfOk c.at_least.result (AddsBound a b v o q)) (to_z-of_z w64 c.args.value c.ranges.value)
+    c.at_least.ensures.added))
+
+pub returns-clause-added : goal.returns-clause-added
+returns-clause-added g c =
+    let R = g.R.Recorder in
+    let a = R.seen c.args.rec.now in
+    let b = R.seen c.at_least.new.rec in
+    let items = c.self.inside.bounds.items in
+    let fit : FitBounds a items = subst (FitBounds a) (sym c.self.view_is) c.requires.fits in
+    let same = AllZip-long (BoundsRow a) a.problem.costs items fit.rows in
+    let i = c.args.objective in
+    let o = c.index_mut-bound.result.now in
+    let q = c.at_least.new.self in
+    let short : i < length items = omega (arith, same, c.requires.there) in
+    subst (λ (bs : List ObjectiveBound). IfOk c.at_least.result
+    (λ bound. (e : ObjectiveBound) → AddsBound a b c.args.value (get_or bs i e) (get_or (set items i q) i e) bound))
+    c.self.view_is
+    (IfOk-weaker c.at_least.result (AddsBound a b c.args.value o q)
+    (λ bound. (e : ObjectiveBound) → AddsBound a b c.args.value (get_or items i e) (get_or (set items i q) i e) bound)
+    (λ bound added e. subst (λ (p : ObjectiveBound). AddsBound a b c.args.value (get_or items i e) p bound)
+    (sym (get_or-set_same items i q e short))
+    (subst (λ (p : ObjectiveBound). AddsBound a b c.args.value p q bound)
+    (c.index_mut-bound.ensures.value ∙ get_or_default items i o e short) added))
+    (subst (λ (v : ℤ). IfOk c.at_least.result (AddsBound a b v o q)) (to_z-of_z w64 c.args.value c.ranges.value)
+    c.at_least.ensures.added))
+
+pub returns-clause-others : goal.returns-clause-others
+returns-clause-others g c =
+    let R = g.R.Recorder in
+    let a = R.seen c.args.rec.now in
+    let b = R.seen c.at_least.new.rec in
+    let items = c.self.inside.bounds.items in
+    let fit : FitBounds a items = subst (FitBounds a) (sym c.self.view_is) c.requires.fits in
+    let same = AllZip-long (BoundsRow a) a.problem.costs items fit.rows in
+    let i = c.args.objective in
+    let o = c.index_mut-bound.result.now in
+    let q = c.at_least.new.self in
+    let short : i < length items = omega (arith, same, c.requires.there) in
+    subst (λ (bs : List ObjectiveBound). KeepsOthers i bs (set items i q)) c.self.view_is
+    (others_kept a b c.requires.ready.state c.requires.ready.reached items i o q fit c.requires.there short
+    c.index_mut-bound.ensures.value c.at_least.ensures.reform)
 
 pub returns-clause-fits : goal.returns-clause-fits
 returns-clause-fits g c =
     let R = g.R.Recorder in
     let a = R.seen c.args.rec.now in
-    let b = R.seen c.bound_of.new.rec in
+    let b = R.seen c.at_least.new.rec in
     let items = c.self.inside.bounds.items in
     let fit : FitBounds a items = subst (FitBounds a) (sym c.self.view_is) c.requires.fits in
+    let same = AllZip-long (BoundsRow a) a.problem.costs items fit.rows in
+    let i = c.args.objective in
     let o = c.index_mut-bound.result.now in
+    let q = c.at_least.new.self in
     let is = c.index_mut-bound.ensures.value in
-    let now = c.bound_of.new.totalizer in
-    let call = c.bound_of.ensures in
-    on_ok_weaker c.bound_of.result
-    (λ (fits : Fits b now). fit_after c.fitting_stays.ensures a b c.requires.ready.state items c.args.objective o now
-    call.recorded.continues c.requires.ready.reached fit c.requires.there is call.terms fits)
+    let short : i < length items = omega (arith, same, c.requires.there) in
+    let s = c.requires.ready.state in
+    let reached = c.requires.ready.reached in
+    let call = c.at_least.ensures in
+    on_if c.at_least.result (KeepsRow a b o q) (AddsBound a b c.args.value o q) (FitBounds b (set items i q))
+    (λ bound keeps added. fit_asked a b s reached items i o q fit c.requires.there short is call.reform
+    c.own_lines_stay.ensures c.fitting_stays.ensures c.reform_stays.ensures call.recorded.continues keeps
+    (outside_after a b s reached items i o q fit c.requires.there short is call.reform c.args.value bound call.nodes added))
     call.fits
+    (subst (λ (v : ℤ). IfOk c.at_least.result (AddsBound a b v o q)) (to_z-of_z w64 c.args.value c.ranges.value)
+    c.at_least.ensures.added)
