@@ -37,7 +37,8 @@ pub fn certified_front<O: Oracle>(
     ensures covers { IfOk result
         (λ found. CoversLogged inst.now problem.now (O.seen oracle.new).lines found.entries.items) }
     ensures ending { IfOk result
-        (λ found. IsEnding (O.seen oracle.old).limit problem.now (O.seen oracle.new).lines found.ending) }
+        (λ found. IsEnding (O.seen oracle.old).limit problem.now
+            (O.seen oracle.new).lines found.ending) }
     ensures whole { OnOk result ((O.seen oracle.new).broken ≡ false) }
     ensures failed { IsErrOf result RecordFault.Failed
         → Rose (O.seen oracle.old).faults (O.seen oracle.new).faults }
@@ -75,7 +76,8 @@ pub fn front_by<O: Oracle, S: Search>(
     ensures covers { IfOk result
         (λ found. CoversLogged inst.now problem.now (O.seen oracle.new).lines found.entries.items) }
     ensures ending { IfOk result
-        (λ found. IsEnding (O.seen oracle.old).limit problem.now (O.seen oracle.new).lines found.ending) }
+        (λ found. IsEnding (O.seen oracle.old).limit problem.now
+            (O.seen oracle.new).lines found.ending) }
     ensures whole { OnOk result ((O.seen oracle.new).broken ≡ false) }
     ensures failed { IsErrOf result RecordFault.Failed
         → Rose (O.seen oracle.old).faults (O.seen oracle.new).faults }

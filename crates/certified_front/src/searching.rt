@@ -117,7 +117,8 @@ fn end_proof<O: Oracle>(oracle: &mut O, id: u64) -> Result<Ending, RecordFault>
     ensures ending { IfOk result
         (IsEnding (O.seen oracle.old).limit (O.seen oracle.new).problem (O.seen oracle.new).lines) }
     ensures whole { OnOk result ((O.seen oracle.new).broken ≡ false) }
-    ensures logged { LogsNone (O.seen oracle.old).problem (O.seen oracle.old).lines (O.seen oracle.new).lines }
+    ensures logged { LogsNone (O.seen oracle.old).problem (O.seen oracle.old).lines
+        (O.seen oracle.new).lines }
     ensures stop { IfErr result (IsStop (O.seen oracle.old) (O.seen oracle.new)) }
     ensures stays { StaysWith (O.seen oracle.old) (O.seen oracle.new) }
 {
@@ -134,7 +135,8 @@ fn end_by<O: Oracle>(oracle: &mut O, line: &Line) -> Result<Ending, RecordFault>
     ensures ending { IfOk result
         (IsEnding (O.seen oracle.old).limit (O.seen oracle.new).problem (O.seen oracle.new).lines) }
     ensures whole { OnOk result ((O.seen oracle.new).broken ≡ false) }
-    ensures logged { LogsNone (O.seen oracle.old).problem (O.seen oracle.old).lines (O.seen oracle.new).lines }
+    ensures logged { LogsNone (O.seen oracle.old).problem (O.seen oracle.old).lines
+        (O.seen oracle.new).lines }
     ensures stop { IfErr result (IsStop (O.seen oracle.old) (O.seen oracle.new)) }
     ensures stays { StaysWith (O.seen oracle.old) (O.seen oracle.new) }
 {

@@ -24,7 +24,8 @@ pub(crate) fn answers_at<R: Recorder>(
     requires count { length costs.now ≡ length (R.seen rec.old).problem.costs }
     ensures recorded { IsRecorded (R.seen rec.old) (R.seen rec.new) result }
     ensures fits { OnOk result (FitBounds (R.seen rec.new) bounds.new) }
-    ensures answers { IfOk result (AreAnswers (R.seen rec.new).problem (R.seen rec.new).lines costs.now) }
+    ensures answers { IfOk result
+        (AreAnswers (R.seen rec.new).problem (R.seen rec.new).lines costs.now) }
     ensures asked { IfOk result (AreAsked (reforms_of bounds.old) costs.now) }
 {
     own_lines_stay();

@@ -36,7 +36,8 @@ impl Bounds {
     pub fn new(alloc: Global, reforms: Vec<Reform>) -> Result<Bounds, NoMemory>
         requires { All (λ r. AreWeights r.terms) reforms.items }
         ensures reforms { IfOk result (λ b. reforms_of b ≡ reforms.items) }
-        ensures fits { IfOk result (λ b. (a : Snapshot) → AreReforms a reforms.items → FitBounds a b) }
+        ensures fits { IfOk result (λ b. (a : Snapshot) → AreReforms a reforms.items
+            → FitBounds a b) }
     {
         let mut bounds = Vec::new(alloc);
         for reform in reforms {
@@ -62,8 +63,9 @@ impl Bounds {
         requires fits { FitBounds (R.seen rec.old) self.old }
         requires there { objective < length (R.seen rec.old).problem.costs }
         ensures recorded { IsRecorded (R.seen rec.old) (R.seen rec.new) result }
-        ensures bound { IfOk result (λ bound. (d : CostRowValue) → IsCostBound (R.seen rec.new).problem
-            (R.seen rec.new).lines (slice_index_or (R.seen rec.old).problem.costs objective d) value bound) }
+        ensures bound { IfOk result (λ bound. (d : CostRowValue)
+            → IsCostBound (R.seen rec.new).problem (R.seen rec.new).lines
+            (slice_index_or (R.seen rec.old).problem.costs objective d) value bound) }
         ensures answer { IfOk result (λ bound. (e : ObjectiveBound)
             → IsAnswerFor (slice_index_or self.old objective e).reform value bound) }
         ensures literal { IfOk result (λ bound. (e : ObjectiveBound)

@@ -23,7 +23,8 @@ pub(crate) fn cut_of(alloc: Global, answers: &[Bound]) -> Result<Items<Lit>, NoM
 
 // The opposites of the literals of the answers, in order.
 fn opposites_of(alloc: Global, answers: &[Bound]) -> Result<Vec<Lit>, NoMemory>
-    ensures { IfOk result (λ opposites. opposites.items ≡ map opposite (answered_literals answers.now)) }
+    ensures { IfOk result (λ opposites. opposites.items
+        ≡ map opposite (answered_literals answers.now)) }
 {
     let mut opposites = Vec::new(alloc);
     for answer in answers {

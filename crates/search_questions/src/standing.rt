@@ -35,7 +35,8 @@ pub(crate) fn clashing(
     objectives: usize,
 ) -> Result<Items<bool>, NoMemory>
     requires { length excesses.now ≤ objectives }
-    ensures { IfOk result (λ stands. stands ≡ are_standing excesses.now (clash_in last) objectives) }
+    ensures { IfOk result
+        (λ stands. stands ≡ are_standing excesses.now (clash_in last) objectives) }
 {
     match last {
         Bound::At { lit, .. } => standing(alloc, excesses, &[lit, lit.not()], objectives),
