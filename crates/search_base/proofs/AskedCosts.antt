@@ -24,7 +24,8 @@ use Rattle.search_base.specs.declared.objective_bound.ObjectiveBound.{ObjectiveB
 use Rattle.search_base.proofs.AskedRows.{row_asked}
 use Rattle.search_base.proofs.BoundLines.{always_covers, named_normal}
 use Rattle.search_base.proofs.CoverMeanings.{cases, stands_for}
-use Rattle.search_base.proofs.RowStays.{kept_before, row_stays}
+use Rattle.totalizer.proofs.LaterLines.{held_before}
+use Rattle.search_base.proofs.RowStays.{row_stays}
 use Rattle.search_base.proofs.TurnLines.{own_law, totalizer_lines}
 
 -- ---- values
@@ -110,7 +111,7 @@ module _ (m : Snapshot) (row : CostRowValue) (o : ObjectiveBound) (is : BoundsRo
         variable = let w = at.variable in let more = later.vars in (w.0, omega arith);
         own = here.own;
         follows = λ x rows hold reaches.
-            let before : KeptHold m.problem m.lines s x = kept_before m.problem m.lines b.lines s t later x
+            let before : KeptHold m.problem m.lines s x = held_before m.problem m.lines b.lines s t later x
             (subst (λ (p : ProblemValue). KeptHold p b.lines t x) on.problem hold) in
             let model : All (Holds x) m.problem.rows =
             subst (λ (p : ProblemValue). All (Holds x) p.rows) on.problem rows in

@@ -31,7 +31,7 @@ use Rattle.search_base.proofs.CutClauses.{clause_tested, cut_fails}
 use Rattle.search_base.proofs.LoggedVectors.{logged_append}
 use Rattle.search_base.proofs.ModelLiterals.{assignment_again}
 use Rattle.search_base.proofs.PutEntries.{put_board}
-use Rattle.search_base.proofs.SumLines.{put_live}
+use Rattle.sum_outputs.proofs.PolLines.{put_live}
 use Rattle.search_base.proofs.TurnLines.{own_law}
 use Rattle.search_base.proofs.TurnStates.{ready_after}
 

@@ -1,20 +1,19 @@
 -- Bounds of an objective, and what they answered, mean the same after later lines.
-use Rattle.std.proofs.Common.{◌≡◌, inl, inr, ℕ, ◌==◌, Bool, if◌then◌else◌, Option, Some, List, [], ap, sym, subst, ◌∙◌, arith, ℤ, pos, ◌+ℤ◌}
+use Rattle.std.proofs.Common.{◌≡◌, ℕ, List, sym, subst, ◌∙◌, ℤ, pos, ◌+ℤ◌}
 use Rattle.std.specs.List.{All}
 use Rattle.std.proofs.lemmas.List.Elements.{All-weaker}
 use Rattle.scut_base.specs.Literal.{Literal}
-use Rattle.pb_lin.specs.Constraint.{ConstraintValue}
 use Rattle.pb_lin.specs.CostRow.{CostRowValue}
 use Rattle.pb_lin.specs.Problem.{ProblemValue}
 use Rattle.proof_laws.specs.State.{StateValue}
-use Rattle.proof_laws.specs.Refusal.{line_or_none}
 use Rattle.proof_laws.specs.Replay.{IsReplay}
 use Rattle.proof_laws.specs.declared.line.Line.{Line}
 use Rattle.proof_rules.specs.Recording.{Snapshot}
-use Rattle.sum_outputs.specs.Adding.{IsLater, IsReached, KeptHold}
+use Rattle.sum_outputs.specs.Adding.{IsLater, IsReached}
 use Rattle.totalizer.specs.Keeping.{FittingStays, KeepsOwn, OwnLinesStay, ReformStays}
 use Rattle.totalizer.specs.Meaning.{IsOwnOrNone}
 use Rattle.totalizer.specs.Reforming.{IsReformOf}
+use Rattle.totalizer.proofs.LaterLines.{held_before, named_stays, own_stays, variable_stays}
 use Rattle.totalizer.specs.declared.bound.Bound.{Bound}
 use Rattle.totalizer.specs.declared.bound.Bound.TheVariants.{Always, Never, At}
 use Rattle.search_base.specs.CostBounds.{BoundsRow, IsAlwaysOver, IsCostBound, IsCover, IsOverAt, LineCovers}
@@ -24,43 +23,30 @@ use Rattle.search_base.specs.declared.objective_bound.ObjectiveBound.{ObjectiveB
 -- ---- one state after another
 
 module _ (p : ProblemValue) (old new : List Line) (s t : StateValue) (later : IsLater p old s new t) where
-  pub own_stays : (id : ℕ) → IsOwnOrNone p old s id → IsOwnOrNone p new t id
-  own_stays id (inl none) = inl none
-  own_stays id (inr (c, own)) = inr (c, later.own id c own)
-
-  named_stays : (id : ℕ) → IsOwnOrNone p old s id → line_or_none t.live id ≡ line_or_none s.live id
-  named_stays id (inl none) = ap (line_or_none t.live) none ∙ sym (ap (line_or_none s.live) none)
-  named_stays id (inr (c, own)) =
-      ap (λ (found : Option ConstraintValue). if id == 0 then Some (record { terms = []; degree = 0 }) else found)
-      ((later.own id c own).0 ∙ sym own.0)
-
   pub line_stays : (row : CostRowValue) (value : ℤ) (id : ℕ) (IsKind : List Literal → Type 0) →
       IsOwnOrNone p old s id → LineCovers s row value id IsKind → LineCovers t row value id IsKind
-  line_stays row value id IsKind own (c, named, covers) = (c, named_stays id own ∙ named, covers)
-
-  pub kept_before : (x : List Bool) → KeptHold p new t x → KeptHold p old s x
-  kept_before x hold id c kept = let own = later.own id c (kept.0, kept.2) in hold id c (own.0, kept.1, own.1)
+  line_stays row value id IsKind own (c, named, covers) = (c, named_stays p old new s t later id own ∙ named, covers)
 
   pub cover_stays : (row : CostRowValue) (b : ObjectiveBound) (c : Cover) → IsCover p old s row b c →
       IsCover p new t row b c
   cover_stays row b c is = record {
     sum = is.sum;
     there = is.there;
-    own = own_stays c.line is.own;
+    own = own_stays p old new s t later c.line is.own;
     covers = line_stays row (pos is.sum +ℤ b.reform.offset) c.line _ is.own is.covers;
   }
 
   always_stays : (row : CostRowValue) (value : ℤ) (id : ℕ) → IsAlwaysOver p old row value id s →
       IsAlwaysOver p new row value id t
   always_stays row value id is =
-      record { own = own_stays id is.own; covers = line_stays row value id _ is.own is.covers }
+      record { own = own_stays p old new s t later id is.own; covers = line_stays row value id _ is.own is.covers }
 
   over_stays : (row : CostRowValue) (value : ℤ) (l : Literal) (id : ℕ) → IsOverAt p old row value l id s →
       IsOverAt p new row value l id t
   over_stays row value l id is = record {
-    variable = let v = is.variable in let more = later.vars in (v.0, omega arith);
-    own = own_stays id is.own;
-    follows = λ x rows hold. is.follows x rows (kept_before x hold);
+    variable = variable_stays p old new s t later l.var is.variable;
+    own = own_stays p old new s t later id is.own;
+    follows = λ x rows hold. is.follows x rows (held_before p old new s t later x hold);
     covers = line_stays row value id _ is.own is.covers;
   }
 
@@ -73,7 +59,7 @@ pub cost_bound_stays : OwnLinesStay → (p : ProblemValue) (old new : List Line)
 cost_bound_stays stays p old new s row value (Always id) keeps before is = λ t after.
     always_stays p old new s t (stays p old new s t keeps before after) row value id (is s before)
 cost_bound_stays stays p old new s row value Never keeps before is = λ t after x rows hold.
-    is s before x rows (kept_before p old new s t (stays p old new s t keeps before after) x hold)
+    is s before x rows (held_before p old new s t (stays p old new s t keeps before after) x hold)
 cost_bound_stays stays p old new s row value (At l id) keeps before is = λ t after.
     over_stays p old new s t (stays p old new s t keeps before after) row value l id (is s before)
 

@@ -1,17 +1,16 @@
 -- A totalizer may still be asked, and a bound and a reform still mean what they did.
-use Rattle.std.proofs.Common.{◌≡◌, ⊎_elim, inl, inr, ℕ, ◌==◌, Bool, if◌then◌else◌, Option, Some, List, [], ◌∷◌, get_or, ap, sym, subst, ◌∙◌, arith}
+use Rattle.std.proofs.Common.{◌≡◌, ⊎_elim, ℕ, Some, List, [], ◌∷◌, get_or, sym, subst, ◌∙◌, arith}
 use Rattle.std.specs.FinMap.{get}
 use Rattle.scut_base.specs.Literal.{Literal}
-use Rattle.pb_lin.specs.Constraint.{ConstraintValue, IsVariable}
+use Rattle.pb_lin.specs.Constraint.{ConstraintValue}
 use Rattle.pb_lin.specs.CostRow.{CostRowValue}
 use Rattle.pb_lin.specs.Problem.{ProblemValue}
 use Rattle.cutting_planes.proofs.Terms.{Terms}
 use Rattle.proof_laws.specs.State.{StateValue}
 use Rattle.proof_laws.specs.Steps.{reached_if}
-use Rattle.proof_laws.specs.Refusal.{line_or_none}
 use Rattle.proof_laws.specs.Replay.{IsReplay}
 use Rattle.proof_laws.specs.declared.line.Line.{Line}
-use Rattle.sum_outputs.specs.Adding.{IsOwn, IsLater, KeptHold}
+use Rattle.sum_outputs.specs.Adding.{IsOwn, IsLater}
 use Rattle.totalizer.specs.declared.bound.Bound.TheVariants.{Always, Never, At}
 use Rattle.totalizer.specs.declared.reform.Reform.{Reform}
 use Rattle.totalizer.specs.Meaning.{IsDefinedFor, IsOutput, IsOwnOrNone, IsBoundAt}
@@ -19,6 +18,7 @@ use Rattle.totalizer.specs.Reforming.{IsReformOf}
 use Rattle.totalizer.specs.Keeping.{BoundStays, FittingStays, ReformStays}
 use Rattle.totalizer.proofs.LaterOutputs.{made_then}
 use Rattle.sum_outputs.proofs.ReplayIds.{replay_ids}
+use Rattle.totalizer.proofs.LaterLines.{held_before, named_stays, own_stays, variable_stays}
 use Rattle.totalizer.proofs.OwnLines.{own_lines_stay_law}
 
 pub fitting_stays_law : FittingStays
@@ -42,19 +42,6 @@ module _ (p : ProblemValue) (old new : List Line) (s t : StateValue) (replay : I
       (λ (own' : (d : ConstraintValue) × IsOwn p old s id d). (later.own id own'.0 own'.1).0 ∙ sym own'.1.0 ∙ is)
       own
 
-  named_stays : (id : ℕ) → IsOwnOrNone p old s id → line_or_none t.live id ≡ line_or_none s.live id
-  named_stays id own = ⊎_elim
-      (λ (none : id ≡ 0). ap (λ (i : ℕ). line_or_none t.live i) none ∙ sym (ap (λ (i : ℕ). line_or_none s.live i) none))
-      (λ (own' : (d : ConstraintValue) × IsOwn p old s id d).
-      let none : Option ConstraintValue = Some (record { terms = []; degree = 0 }) in
-      ap (λ (found : Option ConstraintValue). if id == 0 then none else found)
-      ((later.own id own'.0 own'.1).0 ∙ sym own'.1.0))
-      own
-
-  own_stays : (id : ℕ) → IsOwnOrNone p old s id → IsOwnOrNone p new t id
-  own_stays id own = ⊎_elim (λ (none : id ≡ 0). inl none)
-      (λ (own' : (d : ConstraintValue) × IsOwn p old s id d). inr (own'.0, later.own id own'.0 own'.1)) own
-
   defined_stays : (terms : Terms) (k : ℕ) (l : Literal) (id : ℕ) → IsOwnOrNone p old s id →
       IsDefinedFor p s terms k l id → IsDefinedFor p t terms k l id
   defined_stays terms k l id own is = record {
@@ -72,33 +59,24 @@ module _ (p : ProblemValue) (old new : List Line) (s t : StateValue) (replay : I
   output_stays (u ∷ []) k l id own is = is
   output_stays (u ∷ v ∷ ts) k l id own is = defined_stays (u ∷ v ∷ ts) k l id own is
 
-  -- the kept clauses so far are among those that are kept later
-  held_before : (x : List Bool) → KeptHold p new t x → KeptHold p old s x
-  held_before x hold id c kept =
-      let own = later.own id c (kept.0, kept.2) in
-      hold id c (own.0, kept.1, own.1)
-
-  variable_stays : (var : ℕ) → IsVariable s.vars var → IsVariable t.vars var
-  variable_stays var is = let more = later.vars in (is.0, omega arith)
-
   reform_stays : (row : CostRowValue) (r : Reform) → IsReformOf p old s row r → IsReformOf p new t row r
   reform_stays row r is = record {
     weights = is.weights;
-    variables = λ k d short. variable_stays (get_or r.terms k d).0.var (is.variables k d short);
+    variables = λ k d short. variable_stays p old new s t later (get_or r.terms k d).0.var (is.variables k d short);
     offset = is.offset;
     small = is.small;
-    own = own_stays r.lower_line is.own;
-    lower = let line = is.lower in (line.0, named_stays r.lower_line is.own ∙ line.1, line.2);
-    upper = λ x rows hold. is.upper x rows (held_before x hold);
+    own = own_stays p old new s t later r.lower_line is.own;
+    lower = let line = is.lower in (line.0, named_stays p old new s t later r.lower_line is.own ∙ line.1, line.2);
+    upper = λ x rows hold. is.upper x rows (held_before p old new s t later x hold);
   }
 
   bound_stays : (terms : Terms) (k : ℕ) (l : Literal) (id : ℕ) → IsBoundAt p old s terms k l id →
       IsBoundAt p new t terms k l id
   bound_stays terms k l id is = record {
-    variable = variable_stays l.var is.variable;
-    own = own_stays id is.own;
-    follows = λ x hold reach. is.follows x (held_before x hold) reach;
-    bounds = let b = is.bounds in (b.0, named_stays id is.own ∙ b.1, b.2);
+    variable = variable_stays p old new s t later l.var is.variable;
+    own = own_stays p old new s t later id is.own;
+    follows = λ x hold reach. is.follows x (held_before p old new s t later x hold) reach;
+    bounds = let b = is.bounds in (b.0, named_stays p old new s t later id is.own ∙ b.1, b.2);
     output = output_stays terms k l id is.own is.output;
   }
 

@@ -1,5 +1,6 @@
 pub mod OwnLines
 pub mod LaterOutputs
+pub mod LaterLines
 pub mod LawsKept
 pub mod OwnReforms
 pub mod Restricted

@@ -10,7 +10,7 @@ use Rattle.sum_outputs.proofs.DefinitionCounts.{definitions_push}
 use Rattle.sum_outputs.proofs.LaterStates.{continues_again}
 use Rattle.search_base.specs.OneBound.{IsSumFor, sum_of}
 use Rattle.search_base.proofs.Recordings.{if_on, memory_handed}
-use Rattle.search_base.proofs.SumLines.{sum_formed, sum_may, sum_added}
+use Rattle.search_base.proofs.SumLines.{sum_added, sum_is}
 use Rattle.search_base.proofs.objective_bound.add_sum.Goals as goal
 
 pub returns-in_err-tokens-clause-recorded : goal.returns-in_err-tokens-clause-recorded
@@ -26,8 +26,8 @@ record-requires-clause-formed g c =
     let a = R.seen c.args.rec.now in
     let is : c.in_ok-tokens.tokens ≡ sum_of c.args.first c.args.second = rw c.in_ok-tokens.ensures.ok at c.sum_tokens.ensures in
     subst (λ (ts : List PolToken). IsWellFormed (Pol ts)) (sym is)
-    (sum_formed a c.state.result.now c.args.first c.args.second c.vars-vars.ensures.state c.state.ensures.replays
-    c.requires.fits)
+    (let made = sum_is a c.state.result.now c.args.first c.args.second c.requires.ready c.vars-vars.ensures.state
+    c.state.ensures.replays c.requires.fits in let may = made.2 in may.formed)
 
 pub record-requires-clause-legal : goal.record-requires-clause-legal
 record-requires-clause-legal g c =
@@ -35,8 +35,8 @@ record-requires-clause-legal g c =
     let a = R.seen c.args.rec.now in
     let is : c.in_ok-tokens.tokens ≡ sum_of c.args.first c.args.second = rw c.in_ok-tokens.ensures.ok at c.sum_tokens.ensures in
     subst (λ (ts : List PolToken). MayBeAdded a.problem a.lines (Pol ts)) (sym is)
-    (sum_may a c.state.result.now c.args.first c.args.second c.vars-vars.ensures.state c.state.ensures.replays
-    c.requires.fits c.requires.ready)
+    (let made = sum_is a c.state.result.now c.args.first c.args.second c.requires.ready c.vars-vars.ensures.state
+    c.state.ensures.replays c.requires.fits in let may = made.2 in may.legal)
 
 pub returns-clause-sum : goal.returns-clause-sum
 returns-clause-sum g c =
@@ -49,8 +49,8 @@ returns-clause-sum g c =
     let call = c.record.ensures in
     if_on c.record.result (b.lines ≡ a.lines ++ Pol c.in_ok-tokens.tokens ∷ []) (IsNextId a.problem a.lines)
     (IsSumFor a b first second)
-    (λ line added id. sum_added a c.state.result.now first second c.vars-vars.ensures.state c.state.ensures.replays
-    c.requires.fits b line call.recorded.continues.problem
+    (λ line added id. sum_added a c.state.result.now first second c.requires.ready c.vars-vars.ensures.state
+    c.state.ensures.replays c.requires.fits b line call.recorded.continues.problem
     (added ∙ ap (λ (ts : List PolToken). a.lines ++ Pol ts ∷ []) is) id) call.added call.id
 
 pub returns-clause-defined : goal.returns-clause-defined
