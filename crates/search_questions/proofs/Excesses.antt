@@ -1,7 +1,7 @@
 -- What stands for "a cost exceeds its limit", at assignments.
 use lib.Signed.{◌<ℤ◌}
 use Rattle.std.proofs.Common.{◌≡◌, ⊎_elim, ℕ, zero, suc, ◌^◌, ◌<◌, ◌≤◌, ◌==◌, Bool, true, false, not, Some, List, [], ◌∷◌, map, length, get_or, refl, sym, ◌∙◌, arith, ℤ, pos, negsuc, ◌+ℤ◌, ◌≤ℤ◌, ◌-ℤ◌}
-use Rattle.std.specs.Prelude.{int_lt}
+use Rattle.std.specs.Prelude.{int_lt, sum_by}
 use Rattle.std.specs.FinMap.{get}
 use Rattle.std.specs.List.{All}
 use Rattle.std.proofs.lemmas.Bool.{and_parts, and_from, cases_Bool, cond-true, cond-false, not-true, not_from_false}
@@ -9,12 +9,12 @@ use Rattle.std.proofs.lemmas.Int.{by_lt_z, ints}
 use Rattle.std.proofs.lemmas.List.Elements.{All-nil, All-cons}
 use Rattle.scut_base.specs.Literal.{Literal}
 use Rattle.scut_base.specs.Assignment.{lit_true}
-use Rattle.scut_base.proofs.Lists.{Contains-head}
+use Rattle.scut_base.proofs.Lists.{Contains-head, sum_by_zero}
 use Rattle.front_set.specs.Vector.{is_below, IsBelow}
 use Rattle.pb_lin.specs.Constraint.{ConstraintValue, Holds, total, value}
 use Rattle.pb_lin.specs.CostRow.{CostRowValue, IsCostRow, row_cost}
 use Rattle.pb_lin.specs.Problem.{ProblemValue}
-use Rattle.pb_lin.specs.Restriction.{restriction}
+use Rattle.pb_lin.specs.Restriction.{met_value, restriction}
 use Rattle.pb_lin.proofs.Laws.{Holds-restriction, Implies-covers}
 use Rattle.proof_laws.specs.State.{StateValue}
 use Rattle.proof_laws.specs.Refusal.{line_or_none}
@@ -25,7 +25,7 @@ use Rattle.sum_outputs.specs.Adding.{KeptHold}
 use Rattle.totalizer.specs.declared.bound.Bound.{Bound}
 use Rattle.totalizer.specs.declared.bound.Bound.TheVariants.{Always, Never, At}
 use Rattle.totalizer.specs.Meaning.{AreTruthsWith}
-use Rattle.search_base.specs.CostBounds.{AreApart, CoversCost, IsCostBound, LineCovers}
+use Rattle.search_base.specs.CostBounds.{AreApartWithin, CoversCost, IsCostBound, LineCovers}
 
 -- ---- one bound
 
@@ -48,9 +48,6 @@ named_holds s x hold id c is =
 
 alone : (l : Literal) → AreTruthsWith l (l ∷ [])
 alone l = record { apart = λ i j d before short. absurd (omega arith); there = Contains-head l [] }
-
-none_apart : AreApart []
-none_apart i j d before short = absurd (omega arith)
 
 -- where its literals are true, and it holds, the row costs as much as the line says
 module _ (x : List Bool) (row : CostRowValue) (v : ℤ) (c : ConstraintValue) (truths : List Literal)
@@ -76,6 +73,24 @@ line_reaches : (s : StateValue) (x : List Bool) → LiveHold s x → (row : Cost
 line_reaches s x hold row v id IsKind truths kind all line =
     cost_reached x row v line.0 truths (named_holds s x hold id line.0 line.1) all (line.2 truths kind)
 
+-- no literals have no weight
+none_within : (row : CostRowValue) (v : ℤ) (n : ℕ) → v -ℤ row.offset ≡ pos n → AreApartWithin row v []
+none_within row v n is = record {
+  apart = λ i j d before short. absurd (omega arith);
+  within = let none : sum_by (met_value []) row.terms ≡ 0 = sum_by_zero (met_value []) row.terms (λ k d short. refl) in
+      omega (arith, ints);
+}
+
+-- by its line, or by its offset
+always_reaches : (s : StateValue) (x : List Bool) → LiveHold s x → (row : CostRowValue) (v : ℤ) (id : ℕ)
+    → LineCovers s row v id (AreApartWithin row v) → v ≤ℤ row_cost x row
+always_reaches s x hold row v id line = by (v -ℤ row.offset) refl
+  where
+    by : (above : ℤ) → v -ℤ row.offset ≡ above → v ≤ℤ row_cost x row
+    by (pos n) is = line_reaches s x hold row v id (AreApartWithin row v) [] (none_within row v n is)
+        (All-nil (λ m. lit_true x m ≡ true)) line
+    by (negsuc n) is = omega (arith, ints)
+
 -- ---- one row
 
 -- the bound's literal is true, or it has none and is always reached
@@ -94,7 +109,7 @@ module _ (p : ProblemValue) (lines : List Line) (s : StateValue) (reached : IsRe
   pub row_reaches : (r : CostRowValue) (v : ℤ) (bound : Bound) (x : List Bool) → IsCostBound p lines r v bound
       → LiveHold s x → IsMet x bound → v ≤ℤ row_cost x r
   row_reaches r v (Always id) x is hold met =
-      line_reaches s x hold r v id AreApart [] none_apart (All-nil (λ m. lit_true x m ≡ true)) (is s reached).covers
+      always_reaches s x hold r v id (is s reached).covers
   row_reaches r v Never x is hold met = absurd met
   row_reaches r v (At l id) x is hold met =
       let all : All (λ m. lit_true x m ≡ true) (l ∷ []) =

@@ -1,4 +1,3 @@
-pub mod LaterBounds
 pub mod Excesses
 pub mod Questions
 pub mod Questioned

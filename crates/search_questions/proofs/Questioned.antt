@@ -19,8 +19,8 @@ use Rattle.totalizer.specs.declared.bound.Bound.TheVariants.{Always, Never, At}
 use Rattle.search_base.specs.CostBounds.{IsCostBound}
 use Rattle.search_base.specs.Laws.{TurnLinesJoin, TurnLinesKeepOwn}
 use Rattle.search_base.specs.Turns.{IsRemaining}
+use Rattle.search_base.proofs.RowStays.{cost_bound_stays}
 use Rattle.search_questions.specs.Questions.{AddsDenial, AreExcesses, Denies, IsDenial, IsExcess, IsLimited, IsQuestion, IsRuledOut, IsUndeniable}
-use Rattle.search_questions.proofs.LaterBounds.{cost_bound_later}
 use Rattle.search_questions.proofs.Questions.{IsOf, undeniable}
 
 -- ---- excesses
@@ -38,8 +38,8 @@ pub excesses_later : OwnLinesStay → (p : ProblemValue) (old new : List Line) (
     → AreExcesses p old limits bounds → AreExcesses p new limits bounds
 excesses_later law p old new s limits bounds keeps reached excesses = record {
   count = excesses.count;
-  each = λ i b short d e. cost_bound_later law p old new s keeps reached (get_or p.costs i d)
-      (get_or limits i e +ℤ pos 1) (get_or bounds i b) (excesses.each i b short d e);
+  each = λ i b short d e. cost_bound_stays law p old new s (get_or p.costs i d) (get_or limits i e +ℤ pos 1)
+      (get_or bounds i b) keeps reached (excesses.each i b short d e);
   limited = excesses.limited;
 }
 
