@@ -1,11 +1,11 @@
 -- Costs that meet an aim: what limits they keep to, and what a logged vector makes of the aim.
-use Rattle.std.proofs.Common.{◌≡◌, ℕ, ◌-◌, ◌^◌, ◌<◌, suc, Bool, true, false, not, ◌&&◌, Option, None, Some, List, [], ◌∷◌, ◌++◌, map, length, refl, ap, sym, subst, ◌∙◌, arith, ℤ, pos, ◌-ℤ◌, ◌≤ℤ◌, ◌<ℤ◌}
+use Rattle.std.proofs.Common.{◌≡◌, ◌-◌, ◌^◌, Bool, true, not, ◌&&◌, Option, None, Some, List, [], ◌∷◌, ◌++◌, map, length, refl, ap, sym, subst, ◌∙◌, arith, ℤ, pos, ◌-ℤ◌, ◌≤ℤ◌, ◌<ℤ◌}
 use Rattle.std.specs.Prelude.{int_lt, IfSome}
 use Rattle.std.specs.List.{All, last_or}
 use Rattle.std.proofs.lemmas.Bool.{and_parts, and_from, not-true, not_from_false}
 use Rattle.std.proofs.lemmas.Int.{ints}
 use Rattle.std.proofs.lemmas.List.{length-map}
-use Rattle.front_set.specs.Vector.{is_below, IsBelow}
+use Rattle.front_set.specs.Vector.{IsBelow}
 use Rattle.front_set.proofs.FrontLaws.{length-IsBelow}
 use Rattle.pb_lin.specs.CostRow.{CostRowValue, IsCostRow, row_cost}
 use Rattle.pb_lin.specs.Problem.{ProblemValue, problem_costs}

@@ -1,5 +1,5 @@
 -- What answers tell of two limits, and of the aim.
-use Rattle.std.specs.Prelude.{◌≡◌, ◌^◌, List, [], ◌∷◌, Option, None, Some, ℤ, pos, ◌-ℤ◌}
+use Rattle.std.specs.Prelude.{◌≡◌, ◌^◌, [], ◌∷◌, Option, None, Some, ℤ, pos, ◌-ℤ◌}
 use Rattle.pb_lin.specs.Problem.{problem_costs}
 use Rattle.proof_rules.specs.Recording.{Snapshot}
 use Rattle.search_base.specs.Turns.{IsEndLine, IsTakable}

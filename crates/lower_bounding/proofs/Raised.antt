@@ -1,5 +1,5 @@
 -- What limits and answers say of the fence.
-use Rattle.std.proofs.Common.{◌≡◌, ℕ, ◌-◌, ◌^◌, ◌<◌, Bool, true, false, List, [], ◌∷◌, ◌++◌, length, map, ap, refl, sym, subst, ◌∙◌, arith, ℤ, ◌≤ℤ◌, ◌<ℤ◌, pos}
+use Rattle.std.proofs.Common.{◌≡◌, ℕ, ◌-◌, ◌^◌, ◌<◌, Bool, true, false, List, [], ◌∷◌, ◌++◌, length, ap, refl, sym, subst, ◌∙◌, arith, ℤ, ◌≤ℤ◌, ◌<ℤ◌, pos}
 use Rattle.std.specs.Prelude.{slice_index_or}
 use Rattle.std.specs.Int.{int_min}
 use Rattle.std.proofs.lemmas.Int.{ints}

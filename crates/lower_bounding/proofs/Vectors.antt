@@ -1,5 +1,5 @@
 -- Vectors, number by number.
-use Rattle.std.proofs.Common.{◌≡◌, ℕ, ◌+◌, ◌<◌, ◌≤◌, zero, suc, Bool, not, List, [], ◌∷◌, ◌++◌, map, length, get_or, refl, sym, subst, ⊎_elim, arith, ℤ, ◌≤ℤ◌, ◌<ℤ◌, pos}
+use Rattle.std.proofs.Common.{◌≡◌, ℕ, ◌+◌, ◌<◌, ◌≤◌, zero, suc, Bool, not, List, [], ◌∷◌, ◌++◌, map, length, refl, sym, subst, ⊎_elim, arith, ℤ, ◌≤ℤ◌, ◌<ℤ◌, pos}
 use Rattle.std.specs.Prelude.{int_lt}
 use Rattle.std.proofs.lemmas.Bool.{and_parts, and_from, cases_lt, not-true, not_from_false}
 use Rattle.std.proofs.lemmas.Int.{ints}

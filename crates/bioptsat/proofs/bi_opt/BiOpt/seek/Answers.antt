@@ -1,7 +1,7 @@
 -- What keeps to the limits meets the aim, and the other way round.
 use mir.Val.{SFits, of_z, to_z}
 use mir.Syntax.{w64}
-use Rattle.std.proofs.Common.{rules, ◌≡◌, ◌-◌, ◌^◌, Some, List, length, ap, sym, subst, ◌∙◌, ℤ, pos}
+use Rattle.std.proofs.Common.{rules, ◌≡◌, ◌-◌, ◌^◌, Some, length, ap, sym, subst, ◌∙◌, ℤ, pos}
 use Rattle.std.specs.List.{All}
 use Rattle.std.proofs.lemmas.Int.{to_z-of_z}
 use Rattle.std.proofs.lemmas.Option.{get_or_from_slice_get}

@@ -1,5 +1,5 @@
 -- What keeps to the limits keeps to the fence, and the other way round.
-use Rattle.std.proofs.Common.{◌≡◌, length, ap, sym, subst, ◌∙◌}
+use Rattle.std.proofs.Common.{length, ap, sym, subst, ◌∙◌}
 use Rattle.std.proofs.lemmas.Result.{IfOk-weaker}
 use Rattle.pb_lin.specs.Problem.{ProblemValue}
 use Rattle.search_base.proofs.Turning.{goes_again}

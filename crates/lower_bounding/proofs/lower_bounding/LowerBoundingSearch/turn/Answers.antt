@@ -1,8 +1,8 @@
 -- What was found is inside the fence; where none was, the numbers that stand in the way rise.
-use Rattle.std.proofs.Common.{◌≡◌, ◌<◌, List, length, ap, sym, subst, ◌∙◌, ℤ}
+use Rattle.std.proofs.Common.{◌<◌, length, ap, sym, subst, ◌∙◌}
 use Rattle.pb_lin.specs.Problem.{ProblemValue}
 use Rattle.search_base.proofs.Turning.{finds_after, goes_twice}
-use Rattle.lower_bounding.specs.Fences.{FenceValue, Raises, Serves, own_number, room}
+use Rattle.lower_bounding.specs.Fences.{FenceValue, Serves, own_number, room}
 use Rattle.lower_bounding.specs.Raising.{CanRaise, IsRaised}
 use Rattle.lower_bounding.proofs.Raised.{bounds_length, finds_inside, raised_falls, raised_serves, raises, rows_length, tops_length}
 use Rattle.lower_bounding.proofs.lower_bounding.LowerBoundingSearch.turn.Goals as goal
