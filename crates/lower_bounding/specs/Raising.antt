@@ -19,7 +19,8 @@ pub record IsLimit (number top limit : ℤ) : Type 0 where
 -- the same for each number of a fence
 pub record AreLimits (fence tops limits : List ℤ) : Type 0 where
   pub count : length limits ≡ length fence
-  pub each : (i : ℕ) → i < length fence → IsLimit (number_at fence i) (number_at tops i) (number_at limits i)
+  pub each : (i : ℕ) → i < length fence
+      → IsLimit (number_at fence i) (number_at tops i) (number_at limits i)
 
 -- ---- answers
 
@@ -31,7 +32,8 @@ stands_at stands i = slice_index_or stands i false
 pub record CanRaise (fence tops : List ℤ) (stands : List Bool) : Type 0 where
   pub count : length stands ≡ length fence
   pub some : (i : ℕ) × (i < length fence) × (stands_at stands i ≡ true)
-  pub each : (i : ℕ) → i < length fence → stands_at stands i ≡ true → number_at fence i <ℤ number_at tops i
+  pub each : (i : ℕ) → i < length fence → stands_at stands i ≡ true
+      → number_at fence i <ℤ number_at tops i
 
 -- what an answer tells of the fence
 abbrev pub TellsOfFence : Snapshot → FenceValue → Below → Type 0
