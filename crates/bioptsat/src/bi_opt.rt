@@ -1,0 +1,158 @@
+// The search for two objectives.
+ghost use Rattle.std.specs.Prelude.{◌≡◌, length, IfOk, IfErr, option_copied};
+ghost use Rattle.search_base.specs.Good.{GoesOn, IsGood, KeepsBoard};
+ghost use Rattle.search_base.specs.Turns.{IsInOrder, IsSearchFault, IsTurn};
+ghost use Rattle.search_questions.specs.Telling.{IsGoodWithSome, StaysGood};
+ghost use Rattle.bioptsat.specs.declared.aim.Aim.TheVariants.{Anything};
+ghost use Rattle.bioptsat.specs.Aims.{MovesAim, Serves, first_is_least, own_number, vector_of};
+ghost use Rattle.bioptsat.specs.Asking.{IsOneLess, TellsOfAim, TellsWithin};
+
+use crate::aim::Aim;
+use front_set::CostVec;
+use oracle::{Oracle, OracleFault};
+use scut_base::Items;
+use search_base::{Board, Bounds, Search, Turn};
+use search_questions::{Below, seek_any, seek_below};
+use std::alloc::Global;
+use std::marker::Model;
+
+/// Lowers the first cost until it is least, and then the second cost at that first cost; then it starts
+/// afresh.
+#[derive(Drop)]
+pub struct BiOpt {
+    alloc: Global,
+    aim: Aim,
+}
+
+impl Model for BiOpt {
+    ghost use Rattle.bioptsat.specs.declared.aim.Aim.{Aim};
+
+    ghost Value = { Aim };
+
+    ghost view = { λ s. s.aim };
+}
+
+impl BiOpt {
+    /// A search without an aim, for any problem of two objectives. Takes no memory.
+    pub fn new(alloc: Global) -> BiOpt
+        ensures { result ≡ Anything }
+    {
+        BiOpt {
+            alloc,
+            aim: Aim::Anything,
+        }
+    }
+
+    /// The vector that the next turn tries to improve.
+    pub fn aim(&self) -> Option<&CostVec>
+        ensures { option_copied result ≡ vector_of self.now }
+    {
+        match &self.aim {
+            Aim::Anything => None,
+            Aim::First(costs) | Aim::Second(costs) => Some(costs),
+        }
+    }
+
+    /// Whether nothing that is left has a smaller first cost than the aim. Not where there is no aim.
+    pub fn first_is_least(&self) -> bool
+        ensures { result ≡ first_is_least self.now }
+    {
+        matches!(&self.aim, Aim::Second(_))
+    }
+
+    // Whether a model is left that meets the aim.
+    fn seek<O: Oracle>(&self, oracle: &mut O, bounds: &mut Bounds) -> Result<Below, OracleFault>
+        requires good { IsGoodWithSome (O.seen oracle.old) bounds.old }
+        requires serves { Serves self.now (O.seen oracle.old).problem }
+        ensures tells { IfOk result (TellsOfAim (O.seen oracle.new) self.now) }
+        ensures good { IsInOrder result → StaysGood (O.seen oracle.old) (O.seen oracle.new)
+            bounds.old bounds.new }
+        ensures fault { IfErr result (IsSearchFault (O.seen oracle.old) (O.seen oracle.new)) }
+        ensures goes_on { GoesOn (O.seen oracle.old) (O.seen oracle.new) }
+    {
+        match &self.aim {
+            Aim::Anything => seek_any(oracle, bounds),
+            Aim::First(costs) => {
+                self.seek_within(oracle, bounds, one_less(costs.get(0)), Some(i64::MAX))
+            }
+            Aim::Second(costs) => {
+                self.seek_within(oracle, bounds, Some(costs.get(0)), one_less(costs.get(1)))
+            }
+        }
+    }
+
+    // Whether a model is left whose costs are at most these two. Nothing costs less than an `i64` can be, so
+    // where one is missing, none is left, and the oracle isn't asked.
+    fn seek_within<O: Oracle>(
+        &self,
+        oracle: &mut O,
+        bounds: &mut Bounds,
+        first: Option<i64>,
+        second: Option<i64>,
+    ) -> Result<Below, OracleFault>
+        requires good { IsGoodWithSome (O.seen oracle.old) bounds.old }
+        requires count { length (O.seen oracle.old).problem.costs ≡ 2 }
+        ensures tells { IfOk result (TellsWithin (O.seen oracle.new) first second) }
+        ensures good { IsInOrder result → StaysGood (O.seen oracle.old) (O.seen oracle.new)
+            bounds.old bounds.new }
+        ensures fault { IfErr result (IsSearchFault (O.seen oracle.old) (O.seen oracle.new)) }
+        ensures goes_on { GoesOn (O.seen oracle.old) (O.seen oracle.new) }
+    {
+        let (Some(first), Some(second)) = (first, second) else {
+            let stands = Items::new(self.alloc);
+            return Ok(Below::Above { stands });
+        };
+        let limits = CostVec::from_slice(self.alloc, &[first, second])?;
+        seek_below(self.alloc, oracle, bounds, &limits)
+    }
+}
+
+impl Search for BiOpt {
+    ghost own = { own_number };
+
+    ghost serves = { Serves };
+
+    /// One turn. Without an aim it asks for any model: `Found`, whose costs are the new aim, or `Finished`.
+    /// With an aim it asks for a smaller first cost, or where that is least for a smaller second cost:
+    /// `Found`, whose costs are the new aim, `Finished`, or `Moved`. Then the first cost is least; or where
+    /// it was, there is no aim any more.
+    fn turn<O: Oracle>(
+        &mut self,
+        oracle: &mut O,
+        bounds: &mut Bounds,
+        board: &mut Board<'_>,
+    ) -> Result<Turn, OracleFault>
+        requires good { IsGood (O.seen oracle.old) bounds.old board.old }
+        requires serves { Serves self.old (O.seen oracle.old).problem }
+        ensures turn { IfOk result (IsTurn (O.seen oracle.old) (O.seen oracle.new)
+            (own_number self.old) (own_number self.new)) }
+        ensures aim { IfOk result (MovesAim (O.seen oracle.old) (O.seen oracle.new)
+            self.old self.new) }
+        ensures same_aim { IfErr result (λ f. self.new ≡ self.old) }
+        ensures good { IsInOrder result → IsGood (O.seen oracle.new) bounds.new board.new }
+        ensures serves { IsInOrder result → Serves self.new (O.seen oracle.new).problem }
+        ensures fault { IfErr result (IsSearchFault (O.seen oracle.old) (O.seen oracle.new)) }
+        ensures goes_on { GoesOn (O.seen oracle.old) (O.seen oracle.new) }
+        ensures board { KeepsBoard board.old board.new }
+    {
+        match self.seek(oracle, bounds)? {
+            Below::Model(model) => {
+                board.take(oracle, bounds, &model)?;
+                self.aim = self.aim.at_last(self.alloc, board)?;
+                Ok(Turn::Found)
+            }
+            Below::End { id } => Ok(Turn::Finished { id }),
+            Below::Above { .. } => {
+                self.aim.give_up();
+                Ok(Turn::Moved)
+            }
+        }
+    }
+}
+
+// One less than the number, where an `i64` can be that.
+fn one_less(number: i64) -> Option<i64>
+    ensures { IsOneLess number result }
+{
+    number.checked_sub(1)
+}

@@ -1,0 +1,7 @@
+-- The coefficients so far.
+use Rattle.std.proofs.Common.{◌≡◌, take}
+use Rattle.pb_lin.specs.Constraint.{total}
+use Rattle.lower_bounding.proofs.tops.total.Given as goal
+
+abbrev pub invariant-loop-term : goal.invariant-loop-term
+invariant-loop-term l = l.sum ≡ total (take l.term-index l.terms)

@@ -1,0 +1,120 @@
+// The search from below.
+ghost use Rattle.std.specs.Prelude.{◌≡◌, IfOk, IfErr, map};
+ghost use Rattle.search_base.specs.Good.{GoesOn, IsGood, KeepsBoard};
+ghost use Rattle.search_base.specs.Turns.{IsInOrder, IsSearchFault, IsTurn};
+ghost use Rattle.search_questions.specs.Telling.{IsGoodWithSome, StaysGood};
+ghost use Rattle.lower_bounding.specs.Fences.{MovesFence, Serves, own_number};
+ghost use Rattle.lower_bounding.specs.Raising.{TellsOfFence};
+
+use crate::limits::limits;
+use crate::raising::raised;
+use crate::tops::greatest_cost;
+use front_set::CostVec;
+use oracle::{Oracle, OracleFault};
+use pb_lin::PbProblem;
+use scut_base::{Items, NoMemory};
+use search_base::{Board, Bounds, Search, Turn};
+use search_questions::{Below, seek_below};
+use std::alloc::Global;
+use std::marker::Model;
+
+/// Finds models whose costs are at most those of a fence. Where none is left, the numbers of the fence that
+/// stand in the way rise.
+#[derive(Drop)]
+pub struct LowerBounding {
+    alloc: Global,
+    fence: CostVec,
+    // What each cost is at most. The fence stays below it.
+    tops: CostVec,
+}
+
+impl Model for LowerBounding {
+    ghost use Rattle.lower_bounding.specs.Fences.{FenceValue};
+
+    ghost Value = { FenceValue };
+
+    ghost view = { λ s. record { fence = s.fence; tops = s.tops } };
+}
+
+impl LowerBounding {
+    /// A search whose fence are the least costs. Costs a pass over the terms of the objectives.
+    pub fn new(alloc: Global, problem: &PbProblem) -> Result<LowerBounding, NoMemory>
+        ensures fence { IfOk result (λ s. s.fence ≡ map (λ r. r.offset) problem.now.costs) }
+        ensures serves { IfOk result (λ s. Serves s problem.now) }
+    {
+        let mut fence = Items::new(alloc);
+        let mut tops = Items::new(alloc);
+        for row in problem.costs() {
+            fence.push(row.offset())?;
+            tops.push(greatest_cost(row))?;
+        }
+        Ok(LowerBounding {
+            alloc,
+            fence: CostVec::from_items(fence),
+            tops: CostVec::from_items(tops),
+        })
+    }
+
+    /// What the costs of the next model are to be at most.
+    pub fn fence(&self) -> &CostVec
+        ensures { result.now ≡ self.now.fence }
+    {
+        &self.fence
+    }
+
+    // Whether a model is left whose costs are at most the fence.
+    fn seek<O: Oracle>(&self, oracle: &mut O, bounds: &mut Bounds) -> Result<Below, OracleFault>
+        requires good { IsGoodWithSome (O.seen oracle.old) bounds.old }
+        requires serves { Serves self.now (O.seen oracle.old).problem }
+        ensures tells { IfOk result (TellsOfFence (O.seen oracle.new) self.now) }
+        ensures good { IsInOrder result → StaysGood (O.seen oracle.old) (O.seen oracle.new)
+            bounds.old bounds.new }
+        ensures fault { IfErr result (IsSearchFault (O.seen oracle.old) (O.seen oracle.new)) }
+        ensures goes_on { GoesOn (O.seen oracle.old) (O.seen oracle.new) }
+    {
+        let limits = limits(self.alloc, &self.fence, &self.tops)?;
+        seek_below(self.alloc, oracle, bounds, &limits)
+    }
+}
+
+impl Search for LowerBounding {
+    ghost own = { own_number };
+
+    ghost serves = { Serves };
+
+    /// One turn. It asks for a model whose costs are at most the fence: `Found` where there is one, and the
+    /// fence stays; `Finished` where no model at all is left. Else `Moved`: the numbers that stand in the way
+    /// rise, each to the next value that its objective is known to have, or by one.
+    fn turn<O: Oracle>(
+        &mut self,
+        oracle: &mut O,
+        bounds: &mut Bounds,
+        board: &mut Board<'_>,
+    ) -> Result<Turn, OracleFault>
+        requires good { IsGood (O.seen oracle.old) bounds.old board.old }
+        requires serves { Serves self.old (O.seen oracle.old).problem }
+        ensures turn { IfOk result (IsTurn (O.seen oracle.old) (O.seen oracle.new)
+            (own_number self.old) (own_number self.new)) }
+        ensures fence { IfOk result (MovesFence (O.seen oracle.old) (O.seen oracle.new)
+            self.old.fence self.new.fence) }
+        ensures same_fence { IfErr result (λ f. self.new ≡ self.old) }
+        ensures good { IsInOrder result → IsGood (O.seen oracle.new) bounds.new board.new }
+        ensures serves { IsInOrder result → Serves self.new (O.seen oracle.new).problem }
+        ensures fault { IfErr result (IsSearchFault (O.seen oracle.old) (O.seen oracle.new)) }
+        ensures goes_on { GoesOn (O.seen oracle.old) (O.seen oracle.new) }
+        ensures board { KeepsBoard board.old board.new }
+    {
+        match self.seek(oracle, bounds)? {
+            Below::Model(model) => {
+                board.take(oracle, bounds, &model)?;
+                Ok(Turn::Found)
+            }
+            Below::End { id } => Ok(Turn::Finished { id }),
+            Below::Above { stands } => {
+                let stands = stands.as_slice();
+                self.fence = raised(self.alloc, bounds, &self.fence, &self.tops, stands)?;
+                Ok(Turn::Moved)
+            }
+        }
+    }
+}
