@@ -38,7 +38,7 @@ pub fn certified_front<O: Oracle>(
         (λ found. CoversLogged inst.now problem.now (O.seen oracle.new).lines found.entries.items) }
     ensures ending { IfOk result
         (λ found. IsEnding (O.seen oracle.old).limit problem.now
-            (O.seen oracle.new).lines found.ending) }
+        (O.seen oracle.new).lines found.ending) }
     ensures whole { OnOk result ((O.seen oracle.new).broken ≡ false) }
     ensures failed { IsErrOf result RecordFault.Failed
         → Rose (O.seen oracle.old).faults (O.seen oracle.new).faults }
@@ -77,7 +77,7 @@ pub fn front_by<O: Oracle, S: Search>(
         (λ found. CoversLogged inst.now problem.now (O.seen oracle.new).lines found.entries.items) }
     ensures ending { IfOk result
         (λ found. IsEnding (O.seen oracle.old).limit problem.now
-            (O.seen oracle.new).lines found.ending) }
+        (O.seen oracle.new).lines found.ending) }
     ensures whole { OnOk result ((O.seen oracle.new).broken ≡ false) }
     ensures failed { IsErrOf result RecordFault.Failed
         → Rose (O.seen oracle.old).faults (O.seen oracle.new).faults }

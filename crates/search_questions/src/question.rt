@@ -92,7 +92,7 @@ fn deny(lits: &mut Items<Lit>, bound: Bound) -> Result<bool, RecordFault>
     ensures fault { IfErr result (λ f. f ≡ RecordFault.NoMemory) }
     ensures denied { IfOk result
         (λ able. MatchBool able
-            (AddsDenial lits.old lits.new bound) (IsUndeniable lits.old bound)) }
+        (AddsDenial lits.old lits.new bound) (IsUndeniable lits.old bound)) }
 {
     match bound {
         Bound::Always { .. } => Ok(false),
