@@ -1,5 +1,5 @@
 -- Bounds of objectives.
-use Rattle.std.specs.Prelude.{◌≡◌, ◌≢◌, ◌⊎◌, ℕ, ◌-◌, ◌<◌, Bool, true, false, List, [], ◌∷◌, length, map, sum_by, slice_index_or, All, AllPairs, Contains, Some, ℤ, pos, ◌+ℤ◌, ◌≤ℤ◌, ◌<ℤ◌}
+use Rattle.std.specs.Prelude.{◌≡◌, ◌≢◌, ◌⊎◌, ℕ, ◌+◌, ◌-◌, ◌<◌, Bool, true, false, List, [], ◌∷◌, length, map, sum_by, slice_index_or, All, AllPairs, Contains, Some, ℤ, pos, ◌+ℤ◌, ◌≤ℤ◌, ◌<ℤ◌}
 use Rattle.std.specs.List.{AllZip}
 use Rattle.scut_base.specs.Literal.{Literal}
 use Rattle.scut_base.specs.Assignment.{lit_true}
@@ -22,6 +22,7 @@ use Rattle.totalizer.specs.Meaning.{AreTruthsWith, IsOwnOrNone}
 use Rattle.totalizer.specs.Reforming.{IsReformOf}
 use Rattle.totalizer.specs.Totalizing.{Fits, terms_of}
 use Rattle.totalizer.specs.Demanding.{IsAnswered, IsThere, MakesDemanded}
+use Rattle.totalizer.specs.Knowing.{IsUnmade}
 use Rattle.search_base.specs.declared.objective_bound.Cover.{Cover}
 use Rattle.search_base.specs.declared.objective_bound.ObjectiveBound.{ObjectiveBound}
 
@@ -176,3 +177,7 @@ pub record IsNextValue (r : Reform) (value next : ℤ) : Type 0 where
   pub is : IsValueOf r next
   pub above : value <ℤ next
   pub least : (n : ℤ) → IsValueOf r n → value <ℤ n → next ≤ℤ n
+
+-- the value is the offset or above it, and no output was made that stands for "the reform exceeds it"
+abbrev pub IsNextUnmade : ObjectiveBound → ℤ → Type 0
+IsNextUnmade b value = (k : ℕ) × (value ≡ pos k +ℤ b.reform.offset) × IsUnmade b.totalizer (k + 1)

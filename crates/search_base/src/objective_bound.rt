@@ -1,5 +1,5 @@
 // The bounds of one objective.
-ghost use Rattle.std.specs.Prelude.{◌≡◌, ◌≤◌, ◌<◌, length, AllPairs, Contains, IfOk, IfSome, MatchResult, OnOk};
+ghost use Rattle.std.specs.Prelude.{◌≡◌, ◌≤◌, ◌<◌, ◌^◌, ◌<ℤ◌, length, pos, AllPairs, Contains, IfOk, MatchOption, MatchResult, OnOk};
 ghost use Rattle.std.specs.List.{insert};
 ghost use Rattle.pb_lin.specs.CostRow.{CostRowValue};
 ghost use Rattle.sum_outputs.specs.Adding.{IsReady, IsRecorded};
@@ -7,7 +7,7 @@ ghost use Rattle.sum_outputs.specs.Totals.{AreWeights, definitions};
 ghost use Rattle.totalizer.specs.Demanding.{AddsFor};
 ghost use Rattle.totalizer.specs.Meaning.{IsBound};
 ghost use Rattle.totalizer.specs.Totalizing.{Fits, FitsSome, terms_of};
-ghost use Rattle.search_base.specs.CostBounds.{AddsBound, BoundsRow, IsAnswerFor, IsCostBound, IsNextValue};
+ghost use Rattle.search_base.specs.CostBounds.{AddsBound, BoundsRow, IsAnswerFor, IsCostBound, IsNextUnmade, IsNextValue, greatest_of};
 ghost use Rattle.search_base.specs.OneBound.{AddsCover, CanSum, FitsRow, HasOwnLiteral, IsCovered, IsNewBound, IsOutputFor, IsPlaceFor, IsSumFor, KeepsBut, KeepsRow, MakesCover, NeedsCover, sum_of};
 
 use cutting_planes::PolToken;
@@ -155,12 +155,15 @@ impl ObjectiveBound {
         Ok(line)
     }
 
-    // The least value above `value` that the reform can have, where that is known.
+    // The least value above `value` that the reform can have, where that is known: the offset, or what an
+    // output that was made stands for.
     pub(crate) fn next_value(&self, value: i64) -> Option<i64>
         requires fits { FitsSome self.now.totalizer }
         requires weights { AreWeights self.now.reform.terms }
         requires terms { terms_of self.now.totalizer ≡ self.now.reform.terms }
-        ensures { IfSome result (IsNextValue self.now.reform value) }
+        requires small { greatest_of self.now.reform <ℤ pos (2 ^ 63) }
+        ensures { MatchOption result (IsNextUnmade self.now value)
+            (IsNextValue self.now.reform value) }
     {
         let offset = i128::from(self.reform.offset);
         if i128::from(value) < offset {
@@ -168,7 +171,7 @@ impl ObjectiveBound {
         }
         let k = u64::try_from(i128::from(value) - offset + 1).ok()?;
         let output = self.totalizer.made_for(k)?;
-        i64::try_from(offset + i128::from(output.sum)).ok()
+        Some((offset + i128::from(output.sum)) as i64)
     }
 }
 
