@@ -1,14 +1,14 @@
 -- The sum of the line below the objective and that of the output is recorded, and kept in its place.
 use Rattle.std.proofs.Common.{◌≡◌, List, ℕ, refl, sym, subst}
 use Rattle.std.specs.List.{insert, Contains}
-use Rattle.search_base.specs.CostBounds.{IsCover}
+use Rattle.search_base.specs.CostBounds.{IsObjectiveLine}
 use Rattle.search_base.specs.OneBound.{IsPlaceFor}
-use Rattle.search_base.specs.declared.objective_bound.Cover.{Cover}
-use Rattle.search_base.proofs.AskedRows.{inserted_there, row_covered}
-use Rattle.search_base.proofs.CoverMeanings.{defined_long, sum_cover, sum_covered, sum_lines}
+use Rattle.search_base.specs.declared.objective_bound.ObjectiveLine.{ObjectiveLine}
+use Rattle.search_base.proofs.AskedRows.{inserted_there, row_with_line}
+use Rattle.search_base.proofs.ObjectiveLines.{defined_long, sum_objective_line, sum_line_covers, sum_lines}
 use Rattle.search_base.proofs.RowStays.{row_stays}
 use Rattle.search_base.proofs.TurnLines.{own_law, totalizer_lines}
-use Rattle.search_base.proofs.objective_bound.ObjectiveBound.new_cover.Goals as goal
+use Rattle.search_base.proofs.objective_bound.ObjectiveBound.new_objective_line.Goals as goal
 
 pub add_sum-requires-clause-fits : goal.add_sum-requires-clause-fits
 add_sum-requires-clause-fits g c =
@@ -38,18 +38,18 @@ returns-clause-covers g c =
     λ row k is out t after.
     let defined = defined_long a ready.state ready.reached row o k l id is out long in
     let least = defined.least in
-    sum_covered a ready.state ready.reached row o k l id is out long defined c.requires.needs.1 b c.in_ok-line.line
+    sum_line_covers a ready.state ready.reached row o k l id is out long defined c.requires.needs.1 b c.in_ok-line.line
     c.in_ok-line.ensures.sum t after k least.reaches
 
 pub returns-clause-added : goal.returns-clause-added
 returns-clause-added g c =
-    let cover : Cover = record { var = c.var-var.result; line = c.in_ok-line.line } in
-    let old = c.args.self.now.covers.items in
-    let put : c.insert_cover.new.covers.items ≡ insert old c.args.place cover =
-    rw c.in_ok-in_memory.ensures.ok at c.insert_cover.ensures in (
+    let made : ObjectiveLine = record { var = c.var-var.result; line = c.in_ok-line.line } in
+    let old = c.args.self.now.objective_lines.items in
+    let put : c.insert_line.new.lines.items ≡ insert old c.args.place made =
+    rw c.in_ok-in_memory.ensures.ok at c.insert_line.ensures in (
       (
-        cover,
-        subst (λ (cs : List Cover). Contains cs cover) (sym put) (inserted_there old cover c.args.place),
+        made,
+        subst (λ (cs : List ObjectiveLine). Contains cs made) (sym put) (inserted_there old made c.args.place),
         c.var-var.ensures.value,
       ),
       c.in_ok-line.ensures.defined,
@@ -64,23 +64,23 @@ returns-clause-fits g c =
     let l = c.args.lit in
     let id = c.args.output_line in
     let ready = c.requires.ready in
-    let cover : Cover = record { var = c.var-var.result; line = c.in_ok-line.line } in
-    let put : c.insert_cover.new.covers.items ≡ insert o.covers.items c.args.place cover =
-    rw c.in_ok-in_memory.ensures.ok at c.insert_cover.ensures in
-    let place : IsPlaceFor o.covers.items c.var-var.result c.args.place =
-    subst (λ (v : ℕ). IsPlaceFor o.covers.items v c.args.place) (sym c.var-var.ensures.value) c.requires.place in
+    let made : ObjectiveLine = record { var = c.var-var.result; line = c.in_ok-line.line } in
+    let put : c.insert_line.new.lines.items ≡ insert o.objective_lines.items c.args.place made =
+    rw c.in_ok-in_memory.ensures.ok at c.insert_line.ensures in
+    let place : IsPlaceFor o.objective_lines.items c.var-var.result c.args.place =
+    subst (λ (v : ℕ). IsPlaceFor o.objective_lines.items v c.args.place) (sym c.var-var.ensures.value) c.requires.place in
     let on = c.in_ok-line.ensures.recorded.continues in
     let keeps = own_law a.problem a.lines b.lines (totalizer_lines a b on) in
     let k = c.requires.output.0 in
     let long = c.requires.needs.0 in
     let out = c.requires.output.1 in
     λ row is.
-    row_covered b row o (record { reform = o.reform; totalizer = o.totalizer; covers = c.insert_cover.new.covers }) cover
+    row_with_line b row o (record { reform = o.reform; totalizer = o.totalizer; objective_lines = c.insert_line.new.lines }) made
     c.args.place
     (row_stays c.own_lines_stay.ensures c.fitting_stays.ensures c.reform_stays.ensures a b ready.state on.problem keeps
     ready.reached row o is) (record { reform = refl; totalizer = refl }) put place
-    (λ t after. subst (λ (v : ℕ). IsCover b.problem b.lines t row o (record { var = v; line = c.in_ok-line.line }))
+    (λ t after. subst (λ (v : ℕ). IsObjectiveLine b.problem b.lines t row o (record { var = v; line = c.in_ok-line.line }))
     (sym c.var-var.ensures.value)
-    (sum_cover a ready.state ready.reached row o k l id is out long
+    (sum_objective_line a ready.state ready.reached row o k l id is out long
     (defined_long a ready.state ready.reached row o k l id is out long) c.requires.needs.1 b c.in_ok-line.line
     c.in_ok-line.ensures.sum t after))

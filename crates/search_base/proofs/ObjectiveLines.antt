@@ -17,9 +17,9 @@ use Rattle.sum_outputs.proofs.Glue.{value-le-total}
 use Rattle.sum_outputs.proofs.ReplayIds.{replay_ids}
 use Rattle.totalizer.specs.Meaning.{AreTruthsWith, IsBoundAt, IsDefinedFor, IsOwnOrNone}
 use Rattle.totalizer.specs.Reforming.{IsLowerLine, IsReformOf}
-use Rattle.search_base.specs.CostBounds.{BoundsRow, CoversCost, IsCover, LineCovers, StandsFor}
-use Rattle.search_base.specs.OneBound.{IsCoveredAt, IsOutputAt, IsSumFor}
-use Rattle.search_base.specs.declared.objective_bound.Cover.{Cover}
+use Rattle.search_base.specs.CostBounds.{BoundsRow, CoversCost, IsObjectiveLine, LineCovers, StandsFor}
+use Rattle.search_base.specs.OneBound.{IsObjectiveLineAt, IsOutputAt, IsSumFor}
+use Rattle.search_base.specs.declared.objective_bound.ObjectiveLine.{ObjectiveLine}
 use Rattle.search_base.specs.declared.objective_bound.ObjectiveBound.{ObjectiveBound}
 use Rattle.search_base.proofs.BoundLines.{gap, gap_is, leaf_reaches, lower_size, named_normal, output_cases, output_reaches, output_size, reaches_covers, sum_reaches}
 
@@ -105,8 +105,8 @@ module _ (a : Snapshot) (s : StateValue) (reached : IsReached a s) (row : CostRo
         )
 
     -- by the line of the output, where the objective has its own terms
-    pub own_covered : o.reform.lower_line ≡ 0 → IsCoveredAt a row (pos k +ℤ o.reform.offset) l id s
-    own_covered none = record {
+    pub own_line_covers : o.reform.lower_line ≡ 0 → IsObjectiveLineAt a row (pos k +ℤ o.reform.offset) l id s
+    own_line_covers none = record {
       own = at.own;
       covers = ⊎_elim
           (λ (leaf : (weight : ℕ) × (o.reform.terms ≡ (l, weight) ∷ []) × (id ≡ 0) × (k ≤ weight)).
@@ -118,8 +118,8 @@ module _ (a : Snapshot) (s : StateValue) (reached : IsReached a s) (row : CostRo
     }
 
     -- by that of the reform, where there is one term
-    pub leaf_covered : id ≡ 0 → IsCoveredAt a row (pos k +ℤ o.reform.offset) l o.reform.lower_line s
-    leaf_covered none = record {
+    pub leaf_line_covers : id ≡ 0 → IsObjectiveLineAt a row (pos k +ℤ o.reform.offset) l o.reform.lower_line s
+    leaf_line_covers none = record {
       own = reform.own;
       covers = ⊎_elim
           (λ (leaf : (weight : ℕ) × (o.reform.terms ≡ (l, weight) ∷ []) × (id ≡ 0) × (k ≤ weight)).
@@ -158,26 +158,26 @@ module _ (a : Snapshot) (s : StateValue) (reached : IsReached a s) (row : CostRo
 
   -- ---- by a line that was made
 
-  pub made_covered : (c : Cover) → id ≢ 0 → IsCover a.problem a.lines s row o c → c.var ≡ l.var →
-      IsCoveredAt a row (pos k +ℤ o.reform.offset) l c.line s
-  made_covered c some cover var =
+  pub made_line_covers : (c : ObjectiveLine) → id ≢ 0 → IsObjectiveLine a.problem a.lines s row o c → c.var ≡ l.var →
+      IsObjectiveLineAt a row (pos k +ℤ o.reform.offset) l c.line s
+  made_line_covers c some made var =
       let defined = defined_here some in
       let least = defined.1.least in
       let positive : l ≡ record { var = l.var; neg = false } = defined.1.positive in
       let same : ◌≡◌ {A = Literal} (record { var = c.var; neg = false }) l =
       ap (λ (v : ℕ). let m : Literal = record { var = v; neg = false } in m) var ∙ sym positive in
-      let stands : StandsFor o cover.sum l = subst (StandsFor o cover.sum) same cover.there in
-      let sums : cover.sum ≡ defined.1.sum.degree =
-      is.once l cover.sum defined.1.sum.degree stands (stands_for defined.0 defined.1) in
-      let covers = cover.covers in
+      let stands : StandsFor o made.sum l = subst (StandsFor o made.sum) same made.there in
+      let sums : made.sum ≡ defined.1.sum.degree =
+      is.once l made.sum defined.1.sum.degree stands (stands_for defined.0 defined.1) in
+      let covers = made.covers in
       let above = reform.offset in
       let reaches = least.reaches in
       record {
-        own = cover.own;
+        own = made.own;
         covers = (
           covers.0,
           covers.1,
-          λ truths are. covers_less row k cover.sum o.reform.offset covers.0 truths (omega arith) above
+          λ truths are. covers_less row k made.sum o.reform.offset covers.0 truths (omega arith) above
               (covers.2 truths (subst (λ (m : Literal). AreTruthsWith m truths) (sym same) are)),
         );
       }
@@ -225,8 +225,8 @@ module _ (a : Snapshot) (s : StateValue) (reached : IsReached a s) (row : CostRo
     module _ (b : Snapshot) (line : ℕ) (made : IsSumFor a b o.reform.lower_line id line) (t : StateValue)
         (after : IsReached b t) where
       -- the sum of both lines covers each value up to that of the output's sum
-      pub sum_covered : (j : ℕ) → j ≤ defined.sum.degree → IsCoveredAt b row (pos j +ℤ o.reform.offset) l line t
-      sum_covered j most =
+      pub sum_line_covers : (j : ℕ) → j ≤ defined.sum.degree → IsObjectiveLineAt b row (pos j +ℤ o.reform.offset) l line t
+      sum_line_covers j most =
           let r = reform in
           let lower = r.lower in
           let sum = made s t lower.0 output reached after (lower_own r.own) (output_own at.own) in
@@ -249,9 +249,9 @@ module _ (a : Snapshot) (s : StateValue) (reached : IsReached a s) (row : CostRo
           }
 
       -- and is kept for it
-      pub sum_cover : IsCover b.problem b.lines t row o (record { var = l.var; line = line })
-      sum_cover =
-          let here = sum_covered defined.sum.degree (omega arith) in
+      pub sum_objective_line : IsObjectiveLine b.problem b.lines t row o (record { var = l.var; line = line })
+      sum_objective_line =
+          let here = sum_line_covers defined.sum.degree (omega arith) in
           let positive : l ≡ record { var = l.var; neg = false } = defined.positive in
           record {
             sum = defined.sum.degree;

@@ -6,11 +6,11 @@ use Rattle.std.proofs.lemmas.Result.{on_ok_weaker}
 use Rattle.proof_laws.specs.State.{IsState}
 use Rattle.proof_laws.proofs.Replays.{replay_once}
 use Rattle.sum_outputs.proofs.LaterStates.{continues_again, recorded_ok}
-use Rattle.search_base.specs.CostBounds.{IsCover}
-use Rattle.search_base.specs.OneBound.{AddsCover, IsPlaceFor}
-use Rattle.search_base.specs.declared.objective_bound.Cover.{Cover}
-use Rattle.search_base.proofs.CoverMeanings.{defined_here, has_line, leaf_covered, made_covered, own_covered}
-use Rattle.search_base.proofs.objective_bound.ObjectiveBound.cover.Goals as goal
+use Rattle.search_base.specs.CostBounds.{IsObjectiveLine}
+use Rattle.search_base.specs.OneBound.{AddsObjectiveLine, IsPlaceFor}
+use Rattle.search_base.specs.declared.objective_bound.ObjectiveLine.{ObjectiveLine}
+use Rattle.search_base.proofs.ObjectiveLines.{defined_here, has_line, leaf_line_covers, made_line_covers, own_line_covers}
+use Rattle.search_base.proofs.objective_bound.ObjectiveBound.objective_line.Goals as goal
 
 pub returns-then-lower_line-eq0-clause-recorded : goal.returns-then-lower_line-eq0-clause-recorded
 returns-then-lower_line-eq0-clause-recorded g c =
@@ -23,7 +23,7 @@ returns-then-lower_line-eq0-clause-covers g c =
     let R = g.R.Recorder in
     let a = R.seen c.args.rec.now in
     λ row k is out s after.
-    own_covered a s after row c.args.self.now k c.args.lit c.args.output_line is out
+    own_line_covers a s after row c.args.self.now k c.args.lit c.args.output_line is out
     (subst IsState (replay_once a.problem a.lines c.state.result.now s c.state.ensures.replays after)
     c.vars-vars.ensures.state) c.if-lower_line-eq0.true
 
@@ -38,7 +38,7 @@ returns-then-output_line-eq0-clause-covers g c =
     let R = g.R.Recorder in
     let a = R.seen c.args.rec.now in
     λ row k is out s after.
-    leaf_covered a s after row c.args.self.now k c.args.lit c.args.output_line is out
+    leaf_line_covers a s after row c.args.self.now k c.args.lit c.args.output_line is out
     (subst IsState (replay_once a.problem a.lines c.state.result.now s c.state.ensures.replays after)
     c.vars-vars.ensures.state) c.if-output_line-eq0.true
 
@@ -66,32 +66,32 @@ returns-in-Ok-clause-covers g c =
     let R = g.R.Recorder in
     let a = R.seen c.args.rec.now in
     let o = c.args.self.now in
-    let cover : Cover = record { var = c.var.result; line = c.in-Ok.line } in
-    let there : Contains o.covers.items cover =
-    subst (λ (cs : List Cover). Contains cs cover) c.as_slice.ensures.value c.in-Ok.ensures in
+    let made : ObjectiveLine = record { var = c.var.result; line = c.in-Ok.line } in
+    let there : Contains o.objective_lines.items made =
+    subst (λ (cs : List ObjectiveLine). Contains cs made) c.as_slice.ensures.value c.in-Ok.ensures in
     λ row k is out s after.
-    made_covered a s after row o k c.args.lit c.args.output_line is out cover c.if-output_line-eq0.false
-    (All-contains (IsCover a.problem a.lines s row o) o.covers.items cover (is.covers s after) there)
+    made_line_covers a s after row o k c.args.lit c.args.output_line is out made c.if-output_line-eq0.false
+    (All-contains (IsObjectiveLine a.problem a.lines s row o) o.objective_lines.items made (is.objective_lines s after) there)
     c.var.ensures.value
 
 pub returns-in-Err-clause-added : goal.returns-in-Err-clause-added
 returns-in-Err-clause-added g c =
     let R = g.R.Recorder in
     let a = R.seen c.args.rec.now in
-    let b = R.seen c.new_cover.new.rec in
+    let b = R.seen c.new_objective_line.new.rec in
     let o = c.args.self.now in
     let l = c.args.lit in
     let ready = c.requires.ready in
     let long = (defined_here a ready.state ready.reached c.requires.fits.0 o c.requires.output.0 l c.args.output_line
     c.requires.fits.1 c.requires.output.1 c.if-output_line-eq0.false).0 in
-    let place : IsPlaceFor o.covers.items l.var c.in-Err.place =
-    subst (λ (v : ℕ). IsPlaceFor o.covers.items v c.in-Err.place) c.var.ensures.value
-    (subst (λ (cs : List Cover). IsPlaceFor cs c.var.result c.in-Err.place) c.as_slice.ensures.value
+    let place : IsPlaceFor o.objective_lines.items l.var c.in-Err.place =
+    subst (λ (v : ℕ). IsPlaceFor o.objective_lines.items v c.in-Err.place) c.var.ensures.value
+    (subst (λ (cs : List ObjectiveLine). IsPlaceFor cs c.var.result c.in-Err.place) c.as_slice.ensures.value
     c.in-Err.ensures) in
-    on_ok_weaker c.new_cover.result
-    (λ (adds : AddsCover a b c.new_cover.new.self l.var). record {
+    on_ok_weaker c.new_objective_line.result
+    (λ (adds : AddsObjectiveLine a b c.new_objective_line.new.self l.var). record {
       there = λ more some. adds.0;
       again = λ known. let has = known long c.if-lower_line-eq0.false in absurd (place.none has.0 has.1 has.2);
       defined = adds.1;
     })
-    c.new_cover.ensures.added
+    c.new_objective_line.ensures.added
