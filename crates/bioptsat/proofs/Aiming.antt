@@ -2,7 +2,7 @@
 use Rattle.std.proofs.Common.{◌≡◌, ◌-◌, ◌^◌, Bool, true, not, ◌&&◌, Option, None, Some, List, [], ◌∷◌, ◌++◌, map, length, refl, ap, sym, subst, ◌∙◌, arith, ℤ, pos, ◌-ℤ◌, ◌≤ℤ◌, ◌<ℤ◌}
 use Rattle.std.specs.Prelude.{int_lt, IfSome}
 use Rattle.std.specs.List.{All, last_or}
-use Rattle.std.proofs.lemmas.Bool.{and_parts, and_from, not-true, not_from_false}
+use Rattle.std.proofs.lemmas.Bool.{and_parts, and_from, not_from_false}
 use Rattle.std.proofs.lemmas.Int.{ints}
 use Rattle.std.proofs.lemmas.List.{length-map}
 use Rattle.front_set.specs.Vector.{IsBelow}

@@ -1,13 +1,13 @@
 -- Vectors, number by number.
 use Rattle.std.proofs.Common.{◌≡◌, ℕ, ◌+◌, ◌<◌, ◌≤◌, zero, suc, Bool, not, List, [], ◌∷◌, ◌++◌, map, length, refl, sym, subst, ⊎_elim, arith, ℤ, ◌≤ℤ◌, ◌<ℤ◌, pos}
 use Rattle.std.specs.Prelude.{int_lt}
-use Rattle.std.proofs.lemmas.Bool.{and_parts, and_from, cases_lt, not-true, not_from_false}
+use Rattle.std.proofs.lemmas.Bool.{and_from, cases_lt, not_from_false}
 use Rattle.std.proofs.lemmas.Int.{ints}
 use Rattle.std.proofs.lemmas.List.{get_or_append_left, get_or_push}
 use Rattle.front_set.specs.Vector.{is_below, IsBelow}
 use Rattle.pb_lin.specs.CostRow.{CostRowValue, row_cost}
 use Rattle.search_questions.specs.Telling.{number_at}
-use Rattle.search_questions.proofs.Remaining.{below_at, parts_of}
+use Rattle.search_questions.proofs.Remaining.{parts_of}
 use Rattle.sum_outputs.proofs.Glue.{value-le-total}
 use Rattle.lower_bounding.specs.Fences.{greatest_cost, room}
 

@@ -1,5 +1,5 @@
 -- The limits that a fence asks for, and what answers make rise.
-use Rattle.std.specs.Prelude.{◌≡◌, ℕ, ◌<◌, ◌-◌, ◌^◌, Bool, true, false, List, length, slice_index_or, ℤ, pos, ◌<ℤ◌, ◌≤ℤ◌}
+use Rattle.std.specs.Prelude.{◌≡◌, ℕ, ◌<◌, ◌-◌, ◌^◌, Bool, true, false, List, length, ℤ, pos, ◌<ℤ◌, ◌≤ℤ◌}
 use Rattle.front_set.specs.Vector.{IsBelow}
 use Rattle.pb_lin.specs.Problem.{problem_costs}
 use Rattle.proof_rules.specs.Recording.{Snapshot}

@@ -1,5 +1,5 @@
 -- What is left within limits.
-use Rattle.std.proofs.Common.{ℕ, ◌<◌, zero, suc, Bool, not, List, [], ◌∷◌, length, arith, ℤ, ◌≤ℤ◌}
+use Rattle.std.proofs.Common.{ℕ, ◌<◌, zero, suc, not, List, [], ◌∷◌, length, arith, ℤ, ◌≤ℤ◌}
 use Rattle.std.specs.Prelude.{int_lt}
 use Rattle.std.proofs.lemmas.Bool.{and_parts}
 use Rattle.front_set.specs.Vector.{is_below, IsBelow}

@@ -1,10 +1,10 @@
 -- What answers tell of the limits.
-use Rattle.std.proofs.Common.{◌≡◌, ◌≢◌, ℕ, ◌+◌, ◌-◌, ◌^◌, ◌<◌, ◌≤◌, ◌==◌, ◌&&◌, ◌||◌, zero, suc, Bool, true, false, List, [], ◌∷◌, map, length, get_or, ap, refl, subst, sym, ◌∙◌, ⊎_elim, arith, ℤ, pos}
+use Rattle.std.proofs.Common.{◌≡◌, ◌≢◌, ℕ, ◌-◌, ◌^◌, ◌<◌, ◌≤◌, ◌==◌, ◌&&◌, ◌||◌, zero, suc, Bool, true, false, List, [], ◌∷◌, map, length, get_or, ap, refl, subst, sym, ◌∙◌, ⊎_elim, arith, ℤ, pos}
 use Rattle.std.specs.Prelude.{◌<ℤ◌, ◌≤ℤ◌, Contains, replicate}
 use Rattle.std.specs.List.{All}
 use Rattle.std.proofs.Math.Bool.{beq}
 use Rattle.std.proofs.lemmas.Bool.{cases_lt, eq-eqb, or_left, or_right}
-use Rattle.std.proofs.lemmas.List.{get_or-map, get_or_default, get_or_append_left, get_or-append_right, get_or_push, length-map, length_push, length-append, length-replicate, get_or-replicate}
+use Rattle.std.proofs.lemmas.List.{get_or-map, get_or_default, get_or_append_left, get_or-append_right, length-map, length-append, length-replicate, get_or-replicate}
 use Rattle.std.proofs.lemmas.List.Elements.{All-nil, All-contains, Contains-append_left, Contains-push}
 use Rattle.scut_base.specs.Literal.{Literal}
 use Rattle.scut_base.proofs.Lists.{Contains-head}
