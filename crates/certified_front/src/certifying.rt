@@ -18,6 +18,7 @@ use proof_rules::RecordFault;
 use search_base::{Bounds, Search, no_lines_are_prepared, own_reforms};
 use std::alloc::Global;
 use sum_outputs::in_memory;
+use term_order::ordered;
 use totalizer::Reform;
 
 /// Searches for the front of an instance over an oracle without lines, which it leaves with a proof.
@@ -49,7 +50,8 @@ pub fn certified_front<O: Oracle>(
     no_lines_are_prepared();
     // Tells that the problem is within its limits.
     let _vars = problem.vars();
-    let reforms = in_memory(own_reforms(alloc, problem))?;
+    let own = in_memory(own_reforms(alloc, problem))?;
+    let reforms = in_memory(ordered(alloc, problem, own))?;
     let mut search = PMinimal::new(alloc);
     front_by(alloc, oracle, problem, inst, reforms, &mut search)
 }
