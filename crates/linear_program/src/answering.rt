@@ -17,7 +17,12 @@ impl LinearProgram {
         for (nonbasic, coefficient) in self.nonbasic.iter().zip(self.pivot_row.as_slice()) {
             if coefficient.abs() > 1e-9 {
                 let multiplier = -sign * *coefficient;
-                put_for_row(&mut multipliers, self.columns, nonbasic.variable, multiplier);
+                put_for_row(
+                    &mut multipliers,
+                    self.columns,
+                    nonbasic.variable,
+                    multiplier,
+                );
             }
         }
         Ok(multipliers)

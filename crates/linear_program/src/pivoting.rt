@@ -4,7 +4,7 @@ ghost use Rattle.std.specs.Prelude.{◌≡◌};
 use crate::LinearProgram;
 use crate::entering::Leaving;
 use crate::pricing::add_costs;
-use crate::table::{number_at, value_of};
+use crate::table::{number_at, range_of, value_of};
 
 // A number of at most this size is 0.
 const ZERO: f64 = 1e-13;
@@ -28,19 +28,28 @@ impl LinearProgram {
     pub(crate) fn pivot(&mut self, leaving: &Leaving, place: usize)
         ensures { self.new ≡ self.old }
     {
-        let outside = if leaving.is_below {
-            -leaving.excess
-        } else {
-            leaving.excess
-        };
         let divisor = number_at(self.pivot_row.as_slice(), place);
-        let by = -outside / divisor;
+        let by = self.missing(leaving) / divisor;
         self.move_by(place, by);
         self.divide_row(place, divisor);
         self.change_costs(place);
         self.eliminate(leaving.row, place);
         self.exchange(leaving, place, by);
         self.pivots_since_built = self.pivots_since_built.saturating_add(1);
+    }
+
+    // How far the variable that leaves is from the end of its range that it is beyond.
+    fn missing(&self, leaving: &Leaving) -> f64 {
+        let range = range_of(self.ranges.as_slice(), leaving.variable);
+        let end = if leaving.is_below {
+            range.lower
+        } else {
+            range.upper
+        };
+        match self.basic.get(leaving.row) {
+            Some(basic) => end - basic.value,
+            None => 0.0,
+        }
     }
 
     // Solves the row of the pivot for the variable that enters.

@@ -23,7 +23,10 @@ impl LinearProgram {
         let mut sequence = self.sequence;
         for nonbasic in self.nonbasic.iter_mut() {
             sequence = sequence.wrapping_mul(1_664_525).wrapping_add(1_013_904_223);
-            place(nonbasic, spread * (0.5 + f64::from(sequence >> 8) / 16_777_216.0));
+            place(
+                nonbasic,
+                spread * (0.5 + f64::from(sequence >> 8) / 16_777_216.0),
+            );
         }
         self.sequence = sequence;
     }

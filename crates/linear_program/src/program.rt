@@ -79,7 +79,10 @@ impl LinearProgram {
             rows: 0,
             given: Vec::new(alloc),
             table: Vec::new(alloc),
-            ranges: vec![in alloc; Range { lower: 0.0, upper: 1.0 }; columns]?,
+            ranges: vec![in alloc; Range {
+                lower: 0.0,
+                upper: 1.0
+            }; columns]?,
             basic: Vec::new(alloc),
             nonbasic: Vec::new(alloc),
             pivot_row: Vec::new(alloc),

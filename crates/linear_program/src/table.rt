@@ -1,9 +1,8 @@
 // The table of a linear program, and where its variables stand.
 ghost use Rattle.std.specs.Prelude.{◌≡◌};
 
-use crate::LinearProgram;
-use crate::Range;
 use crate::program::{Basic, Nonbasic};
+use crate::{LinearProgram, Range};
 use scut_base::NoMemory;
 use std::alloc::Global;
 
