@@ -1,0 +1,2 @@
+pub use Rattle.oracle.specs.Solving
+pub mod Replies
