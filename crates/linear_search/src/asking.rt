@@ -30,11 +30,26 @@ impl LinearSearch {
         ensures recorded { IsRecorded (R.seen rec.old) (R.seen rec.new) result }
         ensures reply { IfOk result (IsReply (R.seen rec.new) assumed.now) }
     {
-        match in_memory(self.search(rec.state(), assumed, limits))? {
-            Found::Closed(nodes) => close(self.alloc, rec, nodes.as_slice(), assumed),
-            Found::Model(lits) => Ok(proposal(rec, lits)),
-            Found::Unknown => Ok(Reply::Unknown),
-        }
+        let found = in_memory(self.search(rec.state(), assumed, limits))?;
+        reply_of(self.alloc, rec, found, assumed)
+    }
+}
+
+// The reply to what was found.
+fn reply_of<R: Recorder>(
+    alloc: Global,
+    rec: &mut R,
+    found: Found,
+    assumed: &[Lit],
+) -> Result<Reply, RecordFault>
+    requires ready { IsReady (R.seen rec.old) }
+    ensures recorded { IsRecorded (R.seen rec.old) (R.seen rec.new) result }
+    ensures reply { IfOk result (IsReply (R.seen rec.new) assumed.now) }
+{
+    match found {
+        Found::Closed(nodes) => close(alloc, rec, nodes.as_slice(), assumed),
+        Found::Model(lits) => Ok(proposal(rec, lits)),
+        Found::Unknown => Ok(Reply::Unknown),
     }
 }
 

@@ -1,8 +1,11 @@
 // The linear relaxation of a problem.
+ghost use Rattle.std.specs.Prelude.{◌≡◌, length, IfOk};
+
 use linear_program::{LinearProgram, Range, Term};
 use pb_lin::{Constraint, CostRow, PbProblem};
 use scut_base::{Lit, NoMemory};
 use std::alloc::Global;
+use std::marker::Model;
 use std::num::{nearest_i64_to_f64, nearest_u64_to_f64, nearest_usize_to_f64};
 
 /// A limit of an objective's cost.
@@ -32,6 +35,18 @@ pub struct LinearSearch {
     pub(crate) purse: u64,
 }
 
+impl Model for LinearSearch {
+    ghost use Rattle.linear_search.specs.Relaxations.{Relaxation};
+
+    ghost Value = { Relaxation };
+
+    ghost view = { λ s. record {
+      columns = s.columns;
+      constraints = s.constraints;
+      purse = s.purse;
+    } };
+}
+
 // An objective: what its row of the relaxation lacks to the cost, and between what the row is.
 #[derive(Clone, Copy, Debug)]
 pub(crate) struct Objective {
@@ -42,7 +57,13 @@ pub(crate) struct Objective {
 impl LinearSearch {
     /// The relaxation of a problem, with a purse of so much work: pivots times rows times columns. Takes 16
     /// bytes for each row and column, unless these are too many; then all questions stay open.
-    pub fn new(alloc: Global, problem: &PbProblem, purse: u64) -> Result<LinearSearch, NoMemory> {
+    pub fn new(alloc: Global, problem: &PbProblem, purse: u64) -> Result<LinearSearch, NoMemory>
+        ensures { IfOk result (λ s. s ≡ record {
+          columns = problem.now.vars;
+          constraints = length problem.now.rows;
+          purse = purse;
+        }) }
+    {
         let columns = problem.vars() as usize;
         let mut search = LinearSearch {
             alloc,
@@ -59,7 +80,9 @@ impl LinearSearch {
         Ok(search)
     }
 
-    fn add_constraints(&mut self, rows: &[Constraint]) -> Result<(), NoMemory> {
+    fn add_constraints(&mut self, rows: &[Constraint]) -> Result<(), NoMemory>
+        ensures { self.new ≡ self.old }
+    {
         for row in rows {
             let mut sum = Sum::new(self.alloc);
             for at in 0..row.len() {
@@ -76,7 +99,9 @@ impl LinearSearch {
         Ok(())
     }
 
-    fn add_objectives(&mut self, costs: &[CostRow]) -> Result<(), NoMemory> {
+    fn add_objectives(&mut self, costs: &[CostRow]) -> Result<(), NoMemory>
+        ensures { self.new ≡ self.old }
+    {
         for cost in costs {
             let mut sum = Sum::new(self.alloc);
             for term in cost.terms() {
@@ -98,7 +123,9 @@ impl LinearSearch {
         Ok(())
     }
 
-    fn add_row(&mut self, sum: &Sum, range: Range) -> Result<(), NoMemory> {
+    fn add_row(&mut self, sum: &Sum, range: Range) -> Result<(), NoMemory>
+        ensures { self.new ≡ self.old }
+    {
         let had_room = self.program.add_row(sum.terms.as_slice(), range)?;
         self.is_whole = self.is_whole && had_room;
         Ok(())

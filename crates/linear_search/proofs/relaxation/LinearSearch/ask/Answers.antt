@@ -1,23 +1,9 @@
-use Rattle.sum_outputs.proofs.LaterStates.{continues_again, recorded_ok}
-use Rattle.linear_search.specs.declared.reply.Reply.TheVariants.{Unknown}
+use Rattle.sum_outputs.proofs.LaterStates.{continues_again}
 use Rattle.linear_search.proofs.Recordings.{memory_handed}
 use Rattle.linear_search.proofs.relaxation.LinearSearch.ask.Goals as goal
 
-pub returns-in_err-nodes-clause-recorded : goal.returns-in_err-nodes-clause-recorded
-returns-in_err-nodes-clause-recorded g c =
+pub returns-in_err-found-clause-recorded : goal.returns-in_err-found-clause-recorded
+returns-in_err-found-clause-recorded g c =
     let a = let R = g.R.Recorder in R.seen c.args.rec.now in
-    memory_handed a a c.in_err-nodes.field-0.0 c.from_residual.result (continues_again a)
-    c.in_err-nodes.ensures.fault c.from_residual.ensures.1
-
-pub returns-in-Model-clause-recorded : goal.returns-in-Model-clause-recorded
-returns-in-Model-clause-recorded g c =
-    let a = let R = g.R.Recorder in R.seen c.args.rec.now in
-    recorded_ok a a c.proposal.result (continues_again a) c.requires.ready.whole
-
-pub returns-in-Model-clause-reply : goal.returns-in-Model-clause-reply
-returns-in-Model-clause-reply g c = c.proposal.ensures.reply c.args.assumed.now
-
-pub returns-in-Unknown-clause-recorded : goal.returns-in-Unknown-clause-recorded
-returns-in-Unknown-clause-recorded g c =
-    let a = let R = g.R.Recorder in R.seen c.args.rec.now in
-    recorded_ok a a Unknown (continues_again a) c.requires.ready.whole
+    memory_handed a a c.in_err-found.field-0.0 c.from_residual.result (continues_again a)
+    c.in_err-found.ensures.fault c.from_residual.ensures.1
