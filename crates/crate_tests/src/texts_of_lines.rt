@@ -1,6 +1,6 @@
 // Texts of lines of a log, which print as they were read, and texts that are those of no line.
 use proof_laws::Line;
-use proof_lines::{LineFault, append_line, one_line, read_line};
+use proof_lines::{LineFault, Spelling, append_line, one_line, read_line};
 use scut_base::NoMemory;
 use std::alloc::Global;
 use std::test::Fail;
@@ -73,14 +73,14 @@ static OTHERS: [&str; 42] = [
 // Whether a line prints as this text, with a line feed.
 fn prints_as(alloc: Global, line: &Line, text: &str) -> Result<bool, NoMemory> {
     let mut printed = Vec::new(alloc);
-    append_line(&mut printed, line)?;
+    append_line(&mut printed, Spelling::Plain, line)?;
     let last = printed.pop();
     Ok(last == Some(b'\n') && printed.as_slice() == text.as_bytes())
 }
 
 // Whether the text is that of a line which prints so again.
 fn prints_again(alloc: Global, text: &str) -> Result<bool, Fail> {
-    let line = read_line(alloc, text.as_bytes())?;
+    let line = read_line(alloc, Spelling::Plain, text.as_bytes())?;
     Ok(prints_as(alloc, &line, text)?)
 }
 
@@ -94,7 +94,10 @@ fn a_line_prints_as_it_was_read(rt: HostRuntime) -> Result<(), Fail> {
 
 // Whether the text is that of no line.
 fn is_no_line(alloc: Global, text: &str) -> bool {
-    matches!(read_line(alloc, text.as_bytes()), Err(LineFault::Syntax))
+    matches!(
+        read_line(alloc, Spelling::Plain, text.as_bytes()),
+        Err(LineFault::Syntax)
+    )
 }
 
 #[test]
