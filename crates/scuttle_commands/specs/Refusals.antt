@@ -7,6 +7,7 @@ use Rattle.proof_laws.specs.declared.why.Why.TheVariants.{Syntax, NoSuchId, VarR
 use Rattle.proof_lines.specs.LineText.{goal_word}
 use Rattle.log_checker.specs.declared.fault.ListWhy.{ListWhy}
 use Rattle.log_checker.specs.declared.fault.ListWhy.TheVariants.{Syntax as ListSyntax, NotModel, Costs, Order, Comparable, NotComplete}
+use Rattle.proof_lines.specs.declared.spelling.Spelling.TheVariants.{Plain}
 
 -- the name of what is wrong with an entry of a list
 abbrev pub list_why_name : ListWhy → List ℕ
@@ -43,8 +44,8 @@ abbrev pub why_value : Why → List ℕ
 why_value (NoSuchId id) = space ∷ decimal id
 why_value (VarRange var) = space ∷ decimal var
 why_value (NotFresh var) = space ∷ decimal var
-why_value (GoalOpen goal) = space ∷ goal_word goal
-why_value (GoalMissing goal) = space ∷ goal_word goal
+why_value (GoalOpen goal) = space ∷ goal_word Plain goal
+why_value (GoalMissing goal) = space ∷ goal_word Plain goal
 why_value (SolRow id) = space ∷ decimal id
 why_value (CutOpen objective) = space ∷ decimal objective
 why_value (NotContradiction id) = space ∷ decimal id
