@@ -1,0 +1,27 @@
+pub use Rattle.scut_base.specs.Files
+pub use Rattle.scut_base.specs.Faults
+pub use Rattle.scut_base.specs.World
+pub use Rattle.instance.specs.Shape
+pub use Rattle.log_checker.specs.Accepted
+pub use Rattle.log_checker.specs.ListFaults
+pub use Rattle.log_checker.specs.LogFaults
+pub use Rattle.mcnf_reader.specs.Words
+pub use Rattle.mcnf_reader.specs.Grammar
+pub use Rattle.mcnf_reader.specs.FirstFault
+pub use Rattle.clap.specs.Words as ClapWords
+pub mod Views
+pub mod Answering
+pub mod Causes
+pub mod InstanceFile
+pub mod InputTable
+pub mod Stops
+pub mod StopsFrom
+pub mod Taking
+pub mod Judging
+pub mod Feeding
+pub mod WholeFile
+pub mod Statuses
+pub mod Refusals
+pub mod Messages
+pub mod CommandWords
+pub mod ListSizes
