@@ -1,6 +1,6 @@
 -- Verdicts, condition by condition.
 use Rattle.std.proofs.Common.{◌≡◌, ℕ, Option, Some, None, List, map, sym, subst}
-use Rattle.std.specs.Prelude.{option_map, nat_lt, Err}
+use Rattle.std.specs.Prelude.{option_map, nat_lt, Result, Err}
 use Rattle.std.specs.List.{find}
 use Rattle.scut_base.specs.Literal.{Literal}
 use Rattle.pb_lin.specs.Problem.{ProblemValue}
@@ -28,3 +28,13 @@ fault_of_ids p s model cut ids fault placed holds within rest =
     no_fault VarRange (misplaced 1 p.vars model) (FirstOf (option_map SolRow (broken_row (assignment_of model) p.rows)) (FirstOf (range_fault s.vars (map (λ (l : Literal). l.var) cut)) last)) fault placed
     (no_fault SolRow (broken_row (assignment_of model) p.rows) (FirstOf (range_fault s.vars (map (λ (l : Literal). l.var) cut)) last) fault holds
     (no_fault VarRange (find (λ v. nat_lt s.vars v) (map (λ (l : Literal). l.var) cut)) last fault within rest))
+
+-- where the first of two judgements refuses, both together do
+pub first_refused : (T U : Type 0) (o : Option Why) (Rest : Option Why → Type 0) (fault : StepFault) → IsVerdict {T = T} (λ f. f ≡ o) (Err fault) → IsVerdict {T = U} (FirstOf o Rest) (Err fault)
+first_refused T U None Rest (Refused why) is = absurd cc
+first_refused T U (Some own) Rest (Refused why) is = is
+first_refused T U o Rest NoMemory is = tt
+
+-- where the first finds nothing, the other decides
+pub first_passed : (T : Type 0) (o : Option Why) (Rest : Option Why → Type 0) (r : Result T StepFault) → None ≡ o → IsVerdict Rest r → IsVerdict (FirstOf o Rest) r
+first_passed T o Rest r none is = subst (λ (q : Option Why). IsVerdict (FirstOf q Rest) r) none is
