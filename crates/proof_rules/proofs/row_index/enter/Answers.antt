@@ -3,7 +3,6 @@ use Rattle.std.proofs.lemmas.List.{map_more, take_all}
 use Rattle.scut_base.specs.Literal.{Literal}
 use Rattle.proof_rules.proofs.row_index.enter.Goals as goal
 
-
 -- one more literal is entered
 entered_more : (place : ℕ) (ls : List Literal) (i : ℕ) (l : Literal) (old es new : List (ℕ × ℕ)) (v : ℕ) → i < length ls → l ≡ get_or ls i l → v ≡ l.var → es ≡ old ++ map (λ m. (m.var, place)) (take i ls) → new ≡ es ++ (v, place) ∷ [] →
     new ≡ old ++ map (λ m. (m.var, place)) (take (i + 1) ls)
