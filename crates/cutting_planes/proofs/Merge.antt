@@ -1,8 +1,8 @@
 -- Two lists of terms, merged in one pass.
 use Rattle.std.specs.Prelude.{◌≡◌, ℕ, ◌+◌, ◌⊎◌, ◌-◌, ◌<◌, ◌≤◌, ◌^◌, Bool, List, [], ◌∷◌, ◌++◌, Option, Some, None, option_to_list, All, refl}
 use Rattle.std.specs.List.{slice_get}
-use Rattle.std.proofs.Common.{sym, ◌∙◌, ap, subst, arith, suc, append_assoc, drop, drop-cons, inl, inr}
-use Rattle.std.proofs.lemmas.List.{append-nil}
+use Rattle.std.proofs.Common.{sym, ◌∙◌, ap, subst, arith, suc, length, append_assoc, drop, drop-cons, inl, inr}
+use Rattle.std.proofs.lemmas.List.{append-nil, drop_all}
 use Rattle.std.proofs.lemmas.Option.{slice_get_within, get_or_from_slice_get}
 use Rattle.std.proofs.lemmas.List.Elements.{All-head, All-weaker}
 use Rattle.std.proofs.lemmas.List.Sums.{sum_by-append, sum_by_push}
@@ -188,3 +188,23 @@ step_end p q ms ls rs ms' cancelled degree merge (inl none) whole fits is =
     let is' : degree ≡ (q.degree + p.degree) - cancelled = omega arith in
     sum_turned (record { terms = ms'; degree = degree }) p q
     (subst (λ (xs : Terms). IsSum (record { terms = xs; degree = degree }) q p) (sym all) (subst (λ (n : ℕ). IsSum (record { terms = ms ++ rs; degree = n }) q p) (sym is') (merge_end_right q p ms rs cancelled end (omega arith))))
+
+nothing_left : (ls rs : Terms) (i j : ℕ) → (length ls ≤ i) ⊎ (length rs ≤ j) → (drop i ls ≡ []) ⊎ (drop j rs ≡ [])
+nothing_left ls rs i j (inl ended) = inl (drop_all i ls ended)
+nothing_left ls rs i j (inr ended) = inr (drop_all j rs ended)
+
+-- one side has ended, and what was left of both is put at the end
+pub step_last : (p q : ConstraintValue) (ms half ms' : Terms) (i j cancelled degree : ℕ) → IsMerge p.terms q.terms ms (drop i p.terms) (drop j q.terms) cancelled → (length p.terms ≤ i) ⊎ (length q.terms ≤ j) → half ≡ ms ++ drop i p.terms → ms' ≡ half ++ drop j q.terms → size p + size q ≤ 2 ^ 100 → degree ≡ (p.degree + q.degree) - cancelled → IsSum (record { terms = ms'; degree = degree }) p q
+step_last p q ms half ms' i j cancelled degree merge ended first second fits is =
+    step_end p q ms (drop i p.terms) (drop j q.terms) ms' cancelled degree merge (nothing_left p.terms q.terms i j ended) (second ∙ ap (λ (ts : Terms). ts ++ drop j q.terms) first) fits is
+
+-- ---- each step leaves fewer terms
+
+pub fewer_left : (n m i j : ℕ) → i < n → (n - (i + 1)) + (m - j) < (n - i) + (m - j)
+fewer_left n m i j within = omega arith
+
+pub fewer_right : (n m i j : ℕ) → j < m → (n - i) + (m - (j + 1)) < (n - i) + (m - j)
+fewer_right n m i j within = omega arith
+
+pub fewer_both : (n m i j : ℕ) → i < n → j < m → (n - (i + 1)) + (m - (j + 1)) < (n - i) + (m - j)
+fewer_both n m i j left right = omega arith

@@ -1,11 +1,11 @@
 -- What terms and these under a substitution make together, and which variables they have.
-use Rattle.std.proofs.Common.{◌≡◌, ℕ, ◌<◌, ◌≤◌, ◌==◌, Bool, true, false, if◌then◌else◌, List, [], ◌∷◌, ◌++◌, map, fold, length, get_or, arith, ap, sym, subst, ◌∙◌, Ok, Err, Result, ℤ, pos, neg_ℤ, ◌+ℤ◌, ◌-ℤ◌}
-use Rattle.std.specs.Prelude.{IfOk}
+use Rattle.std.proofs.Common.{◌≡◌, ℕ, ◌<◌, ◌≤◌, ◌+◌, ◌==◌, Bool, true, false, if◌then◌else◌, List, [], ◌∷◌, ◌++◌, map, fold, length, get_or, arith, ap, sym, subst, ◌∙◌, Ok, Err, Result, ℤ, pos, neg_ℤ, ◌+ℤ◌, ◌-ℤ◌}
+use Rattle.std.specs.Prelude.{IfOk, sum_by, unsigned_abs, refl}
 use Rattle.std.specs.List.{All}
 use Rattle.std.proofs.lemmas.Int.{ints}
 use Rattle.std.proofs.lemmas.List.{map-append}
 use Rattle.std.proofs.lemmas.List.Elements.{All-head, All-tail}
-use Rattle.std.proofs.lemmas.List.Sums.{fold_push}
+use Rattle.std.proofs.lemmas.List.Sums.{fold_push, sum_by_push}
 use Rattle.scut_base.specs.Literal.{Literal}
 use Rattle.scut_base.specs.Assignment.{lit_true}
 use Rattle.pb_lin.specs.Constraint.{ConstraintValue, IsVariable, TermsUpTo, term_value}
@@ -65,3 +65,21 @@ row_upto rows i row m n all short is le = subst (λ (r : CostRowValue). TermsUpT
 pub both_if_ok : {E : Type 0} (r : Result ConstraintValue E) (N F Q : ConstraintValue → Type 0) → IfOk r N → IfOk r F → ((g : ConstraintValue) → N g → F g → Q g) → IfOk r Q
 both_if_ok (Ok g) N F Q one other onward = onward g one other
 both_if_ok (Err e) N F Q one other onward = tt
+
+one_truth : (x y : Bool) (n : ℕ) → (if x then pos n else pos 0) -ℤ pos (if y then n else 0) ≡ pos (if x then n else 0) -ℤ pos (if y then n else 0)
+one_truth true y n = refl
+one_truth false y n = refl
+
+-- a term whose literal the substitution makes true or false
+pub decided_pushed : (a : List Bool) (w : Images) (l : Literal) (n : ℕ) (old new : List (ℤ × Literal)) (b : Bool) → b ≡ true_under w a l → new ≡ old ++ (pos n, l) ∷ [] →
+    sum_value a new -ℤ pos (if b then n else 0) ≡ sum_value a old +ℤ (pos (term_value a (l, n)) -ℤ pos (if true_under w a l then n else 0))
+decided_pushed a w l n old new b truth is =
+    let one = ap (sum_value a) is ∙ sum_value_push a old (pos n, l) in
+    let own = one_truth (lit_true a l) b n in
+    let same : pos (if b then n else 0) ≡ pos (if true_under w a l then n else 0) = ap (λ (d : Bool). pos (if d then n else 0)) truth in
+    omega (arith, ints)
+
+-- one more coefficient
+pub magnitude_pushed : (old new : List (ℤ × Literal)) (x : ℤ) (l : Literal) (n : ℕ) → unsigned_abs x ≡ n → new ≡ old ++ (x, l) ∷ [] → sum_by (λ t. unsigned_abs t.0) new ≡ sum_by (λ t. unsigned_abs t.0) old + n
+magnitude_pushed old new x l n size is =
+    ap (sum_by (λ (t : ℤ × Literal). unsigned_abs t.0)) is ∙ sum_by_push (λ (t : ℤ × Literal). unsigned_abs t.0) old (x, l) ∙ ap (λ (k : ℕ). sum_by (λ (t : ℤ × Literal). unsigned_abs t.0) old + k) size

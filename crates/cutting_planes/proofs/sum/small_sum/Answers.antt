@@ -1,8 +1,9 @@
-use Rattle.std.proofs.Common.{◌≡◌, ◌∙◌, ◌++◌, ◌+◌, ◌≤◌, ◌^◌, [], drop, ◌⊎◌, inl, inr, arith, ap}
-use Rattle.std.proofs.lemmas.List.{drop_all}
+use Rattle.std.proofs.Common.{◌+◌, ◌≤◌, ◌^◌, length, drop, ◌⊎◌, inl, inr, arith, subst, sym}
+use Rattle.std.proofs.lemmas.Option.{slice_get_within}
 use Rattle.std.specs.Prelude.{option_to_list}
-use Rattle.cutting_planes.proofs.Terms.{Terms}
-use Rattle.cutting_planes.proofs.Merge.{merge_start, step_left, step_right, step_joined, step_end, left_positive, right_positive, next_small, IsJoined}
+use Rattle.pb_lin.specs.Constraint.{ConstraintValue}
+use Rattle.cutting_planes.specs.Rules.{IsSum}
+use Rattle.cutting_planes.proofs.Merge.{merge_start, step_left, step_right, step_joined, step_last, left_positive, right_positive, next_small, fewer_left, fewer_right, fewer_both, IsJoined}
 use Rattle.cutting_planes.proofs.sum.small_sum.Goals as goal
 use Rattle.cutting_planes.proofs.sum.small_sum.Goals.{then-loop-i-test+else-j-len, else-loop-i-test}
 
@@ -45,14 +46,37 @@ loop-i-preserved c =
     } in
     step_joined c.args.p.now.terms c.args.q.now.terms c.loop-i.merged c.push_some.new.terms c.loop-i.i c.loop-i.j c.term-s.result c.term-t.result c.add_terms-joined.result.0 c.loop-i.cancelled c.add_terms-joined.result.1 c.loop-i.invariant c.term-s.ensures c.term-t.ensures joined c.in_ok-push_some.ensures
 
+pub loop-i-smaller-then-var : goal.loop-i-smaller-then-var
+loop-i-smaller-then-var c =
+    let p = c.args.p.now.terms in
+    fewer_left (length p) (length c.args.q.now.terms) c.loop-i.i c.loop-i.j (slice_get_within p c.loop-i.i c.term-s.result c.term-s.ensures)
+
+pub loop-i-smaller-then-var-2 : goal.loop-i-smaller-then-var-2
+loop-i-smaller-then-var-2 c =
+    let q = c.args.q.now.terms in
+    fewer_right (length c.args.p.now.terms) (length q) c.loop-i.i c.loop-i.j (slice_get_within q c.loop-i.j c.term-t.result c.term-t.ensures)
+
+pub loop-i-smaller : goal.loop-i-smaller
+loop-i-smaller c =
+    let p = c.args.p.now.terms in
+    let q = c.args.q.now.terms in
+    fewer_both (length p) (length q) c.loop-i.i c.loop-i.j (slice_get_within p c.loop-i.i c.term-s.result c.term-s.ensures) (slice_get_within q c.loop-i.j c.term-t.result c.term-t.ensures)
+
 pub from_parts-requires : goal.from_parts-requires
 from_parts-requires c =
-    let left = drop c.loop-i.i c.args.p.now.terms in
-    let right = drop c.loop-i.j c.args.q.now.terms in
-    let none : (left ≡ []) ⊎ (right ≡ []) = elim c.loop-i-test.branch [
-      | then-loop-i-test+else-j-len w ↦ inr (drop_all c.loop-i.j c.args.q.now.terms (omega arith))
-      | else-loop-i-test w ↦ inl (drop_all c.loop-i.i c.args.p.now.terms (omega arith))
+    let ended : (length c.args.p.now.terms ≤ c.loop-i.i) ⊎ (length c.args.q.now.terms ≤ c.loop-i.j) = elim c.loop-i-test.branch [
+      | then-loop-i-test+else-j-len w ↦ inr (omega arith)
+      | else-loop-i-test w ↦ inl (omega arith)
     ] in
-    let whole : c.push_rest-2.new.terms ≡ (c.loop-i.merged ++ left) ++ right =
-    c.in_ok-push_rest-2.ensures ∙ ap (λ (ts : Terms). ts ++ right) c.in_ok-push_rest.ensures in
-    (step_end c.args.p.now c.args.q.now c.loop-i.merged left right c.push_rest-2.new.terms c.loop-i.cancelled c.saturating_sub-degree.result c.loop-i.invariant none whole c.requires (omega arith)).normal
+    (step_last c.args.p.now c.args.q.now c.loop-i.merged c.push_rest.new.terms c.push_rest-2.new.terms c.loop-i.i c.loop-i.j c.loop-i.cancelled c.saturating_sub-degree.result c.loop-i.invariant ended c.in_ok-push_rest.ensures c.in_ok-push_rest-2.ensures c.requires (omega arith)).normal
+
+pub returns : goal.returns
+returns c =
+    let p = c.args.p.now in
+    let q = c.args.q.now in
+    let ended : (length p.terms ≤ c.loop-i.i) ⊎ (length q.terms ≤ c.loop-i.j) = elim c.loop-i-test.branch [
+      | then-loop-i-test+else-j-len w ↦ inr (omega arith)
+      | else-loop-i-test w ↦ inl (omega arith)
+    ] in
+    subst (λ (r : ConstraintValue). IsSum r p q) (sym c.from_parts.ensures)
+    (step_last p q c.loop-i.merged c.push_rest.new.terms c.push_rest-2.new.terms c.loop-i.i c.loop-i.j c.loop-i.cancelled c.saturating_sub-degree.result c.loop-i.invariant ended c.in_ok-push_rest.ensures c.in_ok-push_rest-2.ensures c.requires (omega arith))

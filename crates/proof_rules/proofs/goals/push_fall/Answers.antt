@@ -1,10 +1,12 @@
-use Rattle.std.proofs.Common.{ℕ, ◌+◌, ◌<◌, if◌then◌else◌, arith, ap, subst, sym}
+use Rattle.std.proofs.Common.{◌≡◌, ℕ, ◌+◌, ◌<◌, List, if◌then◌else◌, arith, ap, subst, sym, ◌∙◌, take, pos, ◌+ℤ◌, ◌-ℤ◌}
 use Rattle.std.specs.List.{All}
 use Rattle.std.proofs.lemmas.Int.{ints}
+use Rattle.std.proofs.lemmas.List.{take_all}
 use Rattle.std.proofs.lemmas.List.Sums.{sum_by_more, sum_by-take-le}
 use Rattle.scut_base.specs.Literal.{Literal}
-use Rattle.pb_lin.specs.Constraint.{TermsUpTo, term_value, total}
-use Rattle.pb_lin.specs.Substitution.{true_under}
+use Rattle.pb_lin.specs.Constraint.{TermsUpTo, term_value, total, value}
+use Rattle.pb_lin.specs.NormalForm.{sum_value}
+use Rattle.pb_lin.specs.Substitution.{true_under, value_under}
 use Rattle.proof_rules.proofs.goals.push_fall.Goals as goal
 
 pub overflow_add-met : goal.overflow_add-met
@@ -47,3 +49,24 @@ loop-term-preserved c =
 
 pub returns-clause-variables : goal.returns-clause-variables
 returns-clause-variables c = λ n upto images old. c.loop-term.invariant.variables n (subst (TermsUpTo n) (sym c.terms-given.ensures.value) upto) images old
+
+pub returns-clause-value : goal.returns-clause-value
+returns-clause-value c = λ a.
+    let all : take c.loop-term.term-index c.terms-given.result.now ≡ c.args.row.now.terms = take_all c.loop-term.term-index c.terms-given.result.now (omega arith) ∙ c.terms-given.ensures.value in
+    subst (λ (ts : List (Literal × ℕ)). sum_value a c.loop-term.terms.items -ℤ pos c.loop-term.met ≡ sum_value a c.args.terms.now.items +ℤ (pos (value a ts) -ℤ pos (value_under c.args.w.now a ts))) all (c.loop-term.invariant.value a)
+
+pub returns-clause-met : goal.returns-clause-met
+returns-clause-met c =
+    let all : take c.loop-term.term-index c.terms-given.result.now ≡ c.args.row.now.terms = take_all c.loop-term.term-index c.terms-given.result.now (omega arith) ∙ c.terms-given.ensures.value in
+    let whole = ap total all in
+    let small = c.terms-given.ensures.row.small in
+    let met = c.loop-term.invariant.met in
+    omega arith
+
+pub returns-clause-small : goal.returns-clause-small
+returns-clause-small c =
+    let all : take c.loop-term.term-index c.terms-given.result.now ≡ c.args.row.now.terms = take_all c.loop-term.term-index c.terms-given.result.now (omega arith) ∙ c.terms-given.ensures.value in
+    let whole = ap total all in
+    let small = c.terms-given.ensures.row.small in
+    let old = c.loop-term.invariant.small in
+    omega arith

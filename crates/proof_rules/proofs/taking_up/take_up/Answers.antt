@@ -1,4 +1,4 @@
-use Rattle.proof_rules.proofs.TakingUp.{makes_value, value_state}
+use Rattle.proof_rules.proofs.TakingUp.{value_state}
 use Rattle.proof_rules.proofs.taking_up.take_up.Goals as goal
 
 pub add-requires : goal.add-requires
