@@ -2,7 +2,7 @@
 use Rattle.std.proofs.Common.{◌≡◌, ◌-◌, ◌^◌, Bool, true, not, ◌&&◌, Option, None, Some, List, [], ◌∷◌, ◌++◌, map, length, refl, ap, sym, subst, ◌∙◌, arith, ℤ, pos, ◌-ℤ◌, ◌≤ℤ◌, ◌<ℤ◌}
 use Rattle.std.specs.Prelude.{int_lt, IfSome}
 use Rattle.std.specs.List.{All, last_or}
-use Rattle.std.proofs.lemmas.Bool.{and_parts, and_from, not-true, not_from_false}
+use Rattle.std.proofs.lemmas.Bool.{and_parts, and_from, not_from_false}
 use Rattle.std.proofs.lemmas.Int.{ints}
 use Rattle.std.proofs.lemmas.List.{length-map}
 use Rattle.front_set.specs.Vector.{IsBelow}
@@ -13,7 +13,11 @@ use Rattle.proof_rules.specs.Recording.{Snapshot}
 use Rattle.search_base.specs.Boards.{BoardValue, IsBoard}
 use Rattle.search_base.specs.Logged.{Logs, LogsNone, logged}
 use Rattle.search_base.specs.Turns.{IsTaken}
+use Rattle.search_base.proofs.CutClauses.{le_from_test}
+use Rattle.search_base.proofs.PutEntries.{last_of_more}
+use Rattle.search_questions.specs.Telling.{IsStanding}
 use Rattle.search_questions.proofs.Excesses.{cost_small}
+use Rattle.search_questions.proofs.Remaining.{none_left}
 use Rattle.search_questions.specs.declared.below.Below.{Below}
 use Rattle.search_questions.specs.declared.below.Below.TheVariants.{Model, End, Above}
 use Rattle.bioptsat.specs.declared.aim.Aim.{Aim}
@@ -22,9 +26,6 @@ use Rattle.bioptsat.specs.Aims.{GivesUp, Improves, Meets, Serves, aim_after, aim
 use Rattle.bioptsat.specs.Asking.{IsOneLess, TellsMeeting, TellsOfAim, TellsWithin}
 
 -- ---- two numbers
-
-le_from_test : (x y : ℤ) → not (int_lt y x) ≡ true → x ≤ℤ y
-le_from_test x y h = grind (arith, ints, not-true (int_lt y x) h)
 
 both_below : (u : List ℤ) (a b : ℤ) → IsBelow u (a ∷ b ∷ []) → (first u ≤ℤ a) × (second u ≤ℤ b)
 both_below [] a b below = cc
@@ -100,7 +101,7 @@ module _ (b : Snapshot) (v : List ℤ) (all : AreCostRows b.problem.costs) (two 
   told_first (Some n) (Above stands) less tells = λ left.
       let x = left.2 in
       let meets = left.4 in
-      tells.0 (
+      none_left b (n ∷ pos (2 ^ 63 - 1) ∷ []) (IsStanding stands) tells.0 (
         left.0,
         left.1,
         x,
@@ -125,7 +126,7 @@ module _ (b : Snapshot) (v : List ℤ) (all : AreCostRows b.problem.costs) (two 
   told_second (Some n) (Above stands) less tells = λ left.
       let x = left.2 in
       let meets = left.4.1 in
-      tells.0 (
+      none_left b (first v ∷ n ∷ []) (IsStanding stands) tells.0 (
         left.0,
         left.1,
         x,
@@ -134,10 +135,6 @@ module _ (b : Snapshot) (v : List ℤ) (all : AreCostRows b.problem.costs) (two 
       )
 
 -- ---- turns
-
-last_pushed : {A : Type 0} (before : Option A) (xs : List A) (x : A) → last_or before (xs ++ x ∷ []) ≡ Some x
-last_pushed before [] x = refl
-last_pushed before (y ∷ xs) x = last_pushed (Some y) xs x
 
 meets_again : (aim : Aim) (u w : List ℤ) → length w ≡ 2 → IsBelow u w → Meets aim w → Meets aim u
 meets_again Anything u w two below meets = tt
@@ -176,7 +173,7 @@ module _ (m b : Snapshot) (x : List Bool) (board : BoardValue) (aim now : Aim) (
       (is.last
       ∙ ap (λ (vs : List (List ℤ)). last_or None vs)
       (ap (λ (p : ProblemValue). logged p b.lines) same ∙ taken.found.logs)
-      ∙ last_pushed None (logged m.problem m.lines) taken.found.costs)
+      ∙ last_of_more (logged m.problem m.lines) taken.found.costs)
 
   costs_count : length (problem_costs m.problem x) ≡ 2
   costs_count = length-map m.problem.costs (row_cost x) ∙ two

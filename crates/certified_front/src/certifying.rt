@@ -1,10 +1,9 @@
 // A whole search, from the lines that were prepared to the end of the proof.
-ghost use Rattle.std.specs.Prelude.{◌≡◌, ◌≤◌, ◌^◌, ◌++◌, [], false, List, length, All, IfOk, OnOk, IsErrOf};
+ghost use Rattle.std.specs.Prelude.{◌≡◌, ◌≤◌, ◌^◌, ◌++◌, [], false, List, length, IfOk, OnOk, IsErrOf};
 ghost use Rattle.scut_base.specs.Faults.{Rose};
 ghost use Rattle.instance_normal.specs.NormalForm.{IsNormalFormOf};
 ghost use Rattle.proof_laws.specs.declared.line.Line.{Line};
 ghost use Rattle.proof_rules.specs.Recording.{KeepsSurroundings};
-ghost use Rattle.sum_outputs.specs.Totals.{AreWeights};
 ghost use Rattle.search_base.specs.CostBounds.{AreReforms};
 ghost use Rattle.search_base.specs.Laws.{IsPrepared};
 ghost use Rattle.certified_front.specs.Certified.{CoversLogged, IsEnding};
@@ -19,6 +18,7 @@ use proof_rules::RecordFault;
 use search_base::{Bounds, Search, no_lines_are_prepared, own_reforms};
 use std::alloc::Global;
 use sum_outputs::in_memory;
+use term_order::ordered;
 use totalizer::Reform;
 
 /// Searches for the front of an instance over an oracle without lines, which it leaves with a proof.
@@ -50,7 +50,8 @@ pub fn certified_front<O: Oracle>(
     no_lines_are_prepared();
     // Tells that the problem is within its limits.
     let _vars = problem.vars();
-    let reforms = in_memory(own_reforms(alloc, problem))?;
+    let own = in_memory(own_reforms(alloc, problem))?;
+    let reforms = in_memory(ordered(alloc, problem, own))?;
     let mut search = PMinimal::new(alloc);
     front_by(alloc, oracle, problem, inst, reforms, &mut search)
 }
@@ -70,7 +71,6 @@ pub fn front_by<O: Oracle, S: Search>(
     requires normal { IsNormalFormOf inst.now problem.now }
     requires problem { (O.seen oracle.old).problem ≡ problem.now }
     requires prepared { IsPrepared (O.seen oracle.old) }
-    requires weights { All (λ r. AreWeights r.terms) reforms.items }
     requires reforms { AreReforms (O.seen oracle.old) reforms.items }
     requires serves { S.serves search.old problem.now }
     ensures covers { IfOk result

@@ -11,14 +11,15 @@ use Rattle.pb_lin.specs.Problem.{ProblemValue, problem_costs}
 use Rattle.proof_rules.specs.Recording.{Snapshot}
 use Rattle.search_base.specs.Logged.{Logs, LogsNone}
 use Rattle.search_base.specs.CostBounds.{BoundsRow, FitBounds, IsNextValue}
-use Rattle.search_base.specs.Turns.{IsRemaining, IsTaken}
+use Rattle.search_base.specs.Turns.{IsTaken}
 use Rattle.search_base.specs.declared.objective_bound.ObjectiveBound.{ObjectiveBound}
-use Rattle.search_questions.specs.Telling.{CanRise, Tells}
+use Rattle.search_questions.specs.Telling.{CanRise, IsStanding, StandInTheWay, Tells, number_at, stands_at}
 use Rattle.search_questions.specs.declared.below.Below.{Below}
 use Rattle.search_questions.specs.declared.below.Below.TheVariants.{Model, End, Above}
-use Rattle.lower_bounding.specs.Fences.{FenceValue, Serves, greatest_cost, number_at, own_number, room, FindsInside, HasRisen, Raises}
-use Rattle.lower_bounding.specs.Raising.{AreLimits, CanRaise, IsLimit, IsRaised, RisesWhere, TellsOfFence, stands_at}
-use Rattle.lower_bounding.proofs.Vectors.{below_at, below_from, costs_within, room_less}
+use Rattle.search_questions.proofs.Remaining.{below_at}
+use Rattle.lower_bounding.specs.Fences.{FenceValue, Serves, greatest_cost, own_number, room, FindsInside, HasRisen, Raises}
+use Rattle.lower_bounding.specs.Raising.{AreLimits, CanRaise, IsLimit, IsRaised, RisesWhere, TellsOfFence}
+use Rattle.lower_bounding.proofs.Vectors.{below_from, costs_within, room_less}
 
 -- ---- limits
 
@@ -61,17 +62,26 @@ module _ (b : Snapshot) (s : FenceValue) (limits : List ℤ) (serves : Serves s 
       let long = are.count in
       record {
         count = count ∙ long;
-        some = (can.some.0, (let short = can.some.1 in omega arith), can.some.2 false);
+        some = (can.some.0, (let short = can.some.1 in omega arith), can.some.2);
         each = λ i short is.
             below_top (number_at s.fence i) (number_at s.tops i) (number_at limits i) (are.each i short)
-            (can.each i false (pos 0) (omega arith) is);
+            (can.each i (omega arith) is);
       }
 
   pub told : (below : Below) → Tells b limits below → TellsOfFence b s below
   told (Model x) tells = (tells.0, inside x tells.1)
   told (End id) tells = tells
   told (Above stands) tells = (
-    (λ left. tells.0 (left.0, left.1, left.2, left.3, IsBelow-trans (problem_costs b.problem left.2) s.fence limits left.4 fence_below)),
+    (λ left. tells.0 (
+      left.0,
+      left.1,
+      left.2,
+      left.3,
+      λ i short stands.
+          let kept = left.4 i (let long = are.count in omega arith) stands in
+          let least = (are.each i (let long = are.count in omega arith)).least in
+          omega (arith, ints),
+    )),
     can_raise stands tells.1,
   )
 
@@ -117,14 +127,13 @@ module _ (s : FenceValue) (p : ProblemValue) (serves : Serves s p) (stands : Lis
       rises_within (stands_at stands i) (number_at s.fence i) (number_at s.tops i) (number_at now i) (is.each i inside)
       (below_at s.fence s.tops i serves.within inside))
 
-  has_risen : HasRisen s.fence now
-  has_risen =
-      let i = can.some.0 in (
-        i,
-        can.some.1,
-        rises_true (stands_at stands i) (number_at s.fence i) (number_at s.tops i) (number_at now i) can.some.2
-            (is.each i can.some.1),
-      )
+  -- what stands in the way has risen
+  standing_rose : (i : ℕ) → i < length s.fence → IsStanding stands i → HasRisen s.fence now i
+  standing_rose i short is_one =
+      rises_true (stands_at stands i) (number_at s.fence i) (number_at s.tops i) (number_at now i) is_one (is.each i short)
+
+  has_risen : (i : ℕ) × (i < length s.fence) × HasRisen s.fence now i
+  has_risen = (can.some.0, can.some.1, standing_rose can.some.0 can.some.1 can.some.2)
 
   pub raised_falls : room now s.tops < own_number s
   raised_falls = room_less has_risen.0 s.fence now s.tops raised_up raised_within has_risen.1 has_risen.2
@@ -132,8 +141,19 @@ module _ (s : FenceValue) (p : ProblemValue) (serves : Serves s p) (stands : Lis
   pub raised_serves : Serves (record { fence = now; tops = s.tops }) p
   raised_serves = record { tops = serves.tops; within = raised_within }
 
-  pub raises : (b : Snapshot) → (IsRemaining b s.fence → ⊥) → Raises b s.fence now
-  raises b none = record { none = none; up = raised_up; some = has_risen }
+  pub raises : (b : Snapshot) → StandInTheWay b s.fence stands → Raises b s.fence now
+  raises b none = record {
+    up = raised_up;
+    some = has_risen;
+    none = λ left. none (
+      left.0,
+      left.1,
+      left.2,
+      left.3,
+      λ i short is_one.
+          left.4 i short (standing_rose i short is_one),
+    );
+  }
 
 -- ---- a turn
 

@@ -1,30 +1,21 @@
 -- Vectors, number by number.
 use Rattle.std.proofs.Common.{◌≡◌, ℕ, ◌+◌, ◌<◌, ◌≤◌, zero, suc, Bool, not, List, [], ◌∷◌, ◌++◌, map, length, refl, sym, subst, ⊎_elim, arith, ℤ, ◌≤ℤ◌, ◌<ℤ◌, pos}
 use Rattle.std.specs.Prelude.{int_lt}
-use Rattle.std.proofs.lemmas.Bool.{and_parts, and_from, cases_lt, not-true, not_from_false}
+use Rattle.std.proofs.lemmas.Bool.{and_from, cases_lt, not_from_false}
 use Rattle.std.proofs.lemmas.Int.{ints}
 use Rattle.std.proofs.lemmas.List.{get_or_append_left, get_or_push}
 use Rattle.front_set.specs.Vector.{is_below, IsBelow}
 use Rattle.pb_lin.specs.CostRow.{CostRowValue, row_cost}
+use Rattle.search_questions.specs.Telling.{number_at}
+use Rattle.search_questions.proofs.Remaining.{parts_of}
 use Rattle.sum_outputs.proofs.Glue.{value-le-total}
-use Rattle.lower_bounding.specs.Fences.{greatest_cost, number_at, room}
+use Rattle.lower_bounding.specs.Fences.{greatest_cost, room}
 
 -- ---- below
-
-parts_of : (x y : ℤ) (u v : List ℤ) → IsBelow (x ∷ u) (y ∷ v) → (x ≤ℤ y) × IsBelow u v
-parts_of x y u v below =
-    let parts = and_parts (not (int_lt y x)) (is_below u v) below in
-    (grind (arith, ints, not-true (int_lt y x) parts.0), parts.1)
 
 from_parts : (x y : ℤ) (u v : List ℤ) → x ≤ℤ y → IsBelow u v → IsBelow (x ∷ u) (y ∷ v)
 from_parts x y u v first rest =
     and_from (not (int_lt y x)) (is_below u v) (not_from_false (int_lt y x) (grind (arith, ints))) rest
-
-pub below_at : (u v : List ℤ) (i : ℕ) → IsBelow u v → i < length u → number_at u i ≤ℤ number_at v i
-below_at [] v i below short = absurd (omega arith)
-below_at (x ∷ u) [] i below short = cc
-below_at (x ∷ u) (y ∷ v) zero below short = (parts_of x y u v below).0
-below_at (x ∷ u) (y ∷ v) (suc i) below short = below_at u v i (parts_of x y u v below).1 (omega arith)
 
 pub below_from : (u v : List ℤ) → length v ≡ length u → ((i : ℕ) → i < length u → number_at u i ≤ℤ number_at v i)
     → IsBelow u v

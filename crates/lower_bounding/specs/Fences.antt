@@ -1,14 +1,14 @@
 -- The fence of a search from below, and what a turn makes of it.
-use Rattle.std.specs.Prelude.{◌≡◌, ℕ, ◌+◌, ◌<◌, List, [], ◌∷◌, length, map, slice_index_or, ℤ, pos, ◌+ℤ◌, ◌-ℤ◌, ◌<ℤ◌, unsigned_abs}
+use Rattle.std.specs.Prelude.{◌≡◌, ℕ, ◌+◌, ◌<◌, List, [], ◌∷◌, length, map, ℤ, pos, ◌+ℤ◌, ◌-ℤ◌, ◌<ℤ◌, unsigned_abs}
 use Rattle.front_set.specs.Vector.{IsBelow}
 use Rattle.pb_lin.specs.Constraint.{total}
 use Rattle.pb_lin.specs.CostRow.{CostRowValue}
 use Rattle.pb_lin.specs.Problem.{ProblemValue}
 use Rattle.proof_rules.specs.Recording.{Snapshot}
 use Rattle.search_base.specs.Logged.{Logs}
-use Rattle.search_base.specs.Turns.{IsRemaining}
 use Rattle.search_base.specs.declared.turn.Turn.{Turn}
 use Rattle.search_base.specs.declared.turn.Turn.TheVariants.{Found, Moved, Finished}
+use Rattle.search_questions.specs.Telling.{IsRemainingAt, number_at}
 
 -- upper bounds of the costs, and what each cost is at most
 pub record FenceValue : Type 0 where
@@ -18,10 +18,6 @@ pub record FenceValue : Type 0 where
 -- all that a row can cost
 abbrev pub greatest_cost : CostRowValue → ℤ
 greatest_cost r = pos (total r.terms) +ℤ r.offset
-
--- the number of the objective at a place
-abbrev pub number_at : List ℤ → ℕ → ℤ
-number_at v i = slice_index_or v i (pos 0)
 
 -- how far the one list is from the other, summed
 abbrev pub room : List ℤ → List ℤ → ℕ
@@ -47,15 +43,15 @@ pub record FindsInside (a b : Snapshot) (fence now : List ℤ) : Type 0 where
   pub below : IsBelow costs fence
   pub same : now ≡ fence
 
--- some number of the one list is below that of the other
-abbrev pub HasRisen : List ℤ → List ℤ → Type 0
-HasRisen fence now = (i : ℕ) × (i < length fence) × (number_at fence i <ℤ number_at now i)
+-- the number at this place has risen
+abbrev pub HasRisen : List ℤ → List ℤ → ℕ → Type 0
+HasRisen fence now i = number_at fence i <ℤ number_at now i
 
--- nothing that is left has costs below the fence; no number of it has fallen, and one has risen
+-- no number of the fence has fallen, and some have risen: nothing that is left keeps to these as they were
 pub record Raises (b : Snapshot) (fence now : List ℤ) : Type 0 where
-  pub none : IsRemaining b fence → ⊥
   pub up : IsBelow fence now
-  pub some : HasRisen fence now
+  pub some : (i : ℕ) × (i < length fence) × HasRisen fence now i
+  pub none : IsRemainingAt b fence (HasRisen fence now) → ⊥
 
 -- what each answer of a turn says of the fence
 abbrev pub MovesFence : Snapshot → Snapshot → List ℤ → List ℤ → Turn → Type 0

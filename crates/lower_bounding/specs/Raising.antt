@@ -1,12 +1,13 @@
 -- The limits that a fence asks for, and what answers make rise.
-use Rattle.std.specs.Prelude.{◌≡◌, ℕ, ◌<◌, ◌-◌, ◌^◌, Bool, true, false, List, length, slice_index_or, ℤ, pos, ◌<ℤ◌, ◌≤ℤ◌}
+use Rattle.std.specs.Prelude.{◌≡◌, ℕ, ◌<◌, ◌-◌, ◌^◌, Bool, true, false, List, length, ℤ, pos, ◌<ℤ◌, ◌≤ℤ◌}
 use Rattle.front_set.specs.Vector.{IsBelow}
 use Rattle.pb_lin.specs.Problem.{problem_costs}
 use Rattle.proof_rules.specs.Recording.{Snapshot}
-use Rattle.search_base.specs.Turns.{IsEndLine, IsRemaining, IsTakable}
+use Rattle.search_base.specs.Turns.{IsEndLine, IsTakable}
+use Rattle.search_questions.specs.Telling.{IsStanding, StandInTheWay, number_at, stands_at}
 use Rattle.search_questions.specs.declared.below.Below.{Below}
 use Rattle.search_questions.specs.declared.below.Below.TheVariants.{Model, End, Above}
-use Rattle.lower_bounding.specs.Fences.{FenceValue, number_at}
+use Rattle.lower_bounding.specs.Fences.{FenceValue}
 
 -- ---- limits
 
@@ -24,22 +25,18 @@ pub record AreLimits (fence tops limits : List ℤ) : Type 0 where
 
 -- ---- answers
 
--- whether the number at this place stands in the way
-abbrev pub stands_at : List Bool → ℕ → Bool
-stands_at stands i = slice_index_or stands i false
-
 -- some numbers stand in the way, and each of these is below its top
 pub record CanRaise (fence tops : List ℤ) (stands : List Bool) : Type 0 where
   pub count : length stands ≡ length fence
-  pub some : (i : ℕ) × (i < length fence) × (stands_at stands i ≡ true)
-  pub each : (i : ℕ) → i < length fence → stands_at stands i ≡ true
+  pub some : (i : ℕ) × (i < length fence) × IsStanding stands i
+  pub each : (i : ℕ) → i < length fence → IsStanding stands i
       → number_at fence i <ℤ number_at tops i
 
 -- what an answer tells of the fence
 abbrev pub TellsOfFence : Snapshot → FenceValue → Below → Type 0
 TellsOfFence b s (Model x) = IsTakable b x × IsBelow (problem_costs b.problem x) s.fence
 TellsOfFence b s (End id) = IsEndLine b.problem b.lines id
-TellsOfFence b s (Above stands) = (IsRemaining b s.fence → ⊥) × CanRaise s.fence s.tops stands
+TellsOfFence b s (Above stands) = StandInTheWay b s.fence stands × CanRaise s.fence s.tops stands
 
 -- ---- raising
 

@@ -11,12 +11,11 @@ use Rattle.proof_rules.specs.Recording.{Snapshot}
 use Rattle.search_base.specs.Boards.{BoardValue, IsBoard}
 use Rattle.search_base.specs.Logged.{Logs, LogsNone, logged}
 use Rattle.search_base.specs.Turns.{IsEndLine, IsTaken}
+use Rattle.search_base.proofs.PutEntries.{last_of_more}
+use Rattle.search_questions.specs.Telling.{IsStanding}
 use Rattle.search_questions.specs.declared.below.Below.TheVariants.{Model, End, Above}
+use Rattle.search_questions.proofs.Remaining.{none_left}
 use Rattle.p_minimal.specs.Aiming.{AimsLower, GivesUp, Serves, TellsOfAim, own_number}
-
-last_pushed : {A : Type 0} (first : Option A) (xs : List A) (x : A) → last_or first (xs ++ x ∷ []) ≡ Some x
-last_pushed first [] x = refl
-last_pushed first (y ∷ xs) x = last_pushed (Some y) xs x
 
 lower : (costs at : List ℤ) (aim : Option (List ℤ)) → IsBelow costs at → IfSome aim (λ v. IsBelow at v)
     → IfSome aim (λ v. IsBelow costs v)
@@ -39,7 +38,7 @@ pub none_told : (m : Snapshot) (aim : Option (List ℤ)) (stands : List Bool) �
     → (0 < own_number aim) × GivesUp m aim None
 none_told m None stands tells = absurd tells
 none_told m (Some v) stands tells =
-    (omega arith, record { costs = v; aimed = refl; none = refl; least = tells.0 })
+    (omega arith, record { costs = v; aimed = refl; none = refl; least = none_left m v (IsStanding stands) tells.0 })
 
 pub serves_still : (a b : Snapshot) (aim : Option (List ℤ)) → b.problem ≡ a.problem → Serves aim a.problem
     → Serves aim b.problem
@@ -53,7 +52,7 @@ module _ (m b : Snapshot) (x : List Bool) (board : BoardValue) (now : Option (Li
       copied ∙ is.last
       ∙ ap (λ (vs : List (List ℤ)). last_or None vs)
       (ap (λ (p : ProblemValue). logged p b.lines) same ∙ taken.found.logs)
-      ∙ last_pushed None (logged m.problem m.lines) taken.found.costs
+      ∙ last_of_more (logged m.problem m.lines) taken.found.costs
 
   pub serves_after : Serves now b.problem
   serves_after =

@@ -19,11 +19,11 @@ use Rattle.totalizer.specs.Totalizing.{TotalizerValue, Fits, terms_of}
 use Rattle.totalizer.specs.declared.bound.Bound.TheVariants.{Always, Never, At}
 use Rattle.totalizer.specs.declared.reform.Reform.{Reform}
 use Rattle.search_base.specs.CostBounds.{AddsBound, BoundsRow, IsAnswerFor, IsCostBound, LineCovers, StandsFor}
-use Rattle.search_base.specs.OneBound.{HasOwnLiteral, IsCoveredAt, IsOutputAt, KeepsBut, MakesCover}
+use Rattle.search_base.specs.OneBound.{HasOwnLiteral, IsObjectiveLineAt, IsOutputAt, KeepsBut, MakesObjectiveLine}
 use Rattle.search_base.specs.declared.objective_bound.ObjectiveBound.{ObjectiveBound}
 use Rattle.search_base.proofs.AskedRows.{row_asked}
 use Rattle.search_base.proofs.BoundLines.{always_covers, named_normal}
-use Rattle.search_base.proofs.CoverMeanings.{cases, stands_for}
+use Rattle.search_base.proofs.ObjectiveLines.{cases, stands_for}
 use Rattle.totalizer.proofs.LaterLines.{held_before}
 use Rattle.search_base.proofs.RowStays.{row_stays}
 use Rattle.search_base.proofs.TurnLines.{own_law, totalizer_lines}
@@ -97,7 +97,7 @@ module _ (m : Snapshot) (row : CostRowValue) (o : ObjectiveBound) (is : BoundsRo
   -- after the line was made
   pub over_at : (b : Snapshot) (s : StateValue) → Continues m b → IsReached m s → (n : ℕ) (l : Literal) (id line : ℕ) →
       IsOutputAt m o n l id → v ≡ pos n +ℤ o.reform.offset →
-      ((t : StateValue) → IsReached b t → IsCoveredAt b row (pos n +ℤ o.reform.offset) l line t) →
+      ((t : StateValue) → IsReached b t → IsObjectiveLineAt b row (pos n +ℤ o.reform.offset) l line t) →
       IsCostBound b.problem b.lines row v (At l line)
   over_at b s on reached n l id line out same covered t after =
       let has = on.states s reached in
@@ -127,12 +127,12 @@ module _ (own : OwnLinesStay) (fitting : FittingStays) (reforms : ReformStays) (
     (reached : IsReached a s) (on : Continues a m) (o : ObjectiveBound) (t : TotalizerValue) (k : ℤ)
     (nodes : t.nodes ≡ o.totalizer.nodes) (fits : Fits m t) where
   abbrev asked : ObjectiveBound
-  asked = record { reform = o.reform; totalizer = t; covers = o.covers }
+  asked = record { reform = o.reform; totalizer = t; objective_lines = o.objective_lines }
 
   -- nothing was added
   pub same_row : (row : CostRowValue) → t ≡ o.totalizer → BoundsRow a row o → BoundsRow m row asked
   same_row row same is =
-      subst (λ (u : TotalizerValue). BoundsRow m row (record { reform = o.reform; totalizer = u; covers = o.covers }))
+      subst (λ (u : TotalizerValue). BoundsRow m row (record { reform = o.reform; totalizer = u; objective_lines = o.objective_lines }))
       (sym same)
       (row_stays own fitting reforms a m s on.problem (own_law a.problem a.lines m.lines (totalizer_lines a m on)) reached
       row o is)
@@ -156,7 +156,7 @@ module _ (own : OwnLinesStay) (fitting : FittingStays) (reforms : ReformStays) (
 
     -- with the line
     pub adds_cost : (b : Snapshot) (q : ObjectiveBound) (v : ℤ) (line : ℕ) → k ≡ v -ℤ o.reform.offset →
-        KeepsBut asked q → MakesCover m b asked q l → AddsBound a b v o q (At l line)
+        KeepsBut asked q → MakesObjectiveLine m b asked q l → AddsBound a b v o q (At l line)
     adds_cost b q v line above kept makes =
         let demanded = added.2 in
         let made = demanded.makes in
@@ -172,12 +172,12 @@ module _ (own : OwnLinesStay) (fitting : FittingStays) (reforms : ReformStays) (
             });
             known = record {
               answered = subst (λ (u : TotalizerValue). IsAnswered u added.0 l) same demanded.answered;
-              covered = λ long some.
+              line = λ long some.
                   let reform = kept.reform in
                   makes.there (subst (λ (r : Reform). 1 < length r.terms) reform long)
                   (λ none. some (ap (λ (r : Reform). r.lower_line) reform ∙ none));
             };
-            again = λ known. makes.again (λ long some. known.covered long some) ∙ demanded.again known.answered;
+            again = λ known. makes.again (λ long some. known.line long some) ∙ demanded.again known.answered;
           },
         )
 

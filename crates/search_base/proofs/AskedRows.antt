@@ -23,9 +23,9 @@ use Rattle.totalizer.specs.Meaning.{AreTruthsWith}
 use Rattle.totalizer.specs.Reforming.{IsReformOf}
 use Rattle.totalizer.specs.Totalizing.{TotalizerValue, Fits, terms_of}
 use Rattle.totalizer.specs.declared.reform.Reform.{Reform}
-use Rattle.search_base.specs.CostBounds.{BoundsRow, IsCover, IsOutside, LineCovers}
+use Rattle.search_base.specs.CostBounds.{BoundsRow, IsObjectiveLine, IsOutside, LineCovers}
 use Rattle.search_base.specs.OneBound.{IsPlaceFor, KeepsBut}
-use Rattle.search_base.specs.declared.objective_bound.Cover.{Cover}
+use Rattle.search_base.specs.declared.objective_bound.ObjectiveLine.{ObjectiveLine}
 use Rattle.search_base.specs.declared.objective_bound.ObjectiveBound.{ObjectiveBound}
 use Rattle.search_base.proofs.BoundRows.{any_node}
 use Rattle.search_base.proofs.RowStays.{row_stays}
@@ -145,25 +145,25 @@ module _ (own : OwnLinesStay) (fitting : FittingStays) (reforms : ReformStays) (
       (own_law a.problem a.lines b.lines (totalizer_lines a b on)) reached row o is
 
   abbrev pub with_totalizer : TotalizerValue → ObjectiveBound
-  with_totalizer t = record { reform = o.reform; totalizer = t; covers = o.covers }
+  with_totalizer t = record { reform = o.reform; totalizer = t; objective_lines = o.objective_lines }
 
   -- its totalizer was asked
   pub row_asked : (t : TotalizerValue) (k : ℕ) → t.nodes ≡ o.totalizer.nodes → Fits b t →
-      MakesDemanded a b k o.totalizer t → BoundsRow b row (record { reform = o.reform; totalizer = t; covers = o.covers })
+      MakesDemanded a b k o.totalizer t → BoundsRow b row (record { reform = o.reform; totalizer = t; objective_lines = o.objective_lines })
   row_asked t k nodes fits makes = record {
     weights = is.weights;
     reform = later_row.reform;
     terms = ap (λ (ns : List Node). terms_of (record { nodes = ns; made = [] })) nodes ∙ is.terms;
     fits = fits;
-    covers = λ u after. All-weaker (IsCover b.problem b.lines u row o)
-        (IsCover b.problem b.lines u row (record { reform = o.reform; totalizer = t; covers = o.covers }))
-        (λ c cover. record {
-          sum = cover.sum;
-          there = stands_still a b s reached k o.totalizer t is.fits nodes makes cover.sum
-              (record { var = c.var; neg = false }) cover.there;
-          own = cover.own;
-          covers = cover.covers;
-        }) o.covers.items (later_row.covers u after);
+    objective_lines = λ u after. All-weaker (IsObjectiveLine b.problem b.lines u row o)
+        (IsObjectiveLine b.problem b.lines u row (record { reform = o.reform; totalizer = t; objective_lines = o.objective_lines }))
+        (λ c made. record {
+          sum = made.sum;
+          there = stands_still a b s reached k o.totalizer t is.fits nodes makes made.sum
+              (record { var = c.var; neg = false }) made.there;
+          own = made.own;
+          covers = made.covers;
+        }) o.objective_lines.items (later_row.objective_lines u after);
     rising = is.rising;
     once = λ l m n one other.
         let has = on.states s reached in
@@ -173,81 +173,81 @@ module _ (own : OwnLinesStay) (fitting : FittingStays) (reforms : ReformStays) (
 
 -- ---- one line more
 
-rising_insert : (covers : List Cover) (c : Cover) (i : ℕ) → AllPairs (λ x y. x.var < y.var) covers →
-    IsPlaceFor covers c.var i → AllPairs (λ x y. x.var < y.var) (insert covers i c)
-rising_insert covers c i rising at j k d less short =
+rising_insert : (lines : List ObjectiveLine) (c : ObjectiveLine) (i : ℕ) → AllPairs (λ x y. x.var < y.var) lines →
+    IsPlaceFor lines c.var i → AllPairs (λ x y. x.var < y.var) (insert lines i c)
+rising_insert lines c i rising at j k d less short =
     ⊎_elim (λ (e : k ≡ i). here e) (λ (o : (k < i) ⊎ (i < k)). ⊎_elim before after o) (cases_order k i)
   where
-    bound : i ≤ length covers
+    bound : i ≤ length lines
     bound = let is = at.is in is.bound
 
-    long : length (insert covers i c) ≡ length covers + 1
-    long = length-insert covers i c bound
+    long : length (insert lines i c) ≡ length lines + 1
+    long = length-insert lines i c bound
 
-    low : (m : ℕ) → m < i → get_or (insert covers i c) m d ≡ get_or covers m d
-    low m h = get_or-insert_below covers i c d m h bound
+    low : (m : ℕ) → m < i → get_or (insert lines i c) m d ≡ get_or lines m d
+    low m h = get_or-insert_below lines i c d m h bound
 
-    same : (m : ℕ) → m ≡ i → get_or (insert covers i c) m d ≡ c
-    same m e = ap (λ (n : ℕ). get_or (insert covers i c) n d) e ∙ get_or-insert_at covers i c d bound
+    same : (m : ℕ) → m ≡ i → get_or (insert lines i c) m d ≡ c
+    same m e = ap (λ (n : ℕ). get_or (insert lines i c) n d) e ∙ get_or-insert_at lines i c d bound
 
-    high : (m : ℕ) → i < m → get_or (insert covers i c) m d ≡ get_or covers (m - 1) d
-    high m h = ap (λ (n : ℕ). get_or (insert covers i c) n d) (omega arith)
-        ∙ get_or-insert_above covers i c d (m - 1) (omega arith) bound
+    high : (m : ℕ) → i < m → get_or (insert lines i c) m d ≡ get_or lines (m - 1) d
+    high m h = ap (λ (n : ℕ). get_or (insert lines i c) n d) (omega arith)
+        ∙ get_or-insert_above lines i c d (m - 1) (omega arith) bound
 
-    var_of : Cover → ℕ
+    var_of : ObjectiveLine → ℕ
     var_of x = x.var
 
-    greater : (m : ℕ) → i ≤ m → m < length covers → c.var < (get_or covers m d).var
+    greater : (m : ℕ) → i ≤ m → m < length lines → c.var < (get_or lines m d).var
     greater m from within =
         let is = at.is in
         let least = is.above m d from within in
-        let other = at.none (get_or covers m d) (Contains-get_or covers m d within) in
+        let other = at.none (get_or lines m d) (Contains-get_or lines m d within) in
         omega arith
 
-    here : k ≡ i → (get_or (insert covers i c) j d).var < (get_or (insert covers i c) k d).var
+    here : k ≡ i → (get_or (insert lines i c) j d).var < (get_or (insert lines i c) k d).var
     here e =
         let is = at.is in
         let lower = is.below j d (omega arith) in
-        let one = ap (λ (x : Cover). x.var) (low j (omega arith)) in
-        let other = ap (λ (x : Cover). x.var) (same k e) in
+        let one = ap (λ (x : ObjectiveLine). x.var) (low j (omega arith)) in
+        let other = ap (λ (x : ObjectiveLine). x.var) (same k e) in
         omega arith
 
-    before : k < i → (get_or (insert covers i c) j d).var < (get_or (insert covers i c) k d).var
+    before : k < i → (get_or (insert lines i c) j d).var < (get_or (insert lines i c) k d).var
     before h =
         let most = bound in
         let up = rising j k d less (omega arith) in
-        let one = ap (λ (x : Cover). x.var) (low j (omega arith)) in
-        let other = ap (λ (x : Cover). x.var) (low k h) in
+        let one = ap (λ (x : ObjectiveLine). x.var) (low j (omega arith)) in
+        let other = ap (λ (x : ObjectiveLine). x.var) (low k h) in
         omega arith
 
-    after : i < k → (get_or (insert covers i c) j d).var < (get_or (insert covers i c) k d).var
+    after : i < k → (get_or (insert lines i c) j d).var < (get_or (insert lines i c) k d).var
     after h =
         let size = long in
-        let other = ap (λ (x : Cover). x.var) (high k h) in
+        let other = ap (λ (x : ObjectiveLine). x.var) (high k h) in
         ⊎_elim
         (λ (e : j ≡ i).
-        let one = ap (λ (x : Cover). x.var) (same j e) in
+        let one = ap (λ (x : ObjectiveLine). x.var) (same j e) in
         let more = greater (k - 1) (omega arith) (omega arith) in
         omega arith)
         (λ (o : (j < i) ⊎ (i < j)). ⊎_elim
         (λ (below : j < i).
-        let one = ap (λ (x : Cover). x.var) (low j below) in
+        let one = ap (λ (x : ObjectiveLine). x.var) (low j below) in
         let up = rising j (k - 1) d (omega arith) (omega arith) in
         omega arith)
         (λ (above : i < j).
-        let one = ap (λ (x : Cover). x.var) (high j above) in
+        let one = ap (λ (x : ObjectiveLine). x.var) (high j above) in
         let up = rising (j - 1) (k - 1) d (omega arith) (omega arith) in
         omega arith)
         o)
         (cases_order j i)
 
-pub inserted_there : (covers : List Cover) (c : Cover) (i : ℕ) → Contains (insert covers i c) c
-inserted_there covers c i = Contains-append_right (take i covers) (c ∷ drop i covers) c (Contains-head c (drop i covers))
+pub inserted_there : (lines : List ObjectiveLine) (c : ObjectiveLine) (i : ℕ) → Contains (insert lines i c) c
+inserted_there lines c i = Contains-append_right (take i lines) (c ∷ drop i lines) c (Contains-head c (drop i lines))
 
 -- of the same reform and totalizer
-cover_of : (a : Snapshot) (s : StateValue) (row : CostRowValue) (o q : ObjectiveBound) (c : Cover) →
-    KeepsBut o q → IsCover a.problem a.lines s row o c → IsCover a.problem a.lines s row q c
-cover_of a s row o q c kept is = record {
+objective_line_of : (a : Snapshot) (s : StateValue) (row : CostRowValue) (o q : ObjectiveBound) (c : ObjectiveLine) →
+    KeepsBut o q → IsObjectiveLine a.problem a.lines s row o c → IsObjectiveLine a.problem a.lines s row q c
+objective_line_of a s row o q c kept is = record {
   sum = is.sum;
   there = subst (λ (t : TotalizerValue). IsThere t.made (length t.nodes - 1) is.sum (record { var = c.var; neg = false }))
       (sym kept.totalizer) is.there;
@@ -256,24 +256,24 @@ cover_of a s row o q c kept is = record {
       (AreTruthsWith (record { var = c.var; neg = false }))) (sym kept.reform) is.covers;
 }
 
-pub row_covered : (a : Snapshot) (row : CostRowValue) (o q : ObjectiveBound) (c : Cover) (i : ℕ) → BoundsRow a row o →
-    KeepsBut o q → q.covers.items ≡ insert o.covers.items i c → IsPlaceFor o.covers.items c.var i →
-    ((s : StateValue) → IsReached a s → IsCover a.problem a.lines s row o c) → BoundsRow a row q
-row_covered a row o q c i is kept put place new = record {
+pub row_with_line : (a : Snapshot) (row : CostRowValue) (o q : ObjectiveBound) (c : ObjectiveLine) (i : ℕ) → BoundsRow a row o →
+    KeepsBut o q → q.objective_lines.items ≡ insert o.objective_lines.items i c → IsPlaceFor o.objective_lines.items c.var i →
+    ((s : StateValue) → IsReached a s → IsObjectiveLine a.problem a.lines s row o c) → BoundsRow a row q
+row_with_line a row o q c i is kept put place new = record {
   weights = is.weights;
   reform = λ s reached. subst (IsReformOf a.problem a.lines s row) (sym kept.reform) (is.reform s reached);
   terms = ap terms_of kept.totalizer ∙ is.terms ∙ sym (ap (λ (r : Reform). r.terms) kept.reform);
   fits = subst (Fits a) (sym kept.totalizer) is.fits;
-  covers = λ s reached.
-      let IsOf : Cover → Type 0 = IsCover a.problem a.lines s row q in
-      let old : All IsOf o.covers.items = All-weaker (IsCover a.problem a.lines s row o) IsOf
-      (λ d. cover_of a s row o q d kept) o.covers.items (is.covers s reached) in
+  objective_lines = λ s reached.
+      let IsOf : ObjectiveLine → Type 0 = IsObjectiveLine a.problem a.lines s row q in
+      let old : All IsOf o.objective_lines.items = All-weaker (IsObjectiveLine a.problem a.lines s row o) IsOf
+      (λ d. objective_line_of a s row o q d kept) o.objective_lines.items (is.objective_lines s reached) in
       subst (All IsOf) (sym put)
-      (All-append IsOf (take i o.covers.items) (c ∷ drop i o.covers.items) (All-take IsOf i o.covers.items old)
-      (All-cons IsOf c (drop i o.covers.items) (cover_of a s row o q c kept (new s reached))
-      (All-drop IsOf i o.covers.items old)));
-  rising = subst (λ (cs : List Cover). AllPairs (λ x y. x.var < y.var) cs) (sym put)
-      (rising_insert o.covers.items c i is.rising place);
+      (All-append IsOf (take i o.objective_lines.items) (c ∷ drop i o.objective_lines.items) (All-take IsOf i o.objective_lines.items old)
+      (All-cons IsOf c (drop i o.objective_lines.items) (objective_line_of a s row o q c kept (new s reached))
+      (All-drop IsOf i o.objective_lines.items old)));
+  rising = subst (λ (cs : List ObjectiveLine). AllPairs (λ x y. x.var < y.var) cs) (sym put)
+      (rising_insert o.objective_lines.items c i is.rising place);
   once = subst (λ (t : TotalizerValue). (l : Literal) (m n : ℕ) → IsThere t.made (length t.nodes - 1) m l →
       IsThere t.made (length t.nodes - 1) n l → m ≡ n) (sym kept.totalizer) is.once;
 }

@@ -25,9 +25,9 @@ use Rattle.totalizer.specs.Keeping.{FittingStays, KeepsOwn, OwnLinesStay, Reform
 use Rattle.totalizer.specs.Reforming.{IsReformOf}
 use Rattle.totalizer.specs.Totalizing.{TotalizerValue, Fits, first_outputs, root_terms, terms_of}
 use Rattle.totalizer.specs.declared.reform.Reform.{Reform}
-use Rattle.search_base.specs.CostBounds.{AreMadeOutside, AreReforms, BoundsRow, FitBounds, FitSome, IsCover, StandsFor, reforms_of}
+use Rattle.search_base.specs.CostBounds.{AreMadeOutside, AreReforms, BoundsRow, FitBounds, FitSome, IsObjectiveLine, StandsFor, reforms_of}
 use Rattle.search_base.specs.OneBound.{IsNewBound}
-use Rattle.search_base.specs.declared.objective_bound.Cover.{Cover}
+use Rattle.search_base.specs.declared.objective_bound.ObjectiveLine.{ObjectiveLine}
 use Rattle.search_base.specs.declared.objective_bound.ObjectiveBound.{ObjectiveBound}
 use Rattle.search_base.proofs.RowStays.{row_stays}
 
@@ -104,9 +104,9 @@ module _ (r : Reform) (o : ObjectiveBound) (is : IsNewBound r o) where
         reform = λ s reached. subst (IsReformOf a.problem a.lines s row) (sym same) (reform s reached);
         terms = built.terms ∙ sym (ap (λ (q : Reform). q.terms) same);
         fits = is.fits a (λ s reached. let reformed = reform s reached in reformed.variables);
-        covers = λ s reached. subst (All (IsCover a.problem a.lines s row o)) (sym is.none)
-            (All-nil (IsCover a.problem a.lines s row o));
-        rising = subst (λ (cs : List Cover). AllPairs (λ c d. c.var < d.var) cs) (sym is.none) (λ i j d less short. absurd (omega arith));
+        objective_lines = λ s reached. subst (All (IsObjectiveLine a.problem a.lines s row o)) (sym is.none)
+            (All-nil (IsObjectiveLine a.problem a.lines s row o));
+        rising = subst (λ (cs : List ObjectiveLine). AllPairs (λ c d. c.var < d.var) cs) (sym is.none) (λ i j d less short. absurd (omega arith));
         once = new_once;
       }
 

@@ -50,7 +50,7 @@ opposite_false y l = by l.neg (value_of y l.var)
 
 -- ---- values
 
-le_from_test : (x y : ℤ) → not (int_lt y x) ≡ true → x ≤ℤ y
+pub le_from_test : (x y : ℤ) → not (int_lt y x) ≡ true → x ≤ℤ y
 le_from_test x y h = grind (arith, ints, not-true (int_lt y x) h)
 
 pub costs_rise : (x y : List Bool) (rows : List CostRowValue) → IsBelow (map (row_cost x) rows) (map (row_cost y) rows) →

@@ -8,7 +8,7 @@ pub mod OwnReforms
 pub mod RowStays
 pub mod BoundRows
 pub mod AskedRows
-pub mod CoverMeanings
+pub mod ObjectiveLines
 pub mod AskedCosts
 pub mod AskedBounds
 pub mod NextValues

@@ -57,7 +57,8 @@ own_below old new p (Added removed) is =
     subst (λ (es : List Entry). HasBelow es p.costs) (sym is.1)
     (p, Contains-push (not_above p.costs old) p, IsBelow-refl p.costs)
 
-last_of_more : (vectors : List (List ℤ)) (v : List ℤ) → last_or None (vectors ++ v ∷ []) ≡ Some v
+-- the last one of some and one more
+pub last_of_more : (vectors : List (List ℤ)) (v : List ℤ) → last_or None (vectors ++ v ∷ []) ≡ Some v
 last_of_more [] v = refl
 last_of_more (u ∷ []) v = refl
 last_of_more (u ∷ w ∷ vectors) v = last_of_more (w ∷ vectors) v

@@ -16,8 +16,8 @@ use Rattle.totalizer.specs.Reforming.{IsReformOf}
 use Rattle.totalizer.proofs.LaterLines.{held_before, named_stays, own_stays, variable_stays}
 use Rattle.totalizer.specs.declared.bound.Bound.{Bound}
 use Rattle.totalizer.specs.declared.bound.Bound.TheVariants.{Always, Never, At}
-use Rattle.search_base.specs.CostBounds.{BoundsRow, IsAlwaysOver, IsCostBound, IsCover, IsOverAt, LineCovers}
-use Rattle.search_base.specs.declared.objective_bound.Cover.{Cover}
+use Rattle.search_base.specs.CostBounds.{BoundsRow, IsAlwaysOver, IsCostBound, IsObjectiveLine, IsOverAt, LineCovers}
+use Rattle.search_base.specs.declared.objective_bound.ObjectiveLine.{ObjectiveLine}
 use Rattle.search_base.specs.declared.objective_bound.ObjectiveBound.{ObjectiveBound}
 
 -- ---- one state after another
@@ -27,9 +27,9 @@ module _ (p : ProblemValue) (old new : List Line) (s t : StateValue) (later : Is
       IsOwnOrNone p old s id → LineCovers s row value id IsKind → LineCovers t row value id IsKind
   line_stays row value id IsKind own (c, named, covers) = (c, named_stays p old new s t later id own ∙ named, covers)
 
-  pub cover_stays : (row : CostRowValue) (b : ObjectiveBound) (c : Cover) → IsCover p old s row b c →
-      IsCover p new t row b c
-  cover_stays row b c is = record {
+  pub objective_line_stays : (row : CostRowValue) (b : ObjectiveBound) (c : ObjectiveLine) → IsObjectiveLine p old s row b c →
+      IsObjectiveLine p new t row b c
+  objective_line_stays row b c is = record {
     sum = is.sum;
     there = is.there;
     own = own_stays p old new s t later c.line is.own;
@@ -72,14 +72,14 @@ module _ (own : OwnLinesStay) (fitting : FittingStays) (reforms : ReformStays) (
       (reforms a.problem a.lines b.lines s t row o.reform keeps reached
       (subst (λ (p : ProblemValue). IsReplay p b.lines t) problem after) (is.reform s reached))
 
-  covers_later : (row : CostRowValue) (o : ObjectiveBound) → BoundsRow a row o → (t : StateValue) → IsReached b t →
-      All (IsCover b.problem b.lines t row o) o.covers.items
-  covers_later row o is t after =
+  objective_lines_later : (row : CostRowValue) (o : ObjectiveBound) → BoundsRow a row o → (t : StateValue) → IsReached b t →
+      All (IsObjectiveLine b.problem b.lines t row o) o.objective_lines.items
+  objective_lines_later row o is t after =
       let again : IsReplay a.problem b.lines t = subst (λ (p : ProblemValue). IsReplay p b.lines t) problem after in
       let later : IsLater a.problem a.lines s b.lines t = own a.problem a.lines b.lines s t keeps reached again in
-      subst (λ (p : ProblemValue). All (IsCover p b.lines t row o) o.covers.items) (sym problem)
-      (All-weaker (IsCover a.problem a.lines s row o) (IsCover a.problem b.lines t row o)
-      (cover_stays a.problem a.lines b.lines s t later row o) o.covers.items (is.covers s reached))
+      subst (λ (p : ProblemValue). All (IsObjectiveLine p b.lines t row o) o.objective_lines.items) (sym problem)
+      (All-weaker (IsObjectiveLine a.problem a.lines s row o) (IsObjectiveLine a.problem b.lines t row o)
+      (objective_line_stays a.problem a.lines b.lines s t later row o) o.objective_lines.items (is.objective_lines s reached))
 
   pub row_stays : (row : CostRowValue) (o : ObjectiveBound) → BoundsRow a row o → BoundsRow b row o
   row_stays row o is = record {
@@ -87,7 +87,7 @@ module _ (own : OwnLinesStay) (fitting : FittingStays) (reforms : ReformStays) (
     reform = reform_later row o is;
     terms = is.terms;
     fits = fitting a b s o.totalizer problem keeps reached is.fits;
-    covers = covers_later row o is;
+    objective_lines = objective_lines_later row o is;
     rising = is.rising;
     once = is.once;
   }

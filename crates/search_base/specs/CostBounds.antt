@@ -1,5 +1,5 @@
 -- Bounds of objectives.
-use Rattle.std.specs.Prelude.{◌≡◌, ◌≢◌, ◌⊎◌, ℕ, ◌-◌, ◌<◌, Bool, true, false, List, [], ◌∷◌, length, map, sum_by, slice_index_or, All, AllPairs, Contains, Some, ℤ, pos, ◌+ℤ◌, ◌≤ℤ◌, ◌<ℤ◌}
+use Rattle.std.specs.Prelude.{◌≡◌, ◌≢◌, ◌⊎◌, ℕ, ◌+◌, ◌-◌, ◌<◌, Bool, true, false, List, [], ◌∷◌, length, map, sum_by, slice_index_or, All, AllPairs, Contains, Some, ℤ, pos, ◌+ℤ◌, ◌≤ℤ◌, ◌<ℤ◌}
 use Rattle.std.specs.List.{AllZip}
 use Rattle.scut_base.specs.Literal.{Literal}
 use Rattle.scut_base.specs.Assignment.{lit_true}
@@ -22,7 +22,8 @@ use Rattle.totalizer.specs.Meaning.{AreTruthsWith, IsOwnOrNone}
 use Rattle.totalizer.specs.Reforming.{IsReformOf}
 use Rattle.totalizer.specs.Totalizing.{Fits, terms_of}
 use Rattle.totalizer.specs.Demanding.{IsAnswered, IsThere, MakesDemanded}
-use Rattle.search_base.specs.declared.objective_bound.Cover.{Cover}
+use Rattle.totalizer.specs.Knowing.{IsUnmade}
+use Rattle.search_base.specs.declared.objective_bound.ObjectiveLine.{ObjectiveLine}
 use Rattle.search_base.specs.declared.objective_bound.ObjectiveBound.{ObjectiveBound}
 
 -- ---- what stands for "this objective costs at least value"
@@ -104,8 +105,8 @@ abbrev pub StandsFor : ObjectiveBound → ℕ → Literal → Type 0
 StandsFor b n l = IsThere b.totalizer.made (length b.totalizer.nodes - 1) n l
 
 -- The line was made for an output's variable: no line has learned it, and it covers what the output stands for.
-pub record IsCover (p : ProblemValue) (lines : List Line) (s : StateValue) (row : CostRowValue) (b : ObjectiveBound)
-    (c : Cover) : Type 0 where
+pub record IsObjectiveLine (p : ProblemValue) (lines : List Line) (s : StateValue) (row : CostRowValue) (b : ObjectiveBound)
+    (c : ObjectiveLine) : Type 0 where
   pub sum : ℕ
   pub there : StandsFor b sum (record { var = c.var; neg = false })
   pub own : IsOwnOrNone p lines s c.line
@@ -117,8 +118,8 @@ pub record BoundsRow (a : Snapshot) (row : CostRowValue) (b : ObjectiveBound) : 
   pub reform : (s : StateValue) → IsReached a s → IsReformOf a.problem a.lines s row b.reform
   pub terms : terms_of b.totalizer ≡ b.reform.terms
   pub fits : Fits a b.totalizer
-  pub covers : (s : StateValue) → IsReached a s → All (IsCover a.problem a.lines s row b) b.covers.items
-  pub rising : AllPairs (λ c d. c.var < d.var) b.covers.items
+  pub objective_lines : (s : StateValue) → IsReached a s → All (IsObjectiveLine a.problem a.lines s row b) b.objective_lines.items
+  pub rising : AllPairs (λ c d. c.var < d.var) b.objective_lines.items
   -- each literal of an output stands for one sum
   pub once : (l : Literal) (m n : ℕ) → StandsFor b m l → StandsFor b n l → m ≡ n
 
@@ -147,7 +148,7 @@ pub record AreReforms (a : Snapshot) (reforms : List Reform) : Type 0 where
 -- the literal was asked for before: its output is there, and so is its line, where it needs one of its own
 pub record IsKnownAt (b : ObjectiveBound) (k : ℕ) (l : Literal) : Type 0 where
   pub answered : IsAnswered b.totalizer k l
-  pub covered : 1 < length b.reform.terms → b.reform.lower_line ≢ 0 → (c : Cover) × Contains b.covers.items c × (c.var ≡ l.var)
+  pub line : 1 < length b.reform.terms → b.reform.lower_line ≢ 0 → (c : ObjectiveLine) × Contains b.objective_lines.items c × (c.var ≡ l.var)
 
 -- what a literal for "the reform's sum is at least k" adds: what that demands, and no line where it was asked for before
 pub record AddsCost (a b : Snapshot) (k : ℕ) (before now : ObjectiveBound) (l : Literal) : Type 0 where
@@ -176,3 +177,7 @@ pub record IsNextValue (r : Reform) (value next : ℤ) : Type 0 where
   pub is : IsValueOf r next
   pub above : value <ℤ next
   pub least : (n : ℤ) → IsValueOf r n → value <ℤ n → next ≤ℤ n
+
+-- the value is the offset or above it, and no output was made that stands for "the reform exceeds it"
+abbrev pub IsNextUnmade : ObjectiveBound → ℤ → Type 0
+IsNextUnmade b value = (k : ℕ) × (value ≡ pos k +ℤ b.reform.offset) × IsUnmade b.totalizer (k + 1)

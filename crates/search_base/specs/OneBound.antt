@@ -18,7 +18,7 @@ use Rattle.totalizer.specs.Demanding.{IsAnswered}
 use Rattle.totalizer.specs.Meaning.{AreTruthsWith, IsBoundAt, IsOwnOrNone}
 use Rattle.totalizer.specs.Totalizing.{Fits, HasVariables, IsBuilt}
 use Rattle.search_base.specs.CostBounds.{BoundsRow, LineCovers, StandsFor}
-use Rattle.search_base.specs.declared.objective_bound.Cover.{Cover}
+use Rattle.search_base.specs.declared.objective_bound.ObjectiveLine.{ObjectiveLine}
 use Rattle.search_base.specs.declared.objective_bound.ObjectiveBound.{ObjectiveBound}
 
 -- ---- new bounds
@@ -28,7 +28,7 @@ pub record IsNewBound (r : Reform) (b : ObjectiveBound) : Type 0 where
   pub reform : b.reform ≡ r
   pub built : IsBuilt r.terms b.totalizer
   pub fits : (a : Snapshot) → HasVariables a r.terms → Fits a b.totalizer
-  pub none : b.covers.items ≡ []
+  pub none : b.objective_lines.items ≡ []
 
 -- ---- rows
 
@@ -64,37 +64,37 @@ abbrev pub IsOutputFor : Snapshot → ObjectiveBound → Literal → ℕ → Typ
 IsOutputFor a b l id = (k : ℕ) × IsOutputAt a b k l id
 
 -- the line says of a row what that of the output says of the terms
-pub record IsCoveredAt (p : Snapshot) (row : CostRowValue) (value : ℤ) (l : Literal) (line : ℕ) (s : StateValue) : Type 0 where
+pub record IsObjectiveLineAt (p : Snapshot) (row : CostRowValue) (value : ℤ) (l : Literal) (line : ℕ) (s : StateValue) : Type 0 where
   pub own : IsOwnOrNone p.problem p.lines s line
   pub covers : LineCovers s row value line (AreTruthsWith l)
 
-abbrev pub IsCovered : Snapshot → Snapshot → ObjectiveBound → Literal → ℕ → ℕ → Type 0
-IsCovered a b before l id line = (row : CostRowValue) (k : ℕ) → BoundsRow a row before → IsOutputAt a before k l id
-    → (s : StateValue) → IsReached b s → IsCoveredAt b row (pos k +ℤ before.reform.offset) l line s
+abbrev pub IsObjectiveLineFor : Snapshot → Snapshot → ObjectiveBound → Literal → ℕ → ℕ → Type 0
+IsObjectiveLineFor a b before l id line = (row : CostRowValue) (k : ℕ) → BoundsRow a row before → IsOutputAt a before k l id
+    → (s : StateValue) → IsReached b s → IsObjectiveLineAt b row (pos k +ℤ before.reform.offset) l line s
 
 -- a line was made for the output of this variable
-abbrev pub IsOneCover : ObjectiveBound → ℕ → Type 0
-IsOneCover b var = (c : Cover) × Contains b.covers.items c × (c.var ≡ var)
+abbrev pub HasObjectiveLine : ObjectiveBound → ℕ → Type 0
+HasObjectiveLine b var = (c : ObjectiveLine) × Contains b.objective_lines.items c × (c.var ≡ var)
 
 -- it is there, and no definition was added
-abbrev pub AddsCover : Snapshot → Snapshot → ObjectiveBound → ℕ → Type 0
-AddsCover a b now var = IsOneCover now var × (definitions b.lines ≡ definitions a.lines)
+abbrev pub AddsObjectiveLine : Snapshot → Snapshot → ObjectiveBound → ℕ → Type 0
+AddsObjectiveLine a b now var = HasObjectiveLine now var × (definitions b.lines ≡ definitions a.lines)
 
 -- outputs need lines of their own
-abbrev pub NeedsCover : ObjectiveBound → Type 0
-NeedsCover b = (1 < length b.reform.terms) × (b.reform.lower_line ≢ 0)
+abbrev pub NeedsObjectiveLine : ObjectiveBound → Type 0
+NeedsObjectiveLine b = (1 < length b.reform.terms) × (b.reform.lower_line ≢ 0)
 
 -- where outputs need lines, the output has one; and none was made where it had
-pub record MakesCover (a b : Snapshot) (before now : ObjectiveBound) (l : Literal) : Type 0 where
-  pub there : 1 < length before.reform.terms → before.reform.lower_line ≢ 0 → IsOneCover now l.var
-  pub again : (1 < length before.reform.terms → before.reform.lower_line ≢ 0 → IsOneCover before l.var)
+pub record MakesObjectiveLine (a b : Snapshot) (before now : ObjectiveBound) (l : Literal) : Type 0 where
+  pub there : 1 < length before.reform.terms → before.reform.lower_line ≢ 0 → HasObjectiveLine now l.var
+  pub again : (1 < length before.reform.terms → before.reform.lower_line ≢ 0 → HasObjectiveLine before l.var)
       → b.lines ≡ a.lines
   pub defined : definitions b.lines ≡ definitions a.lines
 
 -- no line was made for the output of this variable, whose place is this
-pub record IsPlaceFor (covers : List Cover) (var place : ℕ) : Type 0 where
-  pub is : IsPlace (λ c. c.var) covers var place
-  pub none : (c : Cover) → Contains covers c → c.var ≢ var
+pub record IsPlaceFor (lines : List ObjectiveLine) (var place : ℕ) : Type 0 where
+  pub is : IsPlace (λ c. c.var) lines var place
+  pub none : (c : ObjectiveLine) → Contains lines c → c.var ≢ var
 
 -- ---- the sum of two lines
 

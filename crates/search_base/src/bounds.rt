@@ -1,10 +1,10 @@
 // Literals that stand for "this objective's cost is at least a value".
-ghost use Rattle.std.specs.Prelude.{◌≡◌, ◌<◌, length, slice_index_or, All, IfOk, IfSome, OnOk};
+ghost use Rattle.std.specs.Prelude.{◌≡◌, ◌<◌, length, slice_index_or, All, IfOk, MatchOption, OnOk};
 ghost use Rattle.pb_lin.specs.CostRow.{CostRowValue};
 ghost use Rattle.proof_rules.specs.Recording.{Snapshot};
 ghost use Rattle.sum_outputs.specs.Adding.{IsReady, IsRecorded};
 ghost use Rattle.sum_outputs.specs.Totals.{AreWeights};
-ghost use Rattle.search_base.specs.CostBounds.{AddsBound, AreReforms, FitBounds, FitSome, HasLiteral, IsAnswerFor, IsCostBound, IsNextValue, KeepsOthers, reforms_of};
+ghost use Rattle.search_base.specs.CostBounds.{AddsBound, AreReforms, FitBounds, FitSome, HasLiteral, IsAnswerFor, IsCostBound, IsNextUnmade, IsNextValue, KeepsOthers, reforms_of};
 ghost use Rattle.search_base.specs.declared.objective_bound.ObjectiveBound.{ObjectiveBound};
 
 use crate::ObjectiveBound;
@@ -88,8 +88,9 @@ impl Bounds {
     pub fn next_value(&self, objective: usize, value: i64) -> Option<i64>
         requires there { objective < length self.now }
         requires fits { FitSome self.now }
-        ensures { IfSome result (λ next. (e : ObjectiveBound)
-            → IsNextValue (slice_index_or self.now objective e).reform value next) }
+        ensures { (e : ObjectiveBound) → MatchOption result
+            (IsNextUnmade (slice_index_or self.now objective e) value)
+            (IsNextValue (slice_index_or self.now objective e).reform value) }
     {
         self.bounds[objective].next_value(value)
     }

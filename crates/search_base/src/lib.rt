@@ -28,7 +28,7 @@ pub use laws::{
     asking_stays_good, beginning_is_good, bounding_stays_good, logged_is_reached,
     no_lines_are_prepared, turn_lines_join, turn_lines_keep_own,
 };
-pub use objective_bound::{Cover, ObjectiveBound};
+pub use objective_bound::{ObjectiveBound, ObjectiveLine};
 pub use reforms::own_reforms;
 pub use running::run_search;
 pub use search::Search;

@@ -1,5 +1,5 @@
 // The bounds of one objective.
-ghost use Rattle.std.specs.Prelude.{◌≡◌, ◌≤◌, ◌<◌, length, AllPairs, Contains, IfOk, IfSome, MatchResult, OnOk};
+ghost use Rattle.std.specs.Prelude.{◌≡◌, ◌≤◌, ◌<◌, ◌^◌, ◌<ℤ◌, length, pos, AllPairs, Contains, IfOk, MatchOption, MatchResult, OnOk};
 ghost use Rattle.std.specs.List.{insert};
 ghost use Rattle.pb_lin.specs.CostRow.{CostRowValue};
 ghost use Rattle.sum_outputs.specs.Adding.{IsReady, IsRecorded};
@@ -7,8 +7,8 @@ ghost use Rattle.sum_outputs.specs.Totals.{AreWeights, definitions};
 ghost use Rattle.totalizer.specs.Demanding.{AddsFor};
 ghost use Rattle.totalizer.specs.Meaning.{IsBound};
 ghost use Rattle.totalizer.specs.Totalizing.{Fits, FitsSome, terms_of};
-ghost use Rattle.search_base.specs.CostBounds.{AddsBound, BoundsRow, IsAnswerFor, IsCostBound, IsNextValue};
-ghost use Rattle.search_base.specs.OneBound.{AddsCover, CanSum, FitsRow, HasOwnLiteral, IsCovered, IsNewBound, IsOutputFor, IsPlaceFor, IsSumFor, KeepsBut, KeepsRow, MakesCover, NeedsCover, sum_of};
+ghost use Rattle.search_base.specs.CostBounds.{AddsBound, BoundsRow, IsAnswerFor, IsCostBound, IsNextUnmade, IsNextValue, greatest_of};
+ghost use Rattle.search_base.specs.OneBound.{AddsObjectiveLine, CanSum, FitsRow, HasOwnLiteral, IsObjectiveLineFor, IsNewBound, IsOutputFor, IsPlaceFor, IsSumFor, KeepsBut, KeepsRow, MakesObjectiveLine, NeedsObjectiveLine, sum_of};
 
 use cutting_planes::PolToken;
 use proof_laws::Line;
@@ -20,7 +20,7 @@ use totalizer::{Bound, Reform, Totalizer, fitting_stays, own_lines_stay, reform_
 
 /// The line that says of the objective what the line of an output says of the reform's terms.
 #[derive(Clone, Copy, Debug)]
-pub struct Cover {
+pub struct ObjectiveLine {
     /// The output's variable.
     pub var: u64,
     /// The id of the line.
@@ -28,12 +28,12 @@ pub struct Cover {
 }
 
 /// The bounds of one objective: its reform, and a totalizer of the reform's terms. Where the reform has a line,
-/// `covers` has those of the outputs that were asked for, in rising order of variables.
+/// `objective_lines` has those of the outputs that were asked for, in rising order of variables.
 #[derive(Drop)]
 pub struct ObjectiveBound {
     pub reform: Reform,
     pub totalizer: Totalizer,
-    pub covers: Vec<Cover>,
+    pub objective_lines: Vec<ObjectiveLine>,
 }
 
 impl ObjectiveBound {
@@ -46,7 +46,7 @@ impl ObjectiveBound {
         Ok(ObjectiveBound {
             reform,
             totalizer,
-            covers: Vec::new(alloc),
+            objective_lines: Vec::new(alloc),
         })
     }
 
@@ -84,7 +84,7 @@ impl ObjectiveBound {
             }),
             Bound::Never => Ok(Bound::Never),
             Bound::At { lit, lower_line } => {
-                let lower_line = self.cover(alloc, rec, lit, lower_line)?;
+                let lower_line = self.objective_line(alloc, rec, lit, lower_line)?;
                 Ok(Bound::At { lit, lower_line })
             }
         }
@@ -92,7 +92,7 @@ impl ObjectiveBound {
 
     // The line that says of the objective what the line of an output says of the terms; 0 is that of the only
     // term. Made where it isn't there.
-    fn cover<R: Recorder>(
+    fn objective_line<R: Recorder>(
         &mut self,
         alloc: Global,
         rec: &mut R,
@@ -103,9 +103,9 @@ impl ObjectiveBound {
         requires fits { FitsRow (R.seen rec.old) self.old }
         requires output { IsOutputFor (R.seen rec.old) self.old lit output_line }
         ensures recorded { IsRecorded (R.seen rec.old) (R.seen rec.new) result }
-        ensures covers { IfOk result (IsCovered (R.seen rec.old) (R.seen rec.new)
+        ensures covers { IfOk result (IsObjectiveLineFor (R.seen rec.old) (R.seen rec.new)
             self.old lit output_line) }
-        ensures added { OnOk result (MakesCover (R.seen rec.old) (R.seen rec.new)
+        ensures added { OnOk result (MakesObjectiveLine (R.seen rec.old) (R.seen rec.new)
             self.old self.new lit) }
         ensures fits { OnOk result (KeepsRow (R.seen rec.old) (R.seen rec.new) self.old self.new) }
         ensures kept { KeepsBut self.old self.new }
@@ -119,14 +119,14 @@ impl ObjectiveBound {
         if output_line == 0 {
             return Ok(lower_line);
         }
-        match place_in(self.covers.as_slice(), lit.var()) {
+        match place_in(self.objective_lines.as_slice(), lit.var()) {
             Ok(line) => Ok(line),
-            Err(place) => self.new_cover(alloc, rec, lit, output_line, place),
+            Err(place) => self.new_objective_line(alloc, rec, lit, output_line, place),
         }
     }
 
     // Makes that line, for a literal that has none.
-    fn new_cover<R: Recorder>(
+    fn new_objective_line<R: Recorder>(
         &mut self,
         alloc: Global,
         rec: &mut R,
@@ -137,12 +137,12 @@ impl ObjectiveBound {
         requires ready { IsReady (R.seen rec.old) }
         requires fits { FitsRow (R.seen rec.old) self.old }
         requires output { IsOutputFor (R.seen rec.old) self.old lit output_line }
-        requires needs { NeedsCover self.old }
-        requires place { IsPlaceFor self.old.covers.items lit.var place }
+        requires needs { NeedsObjectiveLine self.old }
+        requires place { IsPlaceFor self.old.objective_lines.items lit.var place }
         ensures recorded { IsRecorded (R.seen rec.old) (R.seen rec.new) result }
-        ensures covers { IfOk result (IsCovered (R.seen rec.old) (R.seen rec.new)
+        ensures covers { IfOk result (IsObjectiveLineFor (R.seen rec.old) (R.seen rec.new)
             self.old lit output_line) }
-        ensures added { OnOk result (AddsCover (R.seen rec.old) (R.seen rec.new) self.new lit.var) }
+        ensures added { OnOk result (AddsObjectiveLine (R.seen rec.old) (R.seen rec.new) self.new lit.var) }
         ensures fits { OnOk result (KeepsRow (R.seen rec.old) (R.seen rec.new) self.old self.new) }
         ensures kept { KeepsBut self.old self.new }
     {
@@ -151,16 +151,23 @@ impl ObjectiveBound {
         own_lines_stay();
         let var = lit.var();
         let line = add_sum(alloc, rec, self.reform.lower_line, output_line)?;
-        in_memory(insert_cover(&mut self.covers, place, Cover { var, line }))?;
+        in_memory(insert_line(
+            &mut self.objective_lines,
+            place,
+            ObjectiveLine { var, line },
+        ))?;
         Ok(line)
     }
 
-    // The least value above `value` that the reform can have, where that is known.
+    // The least value above `value` that the reform can have, where that is known: the offset, or what an
+    // output that was made stands for.
     pub(crate) fn next_value(&self, value: i64) -> Option<i64>
         requires fits { FitsSome self.now.totalizer }
         requires weights { AreWeights self.now.reform.terms }
         requires terms { terms_of self.now.totalizer ≡ self.now.reform.terms }
-        ensures { IfSome result (IsNextValue self.now.reform value) }
+        requires small { greatest_of self.now.reform <ℤ pos (2 ^ 63) }
+        ensures { MatchOption result (IsNextUnmade self.now value)
+            (IsNextValue self.now.reform value) }
     {
         let offset = i128::from(self.reform.offset);
         if i128::from(value) < offset {
@@ -168,29 +175,33 @@ impl ObjectiveBound {
         }
         let k = u64::try_from(i128::from(value) - offset + 1).ok()?;
         let output = self.totalizer.made_for(k)?;
-        i64::try_from(offset + i128::from(output.sum)).ok()
+        Some((offset + i128::from(output.sum)) as i64)
     }
 }
 
 // The line that was made for the output of a variable, or the place where it would stand.
-fn place_in(covers: &[Cover], var: u64) -> Result<u64, usize>
-    requires { AllPairs (λ c d. c.var < d.var) covers.now }
-    ensures { MatchResult result (λ line. Contains covers.now (record { var = var; line = line }))
-        (IsPlaceFor covers.now var) }
+fn place_in(lines: &[ObjectiveLine], var: u64) -> Result<u64, usize>
+    requires { AllPairs (λ c d. c.var < d.var) lines.now }
+    ensures { MatchResult result (λ line. Contains lines.now (record { var = var; line = line }))
+        (IsPlaceFor lines.now var) }
 {
-    let place = covers.partition_point(|cover| cover.var < var);
-    if place < covers.len() && covers[place].var == var {
-        return Ok(covers[place].line);
+    let place = lines.partition_point(|line| line.var < var);
+    if place < lines.len() && lines[place].var == var {
+        return Ok(lines[place].line);
     }
     Err(place)
 }
 
 // Puts a line between those of lower and those of greater variables.
-fn insert_cover(covers: &mut Vec<Cover>, place: usize, cover: Cover) -> Result<(), NoMemory>
-    requires { place ≤ length covers.old.items }
-    ensures { OnOk result (covers.new.items ≡ insert covers.old.items place cover) }
+fn insert_line(
+    lines: &mut Vec<ObjectiveLine>,
+    place: usize,
+    line: ObjectiveLine,
+) -> Result<(), NoMemory>
+    requires { place ≤ length lines.old.items }
+    ensures { OnOk result (lines.new.items ≡ insert lines.old.items place line) }
 {
-    covers.insert(place, cover)?;
+    lines.insert(place, line)?;
     Ok(())
 }
 

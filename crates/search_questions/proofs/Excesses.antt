@@ -1,10 +1,10 @@
 -- What stands for "a cost exceeds its limit", at assignments.
 use lib.Signed.{◌<ℤ◌}
-use Rattle.std.proofs.Common.{◌≡◌, ⊎_elim, ℕ, zero, suc, ◌^◌, ◌<◌, ◌≤◌, ◌==◌, Bool, true, false, not, Some, List, [], ◌∷◌, map, length, get_or, refl, sym, ◌∙◌, arith, ℤ, pos, negsuc, ◌+ℤ◌, ◌≤ℤ◌, ◌-ℤ◌}
+use Rattle.std.proofs.Common.{◌≡◌, ⊎_elim, ℕ, suc, ◌^◌, ◌<◌, ◌≤◌, ◌==◌, Bool, true, false, not, Some, List, [], ◌∷◌, map, length, get_or, refl, sym, ◌∙◌, arith, ℤ, pos, negsuc, ◌+ℤ◌, ◌≤ℤ◌, ◌-ℤ◌}
 use Rattle.std.specs.Prelude.{int_lt, sum_by}
 use Rattle.std.specs.FinMap.{get}
 use Rattle.std.specs.List.{All}
-use Rattle.std.proofs.lemmas.Bool.{and_parts, and_from, cases_Bool, cond-true, cond-false, not-true, not_from_false}
+use Rattle.std.proofs.lemmas.Bool.{and_from, cases_Bool, cond-true, cond-false, not_from_false}
 use Rattle.std.proofs.lemmas.Int.{by_lt_z, ints}
 use Rattle.std.proofs.lemmas.List.Elements.{All-nil, All-cons}
 use Rattle.scut_base.specs.Literal.{Literal}
@@ -135,9 +135,6 @@ cost_small x r is =
 
 -- ---- all rows
 
-le_from_test : (a b : ℤ) → not (int_lt b a) ≡ true → a ≤ℤ b
-le_from_test a b h = grind (arith, ints, not-true (int_lt b a) h)
-
 test_from_le : (a b : ℤ) → a ≤ℤ b → not (int_lt b a) ≡ true
 test_from_le a b h = not_from_false (int_lt b a) (grind (arith, ints))
 
@@ -146,20 +143,6 @@ module _ (x : List Bool) where
   abbrev pub AreWithin : List CostRowValue → List ℤ → Type 0
   AreWithin rows limits =
       (i : ℕ) (d : CostRowValue) (e : ℤ) → i < length limits → row_cost x (get_or rows i d) ≤ℤ get_or limits i e
-
-  below_parts : (r : CostRowValue) (rows : List CostRowValue) (v : ℤ) (limits : List ℤ)
-      → IsBelow (map (row_cost x) (r ∷ rows)) (v ∷ limits) → (row_cost x r ≤ℤ v) × IsBelow (map (row_cost x) rows) limits
-  below_parts r rows v limits below =
-      let parts = and_parts (not (int_lt v (row_cost x r))) (is_below (map (row_cost x) rows) limits) below in
-      (le_from_test (row_cost x r) v parts.0, parts.1)
-
-  pub all_within : (rows : List CostRowValue) (limits : List ℤ) → IsBelow (map (row_cost x) rows) limits → AreWithin rows limits
-  all_within [] [] below i d e short = absurd (omega arith)
-  all_within [] (v ∷ limits) below i d e short = cc
-  all_within (r ∷ rows) [] below i d e short = cc
-  all_within (r ∷ rows) (v ∷ limits) below zero d e short = (below_parts r rows v limits below).0
-  all_within (r ∷ rows) (v ∷ limits) below (suc i) d e short =
-      all_within rows limits (below_parts r rows v limits below).1 i d e (omega arith)
 
   pub all_below : (rows : List CostRowValue) (limits : List ℤ) → length limits ≡ length rows → AreWithin rows limits
       → IsBelow (map (row_cost x) rows) limits

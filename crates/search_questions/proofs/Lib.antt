@@ -6,3 +6,4 @@ pub mod Cores
 pub mod Calls
 pub mod Telling
 pub mod Told
+pub mod Remaining

@@ -18,10 +18,9 @@ use Rattle.totalizer.specs.declared.bound.Bound.{Bound}
 use Rattle.totalizer.specs.declared.bound.Bound.TheVariants.{Always, Never, At}
 use Rattle.search_base.specs.CostBounds.{IsCostBound}
 use Rattle.search_base.specs.Laws.{TurnLinesJoin, TurnLinesKeepOwn}
-use Rattle.search_base.specs.Turns.{IsRemaining}
 use Rattle.search_base.proofs.RowStays.{cost_bound_stays}
 use Rattle.search_questions.specs.Questions.{AddsDenial, AreExcesses, Denies, IsDenial, IsExcess, IsLimited, IsQuestion, IsRuledOut, IsUndeniable}
-use Rattle.search_questions.proofs.Questions.{IsOf, undeniable}
+use Rattle.search_questions.proofs.Questions.{IsOf}
 
 -- ---- excesses
 
@@ -132,17 +131,8 @@ module _ (a b : Snapshot) (limits items : List ℤ) (n : ℕ) (limit : ℤ)
     pub excesses_on : AreExcesses b.problem b.lines limits (bounds ++ bound ∷ [])
     excesses_on = excesses_more b.problem b.lines limits bounds bound later (omega arith) excess_at limited_at
 
-    -- where it can't be denied, nothing that is left has costs below the limits
-    none_remains : IsUndeniable lits bound → IsRemaining b limits → ⊥
-    none_remains undenied (s, reached, x, satisfies, below) =
-        undeniable b.problem b.lines limits bounds lits s reached later denies x satisfies.live below
-        bound (length bounds) (omega arith) excess_at undenied
-
     pub clashed : IsUndeniable lits bound → IsQuestion b limits (bounds ++ bound ∷ []) bound None
     clashed undenied = record {
       excesses = excesses_on;
-      asked = (
-        record { before = bounds; are = refl; lits = lits; denies = denies; undeniable = undenied },
-        none_remains undenied,
-      );
+      asked = record { before = bounds; are = refl; lits = lits; denies = denies; undeniable = undenied };
     }

@@ -11,22 +11,22 @@ use Rattle.sum_outputs.specs.Adding.{IsReached}
 use Rattle.totalizer.specs.Keeping.{OwnLinesStay}
 use Rattle.totalizer.specs.declared.bound.Bound.{Bound}
 use Rattle.search_base.specs.Laws.{TurnLinesJoin, TurnLinesKeepOwn}
-use Rattle.search_base.specs.Turns.{IsEndLine, IsRemaining}
+use Rattle.search_base.specs.Turns.{IsEndLine}
 use Rattle.search_questions.specs.Questions.{AreExcesses, Clashes, Denies}
 use Rattle.search_questions.specs.Cores.{IsToldByCore, are_standing, clash_in}
-use Rattle.search_questions.specs.Telling.{CanRise, Tells}
+use Rattle.search_questions.specs.Telling.{CanRise, StandInTheWay, Tells}
 use Rattle.search_questions.specs.declared.below.Below.{Below}
 use Rattle.search_questions.specs.declared.below.Below.TheVariants.{Model, End, Above}
 use Rattle.search_questions.proofs.Cores.{empty_core, no_core}
 use Rattle.search_questions.proofs.Questioned.{excesses_later}
-use Rattle.search_questions.proofs.Telling.{clash_rises, core_rises, takable, model_below, none_below}
+use Rattle.search_questions.proofs.Telling.{clash_rises, clash_stands, core_rises, core_stands, takable, model_below}
 
 -- no call was made
 pub told_clash : (m : Snapshot) (limits : List ℤ) (bounds : List Bound) (last : Bound) (stands : List Bool)
-    → AreExcesses m.problem m.lines limits bounds → Clashes bounds last → (IsRemaining m limits → ⊥)
+    → AreExcesses m.problem m.lines limits bounds → Clashes bounds last
     → stands ≡ are_standing bounds (clash_in last) (length limits) → Tells m limits (Above stands)
-told_clash m limits bounds last stands excesses clash none is = (
-  none,
+told_clash m limits bounds last stands excesses clash is = (
+  subst (StandInTheWay m limits) (sym is) (clash_stands m limits bounds last excesses clash),
   subst (CanRise limits) (sym is) (clash_rises m.problem m.lines limits bounds last excesses clash),
 )
 
@@ -68,7 +68,8 @@ module _ (m b : Snapshot) (problem : b.problem ≡ m.problem) (earned : AreEarne
         subst (λ (p : ProblemValue). Reaches p b.lines (IsCore lits core id)) (sym problem) is in
         let state = state_after in
         let known = here state.0 state.1 in (
-          none_below b limits bounds lits excesses_after denies core id here,
+          subst (StandInTheWay b limits) (sym told.1)
+              (core_stands b limits bounds lits core id excesses_after denies here),
           subst (CanRise limits) (sym told.1)
               (core_rises b.problem b.lines limits bounds lits core excesses_after denies known.among told.0),
         )

@@ -9,7 +9,6 @@ use Rattle.proof_rules.specs.Recording.{Snapshot}
 use Rattle.totalizer.specs.declared.bound.Bound.{Bound}
 use Rattle.totalizer.specs.declared.bound.Bound.TheVariants.{Always, Never, At}
 use Rattle.search_base.specs.CostBounds.{IsCostBound}
-use Rattle.search_base.specs.Turns.{IsRemaining}
 
 -- ---- excesses
 
@@ -72,13 +71,13 @@ pub record Clashes (bounds : List Bound) (last : Bound) : Type 0 where
 
 -- ---- the question
 
--- the literals that deny all excesses; or none, and nothing that is left keeps to the limits
-abbrev pub IsAsked : Snapshot → List ℤ → List Bound → Bound → Option (List Literal) → Type 0
-IsAsked b limits bounds last (Some lits) = (length bounds ≡ length limits) × Denies bounds lits
-IsAsked b limits bounds last None = Clashes bounds last × (IsRemaining b limits → ⊥)
+-- the literals that deny all excesses; or none, since the last one clashes with the others
+abbrev pub IsAsked : List ℤ → List Bound → Bound → Option (List Literal) → Type 0
+IsAsked limits bounds last (Some lits) = (length bounds ≡ length limits) × Denies bounds lits
+IsAsked limits bounds last None = Clashes bounds last
 
 -- the excesses of the first objectives, with what is to be assumed
 pub record IsQuestion (b : Snapshot) (limits : List ℤ) (bounds : List Bound) (last : Bound)
     (lits : Option (List Literal)) : Type 0 where
   pub excesses : AreExcesses b.problem b.lines limits bounds
-  pub asked : IsAsked b limits bounds last lits
+  pub asked : IsAsked limits bounds last lits

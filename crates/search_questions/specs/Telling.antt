@@ -1,28 +1,58 @@
 -- What the answers to questions tell, and what stays good.
-use Rattle.std.specs.Prelude.{◌≡◌, ℕ, ◌-◌, ◌^◌, ◌<◌, Bool, true, List, length, slice_index_or, ℤ, pos, ◌<ℤ◌}
+use Rattle.std.specs.Prelude.{◌≡◌, ℕ, ◌-◌, ◌^◌, ◌<◌, Bool, true, false, List, length, slice_index_or, ℤ, pos, ◌<ℤ◌, ◌≤ℤ◌}
 use Rattle.front_set.specs.Vector.{IsBelow}
 use Rattle.pb_lin.specs.Problem.{problem_costs}
+use Rattle.proof_laws.specs.State.{StateValue, Satisfies}
+use Rattle.proof_laws.specs.Replay.{IsReplay}
 use Rattle.proof_rules.specs.Recording.{Snapshot}
 use Rattle.search_base.specs.Logged.{LogsNone}
 use Rattle.search_base.specs.Boards.{BoardValue}
 use Rattle.search_base.specs.Good.{IsGood}
-use Rattle.search_base.specs.Turns.{IsEndLine, IsRemaining, IsTakable}
+use Rattle.search_base.specs.Turns.{IsEndLine, IsTakable}
 use Rattle.search_base.specs.declared.objective_bound.ObjectiveBound.{ObjectiveBound}
 use Rattle.search_questions.specs.declared.below.Below.{Below}
 use Rattle.search_questions.specs.declared.below.Below.TheVariants.{Model, End, Above}
 
--- Some limits stand in the way, and each of these is below 2^63 - 1.
+-- ---- limits
+
+-- the number at a place
+abbrev pub number_at : List ℤ → ℕ → ℤ
+number_at v i = slice_index_or v i (pos 0)
+
+-- whether the limit at this place stands in the way
+abbrev pub stands_at : List Bool → ℕ → Bool
+stands_at stands i = slice_index_or stands i false
+
+abbrev pub IsStanding : List Bool → ℕ → Type 0
+IsStanding stands i = stands_at stands i ≡ true
+
+-- some limits stand in the way, and each of these is below 2^63 - 1
 pub record CanRise (limits : List ℤ) (stands : List Bool) : Type 0 where
   pub count : length stands ≡ length limits
-  pub some : (i : ℕ) × (i < length stands) × ((d : Bool) → slice_index_or stands i d ≡ true)
-  pub each : (i : ℕ) (d : Bool) (e : ℤ) → i < length stands → slice_index_or stands i d ≡ true
-      → slice_index_or limits i e <ℤ pos (2 ^ 63 - 1)
+  pub some : (i : ℕ) × (i < length limits) × IsStanding stands i
+  pub each : (i : ℕ) → i < length limits → IsStanding stands i → number_at limits i <ℤ pos (2 ^ 63 - 1)
+
+-- at these places the costs are at most the limits
+abbrev pub KeepsTo : List ℤ → (ℕ → Type 0) → List ℤ → Type 0
+KeepsTo limits IsPlace costs =
+    (i : ℕ) → i < length limits → IsPlace i → number_at costs i ≤ℤ number_at limits i
+
+-- some assignment that satisfies the state that is reached has such costs
+abbrev pub IsRemainingAt : Snapshot → List ℤ → (ℕ → Type 0) → Type 0
+IsRemainingAt a limits IsPlace = (s : StateValue) × IsReplay a.problem a.lines s
+    × (x : List Bool) × Satisfies a.problem s x × KeepsTo limits IsPlace (problem_costs a.problem x)
+
+-- nothing that is left keeps to the limits that stand in the way, whatever its other costs are
+abbrev pub StandInTheWay : Snapshot → List ℤ → List Bool → Type 0
+StandInTheWay b limits stands = IsRemainingAt b limits (IsStanding stands) → ⊥
+
+-- ---- answers
 
 -- what an answer tells of the limits
 abbrev pub Tells : Snapshot → List ℤ → Below → Type 0
 Tells b limits (Model x) = IsTakable b x × IsBelow (problem_costs b.problem x) limits
 Tells b limits (End id) = IsEndLine b.problem b.lines id
-Tells b limits (Above stands) = (IsRemaining b limits → ⊥) × CanRise limits stands
+Tells b limits (Above stands) = StandInTheWay b limits stands × CanRise limits stands
 
 -- what it tells where there are no limits
 abbrev pub TellsAny : Snapshot → Below → Type 0

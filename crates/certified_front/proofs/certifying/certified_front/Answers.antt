@@ -12,5 +12,6 @@ pub front_by-requires-clause-reforms : goal.front_by-requires-clause-reforms
 front_by-requires-clause-reforms g c =
     let R = g.O.Recorder in
     let a = R.seen c.args.oracle.now in
-    let serve = rw c.in_ok-reforms.ensures.ok at c.own_reforms.ensures.serve in
-    serve a c.requires.problem (has_variables a c.args.problem.now c.requires.problem c.requires.begun)
+    let own = rw c.in_ok-own.ensures.ok at c.own_reforms.ensures.serve in
+    let serve = rw c.in_ok-reforms.ensures.ok at c.ordered.ensures.serve in
+    serve a (own a c.requires.problem (has_variables a c.args.problem.now c.requires.problem c.requires.begun))

@@ -1,7 +1,7 @@
 -- The numbers so far.
 use Rattle.std.proofs.Common.{◌≡◌, ◌<◌, ℕ, length}
-use Rattle.lower_bounding.specs.Fences.{number_at}
-use Rattle.lower_bounding.specs.Raising.{RisesWhere, stands_at}
+use Rattle.search_questions.specs.Telling.{number_at, stands_at}
+use Rattle.lower_bounding.specs.Raising.{RisesWhere}
 use Rattle.lower_bounding.proofs.raising.raised.Given as goal
 
 abbrev pub invariant-loop-objective : goal.invariant-loop-objective

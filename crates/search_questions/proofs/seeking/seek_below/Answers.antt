@@ -63,9 +63,9 @@ returns-in_default-clause-tells g c =
     let asked = c.in_ok-question.ensures in
     let q = c.in_ok-question.question in
     let limits : List ℤ = c.args.limits.now in
-    let is : IsAsked m limits q.excesses q.last None = rw c.in_default.is at asked.asked.asked in
+    let is : IsAsked limits q.excesses q.last None = rw c.in_default.is at asked.asked.asked in
     let stands = c.in_ok-stands.ensures in
-    told_clash m limits q.excesses q.last c.in_ok-stands.stands asked.asked.excesses is.0 is.1
+    told_clash m limits q.excesses q.last c.in_ok-stands.stands asked.asked.excesses is
     (rw c.as_slice-excesses.ensures at rw c.as_slice-objectives.ensures at stands)
 
 pub solve-requires-clause-unended : goal.solve-requires-clause-unended
@@ -87,7 +87,7 @@ solve-requires-clause-assumptions g c =
     let asked = c.in_ok-question.ensures in
     let q = c.in_ok-question.question in
     let limits : List ℤ = c.args.limits.now in
-    let is : IsAsked m limits q.excesses q.last (Some c.in-Some.lits) = rw c.in-Some.is at asked.asked.asked in
+    let is : IsAsked limits q.excesses q.last (Some c.in-Some.lits) = rw c.in-Some.is at asked.asked.asked in
     λ s reached. subst (AreAssumptions s.vars) (sym c.as_slice.ensures)
     (are_assumptions m.problem m.lines limits q.excesses c.in-Some.lits s reached asked.asked.excesses is.1)
 
@@ -180,7 +180,7 @@ returns-in-Sat-clause-tells g c =
     let front = c.requires.good in
     let good = bounds_stay_good c.bounding_stays_good.ensures a m c.args.bounds.now c.questioned.new.bounds
     asked.recorded.continues asked.recorded.whole asked.fits front.0 front.1 in
-    let is : IsAsked m limits q.excesses q.last (Some c.in-Some.lits) = rw c.in-Some.is at asked.asked.asked in
+    let is : IsAsked limits q.excesses q.last (Some c.in-Some.lits) = rw c.in-Some.is at asked.asked.asked in
     let long : length limits ≡ length m.problem.costs =
     c.requires.count ∙ ap (λ (p : ProblemValue). length p.costs) (sym asked.recorded.continues.problem) in
     let answer : IsAnswer m.problem b.lines c.in-Some.lits (Sat c.in-Sat.model) =
@@ -229,7 +229,7 @@ returns-clause-tells g c =
     let front = c.requires.good in
     let good = bounds_stay_good c.bounding_stays_good.ensures a m c.args.bounds.now c.questioned.new.bounds
     asked.recorded.continues asked.recorded.whole asked.fits front.0 front.1 in
-    let is : IsAsked m limits q.excesses q.last (Some c.in-Some.lits) = rw c.in-Some.is at asked.asked.asked in
+    let is : IsAsked limits q.excesses q.last (Some c.in-Some.lits) = rw c.in-Some.is at asked.asked.asked in
     let core = c.in-Unsat.core in
     let answer : IsAnswer m.problem b.lines c.in-Some.lits (Unsat core) =
     rw c.as_slice.ensures at rw c.in-Unsat.is at call.answer in

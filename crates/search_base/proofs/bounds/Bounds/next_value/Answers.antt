@@ -23,3 +23,10 @@ next_value-requires-clause-terms c =
     let has = row_of_bound items c.args.objective c.index.result.now
     (subst FitSome (sym c.self.view_is) c.requires.fits) (omega (arith, ap length c.self.view_is, c.requires.there)) c.index.ensures in
     has.3.terms
+
+pub next_value-requires-clause-small : goal.next_value-requires-clause-small
+next_value-requires-clause-small c =
+    let items = c.self.inside.bounds.items in
+    let has = row_of_bound items c.args.objective c.index.result.now
+    (subst FitSome (sym c.self.view_is) c.requires.fits) (omega (arith, ap length c.self.view_is, c.requires.there)) c.index.ensures in
+    (has.3.reform has.1.state has.1.reached).small

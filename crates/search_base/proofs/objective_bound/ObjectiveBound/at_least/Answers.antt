@@ -22,16 +22,16 @@ difference : (value offset v o : ℤ) → SFits w64 value → SFits w64 offset �
     o ≡ to_z w64 (of_z w64 offset) → above v o ≡ value -ℤ offset
 difference value offset v o first second e f = omega (arith, ints)
 
-pub cover-requires-clause-ready : goal.cover-requires-clause-ready
-cover-requires-clause-ready g c =
+pub objective_line-requires-clause-ready : goal.objective_line-requires-clause-ready
+objective_line-requires-clause-ready g c =
     let R = g.R.Recorder in
     let a = R.seen c.args.rec.now in
     let m = R.seen c.bound_of.new.rec in
     let call = c.in_ok-bound.ensures in
     ready_later a m c.requires.ready call.recorded.continues call.recorded.whole
 
-pub cover-requires-clause-fits : goal.cover-requires-clause-fits
-cover-requires-clause-fits g c =
+pub objective_line-requires-clause-fits : goal.objective_line-requires-clause-fits
+objective_line-requires-clause-fits g c =
     let R = g.R.Recorder in
     let a = R.seen c.args.rec.now in
     let m = R.seen c.bound_of.new.rec in
@@ -48,8 +48,8 @@ cover-requires-clause-fits g c =
           added row c.requires.fits.1,
     )
 
-pub cover-requires-clause-output : goal.cover-requires-clause-output
-cover-requires-clause-output g c =
+pub objective_line-requires-clause-output : goal.objective_line-requires-clause-output
+objective_line-requires-clause-output g c =
     let R = g.R.Recorder in
     let a = R.seen c.args.rec.now in
     let m = R.seen c.bound_of.new.rec in
@@ -72,7 +72,7 @@ returns-in_err-lower_line-in-At-clause-recorded g c =
     let R = g.R.Recorder in
     let a = R.seen c.args.rec.now in
     let m = R.seen c.bound_of.new.rec in
-    let b = R.seen c.cover.new.rec in
+    let b = R.seen c.objective_line.new.rec in
     let out = c.from_residual-in_err-lower_line-in-At in
     handed_err a m b c.in_err-lower_line-in-At.field-0.0 out.result c.in_ok-bound.ensures.recorded.continues
     c.in_err-lower_line-in-At.ensures.recorded out.ensures.1
@@ -96,7 +96,7 @@ returns-in-Always-clause-bound g c =
     subst (AddsFor a m k o.totalizer t) c.in-Always.is call.added in
     let low = (always_answer o m c.args.value k same c.requires.fits.1.terms c.in-Always.lower_line bound).0 in
     λ row is.
-    always_over m row (record { reform = o.reform; totalizer = t; covers = o.covers })
+    always_over m row (record { reform = o.reform; totalizer = t; objective_lines = o.objective_lines })
     (same_row c.own_lines_stay.ensures c.fitting_stays.ensures c.reform_stays.ensures a m c.requires.ready.state
     c.requires.ready.reached call.recorded.continues o t k c.bound_of.ensures.nodes call.fits row added.1 is) c.args.value low
     (states_of m c.state.result.now c.state.ensures.replays c.vars-vars.ensures.state)
@@ -148,7 +148,7 @@ returns-in-Never-clause-bound g c =
     let added : AddsFor a m k o.totalizer t Never = subst (AddsFor a m k o.totalizer t) c.in-Never.is call.added in
     let high = never_answer o m c.args.value k same c.requires.fits.1.terms bound in
     λ row is.
-    never_over m row (record { reform = o.reform; totalizer = t; covers = o.covers })
+    never_over m row (record { reform = o.reform; totalizer = t; objective_lines = o.objective_lines })
     (same_row c.own_lines_stay.ensures c.fitting_stays.ensures c.reform_stays.ensures a m c.requires.ready.state
     c.requires.ready.reached call.recorded.continues o t k c.bound_of.ensures.nodes call.fits row added.1 is) c.args.value high
 
@@ -185,7 +185,7 @@ returns-in_ok-lower_line-in-At-clause-recorded g c =
     let R = g.R.Recorder in
     let a = R.seen c.args.rec.now in
     let m = R.seen c.bound_of.new.rec in
-    let b = R.seen c.cover.new.rec in
+    let b = R.seen c.objective_line.new.rec in
     let call = c.in_ok-lower_line-in-At.ensures in
     recorded_ok a b (At c.in-At.lit c.in_ok-lower_line-in-At.lower_line)
     (continues_twice a m b c.in_ok-bound.ensures.recorded.continues call.recorded.continues) call.recorded.whole
@@ -195,7 +195,7 @@ returns-in_ok-lower_line-in-At-clause-bound g c =
     let R = g.R.Recorder in
     let a = R.seen c.args.rec.now in
     let m = R.seen c.bound_of.new.rec in
-    let b = R.seen c.cover.new.rec in
+    let b = R.seen c.objective_line.new.rec in
     let o = c.args.self.now in
     let t = c.bound_of.new.totalizer in
     let k = above c.from.result c.from-2.result in
@@ -209,19 +209,19 @@ returns-in_ok-lower_line-in-At-clause-bound g c =
     let bound : IsBound m.problem m.lines (terms_of o.totalizer) k (At l id) =
     subst (IsBound m.problem m.lines (terms_of o.totalizer) k) c.in-At.is call.bound in
     let added : AddsFor a m k o.totalizer t (At l id) = subst (AddsFor a m k o.totalizer t) c.in-At.is call.added in
-    let asked : ObjectiveBound = record { reform = o.reform; totalizer = t; covers = o.covers } in
+    let asked : ObjectiveBound = record { reform = o.reform; totalizer = t; objective_lines = o.objective_lines } in
     let out : IsOutputAt m asked bound.0 l id =
     asked_output c.own_lines_stay.ensures c.fitting_stays.ensures c.reform_stays.ensures a m c.requires.ready.state
     c.requires.ready.reached call.recorded.continues o t k c.bound_of.ensures.nodes call.fits l id added c.requires.fits.1.terms
     bound in
-    let cover = c.in_ok-lower_line-in-At.ensures in
+    let made = c.in_ok-lower_line-in-At.ensures in
     λ row is.
     let now : BoundsRow m row asked =
     asked_row c.own_lines_stay.ensures c.fitting_stays.ensures c.reform_stays.ensures a m c.requires.ready.state
     c.requires.ready.reached call.recorded.continues o t k c.bound_of.ensures.nodes call.fits l id added row is in
-    over_at m row asked now c.args.value b c.state.result.now cover.recorded.continues c.state.ensures.replays bound.0 l id
+    over_at m row asked now c.args.value b c.state.result.now made.recorded.continues c.state.ensures.replays bound.0 l id
     c.in_ok-lower_line-in-At.lower_line out (value_is c.args.value k o.reform.offset bound.0 same bound.1)
-    (cover.covers row bound.0 now out)
+    (made.covers row bound.0 now out)
 
 pub returns-in_ok-lower_line-in-At-clause-answer : goal.returns-in_ok-lower_line-in-At-clause-answer
 returns-in_ok-lower_line-in-At-clause-answer g c =
@@ -252,7 +252,7 @@ returns-in_ok-lower_line-in-At-clause-literal g c =
     let bound : IsBound m.problem m.lines (terms_of o.totalizer) k (At l id) =
     subst (IsBound m.problem m.lines (terms_of o.totalizer) k) c.in-At.is call.bound in
     let added : AddsFor a m k o.totalizer t (At l id) = subst (AddsFor a m k o.totalizer t) c.in-At.is call.added in
-    let asked : ObjectiveBound = record { reform = o.reform; totalizer = t; covers = o.covers } in
+    let asked : ObjectiveBound = record { reform = o.reform; totalizer = t; objective_lines = o.objective_lines } in
     let out : IsOutputAt m asked bound.0 l id =
     asked_output c.own_lines_stay.ensures c.fitting_stays.ensures c.reform_stays.ensures a m c.requires.ready.state
     c.requires.ready.reached call.recorded.continues o t k c.bound_of.ensures.nodes call.fits l id added c.requires.fits.1.terms
@@ -261,15 +261,15 @@ returns-in_ok-lower_line-in-At-clause-literal g c =
     let now : BoundsRow m row asked =
     asked_row c.own_lines_stay.ensures c.fitting_stays.ensures c.reform_stays.ensures a m c.requires.ready.state
     c.requires.ready.reached call.recorded.continues o t k c.bound_of.ensures.nodes call.fits l id added row c.requires.fits.1 in
-    own_literal m c.state.result.now c.state.ensures.replays row asked c.cover.new.self bound.0 l id
-    c.in_ok-lower_line-in-At.lower_line now out c.cover.ensures.kept
+    own_literal m c.state.result.now c.state.ensures.replays row asked c.objective_line.new.self bound.0 l id
+    c.in_ok-lower_line-in-At.lower_line now out c.objective_line.ensures.kept
 
 pub returns-in_ok-lower_line-in-At-clause-added : goal.returns-in_ok-lower_line-in-At-clause-added
 returns-in_ok-lower_line-in-At-clause-added g c =
     let R = g.R.Recorder in
     let a = R.seen c.args.rec.now in
     let m = R.seen c.bound_of.new.rec in
-    let b = R.seen c.cover.new.rec in
+    let b = R.seen c.objective_line.new.rec in
     let o = c.args.self.now in
     let t = c.bound_of.new.totalizer in
     let k = above c.from.result c.from-2.result in
@@ -282,8 +282,8 @@ returns-in_ok-lower_line-in-At-clause-added g c =
     c.from-2.ensures in
     let added : AddsFor a m k o.totalizer t (At l id) = subst (AddsFor a m k o.totalizer t) c.in-At.is call.added in
     adds_cost c.own_lines_stay.ensures c.fitting_stays.ensures c.reform_stays.ensures a m c.requires.ready.state
-    c.requires.ready.reached call.recorded.continues o t k c.bound_of.ensures.nodes call.fits l id added b c.cover.new.self
-    c.args.value c.in_ok-lower_line-in-At.lower_line same c.cover.ensures.kept c.in_ok-lower_line-in-At.ensures.added
+    c.requires.ready.reached call.recorded.continues o t k c.bound_of.ensures.nodes call.fits l id added b c.objective_line.new.self
+    c.args.value c.in_ok-lower_line-in-At.lower_line same c.objective_line.ensures.kept c.in_ok-lower_line-in-At.ensures.added
 
 pub returns-in_ok-lower_line-in-At-clause-fits : goal.returns-in_ok-lower_line-in-At-clause-fits
 returns-in_ok-lower_line-in-At-clause-fits g c =
@@ -297,7 +297,7 @@ returns-in_ok-lower_line-in-At-clause-fits g c =
     let l = c.in-At.lit in
     let id = c.in-At.lower_line in
     let added : AddsFor a m k o.totalizer t (At l id) = subst (AddsFor a m k o.totalizer t) c.in-At.is call.added in
-    let asked : ObjectiveBound = record { reform = o.reform; totalizer = t; covers = o.covers } in
+    let asked : ObjectiveBound = record { reform = o.reform; totalizer = t; objective_lines = o.objective_lines } in
     λ row is.
     let now : BoundsRow m row asked =
     asked_row c.own_lines_stay.ensures c.fitting_stays.ensures c.reform_stays.ensures a m c.requires.ready.state

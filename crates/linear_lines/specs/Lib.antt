@@ -1,0 +1,2 @@
+pub use Rattle.sum_outputs.specs.Adding
+pub mod Stating

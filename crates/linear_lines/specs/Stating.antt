@@ -1,0 +1,39 @@
+-- Tokens that make clauses of the live lines, and what is left of a recorder.
+use Rattle.std.specs.Prelude.{◌≡◌, ◌≤◌, ℕ, true, false, Some, List, ◌∷◌, ◌++◌, [], All}
+use Rattle.scut_base.specs.Assignment.{partial_truth}
+use Rattle.std.specs.Prelude.{Option, Bool}
+use Rattle.pb_lin.specs.Constraint.{ConstraintValue, literals}
+use Rattle.cutting_planes.specs.declared.token.PolToken.{PolToken}
+use Rattle.proof_laws.specs.State.{StateValue}
+use Rattle.proof_laws.specs.WellFormed.{IsToken}
+use Rattle.proof_laws.specs.Refusal.{is_clause, token_variables}
+use Rattle.proof_laws.specs.declared.line.Line.TheVariants.{Pol}
+use Rattle.proof_rules.specs.Recording.{Snapshot}
+use Rattle.sum_outputs.specs.Adding.{IsReached}
+use Rattle.sum_outputs.specs.Laws.{AreTokensOf}
+use Rattle.sum_outputs.specs.Totals.{IsKeptClause}
+
+-- a text can spell the token, and its variables are those up to n
+abbrev pub IsSpelledUpTo : ℕ → PolToken → Type 0
+IsSpelledUpTo n token = IsToken token × All (λ v. v ≤ n) (token_variables token)
+
+-- the tokens make this clause of the state's live lines
+abbrev pub MakesClause : StateValue → List PolToken → ConstraintValue → Type 0
+MakesClause s tokens c = AreTokensOf s tokens c × (is_clause c ≡ true)
+
+-- they make no clause of them
+abbrev pub MakesNoClause : StateValue → List PolToken → Type 0
+MakesNoClause s tokens = (c : ConstraintValue) → MakesClause s tokens c → ⊥
+
+-- the same of the state that a recorder has reached
+abbrev pub MakesNoClauseNow : Snapshot → List PolToken → Type 0
+MakesNoClauseNow a tokens = (s : StateValue) → IsReached a s → MakesNoClause s tokens
+
+-- each literal of the constraint is false
+abbrev pub IsFalseUnder : List (Option Bool) → ConstraintValue → Type 0
+IsFalseUnder p c = All (λ l. partial_truth p l ≡ Some false) (literals c.terms)
+
+-- The line of these tokens was added, and its clause is live under this id; no line has learned it.
+pub record AddsClauseLine (a b : Snapshot) (tokens : List PolToken) (id : ℕ) (c : ConstraintValue) : Type 0 where
+  pub lines : b.lines ≡ a.lines ++ Pol tokens ∷ []
+  pub live : (s : StateValue) → IsReached b s → IsKeptClause b.problem b.lines s id c

@@ -1,0 +1,89 @@
+// Whole numbers in place of multipliers.
+use scut_base::{Items, NoMemory};
+use std::alloc::Global;
+use std::num::{nearest_u64_to_f64, saturating_f64_to_u64};
+
+/// A line, with the multiplier by which a linear program takes it; lines whose multiplier isn't above 0 are
+/// left out.
+#[derive(Clone, Copy, Debug)]
+pub struct Multiplier {
+    /// The id of the line.
+    pub line: u64,
+    pub value: f64,
+}
+
+// A line with a factor from 1 on.
+#[derive(Clone, Copy, Debug)]
+pub(crate) struct Factor {
+    pub(crate) line: u64,
+    pub(crate) factor: u64,
+}
+
+// What multipliers are scaled by before they are rounded: the denominators that are usual first.
+pub(crate) const DENOMINATORS: [u64; 28] = [
+    1,
+    2,
+    3,
+    4,
+    5,
+    6,
+    8,
+    10,
+    12,
+    15,
+    20,
+    24,
+    30,
+    40,
+    60,
+    84,
+    120,
+    180,
+    360,
+    1_000,
+    5_040,
+    10_000,
+    100_000,
+    1_000_000,
+    10_000_000,
+    100_000_000,
+    1_000_000_000,
+    10_000_000_000,
+];
+
+// The multipliers scaled and rounded, without those that come to 0.
+pub(crate) fn rounded(
+    alloc: Global,
+    multipliers: &[Multiplier],
+    scale: f64,
+) -> Result<Items<Factor>, NoMemory> {
+    let mut factors = Items::new(alloc);
+    for multiplier in multipliers {
+        let factor = saturating_f64_to_u64((multiplier.value * scale).round());
+        if factor > 0 {
+            factors.push(Factor {
+                line: multiplier.line,
+                factor,
+            })?;
+        }
+    }
+    Ok(factors)
+}
+
+// A denominator as a scale: as it is, or so that the largest multiplier comes to it.
+pub(crate) fn scale_of(multipliers: &[Multiplier], denominator: u64, is_relative: bool) -> f64 {
+    let scale = nearest_u64_to_f64(denominator);
+    if is_relative {
+        return scale / largest(multipliers);
+    }
+    scale
+}
+
+// The largest multiplier, or 0.
+fn largest(multipliers: &[Multiplier]) -> f64 {
+    let mut largest: f64 = 0.0;
+    for multiplier in multipliers {
+        largest = largest.max(multiplier.value);
+    }
+    largest
+}

@@ -1,0 +1,20 @@
+//! Lines by cutting planes that come of linear programs: combinations of live lines that make clauses.
+//!
+//! Its public contract: `infeasible_leaf` answers tokens and the clause that they make of the live lines, whose
+//! literals are false under a partial assignment; `add_clause_line` records tokens where they make a clause, and
+//! nothing where they don't. The multipliers are taken as they come: nothing of them is believed, since each
+//! clause is what the tokens make. The crate knows no linear program.
+#![tactic(auto)]
+
+mod combining;
+mod factors;
+mod leaf;
+mod making;
+mod recording;
+mod spelling;
+mod weakening;
+
+pub use factors::Multiplier;
+pub use leaf::{Leaf, infeasible_leaf};
+pub use making::resolvent_tokens;
+pub use recording::{ClauseLine, add_clause_line};

@@ -1,0 +1,46 @@
+// Clauses that tokens make of the live lines.
+ghost use Rattle.std.specs.Prelude.{◌≡◌, ◌∷◌, [], IfOk, MatchOption};
+ghost use Rattle.cutting_planes.specs.declared.token.PolToken.{PolToken};
+ghost use Rattle.cutting_planes.specs.declared.token.PolToken.TheVariants.{Id, Add, Saturate};
+ghost use Rattle.linear_lines.specs.Stating.{MakesClause, MakesNoClause};
+
+use crate::spelling::are_spelled;
+use cutting_planes::{PolFault, PolToken, evaluate, one_value};
+use pb_lin::Constraint;
+use proof_rules::ProofState;
+use scut_base::{Items, NoMemory};
+use std::alloc::Global;
+
+// The clause that the tokens make of the live lines, if they make one. Costs their evaluation.
+pub(crate) fn clause_of(
+    alloc: Global,
+    state: &ProofState,
+    tokens: &[PolToken],
+) -> Result<Option<Constraint>, NoMemory>
+    ensures { IfOk result (λ made. MatchOption made
+        (MakesNoClause state.now tokens.now) (MakesClause state.now tokens.now)) }
+{
+    one_value();
+    if tokens.is_empty() || !are_spelled(tokens, state.vars()) {
+        return Ok(None);
+    }
+    match evaluate(alloc, tokens, state.live(), None, None) {
+        Ok(made) if made.is_clause() => Ok(Some(made)),
+        Ok(_) => Ok(None),
+        Err(PolFault::NoMemory) => Err(NoMemory),
+        Err(_) => Ok(None),
+    }
+}
+
+/// The tokens `ID ID + s`, by which two clauses that clash in one variable make their resolvent (Robinson
+/// 1965): the clashing literals cancel, and what both have is saturated.
+pub fn resolvent_tokens(alloc: Global, first: u64, second: u64) -> Result<Items<PolToken>, NoMemory>
+    ensures { IfOk result (λ tokens. tokens ≡ Id first ∷ Id second ∷ Add ∷ Saturate ∷ []) }
+{
+    let mut tokens = Items::with_capacity(alloc, 4)?;
+    tokens.push(PolToken::Id(first))?;
+    tokens.push(PolToken::Id(second))?;
+    tokens.push(PolToken::Add)?;
+    tokens.push(PolToken::Saturate)?;
+    Ok(tokens)
+}

@@ -1,0 +1,138 @@
+// Pivots.
+ghost use Rattle.std.specs.Prelude.{◌≡◌};
+
+use crate::LinearProgram;
+use crate::entering::Leaving;
+use crate::pricing::add_costs;
+use crate::table::{number_at, range_of, value_of};
+
+// A number of at most this size is 0.
+const ZERO: f64 = 1e-13;
+
+impl LinearProgram {
+    // Moves the values of the basis with a variable outside of it.
+    pub(crate) fn move_by(&mut self, place: usize, by: f64)
+        ensures { self.new ≡ self.old }
+    {
+        if self.columns == 0 {
+            return;
+        }
+        let rows = self.table.chunks_exact(self.columns);
+        for (basic, row) in self.basic.iter_mut().zip(rows) {
+            basic.value += number_at(row, place) * by;
+        }
+    }
+
+    // Puts the variable at this place into the basis for the one that leaves, which then stands at the end of
+    // its range that it was beyond.
+    pub(crate) fn pivot(&mut self, leaving: &Leaving, place: usize)
+        ensures { self.new ≡ self.old }
+    {
+        let divisor = number_at(self.pivot_row.as_slice(), place);
+        let by = self.missing(leaving) / divisor;
+        self.move_by(place, by);
+        self.divide_row(place, divisor);
+        self.change_costs(place);
+        self.eliminate(leaving.row, place);
+        self.exchange(leaving, place, by);
+        self.pivots_since_built = self.pivots_since_built.saturating_add(1);
+    }
+
+    // How far the variable that leaves is from the end of its range that it is beyond.
+    fn missing(&self, leaving: &Leaving) -> f64 {
+        let range = range_of(self.ranges.as_slice(), leaving.variable);
+        let end = if leaving.is_below {
+            range.lower
+        } else {
+            range.upper
+        };
+        match self.basic.get(leaving.row) {
+            Some(basic) => end - basic.value,
+            None => 0.0,
+        }
+    }
+
+    // Solves the row of the pivot for the variable that enters.
+    fn divide_row(&mut self, place: usize, divisor: f64)
+        ensures { self.new ≡ self.old }
+    {
+        for number in self.pivot_row.iter_mut() {
+            *number = -*number / divisor;
+            if number.abs() < ZERO {
+                *number = 0.0;
+            }
+        }
+        put_number(&mut self.pivot_row, place, 1.0 / divisor);
+    }
+
+    // The reduced costs after the pivot.
+    fn change_costs(&mut self, place: usize)
+        ensures { self.new ≡ self.old }
+    {
+        let mut cost = 0.0;
+        if let Some(nonbasic) = self.nonbasic.get_mut(place) {
+            cost = nonbasic.reduced_cost;
+            nonbasic.reduced_cost = 0.0;
+        }
+        add_costs(&mut self.nonbasic, self.pivot_row.as_slice(), cost);
+    }
+
+    // Puts the row of the pivot into all other rows.
+    fn eliminate(&mut self, pivot: usize, place: usize)
+        ensures { self.new ≡ self.old }
+    {
+        if self.columns == 0 {
+            return;
+        }
+        let solved = self.pivot_row.as_slice();
+        for (at, row) in self.table.chunks_exact_mut(self.columns).enumerate() {
+            if at == pivot {
+                copy_row(row, solved);
+            } else {
+                put_into(row, solved, place);
+            }
+        }
+    }
+
+    // The two variables change places.
+    fn exchange(&mut self, leaving: &Leaving, place: usize, by: f64)
+        ensures { self.new ≡ self.old }
+    {
+        let mut entering = leaving.variable;
+        let mut value = 0.0;
+        if let Some(nonbasic) = self.nonbasic.get_mut(place) {
+            value = value_of(self.ranges.as_slice(), nonbasic) + by;
+            entering = nonbasic.variable;
+            nonbasic.variable = leaving.variable;
+            nonbasic.is_at_upper = !leaving.is_below;
+        }
+        if let Some(basic) = self.basic.get_mut(leaving.row) {
+            basic.variable = entering;
+            basic.value = value;
+        }
+    }
+}
+
+fn put_number(row: &mut [f64], at: usize, number: f64) {
+    if let Some(place) = row.get_mut(at) {
+        *place = number;
+    }
+}
+
+fn copy_row(row: &mut [f64], from: &[f64]) {
+    for (number, other) in row.iter_mut().zip(from) {
+        *number = *other;
+    }
+}
+
+// Puts a solved row in the place of its variable.
+fn put_into(row: &mut [f64], solved: &[f64], place: usize) {
+    let factor = number_at(row, place);
+    put_number(row, place, 0.0);
+    if factor.abs() < ZERO {
+        return;
+    }
+    for (number, other) in row.iter_mut().zip(solved) {
+        *number += factor * *other;
+    }
+}

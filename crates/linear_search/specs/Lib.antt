@@ -1,0 +1,3 @@
+pub use Rattle.oracle.specs.Solving
+pub mod Replies
+pub mod Relaxations

@@ -1,0 +1,21 @@
+-- What a search over linear relaxations answers.
+use Rattle.std.specs.Prelude.{ℕ, List}
+use Rattle.scut_base.specs.Literal.{Literal}
+use Rattle.pb_lin.specs.Constraint.{ConstraintValue}
+use Rattle.proof_laws.specs.State.{StateValue}
+use Rattle.proof_rules.specs.Recording.{Snapshot}
+use Rattle.sum_outputs.specs.Adding.{IsReached}
+use Rattle.sum_outputs.specs.Totals.{IsKeptClause}
+use Rattle.oracle.specs.Solving.{AreAssumptions, IsCore, Reaches}
+use Rattle.linear_search.specs.declared.reply.Reply.{Reply}
+use Rattle.linear_search.specs.declared.reply.Reply.TheVariants.{Closed, Model, Unknown}
+
+-- some of the assumptions with a live clause against them, or literals that may be assumed
+abbrev pub IsReply : Snapshot → List Literal → Reply → Type 0
+IsReply b assumed (Closed core) = Reaches b.problem b.lines (IsCore assumed core.lits core.id)
+IsReply b assumed (Model lits) = Reaches b.problem b.lines (λ s. AreAssumptions s.vars lits)
+IsReply b assumed Unknown = Unit {0}
+
+-- the live line of this id is this clause, and no line has learned it
+abbrev pub IsClauseNow : Snapshot → ℕ → ConstraintValue → Type 0
+IsClauseNow b id c = (s : StateValue) → IsReached b s → IsKeptClause b.problem b.lines s id c

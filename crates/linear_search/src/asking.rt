@@ -1,0 +1,85 @@
+// Questions.
+ghost use Rattle.std.specs.Prelude.{List, IfOk};
+ghost use Rattle.scut_base.specs.Literal.{Literal};
+ghost use Rattle.sum_outputs.specs.Adding.{IsReady, IsRecorded};
+ghost use Rattle.linear_search.specs.Replies.{IsReply};
+
+use crate::Reply;
+use crate::closing::{core_of, may_be_assumed};
+use crate::nodes::Node;
+use crate::relaxation::{Limit, LinearSearch};
+use crate::searching::Found;
+use crate::writing::write_tree;
+use proof_rules::{RecordFault, Recorder};
+use scut_base::{Items, Lit};
+use std::alloc::Global;
+use sum_outputs::in_memory;
+
+impl LinearSearch {
+    /// Whether the assumptions can be true together, which say that objectives keep to the limits: the search
+    /// goes by the limits, and each answer `Closed` is what a live clause says of the assumptions. Objectives
+    /// without a limit aren't named. Lines are added only where a tree closes. It spends at most a quarter of
+    /// the purse, which is lost where the answer is `Unknown`.
+    pub fn ask<R: Recorder>(
+        &mut self,
+        rec: &mut R,
+        assumed: &[Lit],
+        limits: &[Limit],
+    ) -> Result<Reply, RecordFault>
+        requires ready { IsReady (R.seen rec.old) }
+        ensures recorded { IsRecorded (R.seen rec.old) (R.seen rec.new) result }
+        ensures reply { IfOk result (IsReply (R.seen rec.new) assumed.now) }
+    {
+        let found = in_memory(self.search(rec.state(), assumed, limits))?;
+        reply_of(self.alloc, rec, found, assumed)
+    }
+}
+
+// The reply to what was found.
+fn reply_of<R: Recorder>(
+    alloc: Global,
+    rec: &mut R,
+    found: Found,
+    assumed: &[Lit],
+) -> Result<Reply, RecordFault>
+    requires ready { IsReady (R.seen rec.old) }
+    ensures recorded { IsRecorded (R.seen rec.old) (R.seen rec.new) result }
+    ensures reply { IfOk result (IsReply (R.seen rec.new) assumed.now) }
+{
+    match found {
+        Found::Closed(nodes) => close(alloc, rec, nodes.as_slice(), assumed),
+        Found::Model(lits) => Ok(proposal(rec, lits)),
+        Found::Unknown => Ok(Reply::Unknown),
+    }
+}
+
+// A model's literals, where they may be assumed.
+fn proposal<R: Recorder>(rec: &R, lits: Items<Lit>) -> Reply
+    ensures reply { (assumed : List Literal) → IsReply (R.seen rec.now) assumed result }
+{
+    let vars = rec.state().vars();
+    if may_be_assumed(lits.as_slice(), vars) {
+        return Reply::Model(lits);
+    }
+    Reply::Unknown
+}
+
+// Writes a tree that closed, and answers what its root says of the assumptions.
+fn close<R: Recorder>(
+    alloc: Global,
+    rec: &mut R,
+    nodes: &[Node],
+    assumed: &[Lit],
+) -> Result<Reply, RecordFault>
+    requires ready { IsReady (R.seen rec.old) }
+    ensures recorded { IsRecorded (R.seen rec.old) (R.seen rec.new) result }
+    ensures reply { IfOk result (IsReply (R.seen rec.new) assumed.now) }
+{
+    let Some(line) = write_tree(alloc, rec, nodes)? else {
+        return Ok(Reply::Unknown);
+    };
+    match in_memory(core_of(alloc, &line, assumed))? {
+        Some(core) => Ok(Reply::Closed(core)),
+        None => Ok(Reply::Unknown),
+    }
+}

@@ -1,0 +1,20 @@
+//! Questions whether literals can be true together, answered by a search over linear relaxations (branch and
+//! bound, Land and Doig 1960) whose leaves and inner nodes are lines by cutting planes.
+//!
+//! Its public contract: `LinearSearch::ask` answers some of the assumptions with a live clause by which they
+//! can't all be true, as an oracle does; or literals that may be a model; or neither. It adds only lines by
+//! cutting planes, and a tree's lines only where it closes. Nothing of the floats is believed.
+#![tactic(auto)]
+
+mod asking;
+mod closing;
+mod nodes;
+mod relaxation;
+mod reply;
+mod searching;
+mod tree;
+mod visiting;
+mod writing;
+
+pub use relaxation::{Limit, LinearSearch};
+pub use reply::Reply;

@@ -1,0 +1,180 @@
+// The linear relaxation of a problem.
+ghost use Rattle.std.specs.Prelude.{◌≡◌, length, IfOk};
+
+use linear_program::{LinearProgram, Range, Term};
+use pb_lin::{Constraint, CostRow, PbProblem};
+use scut_base::{Lit, NoMemory};
+use std::alloc::Global;
+use std::marker::Model;
+use std::num::{nearest_i64_to_f64, nearest_u64_to_f64, nearest_usize_to_f64};
+
+/// A limit of an objective's cost.
+#[derive(Clone, Copy, Debug)]
+pub struct Limit {
+    /// The objective, counted from 0.
+    pub objective: usize,
+    /// Its cost is to be at most this.
+    pub most: i64,
+    /// The id of the line "where the output above the limit is false, the sum isn't reached"; 0 where there is none.
+    pub upper_line: u64,
+}
+
+/// The relaxation of a problem, with what may be spent on it.
+#[derive(Debug, Drop)]
+pub struct LinearSearch {
+    pub(crate) alloc: Global,
+    pub(crate) program: LinearProgram,
+    // Whether all rows had room.
+    pub(crate) is_whole: bool,
+    pub(crate) columns: usize,
+    // The problem's constraints are the first rows, and the objectives are the last.
+    pub(crate) constraints: usize,
+    pub(crate) objectives: Vec<Objective>,
+    pub(crate) weights: Vec<f64>,
+    // What may be lost on questions that stay open: pivots times rows times columns.
+    pub(crate) purse: u64,
+}
+
+impl Model for LinearSearch {
+    ghost use Rattle.linear_search.specs.Relaxations.{Relaxation};
+
+    ghost Value = { Relaxation };
+
+    ghost view = { λ s. record {
+      columns = s.columns;
+      constraints = s.constraints;
+      purse = s.purse;
+    } };
+}
+
+// An objective: what its row of the relaxation lacks to the cost, and between what the row is.
+#[derive(Clone, Copy, Debug)]
+pub(crate) struct Objective {
+    pub(crate) constant: f64,
+    pub(crate) range: Range,
+}
+
+impl LinearSearch {
+    /// The relaxation of a problem, with a purse of so much work: pivots times rows times columns. Takes 16
+    /// bytes for each row and column, unless these are too many; then all questions stay open.
+    pub fn new(alloc: Global, problem: &PbProblem, purse: u64) -> Result<LinearSearch, NoMemory>
+        ensures { IfOk result (λ s. s ≡ record {
+          columns = problem.now.vars;
+          constraints = length problem.now.rows;
+          purse = purse;
+        }) }
+    {
+        let columns = problem.vars() as usize;
+        let mut search = LinearSearch {
+            alloc,
+            program: LinearProgram::new(alloc, columns)?,
+            is_whole: true,
+            columns,
+            constraints: problem.rows().len(),
+            objectives: Vec::new(alloc),
+            weights: vec![in alloc; 0.0; problem.rows().len()]?,
+            purse,
+        };
+        search.add_constraints(problem.rows())?;
+        search.add_objectives(problem.costs())?;
+        Ok(search)
+    }
+
+    fn add_constraints(&mut self, rows: &[Constraint]) -> Result<(), NoMemory>
+        ensures { self.new ≡ self.old }
+    {
+        for row in rows {
+            let mut sum = Sum::new(self.alloc);
+            for at in 0..row.len() {
+                let (lit, coefficient) = row.term(at);
+                sum.add(lit, float_of(coefficient))?;
+            }
+            let least = float_of(row.degree()) + sum.least;
+            let range = Range {
+                lower: least,
+                upper: sum.greatest,
+            };
+            self.add_row(&sum, range)?;
+        }
+        Ok(())
+    }
+
+    fn add_objectives(&mut self, costs: &[CostRow]) -> Result<(), NoMemory>
+        ensures { self.new ≡ self.old }
+    {
+        for cost in costs {
+            let mut sum = Sum::new(self.alloc);
+            for term in cost.terms() {
+                sum.add(term.0, nearest_u64_to_f64(term.1))?;
+            }
+            let range = Range {
+                lower: sum.least,
+                upper: sum.greatest,
+            };
+            self.add_row(&sum, range)?;
+            self.objectives.push(Objective {
+                constant: nearest_i64_to_f64(cost.offset()) - sum.least,
+                range,
+            })?;
+            let width = 1.0 + sum.greatest - sum.least;
+            self.weights
+                .push(nearest_usize_to_f64(self.columns) / width)?;
+        }
+        Ok(())
+    }
+
+    fn add_row(&mut self, sum: &Sum, range: Range) -> Result<(), NoMemory>
+        ensures { self.new ≡ self.old }
+    {
+        let had_room = self.program.add_row(sum.terms.as_slice(), range)?;
+        self.is_whole = self.is_whole && had_room;
+        Ok(())
+    }
+}
+
+// A sum over columns, without its constant: between what it is.
+#[derive(Debug, Drop)]
+struct Sum {
+    terms: Vec<Term>,
+    least: f64,
+    greatest: f64,
+}
+
+impl Sum {
+    fn new(alloc: Global) -> Sum {
+        Sum {
+            terms: Vec::new(alloc),
+            least: 0.0,
+            greatest: 0.0,
+        }
+    }
+
+    // Adds a term, where `c·~x = c - c·x`.
+    fn add(&mut self, lit: Lit, coefficient: f64) -> Result<(), NoMemory> {
+        let signed = if lit.is_neg() {
+            self.least -= coefficient;
+            -coefficient
+        } else {
+            self.greatest += coefficient;
+            coefficient
+        };
+        self.terms.push(Term {
+            column: column_of(lit),
+            coefficient: signed,
+        })?;
+        Ok(())
+    }
+}
+
+// The column of a literal's variable.
+pub(crate) fn column_of(lit: Lit) -> usize {
+    (lit.var() - 1) as usize
+}
+
+// The nearest float, and that of 2^64 for more.
+fn float_of(number: u128) -> f64 {
+    match u64::try_from(number) {
+        Ok(number) => nearest_u64_to_f64(number),
+        Err(_) => nearest_u64_to_f64(u64::MAX),
+    }
+}

@@ -1,0 +1,132 @@
+// The search through the tree, depth first.
+use crate::nodes::Node;
+use crate::relaxation::{Limit, LinearSearch};
+use crate::tree::{Branch, Tree, Turn};
+use crate::visiting::Visit;
+use linear_program::Range;
+use proof_rules::ProofState;
+use scut_base::{Items, Lit, NoMemory};
+use std::num::nearest_i64_to_f64;
+
+// What a search has found.
+#[derive(Debug, Drop)]
+pub(crate) enum Found {
+    // The nodes of a tree that closed, the root's last.
+    Closed(Vec<Node>),
+    Model(Items<Lit>),
+    Unknown,
+}
+
+impl LinearSearch {
+    // Searches for values within the limits where the assumptions are true. A search spends at most a quarter
+    // of the purse, and what it spent is lost only where it finds nothing.
+    pub(crate) fn search(
+        &mut self,
+        state: &ProofState,
+        assumed: &[Lit],
+        limits: &[Limit],
+    ) -> Result<Found, NoMemory> {
+        let cells = (self.columns as u64)
+            .saturating_mul(self.program.rows() as u64)
+            .saturating_add(1);
+        let pivots = self.purse / 4 / cells;
+        if !self.is_whole {
+            return Ok(Found::Unknown);
+        }
+        let mut tree = Tree::new(self.alloc, state.vars(), pivots)?;
+        self.begin(assumed, limits);
+        let found = self.explore(state, assumed, limits, &mut tree)?;
+        if let Found::Unknown = found {
+            let spent = pivots
+                .saturating_sub(tree.pivots_left)
+                .saturating_mul(cells);
+            self.purse = self.purse.saturating_sub(spent);
+        }
+        Ok(found)
+    }
+
+    // Sets the ranges for a question.
+    fn begin(&mut self, assumed: &[Lit], limits: &[Limit]) {
+        for column in 0..self.columns {
+            let range = Range {
+                lower: 0.0,
+                upper: 1.0,
+            };
+            self.program.set_column(column, range);
+        }
+        for lit in assumed {
+            self.set_literal(*lit, true);
+        }
+        for (place, objective) in self.objectives.iter().enumerate() {
+            let row = self.constraints.saturating_add(place);
+            self.program.set_row(row, objective.range);
+        }
+        for limit in limits {
+            self.set_limit(limit);
+        }
+    }
+
+    // Sets the range of a limited objective.
+    fn set_limit(&mut self, limit: &Limit) {
+        if let Some(objective) = self.objectives.get(limit.objective) {
+            let most = nearest_i64_to_f64(limit.most) - objective.constant;
+            let range = Range {
+                lower: objective.range.lower,
+                upper: objective.range.upper.min(most),
+            };
+            let row = self.constraints.saturating_add(limit.objective);
+            self.program.set_row(row, range);
+        }
+    }
+
+    // Visits nodes until the root is closed, a model is found, or the pivots are spent.
+    fn explore(
+        &mut self,
+        state: &ProofState,
+        assumed: &[Lit],
+        limits: &[Limit],
+        tree: &mut Tree,
+    ) -> Result<Found, NoMemory> {
+        for _node in 0..tree.pivots_left {
+            if tree.pivots_left == 0 {
+                return Ok(Found::Unknown);
+            }
+            tree.fix(assumed);
+            match self.visit(state, limits, tree)? {
+                Visit::Closed(node) => {
+                    if let Turn::Root(root) = self.turn(tree, node)? {
+                        return closed_tree(tree, root);
+                    }
+                }
+                Visit::Split(lit) => {
+                    tree.path.push(Branch { lit, first: None })?;
+                    self.set_literal(lit, true);
+                }
+                Visit::Model(lits) => return Ok(Found::Model(lits)),
+                Visit::Unknown => return Ok(Found::Unknown),
+            }
+        }
+        Ok(Found::Unknown)
+    }
+
+    // Goes on after a closed node.
+    fn turn(&mut self, tree: &mut Tree, node: usize) -> Result<Turn, NoMemory> {
+        let mut freed = Items::new(self.alloc);
+        let turn = tree.climb(node, &mut freed)?;
+        for lit in freed.as_slice() {
+            self.set_literal(*lit, false);
+        }
+        if let Some(branch) = tree.path.last() {
+            self.set_literal(branch.lit, true);
+        }
+        Ok(turn)
+    }
+}
+
+// The nodes up to the root's.
+fn closed_tree(tree: &mut Tree, root: usize) -> Result<Found, NoMemory> {
+    let mut nodes = Vec::new(tree.alloc);
+    std::mem::swap(&mut nodes, &mut tree.nodes);
+    nodes.truncate(root.saturating_add(1));
+    Ok(Found::Closed(nodes))
+}

@@ -1,0 +1,156 @@
+// One node of the tree.
+use crate::relaxation::{Limit, LinearSearch};
+use crate::tree::Tree;
+use linear_lines::{Multiplier, infeasible_leaf};
+use linear_program::{Answer, Range};
+use proof_rules::ProofState;
+use scut_base::{Items, Lit, NoMemory};
+
+// How many pivots a linear program has at most.
+const MOST_PIVOTS: u64 = 5000;
+// A value is whole within this.
+const WHOLE: f64 = 1e-5;
+
+// What a node's linear program tells.
+#[derive(Debug, Drop)]
+pub(crate) enum Visit {
+    // This node is closed.
+    Closed(usize),
+    // It is to be split, this literal first.
+    Split(Lit),
+    // All values are whole.
+    Model(Items<Lit>),
+    Unknown,
+}
+
+impl LinearSearch {
+    // Solves the linear program of the path.
+    pub(crate) fn visit(
+        &mut self,
+        state: &ProofState,
+        limits: &[Limit],
+        tree: &mut Tree,
+    ) -> Result<Visit, NoMemory> {
+        // Where rounding costs the multipliers, once more from the first basis.
+        for _attempt in 0..2 {
+            match self.solved(tree)? {
+                Answer::Optimal { values } => return self.split(values.as_slice()),
+                Answer::Unknown => return Ok(Visit::Unknown),
+                Answer::Infeasible { multipliers } => {
+                    let multipliers = self.lines_of(limits, multipliers.as_slice())?;
+                    let fixed = &tree.fixed;
+                    let lines = multipliers.as_slice();
+                    if let Some(leaf) = infeasible_leaf(self.alloc, state, lines, fixed)? {
+                        let node = tree.add_leaf(leaf)?;
+                        return Ok(Visit::Closed(node));
+                    }
+                    self.program.rebuild()?;
+                }
+            }
+        }
+        Ok(Visit::Unknown)
+    }
+
+    // The program's answer; its pivots, and one more, are paid.
+    fn solved(&mut self, tree: &mut Tree) -> Result<Answer, NoMemory> {
+        let budget = tree.pivots_left.min(MOST_PIVOTS);
+        let solved = self.program.solve(self.weights.as_slice(), budget)?;
+        tree.pivots_left = tree
+            .pivots_left
+            .saturating_sub(solved.pivots.saturating_add(1));
+        Ok(solved.answer)
+    }
+
+    // The literal of the value that is furthest from whole, at its nearer end; or all literals.
+    fn split(&self, values: &[f64]) -> Result<Visit, NoMemory> {
+        let mut furthest = None;
+        let mut most = WHOLE;
+        for (column, value) in values.iter().enumerate() {
+            let distance = value.min(1.0 - *value);
+            if distance > most {
+                most = distance;
+                furthest = literal_of(column, *value);
+            }
+        }
+        match furthest {
+            Some(lit) => Ok(Visit::Split(lit)),
+            None => self.model(values),
+        }
+    }
+
+    // The literals of whole values.
+    fn model(&self, values: &[f64]) -> Result<Visit, NoMemory> {
+        let mut lits = Items::new(self.alloc);
+        for (column, value) in values.iter().enumerate() {
+            if let Some(lit) = literal_of(column, *value) {
+                lits.push(lit)?;
+            }
+        }
+        Ok(Visit::Model(lits))
+    }
+
+    // The lines of the rows with their multipliers: a constraint's own, and a limit's upper line.
+    fn lines_of(&self, limits: &[Limit], multipliers: &[f64]) -> Result<Vec<Multiplier>, NoMemory> {
+        let mut lines = Vec::new(self.alloc);
+        for (row, value) in multipliers.iter().enumerate() {
+            if row < self.constraints {
+                if *value > 0.0 {
+                    let line = (row as u64).saturating_add(1);
+                    lines.push(Multiplier {
+                        line,
+                        value: *value,
+                    })?;
+                }
+            } else if *value < 0.0 {
+                let line = upper_line_of(limits, row - self.constraints);
+                lines.push(Multiplier {
+                    line,
+                    value: -*value,
+                })?;
+            }
+        }
+        Ok(lines)
+    }
+
+    // Fixes or frees the column of a literal.
+    pub(crate) fn set_literal(&mut self, lit: Lit, is_fixed: bool) {
+        let range = if !is_fixed {
+            Range {
+                lower: 0.0,
+                upper: 1.0,
+            }
+        } else if lit.is_neg() {
+            Range {
+                lower: 0.0,
+                upper: 0.0,
+            }
+        } else {
+            Range {
+                lower: 1.0,
+                upper: 1.0,
+            }
+        };
+        self.program
+            .set_column(crate::relaxation::column_of(lit), range);
+    }
+}
+
+// The upper line of an objective's limit, and 0 where there is none.
+fn upper_line_of(limits: &[Limit], objective: usize) -> u64 {
+    for limit in limits {
+        if limit.objective == objective {
+            return limit.upper_line;
+        }
+    }
+    0
+}
+
+// The literal of a column at the nearer end.
+fn literal_of(column: usize, value: f64) -> Option<Lit> {
+    let var = (column as u64).checked_add(1)?;
+    if var < 1 << 63 {
+        Some(Lit::new(var, value < 0.5))
+    } else {
+        None
+    }
+}

@@ -1,0 +1,2 @@
+pub use Rattle.search_base.specs.CostBounds
+pub mod Orders
