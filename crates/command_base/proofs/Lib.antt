@@ -1,0 +1,9 @@
+pub mod ReadSoFar
+pub mod Written
+pub mod InstanceFiles
+pub mod InputStops
+pub mod LogFed
+pub mod ClapWords
+pub mod Answered
+pub mod Readable
+pub mod ListSizes

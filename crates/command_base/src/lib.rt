@@ -1,0 +1,32 @@
+//! What the commands stand on: what a command is, how it ends, and the stages that commands share.
+//!
+//! Its public contract: a command answers by a table of its own, over the files and what was said before and after
+//! (`Command`, `Answered`), and `run_and_warn` runs any command and warns of how it ended, which changes nothing of
+//! that. A stage reads a file and changes none: `read_instance` gives the instance that a file spells, `read_right_list`
+//! the list of right entries, `take_log` hands a log on in pieces to whatever takes its lines; each names the first
+//! fault of its file in a stop of its own, which comes to a `Status`. What is said and warned of each status stands in
+//! `said_of` and `warning_text`. `read_by` gives what `clap` makes of the words of a command.
+#![tactic(auto)]
+
+mod command;
+mod input;
+mod instance_file;
+mod list_file;
+mod log_file;
+mod messages;
+mod refusals;
+mod status;
+mod stops;
+mod whole_file;
+mod words;
+
+pub use command::{Command, run_and_warn};
+pub use input::read_instance;
+pub use instance_file::{Format, format_of};
+pub use list_file::read_right_list;
+pub use log_file::{LineFault, TakesLog, take_log};
+pub use messages::{say_of, warn_of};
+pub use status::Status;
+pub use stops::{InputStop, ListStop, LogStop};
+pub use whole_file::{read_whole, write_lines};
+pub use words::{file, flag, is_set, option, optional, read_by, value, with_arg};
