@@ -1,5 +1,5 @@
 -- What is answered by a part of a run, as an answer of the whole.
-use Rattle.std.proofs.Common.{◌≡◌, ℕ, suc, zero, ◌<◌, ◌≤◌, ◌^◌, List, length, refl, sym, ap₂, subst, arith, ◌∙◌}
+use Rattle.std.proofs.Common.{◌≡◌, ℕ, suc, zero, ◌≤◌, ◌^◌, List, length, refl, ap₂, subst, arith, ◌∙◌}
 use Rattle.std.specs.Prelude.{Contains, Option}
 use Rattle.scut_base.specs.Files.{Files}
 use Rattle.scut_base.specs.Faults.{Faults, NoneFell, Rose}

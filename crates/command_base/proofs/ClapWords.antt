@@ -1,5 +1,5 @@
 -- What clap makes of words.
-use Rattle.std.proofs.Common.{◌≡◌, Bool, true, false, ◌&&◌, List, [], ◌∷◌, refl, sym, ap, ◌∙◌, inl, inr}
+use Rattle.std.proofs.Common.{◌≡◌, Bool, true, false, ◌&&◌, List, [], ◌∷◌, refl, ap, ◌∙◌, inl, inr}
 use Rattle.std.specs.Prelude.{Some, None}
 use Rattle.clap.specs.Kinds.{HasKind, IsAmong}
 use Rattle.clap.specs.Words.{App, Kinds, Row, Text, fault_of, kind_of, matches_of}

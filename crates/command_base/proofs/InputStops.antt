@@ -1,5 +1,5 @@
 -- Why an instance file isn't read.
-use Rattle.std.proofs.Common.{◌≡◌, ℕ, zero, suc, ◌<◌, ◌^◌, List, length, arith}
+use Rattle.std.proofs.Common.{ℕ, zero, suc, ◌<◌, ◌^◌, List, length, arith}
 use Rattle.std.specs.Prelude.{Option}
 use Rattle.scut_base.specs.Files.{Files}
 use Rattle.scut_base.specs.Faults.{Faults}

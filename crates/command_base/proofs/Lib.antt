@@ -6,4 +6,5 @@ pub mod LogFed
 pub mod ClapWords
 pub mod Answered
 pub mod Readable
+pub mod CheckerLaws
 pub mod ListSizes

@@ -1,5 +1,5 @@
 -- When a front is empty.
-use Rattle.std.proofs.Common.{◌≡◌, ℕ, ◌∷◌, List, [], length, refl, ◌↔◌, ap}
+use Rattle.std.proofs.Common.{◌≡◌, ◌∷◌, List, [], length, refl, ◌↔◌, ap}
 use Rattle.front_set.specs.declared.entry.Entry.{Entry}
 use Rattle.instance.specs.Shape.{InstanceValue}
 use Rattle.instance.specs.ParetoFront.{IsFront}

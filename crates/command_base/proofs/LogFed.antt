@@ -2,7 +2,7 @@
 use Rattle.std.proofs.Common.{◌≡◌, ℕ, ◌+◌, ◌-◌, ◌<◌, ◌≤◌, ◌^◌, ◌++◌, List, [], length, take, drop, refl, sym, ◌∙◌, ap, subst, inl, inr, arith, length-append, length-take}
 use Rattle.std.specs.Prelude.{Option, Some}
 use Rattle.std.proofs.lemmas.List.{take-append-drop, take-take, take_all, append-nil}
-use Rattle.scut_base.specs.Files.{Files, content, IsTold, IsReadAt}
+use Rattle.scut_base.specs.Files.{Files, content, IsReadAt}
 use Rattle.scut_base.specs.Faults.{Faults}
 use Rattle.proof_laws.specs.declared.why.Why.{Why}
 use Rattle.command_base.specs.Causes.{HasText}
@@ -10,7 +10,6 @@ use Rattle.command_base.specs.Feeding.{IsFedSoFar, IsFedWhole}
 use Rattle.command_base.specs.Stops.{IsLogStop}
 use Rattle.command_base.specs.StopsFrom.{log_of_line}
 use Rattle.command_base.specs.Taking.{IsTooLarge, RefusesNone}
-use Rattle.command_base.specs.WholeFile.{IsWhole}
 use Rattle.command_base.specs.declared.log_file.LineFault.{LineFault}
 use Rattle.command_base.specs.declared.log_file.LineFault.TheVariants.{Refused, NoMemory}
 use Rattle.command_base.proofs.ReadSoFar.{read_further, read_all}

@@ -1,5 +1,5 @@
 -- What every command answers, whatever it is: a row of its own table, and a cause of a fault.
-use Rattle.std.specs.Prelude.{◌≡◌, ◌≢◌, ℕ, List, [], ◌∷◌, Option}
+use Rattle.std.specs.Prelude.{◌≡◌, ◌≢◌, ℕ, List, [], Option}
 use Rattle.std.specs.List.{Any}
 use Rattle.scut_base.specs.Faults.{Faults, NoneFell, Rose, count}
 use Rattle.scut_base.specs.Files.{Files}

@@ -1,6 +1,7 @@
 -- Instance files: their formats, and what their texts spell.
 use Rattle.std.specs.Prelude.{◌≡◌, ℕ, ◌<◌, ◌^◌, ◌||◌, if◌then◌else◌, nat_eq, List, length, codes, Option, Some, None}
 use Rattle.std.specs.List.{ends_with}
+use Rattle.std.specs.Str.{bytes_eq}
 use Rattle.instance.specs.Shape.{InstanceValue}
 use Rattle.instance.specs.declared.fault.ReadFault.{ReadFault}
 use Rattle.mcnf_reader.specs.Grammar.{Spells as SpellsMcnf}
@@ -15,6 +16,13 @@ abbrev pub format_of : List ℕ → Option Format
 format_of name =
     if ends_with nat_eq name (codes ".mcnf") then Some Mcnf
     else (if ends_with nat_eq name (codes ".opb") || ends_with nat_eq name (codes ".mopb") then Some Opb else None)
+
+-- the format of the first of three files with different names
+abbrev pub format_of_three : List ℕ → List ℕ → List ℕ → Option Format
+format_of_three input list log =
+    if bytes_eq input list then None
+    else (if bytes_eq input log then None
+    else (if bytes_eq list log then None else format_of input))
 
 -- which text spells which instance
 abbrev pub SpellsIn : Format → List ℕ → InstanceValue → Type 0

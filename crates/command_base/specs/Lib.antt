@@ -8,7 +8,7 @@ pub use Rattle.log_checker.specs.LogFaults
 pub use Rattle.mcnf_reader.specs.Words
 pub use Rattle.mcnf_reader.specs.Grammar
 pub use Rattle.mcnf_reader.specs.FirstFault
-pub use Rattle.clap.specs.Words
+pub use Rattle.clap.specs.Words as ClapWords
 pub mod Views
 pub mod Answering
 pub mod Causes
@@ -17,6 +17,7 @@ pub mod InputTable
 pub mod Stops
 pub mod StopsFrom
 pub mod Taking
+pub mod Judging
 pub mod Feeding
 pub mod WholeFile
 pub mod Statuses

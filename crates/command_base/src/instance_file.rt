@@ -1,7 +1,7 @@
 // Instance files: the ending of the name gives the format, and the format the reader.
 ghost use Rattle.std.specs.Prelude.{◌≡◌, ◌<◌, ◌^◌, length, IfOk, IfErr};
 ghost use Rattle.instance.specs.Reading.{IsFaultOf};
-ghost use Rattle.command_base.specs.InstanceFile.{format_of, SpellsIn, fault_in};
+ghost use Rattle.command_base.specs.InstanceFile.{format_of, format_of_three, SpellsIn, fault_in};
 
 use instance::{Instance, ReadFault};
 use std::alloc::Global;
@@ -27,6 +27,16 @@ pub fn format_of(name: &str) -> Option<Format>
     } else {
         None
     }
+}
+
+/// The format of the first of three files with different names; `None` where two names are the same.
+pub fn format_of_three(input: &str, list: &str, log: &str) -> Option<Format>
+    ensures { result ≡ format_of_three input.now list.now log.now }
+{
+    if input == list || input == log || list == log {
+        return None;
+    }
+    format_of(input)
 }
 
 /// The instance that the text of a file spells. Fails with the text's first fault.

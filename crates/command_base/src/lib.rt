@@ -8,6 +8,7 @@
 //! `said_of` and `warning_text`. `read_by` gives what `clap` makes of the words of a command.
 #![tactic(auto)]
 
+mod checker;
 mod command;
 mod input;
 mod instance_file;
@@ -22,7 +23,7 @@ mod words;
 
 pub use command::{Command, run_and_warn};
 pub use input::read_instance;
-pub use instance_file::{Format, format_of};
+pub use instance_file::{Format, format_of, format_of_three};
 pub use list_file::read_right_list;
 pub use log_file::{LineFault, TakesLog, take_log};
 pub use messages::{say_of, warn_of};

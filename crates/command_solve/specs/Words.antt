@@ -5,7 +5,7 @@ use Rattle.std.specs.Str.{bytes_eq}
 use Rattle.scut_base.specs.Number.{is_natural, natural_value}
 use Rattle.clap.specs.Words.{App, Row, first_of, new_app, with_rule}
 use Rattle.command_base.specs.CommandWords.{file_rule, option_rule, rows_by, value_of}
-use Rattle.command_base.specs.InstanceFile.{format_of}
+use Rattle.command_base.specs.InstanceFile.{format_of_three}
 use Rattle.command_base.specs.declared.instance_file.Format.{Format}
 use Rattle.command_solve.specs.declared.Solve.{Solve}
 use Rattle.command_solve.specs.declared.options.SearchKind.{SearchKind}
@@ -30,13 +30,6 @@ solve_files = with_rule (with_rule (with_rule (new_app (codes "solve")) (file_ru
 
 abbrev pub solve_app : App
 solve_app = with_rule (with_rule solve_files (option_rule (codes "search"))) (option_rule (codes "learn"))
-
--- three different names, the first of an instance file
-abbrev pub format_of_three : List ℕ → List ℕ → List ℕ → Option Format
-format_of_three input list log =
-    if bytes_eq input list then None
-    else (if bytes_eq input log then None
-    else (if bytes_eq list log then None else format_of input))
 
 -- the search of this name
 abbrev pub search_named : List ℕ → Option SearchKind

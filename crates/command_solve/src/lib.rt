@@ -20,11 +20,12 @@ mod options;
 
 use crate::listing::write_found;
 use crate::logging::search_with_log;
-use crate::options::{format_of_three, limit_of, search_of};
+use crate::options::{limit_of, search_of};
 use bioptsat::BiOpt;
 use clap::ArgMatches;
 use command_base::{
-    Command, Format, Status, file, option, optional, read_by, read_instance, value, with_arg,
+    Command, Format, Status, file, format_of_three, option, optional, read_by, read_instance,
+    value, with_arg,
 };
 use instance::Instance;
 use instance_normal::normalise;

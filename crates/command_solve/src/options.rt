@@ -1,8 +1,7 @@
 // The options of the command.
 ghost use Rattle.std.specs.Prelude.{◌≡◌, option_map};
-ghost use Rattle.command_solve.specs.Words.{format_of_three, limit_of, number_in, search_named, search_of};
+ghost use Rattle.command_solve.specs.Words.{limit_of, number_in, search_named, search_of};
 
-use command_base::{Format, format_of};
 use scut_base::read_u64;
 
 /// A search for the front.
@@ -61,14 +60,4 @@ fn number_in(text: &str) -> Option<u64>
         }
         Err(_) => None,
     }
-}
-
-// The format of the first of three files with different names.
-pub(crate) fn format_of_three(input: &str, list: &str, log: &str) -> Option<Format>
-    ensures { result ≡ format_of_three input.now list.now log.now }
-{
-    if input == list || input == log || list == log {
-        return None;
-    }
-    format_of(input)
 }

@@ -1,4 +1,4 @@
-use Rattle.std.proofs.Common.{◌≡◌, ◌-◌, ◌^◌, vec_len}
+use Rattle.std.proofs.Common.{◌-◌, ◌^◌, vec_len}
 use Rattle.command_base.specs.Views.{OnlyReads}
 use Rattle.command_base.proofs.ReadSoFar.{IsReadSoFar, IsThereSoFar}
 use Rattle.command_base.proofs.whole_file.read_whole.Given as goal

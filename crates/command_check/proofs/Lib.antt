@@ -1,0 +1,2 @@
+pub mod CheckEnds
+pub mod Completing

@@ -1,0 +1,5 @@
+pub mod Numbered
+pub mod Enumerated
+pub mod ListedFront
+pub mod FrontEnds
+pub mod Completing
