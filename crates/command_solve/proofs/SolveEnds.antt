@@ -46,6 +46,10 @@ objective_count i p normal = AllZip-long IsCostRowOf (cost_sources (i.vars + 1) 
 small_costs : (i : InstanceValue) (entries : List Entry) → AreProblemVectors i entries → All HasCosts entries
 small_costs i entries vectors = All-weaker (λ (e : Entry). IsProblemVector i e.costs) HasCosts (λ e vector. vector.small) entries vectors
 
+-- the instance of the file, its normal form, and a search that takes it
+pub problem_of : (files : Option Files) (a : SolveAsked) (i : InstanceValue) (p : ProblemValue) → HasText files a.input (IsTextOf a.format i) → IsNormalFormOf i p → HasSearch a i → IsProblemOf files a i p
+problem_of files a i p text normal search = record { text = text; search = search; normal = normal }
+
 module _ (a : SolveAsked) where
   pub reads_input : Contains (solve_calls a) (reading a.input)
   reads_input = (0, omega arith, refl)

@@ -8,6 +8,7 @@
 ghost use Rattle.std.specs.Prelude.{◌≡◌, IfOk, map, option_map, string_bytes};
 ghost use Rattle.clap.specs.Words.{app_of, found_of, rows_of};
 ghost use Rattle.instance.specs.Shape.{IsWithinLimits};
+ghost use Rattle.instance_normal.specs.NormalForm.{IsNormalFormOf};
 ghost use Rattle.command_base.specs.Answering.{Answered};
 ghost use Rattle.command_base.specs.Causes.{HasText};
 ghost use Rattle.command_base.specs.InstanceFile.{IsTextOf};
@@ -114,7 +115,7 @@ impl<'a> Command for Solve<'a> {
 }
 
 impl<'a> Solve<'a> {
-    // Searches for the front of an instance, where the search takes it.
+    // Searches for the front of an instance, by its normal form.
     fn solve<H: Shelf>(&self, alloc: Global, inst: &Instance, shelf: &mut H) -> Status
         requires text { HasText (H.world shelf.old).files self.now.input.now
             (IsTextOf self.now.format inst.now) }
@@ -123,16 +124,13 @@ impl<'a> Solve<'a> {
             result (H.world shelf.old) (H.world shelf.new) }
         ensures warned { (H.world shelf.new).warned ≡ (H.world shelf.old).warned }
     {
-        if self.search == SearchKind::BiOptSat && inst.objectives.len() != 2 {
-            return Status::Usage;
-        }
         match normalise(alloc, inst) {
             Ok(problem) => self.search(alloc, inst, &problem, shelf),
             Err(fault) => Status::from(fault),
         }
     }
 
-    // Makes the search that is asked for.
+    // Makes the search that is asked for, where it takes the instance.
     fn search<H: Shelf>(
         &self,
         alloc: Global,
@@ -140,7 +138,9 @@ impl<'a> Solve<'a> {
         problem: &PbProblem,
         shelf: &mut H,
     ) -> Status
-        requires problem { IsProblemOf (H.world shelf.old).files (asked self.now) inst.now problem.now }
+        requires text { HasText (H.world shelf.old).files self.now.input.now
+            (IsTextOf self.now.format inst.now) }
+        requires normal { IsNormalFormOf inst.now problem.now }
         requires limits { IsWithinLimits inst.now }
         ensures answered { Answered (SolveTable (asked self.now)) (solve_calls (asked self.now))
             result (H.world shelf.old) (H.world shelf.new) }
@@ -155,6 +155,9 @@ impl<'a> Solve<'a> {
                 Err(fault) => Status::from(fault),
             },
             SearchKind::BiOptSat => {
+                if inst.objectives.len() != 2 {
+                    return Status::Usage;
+                }
                 self.search_by(alloc, inst, problem, &mut BiOpt::new(alloc), shelf)
             }
         }
