@@ -1,6 +1,7 @@
 -- How each end of the command `solve` is answered.
-use Rattle.std.proofs.Common.{◌≡◌, ◌≢◌, ◌↔◌, ℕ, suc, ◌+◌, ◌<◌, ◌^◌, true, List, [], length, refl, sym, ap, subst, ◌∙◌, inl, inr, arith}
+use Rattle.std.proofs.Common.{◌≡◌, ◌≢◌, ◌↔◌, ℕ, suc, ◌+◌, ◌<◌, ◌^◌, true, List, [], ◌∷◌, length, refl, sym, ap, subst, ◌∙◌, inl, inr, arith}
 use Rattle.std.specs.Prelude.{All, Contains, Option}
+use Rattle.std.specs.List.{filter}
 use Rattle.std.proofs.lemmas.List.Elements.{All-weaker}
 use Rattle.std.proofs.lemmas.Slice.Zip.{AllZip-long}
 use Rattle.scut_base.specs.Files.{Files, with_file, IsTouched}
@@ -9,15 +10,15 @@ use Rattle.scut_base.specs.World.{World}
 use Rattle.front_set.specs.declared.entry.Entry.{Entry}
 use Rattle.front_set.specs.ListText.{list_text}
 use Rattle.front_text.specs.Spelling.{HasCosts}
+use Rattle.instance.specs.declared.objective.Objective.{Objective}
 use Rattle.instance.specs.Shape.{InstanceValue, IsWithinLimits}
 use Rattle.instance.specs.ParetoFront.{AreProblemVectors, IsFront, IsProblemVector}
-use Rattle.instance_normal.specs.NormalForm.{IsCostRowOf, IsNormalFormOf, cost_sources}
+use Rattle.instance_normal.specs.NormalForm.{IsCostRowOf, IsNormalFormOf, cost_sources, is_relaxed}
 use Rattle.pb_lin.specs.Problem.{ProblemValue}
 use Rattle.proof_rules.specs.declared.recorder.RecordFault.{RecordFault}
 use Rattle.proof_rules.specs.declared.recorder.RecordFault.TheVariants.{Failed, Full, NoMemory as RecordNoMemory}
 use Rattle.log_checker.specs.Accepted.{IsAccepted}
 use Rattle.log_checker.proofs.AcceptedFront.{entries_are_front}
-use Rattle.search_base.proofs.ModelPairs.{sources_count}
 use Rattle.certified_front.specs.Certified.{HasEnded, IsEnding}
 use Rattle.certified_front.specs.declared.ending.Ending.{Ending}
 use Rattle.certified_front.specs.declared.ending.Ending.TheVariants.{Complete as EndingComplete, Incomplete as EndingIncomplete}
@@ -37,6 +38,10 @@ use Rattle.command_solve.specs.Logging.{IsLogStopped, IsLogged, IsPartOfLog}
 use Rattle.command_solve.specs.Table.{HasSearch, IsCertified, IsFound, IsListTouched, IsLogTouched, IsProblemOf, IsSolvedPartly, IsUnfinished, SolveTable, solve_calls, with_log}
 use Rattle.command_solve.specs.Words.{SolveAsked}
 use Rattle.command_solve.specs.declared.options.SearchKind.TheVariants.{BiOptSat}
+
+sources_count : (var : ℕ) (os : List Objective) → length (cost_sources var os) ≡ length os
+sources_count var [] = refl
+sources_count var (o ∷ os) = ap suc (sources_count (var + length (filter is_relaxed o.softs)) os)
 
 -- a cost row for each objective
 pub objective_count : (i : InstanceValue) (p : ProblemValue) → IsNormalFormOf i p → length p.costs ≡ length i.objectives

@@ -42,7 +42,7 @@ small_cost x r row = abs_within (2 ^ 63) (row_cost x r)
 
 -- ---- one for each objective
 
-pub sources_count : (var : ℕ) (os : List Objective) → length (cost_sources var os) ≡ length os
+sources_count : (var : ℕ) (os : List Objective) → length (cost_sources var os) ≡ length os
 sources_count var [] = refl
 sources_count var (o ∷ os) = ap suc (sources_count (var + length (filter is_relaxed o.softs)) os)
 
