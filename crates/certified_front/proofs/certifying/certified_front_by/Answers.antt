@@ -1,6 +1,6 @@
 -- No lines are prepared, and the problem's own terms serve over them.
 use Rattle.certified_front.proofs.Boards.{begins_prepared, has_variables}
-use Rattle.certified_front.proofs.certifying.certified_front.Goals as goal
+use Rattle.certified_front.proofs.certifying.certified_front_by.Goals as goal
 
 pub front_by-requires-clause-prepared : goal.front_by-requires-clause-prepared
 front_by-requires-clause-prepared g c =
