@@ -1,0 +1,86 @@
+-- What is answered where a command was run, where none was, and what that says of Usage and of completing.
+use Rattle.std.proofs.Common.{◌≡◌, ◌≢◌, List, [], ℕ, refl, sym, ap, subst}
+use Rattle.std.specs.Prelude.{Option, Some, None, Result, Ok, Err}
+use Rattle.std.specs.Option.{option_map}
+use Rattle.std.proofs.lemmas.List.{append-nil}
+use Rattle.std.proofs.lemmas.Option.{none-some}
+use Rattle.scut_base.specs.declared.shelf.ShelfFault.{ShelfFault}
+use Rattle.scut_base.specs.Files.{Files, IsPartlyFollowed}
+use Rattle.scut_base.specs.Faults.{NoneFell}
+use Rattle.scut_base.specs.World.{World}
+use Rattle.command_base.specs.Answering.{Answered, UsageTable}
+use Rattle.command_base.specs.Messages.{IsWarned}
+use Rattle.command_base.specs.Views.{view}
+use Rattle.command_base.specs.declared.status.Status.{Status}
+use Rattle.command_base.specs.declared.status.Status.TheVariants.{Done, Complete, Incomplete, Trimmed, Models, LogFull, Accepted, Refused, Usage, BadInput, TooLarge, NoMemory, ShelfFailed}
+use Rattle.command_base.proofs.Answered.{ended}
+use Rattle.command_front.specs.Table.{FrontTable}
+use Rattle.command_front.proofs.Completing.{front_completes}
+use Rattle.command_front.proofs.FrontEnds.{nothing_done as front_not_done}
+use Rattle.command_solve.specs.Table.{SolveTable}
+use Rattle.command_solve.proofs.Completing.{solve_completes}
+use Rattle.command_check.specs.Table.{CheckTable}
+use Rattle.command_check.proofs.Completing.{check_completes}
+use Rattle.command_check.proofs.CheckEnds.{nothing_done as check_not_done}
+use Rattle.scuttle_cli.specs.Answers.{CompletesOf, HasUsage, TableOf, own_calls}
+use Rattle.scuttle_cli.specs.Requests.{CheckOf, FrontOf, Request, SolveOf}
+
+-- what is answered by what was asked for
+abbrev pub AnsweredFor : Option Request → Status → World → World → Type 0
+AnsweredFor request status before after = Answered (TableOf request) (own_calls request) status before after
+
+-- ---- no command was run
+
+-- words that ask for nothing
+pub no_request : (status : Status) (before after : World) → status ≡ Usage → view after ≡ view before → NoneFell before.faults after.faults → AnsweredFor None status before after
+no_request status before after is same later =
+    subst (λ (s : Status). AnsweredFor None s before after) (sym is) (ended UsageTable [] Usage before after same (λ is'. cc) later)
+
+-- memory was wanted, and nothing has changed
+no_memory_row : (request : Option Request) (before after : World) → view after ≡ view before → TableOf request NoMemory (view before) (view after)
+no_memory_row None before after same = same
+no_memory_row (Some (FrontOf a)) before after same = front_not_done a (view before) (view after) same
+no_memory_row (Some (SolveOf a)) before after same = inl same
+no_memory_row (Some (CheckOf a)) before after same = check_not_done a (view before) (view after) same
+
+pub no_memory : (request : Option Request) (status : Status) (before after : World) → status ≡ NoMemory → view after ≡ view before → NoneFell before.faults after.faults → AnsweredFor request status before after
+no_memory request status before after is same later =
+    subst (λ (s : Status). AnsweredFor request s before after) (sym is)
+    (ended (TableOf request) (own_calls request) NoMemory before after (no_memory_row request before after same) (λ is'. cc) later)
+
+-- ---- where it completes
+
+pub completes : (request : Option Request) (status : Status) (before after : World) → AnsweredFor request status before after → CompletesOf request status before after
+completes None status before after was = tt
+completes (Some (FrontOf a)) status before after was = front_completes a status before after was
+completes (Some (SolveOf a)) status before after was = solve_completes a status before after was
+completes (Some (CheckOf a)) status before after was = check_completes a status before after was
+
+-- ---- Usage
+
+-- words that ask for nothing have no other answer than Usage and want of memory
+other_status : (status : Status) (before after : World) → UsageTable status (view before) (view after) → status ≢ NoMemory → status ≡ Usage
+other_status Usage before after was memory = refl
+other_status NoMemory before after was memory = absurd (memory refl)
+other_status status before after was memory = absurd was
+
+pub usage : (request : Option Request) (status : Status) (before after : World) → AnsweredFor request status before after → request ≡ None → status ≢ NoMemory → status ≡ Usage
+usage None status before after was is memory = other_status status before after was.table memory
+usage (Some request) status before after was is memory = absurd (none-some request (sym is))
+
+has_usage : (request : Option Request) (before after : World) → TableOf request Usage (view before) (view after) → HasUsage request before.files
+has_usage None before after row = tt
+has_usage (Some (FrontOf a)) before after row = row
+has_usage (Some (SolveOf a)) before after row = row.cause
+has_usage (Some (CheckOf a)) before after row = row
+
+pub only_usage : (request : Option Request) (status : Status) (before after : World) → AnsweredFor request status before after → status ≡ Usage → HasUsage request before.files
+only_usage request status before after was is =
+    has_usage request before after (subst (λ (s : Status). TableOf request s (view before) (view after)) is was.table)
+
+-- ---- warnings
+
+-- a line that was put out whole is a prefix of itself
+pub warned_partly : (warning : Result (Unit {0}) ShelfFault) (line : List ℕ) (before after : World) → IsWarned line before after warning → IsPartlyFollowed before.warned after.warned line
+warned_partly (Ok done) line before after was = (line, ([], append-nil line), was.whole)
+warned_partly (Err fault) line before after was = was.cut
