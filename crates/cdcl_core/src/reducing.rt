@@ -1,4 +1,4 @@
-// Reductions: a search lets go of about half of its learned clauses.
+// Reductions: a search lets go of most of its learned clauses.
 ghost use Rattle.std.specs.Prelude.{◌≡◌, ◌<◌, ◌⊎◌, OnOk};
 ghost use Rattle.cdcl_core.specs.Ledgers.{EndsLearned, IsDue, left};
 ghost use Rattle.cdcl_core.specs.Work.{Ends, IsWorking, KeepsLed, LearnsAlone, Reached, StepsFrom};

@@ -5,6 +5,7 @@ use Rattle.scut_base.specs.Bytes.{space}
 use Rattle.proof_laws.specs.declared.why.Why.{Why}
 use Rattle.proof_laws.specs.declared.why.Why.TheVariants.{Syntax, NoSuchId, VarRange, NotFresh, Overflow, Stack, BadFactor, RupOpen, GoalOpen, GoalMissing, SolRow, CutOpen, NotClause, NotContradiction, AfterEnd, NoEnd, Uncovered, LogLong}
 use Rattle.proof_lines.specs.LineText.{goal_word}
+use Rattle.proof_lines.specs.declared.spelling.Spelling.TheVariants.{Plain}
 use Rattle.log_checker.specs.declared.fault.ListWhy.{ListWhy}
 use Rattle.log_checker.specs.declared.fault.ListWhy.TheVariants.{Syntax as ListSyntax, NotModel, Costs, Order, Comparable, NotComplete}
 
@@ -43,8 +44,8 @@ abbrev pub why_value : Why → List ℕ
 why_value (NoSuchId id) = space ∷ decimal id
 why_value (VarRange var) = space ∷ decimal var
 why_value (NotFresh var) = space ∷ decimal var
-why_value (GoalOpen goal) = space ∷ goal_word goal
-why_value (GoalMissing goal) = space ∷ goal_word goal
+why_value (GoalOpen goal) = space ∷ goal_word Plain goal
+why_value (GoalMissing goal) = space ∷ goal_word Plain goal
 why_value (SolRow id) = space ∷ decimal id
 why_value (CutOpen objective) = space ∷ decimal objective
 why_value (NotContradiction id) = space ∷ decimal id

@@ -3,6 +3,7 @@ ghost use Rattle.std.specs.Prelude.{◌≡◌, ◌++◌, ◌∷◌, IfOk, OnOk};
 ghost use Rattle.std.specs.Fmt.{decimal};
 ghost use Rattle.scut_base.specs.Bytes.{space};
 ghost use Rattle.proof_lines.specs.LineText.{goal_word};
+ghost use Rattle.proof_lines.specs.declared.spelling.Spelling.TheVariants.{Plain};
 ghost use Rattle.command_base.specs.Refusals.{list_why_name, why_name, why_text, why_value};
 
 use itoa::Buffer;
@@ -86,7 +87,7 @@ fn append_number(text: &mut Vec<u8>, n: u64) -> Result<(), NoMemory>
 
 // A goal as a log has it.
 fn append_goal(text: &mut Vec<u8>, goal: Goal) -> Result<(), NoMemory>
-    ensures { OnOk result (text.new.items ≡ text.old.items ++ space ∷ goal_word goal) }
+    ensures { OnOk result (text.new.items ≡ text.old.items ++ space ∷ goal_word Plain goal) }
 {
     match goal {
         Goal::Row(id) => append_number(text, id),

@@ -7,7 +7,7 @@ ghost use Rattle.proof_text.specs.Recorders.{IsKept};
 use crate::states_after_lines::problem;
 use pb_lin::PbProblem;
 use proof_laws::Line;
-use proof_lines::read_line;
+use proof_lines::{Spelling, read_line};
 use proof_rules::{ProofState, RecordFault, Recorder};
 use proof_text::{FileRecorder, MemRecorder};
 use scut_base::{MemShelf, PlannedFault, ShelfCall};
@@ -63,7 +63,7 @@ fn add_text<R: Recorder>(
     ensures whole { OnOk result ((R.seen rec.new).broken ≡ false) }
     ensures kept { OnOk result (IsKept problem.now (R.seen rec.new).lines state.new) }
 {
-    match read_line(alloc, text.as_bytes()) {
+    match read_line(alloc, Spelling::Plain, text.as_bytes()) {
         Ok(line) => add(rec, problem, state, &line),
         Err(_) => Err(RecordFault::Full),
     }

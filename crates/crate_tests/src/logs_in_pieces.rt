@@ -1,7 +1,7 @@
 // A log that a reader gets whole, byte by byte and in longer pieces.
 ghost use Rattle.std.specs.Prelude.{◌<◌};
 
-use proof_lines::append_line;
+use proof_lines::{Spelling, append_line};
 use proof_text::LineReader;
 use std::alloc::Global;
 use std::test::Fail;
@@ -14,7 +14,7 @@ const LINES: &str = "pol 1 3 *\nsol x1 : : 2\nend 3\n";
 fn print_lines(reader: &mut LineReader, printed: &mut Vec<u8>) -> Result<(), Fail> {
     for _ in 0..3 {
         if let Some(line) = reader.next_line()? {
-            append_line(printed, &line)?;
+            append_line(printed, Spelling::Plain, &line)?;
         }
     }
     Ok(())

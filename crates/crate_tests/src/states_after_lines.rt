@@ -6,7 +6,7 @@ use crate::instances_in_normal_form::write_row;
 use instance_normal::normalise;
 use mcnf_reader::read;
 use pb_lin::PbProblem;
-use proof_lines::read_line;
+use proof_lines::{Spelling, read_line};
 use proof_rules::ProofState;
 use std::alloc::Global;
 use std::fmt::Write;
@@ -23,7 +23,7 @@ fn step(alloc: Global, problem: &PbProblem, state: &mut ProofState, text: &str) 
     requires { Fits problem.now state.old }
     ensures { OnOk result (Fits problem.now state.new) }
 {
-    let line = read_line(alloc, text.as_bytes())?;
+    let line = read_line(alloc, Spelling::Plain, text.as_bytes())?;
     state.step(problem, &line)?;
     Ok(())
 }

@@ -25,6 +25,7 @@ use Rattle.log_checker.specs.declared.fault.CheckFault.TheVariants.{Refused, Lis
 use Rattle.log_checker.proofs.Stepping.{AreCovered}
 use Rattle.log_checker.proofs.Texts.{LineTexts, spelled_whole}
 use Rattle.log_checker.proofs.Faults.{no_whole_fault, no_syntax, syntax_fault, line_refused, whole_fault_more}
+use Rattle.proof_lines.specs.declared.spelling.Spelling.TheVariants.{Plain}
 
 -- ---- the reader
 
@@ -61,30 +62,30 @@ begins r bytes lines line stands = ⊎_elim
 pub line_formed : (r : ReaderValue) (bytes : List ℕ) (lines : List Line) (line : Line) → ReaderStandsFor r bytes (lines ++ line ∷ []) → IsWellFormed line
 line_formed r bytes lines line stands = All-contains IsWellFormed (lines ++ line ∷ []) line (begins r bytes lines line stands).1.formed (Contains-push lines line)
 
-flat_push : (lines : List Line) (line : Line) (rest : List ℕ) → flat_map printed (lines ++ line ∷ []) ++ rest ≡ flat_map printed lines ++ (printed line ++ rest)
-flat_push [] line rest = ap (λ (t : List ℕ). t ++ rest) (append-nil (printed line))
+flat_push : (lines : List Line) (line : Line) (rest : List ℕ) → flat_map (printed Plain) (lines ++ line ∷ []) ++ rest ≡ flat_map (printed Plain) lines ++ (printed Plain line ++ rest)
+flat_push [] line rest = ap (λ (t : List ℕ). t ++ rest) (append-nil (printed Plain line))
 flat_push (l ∷ lines) line rest =
-    append_assoc (printed l) (flat_map printed (lines ++ line ∷ [])) rest
-    ∙ ap (λ (t : List ℕ). printed l ++ t) (flat_push lines line rest)
-    ∙ sym (append_assoc (printed l) (flat_map printed lines) (printed line ++ rest))
+    append_assoc (printed Plain l) (flat_map (printed Plain) (lines ++ line ∷ [])) rest
+    ∙ ap (λ (t : List ℕ). printed Plain l ++ t) (flat_push lines line rest)
+    ∙ sym (append_assoc (printed Plain l) (flat_map (printed Plain) lines) (printed Plain line ++ rest))
 
 all_front : (lines : List Line) (line : Line) → All IsWellFormed (lines ++ line ∷ []) → All IsWellFormed lines
 all_front [] line all = All-nil IsWellFormed
 all_front (l ∷ lines) line all = All-cons IsWellFormed l lines (All-head IsWellFormed l (lines ++ line ∷ []) all) (all_front lines line (All-tail IsWellFormed l (lines ++ line ∷ []) all))
 
 -- the bytes before the last line that was given
-before_last : (bytes : List ℕ) (lines : List Line) (line : Line) (rest : List ℕ) → BeginsWith bytes (lines ++ line ∷ []) rest → BeginsWith bytes lines (printed line ++ rest)
+before_last : (bytes : List ℕ) (lines : List Line) (line : Line) (rest : List ℕ) → BeginsWith bytes (lines ++ line ∷ []) rest → BeginsWith bytes lines (printed Plain line ++ rest)
 before_last bytes lines line rest h = record {
   formed = all_front lines line h.formed;
-  is = h.is ∙ append_assoc header_line (flat_map printed (lines ++ line ∷ [])) rest ∙ ap (λ (t : List ℕ). header_line ++ t) (flat_push lines line rest) ∙ sym (append_assoc header_line (flat_map printed lines) (printed line ++ rest));
+  is = h.is ∙ append_assoc header_line (flat_map (printed Plain) (lines ++ line ∷ [])) rest ∙ ap (λ (t : List ℕ). header_line ++ t) (flat_push lines line rest) ∙ sym (append_assoc header_line (flat_map (printed Plain) lines) (printed Plain line ++ rest));
 }
 
 pub not_wrong : (o : Option ℕ) → ((k : ℕ) → o ≡ Some k → ⊥) → o ≡ None
 not_wrong None h = refl
 not_wrong (Some k) h = absurd (h k refl)
 
-printed_long : (line : Line) → 0 < length (printed line)
-printed_long line = omega (arith, length-append (line_text line) (10 ∷ []))
+printed_long : (line : Line) → 0 < length (printed Plain line)
+printed_long line = omega (arith, length-append (line_text Plain line) (10 ∷ []))
 
 -- a line that is given leaves less
 pub smaller : (old new : ReaderValue) (bytes : List ℕ) (lines : List Line) (line : Line) → old.wrong ≡ None → ReaderStandsFor old bytes lines → ReaderStandsFor new bytes (lines ++ line ∷ []) → left new < left old
@@ -96,10 +97,10 @@ smaller old new bytes lines line right before after = by new.wrong after.read
     long_before : (begun : Bool) → HasRead begun old.rest bytes lines → (rest : List ℕ) → BeginsWith bytes (lines ++ line ∷ []) rest → length rest < length old.rest
     long_before true h rest b =
         let e = ap length (sym h.is ∙ (before_last bytes lines line rest b).is) in
-        omega (arith, e, length-append (log_text lines) old.rest, length-append (log_text lines) (printed line ++ rest), length-append (printed line) rest, printed_long line)
+        omega (arith, e, length-append (log_text lines) old.rest, length-append (log_text lines) (printed Plain line ++ rest), length-append (printed Plain line) rest, printed_long line)
     long_before false h rest b =
         let e = ap length (sym h.1 ∙ (before_last bytes lines line rest b).is) in
-        omega (arith, e, length-append (log_text lines) (printed line ++ rest), length-append (printed line) rest, printed_long line)
+        omega (arith, e, length-append (log_text lines) (printed Plain line ++ rest), length-append (printed Plain line) rest, printed_long line)
 
     shorter : (rest : List ℕ) → BeginsWith bytes (lines ++ line ∷ []) rest → length rest < length old.rest
     shorter rest b = long_before old.begun (subst (λ (o : Option ℕ). HasReadUpTo o old bytes lines) right before.read) rest b
@@ -121,7 +122,7 @@ module _ (texts : LineTexts) (p : ProblemValue) (vectors : List (List ℤ)) wher
   pub line_is_refused : (old new : ReaderValue) (s : StateValue) (bytes : List ℕ) (lines : List Line) (line : Line) (k : ℕ) (why : Why) → IsUnderway p vectors old s bytes lines → ReaderStandsFor new bytes (lines ++ line ∷ []) → IsLineFault p vectors s line why → k ≡ s.lines + 2 → IsWholeFault p vectors bytes k why
   line_is_refused old new s bytes lines line k why underway after fault number =
       let b = begins new bytes lines line after in
-      line_refused texts p vectors bytes lines line (printed line ++ b.0) b.0 s k why (before_last bytes lines line b.0 b.1) b.1 underway.replay underway.covered fault (omega (arith, number, replay_lines p lines s underway.replay))
+      line_refused texts p vectors bytes lines line (printed Plain line ++ b.0) b.0 s k why (before_last bytes lines line b.0 b.1) b.1 underway.replay underway.covered fault (omega (arith, number, replay_lines p lines s underway.replay))
 
   pub line_taken : (old new : ReaderValue) (s t : StateValue) (bytes : List ℕ) (lines : List Line) (line : Line) → IsUnderway p vectors old s bytes lines → ReaderStandsFor new bytes (lines ++ line ∷ []) → IsNext p s line t → (AreCovered vectors s → AreCovered vectors t) → IsUnderway p vectors new t bytes (lines ++ line ∷ [])
   line_taken old new s t bytes lines line underway after next covered = record { read = after; replay = leads_further p lines (start p) s t line underway.replay next; covered = covered underway.covered }

@@ -24,19 +24,20 @@ use Rattle.log_checker.specs.LogFaults.{Reaches, LogsUncovered, HasRefusedLine, 
 use Rattle.log_checker.proofs.Reasons.{not_syntax}
 use Rattle.log_checker.proofs.Stepping.{AreCovered, leads_covered}
 use Rattle.log_checker.proofs.Texts.{LineTexts, GoesOn, whole_once, whole_has_newline, printed_is, printed_has_newline, printed_once, begins_has_newline, begins_align, one_empty, spelled_finished, unfinished_once}
+use Rattle.proof_lines.specs.declared.spelling.Spelling.TheVariants.{Plain}
 
 -- the rest begins with a whole line that is the text of none
 record HasNoLine (rest : List ℕ) : Type 0 where
   text : List ℕ
   after : List ℕ
   whole : IsWholeLine rest text after
-  wrong : SpellsNoLine text
+  wrong : SpellsNoLine Plain text
 
 -- the rest after the lines before the last
-last_text : (bytes : List ℕ) (lines : List Line) (line : Line) (rest after : List ℕ) → BeginsWith bytes lines rest → BeginsWith bytes (lines ++ line ∷ []) after → rest ≡ printed line ++ after
+last_text : (bytes : List ℕ) (lines : List Line) (line : Line) (rest after : List ℕ) → BeginsWith bytes lines rest → BeginsWith bytes (lines ++ line ∷ []) after → rest ≡ printed Plain line ++ after
 last_text bytes lines line rest after begins further =
-    append_cancel_left (log_text lines) rest (printed line ++ after)
-    (sym begins.is ∙ further.is ∙ ap (λ (t : List ℕ). t ++ after) (log_text_push lines line) ∙ append_assoc (log_text lines) (printed line) after)
+    append_cancel_left (log_text lines) rest (printed Plain line ++ after)
+    (sym begins.is ∙ further.is ∙ ap (λ (t : List ℕ). t ++ after) (log_text_push lines line) ∙ append_assoc (log_text lines) (printed Plain line) after)
 
 last_formed : (bytes : List ℕ) (lines : List Line) (line : Line) (after : List ℕ) → BeginsWith bytes (lines ++ line ∷ []) after → IsWellFormed line
 last_formed bytes lines line after begins = All-contains IsWellFormed (lines ++ line ∷ []) line begins.formed (Contains-push lines line)
@@ -55,7 +56,7 @@ module _ (texts : LineTexts) (p : ProblemValue) (vectors : List (List ℤ)) wher
     line : Line
     after : List ℕ
     formed : IsWellFormed line
-    is : rest ≡ printed line ++ after
+    is : rest ≡ printed Plain line ++ after
     reason : IsRefused p s line why ⊎ ((n : ℕ) × (why ≡ Uncovered n) × LogsUncovered p vectors s line n)
 
   abbrev Seen : StateValue → List ℕ → Why → Type 0
@@ -76,15 +77,15 @@ module _ (texts : LineTexts) (p : ProblemValue) (vectors : List (List ℤ)) wher
   seen bytes lines rest s (Uncovered n) begins h = inr (record { line = h.line; after = h.after; formed = last_formed bytes lines h.line h.after h.begins; is = last_text bytes lines h.line rest h.after begins h.begins; reason = inr (n, refl, h.refused) })
   seen bytes lines rest s why begins h = inr (record { line = h.line; after = h.after; formed = last_formed bytes lines h.line h.after h.begins; is = last_text bytes lines h.line rest h.after begins h.begins; reason = inl h.refused })
 
-  same_line : (l m : Line) (a b rest : List ℕ) → IsWellFormed l → IsWellFormed m → rest ≡ printed l ++ a → rest ≡ printed m ++ b → l ≡ m
+  same_line : (l m : Line) (a b rest : List ℕ) → IsWellFormed l → IsWellFormed m → rest ≡ printed Plain l ++ a → rest ≡ printed Plain m ++ b → l ≡ m
   same_line l m a b rest p q x y = (printed_once texts l m a b p q (sym x ∙ y)).0
 
   -- the text of a line isn't that of none
-  not_no_line : (l : Line) (a rest : List ℕ) → IsWellFormed l → rest ≡ printed l ++ a → HasNoLine rest → ⊥
-  not_no_line l a rest formed is none = none.wrong l (record { formed = formed; is = (whole_once none.text (line_text l) none.after a none.whole.one (texts.one l formed) (sym none.whole.is ∙ is ∙ printed_is l a)).0 })
+  not_no_line : (l : Line) (a rest : List ℕ) → IsWellFormed l → rest ≡ printed Plain l ++ a → HasNoLine rest → ⊥
+  not_no_line l a rest formed is none = none.wrong l (record { formed = formed; fits = tt; is = (whole_once none.text (line_text Plain l) none.after a none.whole.one (texts.one l formed) (sym none.whole.is ∙ is ∙ printed_is l a)).0 })
 
   -- a fault is no legal line whose vectors are covered
-  stops : (s : StateValue) (rest : List ℕ) (why : Why) (l : Line) (a : List ℕ) (t : StateValue) → Seen s rest why → IsWellFormed l → rest ≡ printed l ++ a → IsNext p s l t → AreCovered vectors t → ⊥
+  stops : (s : StateValue) (rest : List ℕ) (why : Why) (l : Line) (a : List ℕ) (t : StateValue) → Seen s rest why → IsWellFormed l → rest ≡ printed Plain l ++ a → IsNext p s l t → AreCovered vectors t → ⊥
   stops s rest why l a t fault formed is next covered = ⊎_elim
       (λ (h : (why ≡ Syntax) × HasNoLine rest). not_no_line l a rest formed is h.1)
       (λ (h : Refusal s rest why).
@@ -134,7 +135,7 @@ module _ (texts : LineTexts) (p : ProblemValue) (vectors : List (List ℤ)) wher
         let split = leads_split p ms (on.next ∷ on.more) (start p) s (subst (λ (xs : List Line). IsReplay p xs s) on.is one.reached.replay) in
         let same : split.0 ≡ t = replay_once p ms split.0 t split.1 two.reached.replay in
         let next : IsNext p t on.next split.2.0 = subst (λ (u : StateValue). IsNext p u on.next split.2.0) same split.2.1 in
-        stops t q why on.next (flat_map printed on.more ++ r) split.2.0 fault on.formed on.text next (leads_covered vectors p split.2.0 on.more s split.2.2 one.reached.covered)
+        stops t q why on.next (flat_map (printed Plain) on.more ++ r) split.2.0 fault on.formed on.text next (leads_covered vectors p split.2.0 on.more s split.2.2 one.reached.covered)
 
     states_same : ls ≡ ms → s ≡ t
     states_same same = replay_once p ms s t (subst (λ (xs : List Line). IsReplay p xs s) same one.reached.replay) two.reached.replay
@@ -144,7 +145,7 @@ module _ (texts : LineTexts) (p : ProblemValue) (vectors : List (List ℤ)) wher
         (λ (same : (ls ≡ ms) × (r ≡ q)). fault_has_newline t q why fault (subst IsOneLine same.1 last))
         (λ (other : GoesOn ls ms r q ⊎ GoesOn ms ls q r). ⊎_elim
         (λ (on : GoesOn ls ms r q). no_further why fault on)
-        (λ (on : GoesOn ms ls q r). printed_has_newline on.next (flat_map printed on.more ++ q) r on.text last)
+        (λ (on : GoesOn ms ls q r). printed_has_newline on.next (flat_map (printed Plain) on.more ++ q) r on.text last)
         other)
         (begins_align texts bytes ls ms r q one.begins two.begins)
 
@@ -153,8 +154,8 @@ module _ (texts : LineTexts) (p : ProblemValue) (vectors : List (List ℤ)) wher
     both_end last end = ⊎_elim
         (λ (same : (ls ≡ ms) × (r ≡ q)). same.0)
         (λ (other : GoesOn ls ms r q ⊎ GoesOn ms ls q r). absurd (⊎_elim
-        (λ (on : GoesOn ls ms r q). printed_has_newline on.next (flat_map printed on.more ++ r) q on.text end)
-        (λ (on : GoesOn ms ls q r). printed_has_newline on.next (flat_map printed on.more ++ q) r on.text last)
+        (λ (on : GoesOn ls ms r q). printed_has_newline on.next (flat_map (printed Plain) on.more ++ r) q on.text end)
+        (λ (on : GoesOn ms ls q r). printed_has_newline on.next (flat_map (printed Plain) on.more ++ q) r on.text last)
         other))
         (begins_align texts bytes ls ms r q one.begins two.begins)
 
@@ -256,7 +257,7 @@ module _ (texts : LineTexts) (p : ProblemValue) (vectors : List (List ℤ)) wher
 
   -- a whole line that is wrong is that after the lines that it goes wrong after
   wrong_follows : (bytes : List ℕ) (lines : List Line) (rest : List ℕ) (n : ℕ) → BeginsWith bytes lines rest → (g : GoesWrongAfter bytes n) → GoesOn lines g.lines rest g.rest → ⊥
-  wrong_follows bytes lines rest n begins g on = not_no_line on.next (flat_map printed on.more ++ rest) g.rest on.formed on.text (record { text = g.text; after = g.after; whole = g.line; wrong = g.wrong })
+  wrong_follows bytes lines rest n begins g on = not_no_line on.next (flat_map (printed Plain) on.more ++ rest) g.rest on.formed on.text (record { text = g.text; after = g.after; whole = g.line; wrong = g.wrong })
 
   pub no_syntax : (bytes : List ℕ) (lines : List Line) (k : ℕ) → HoldsNoFurtherLine bytes lines → IsSyntaxAt bytes k → ⊥
   no_syntax bytes lines zero held h = h
@@ -267,7 +268,7 @@ module _ (texts : LineTexts) (p : ProblemValue) (vectors : List (List ℤ)) wher
       (λ (same : (lines ≡ g.lines) × (rest.0 ≡ g.rest)). whole_has_newline g.rest g.text g.after g.line (subst IsOneLine same.1 rest.2))
       (λ (other : GoesOn lines g.lines rest.0 g.rest ⊎ GoesOn g.lines lines g.rest rest.0). ⊎_elim
       (λ (on : GoesOn lines g.lines rest.0 g.rest). wrong_follows bytes lines rest.0 n rest.1 g on)
-      (λ (on : GoesOn g.lines lines g.rest rest.0). printed_has_newline on.next (flat_map printed on.more ++ g.rest) rest.0 on.text rest.2)
+      (λ (on : GoesOn g.lines lines g.rest rest.0). printed_has_newline on.next (flat_map (printed Plain) on.more ++ g.rest) rest.0 on.text rest.2)
       other)
       (begins_align texts bytes lines g.lines rest.0 g.rest rest.1 g.begins)
 

@@ -14,11 +14,12 @@ use Rattle.proof_laws.specs.declared.line.Line.{Line}
 use Rattle.proof_lines.specs.LineText.{line_text, printed, SpellsLine}
 use Rattle.proof_text.specs.LogText.{header_text, header_line, log_text, BeginsWith, SpellsLog, IsOneLine, IsWholeLine, IsWhole, newlines, IsUnfinishedAt, HoldsNoFurtherLine}
 use Rattle.proof_text.proofs.Logs.{header_part_one}
+use Rattle.proof_lines.specs.declared.spelling.Spelling.TheVariants.{Plain}
 
 -- what texts of lines have: each is that of one line alone, and holds no line feed
 pub record LineTexts : Type 0 where
-  pub once : (text : List ℕ) (l m : Line) → SpellsLine text l → SpellsLine text m → l ≡ m
-  pub one : (line : Line) → IsWellFormed line → IsOneLine (line_text line)
+  pub once : (text : List ℕ) (l m : Line) → SpellsLine Plain text l → SpellsLine Plain text m → l ≡ m
+  pub one : (line : Line) → IsWellFormed line → IsOneLine (line_text Plain line)
 
 -- ---- line feeds
 
@@ -64,22 +65,22 @@ tail_newline (x ∷ xs) rest (b ∷ before) e = tail_newline xs rest before (cc)
 pub whole_has_newline : (rest text after : List ℕ) → IsWholeLine rest text after → IsOneLine rest → ⊥
 whole_has_newline rest text after whole one = one (subst (λ (t : List ℕ). Contains t newline) (sym whole.is) (has_newline text after))
 
-pub printed_is : (line : Line) (a : List ℕ) → printed line ++ a ≡ line_text line ++ newline ∷ a
-printed_is line a = append_assoc (line_text line) (newline ∷ []) a
+pub printed_is : (line : Line) (a : List ℕ) → printed Plain line ++ a ≡ line_text Plain line ++ newline ∷ a
+printed_is line a = append_assoc (line_text Plain line) (newline ∷ []) a
 
-pub printed_has_newline : (line : Line) (a rest : List ℕ) → rest ≡ printed line ++ a → IsOneLine rest → ⊥
-printed_has_newline line a rest is one = one (subst (λ (t : List ℕ). Contains t newline) (sym (is ∙ printed_is line a)) (has_newline (line_text line) a))
+pub printed_has_newline : (line : Line) (a rest : List ℕ) → rest ≡ printed Plain line ++ a → IsOneLine rest → ⊥
+printed_has_newline line a rest is one = one (subst (λ (t : List ℕ). Contains t newline) (sym (is ∙ printed_is line a)) (has_newline (line_text Plain line) a))
 
 -- ---- logs
 
 body : List Line → List ℕ → List ℕ
-body lines rest = flat_map printed lines ++ rest
+body lines rest = flat_map (printed Plain) lines ++ rest
 
-begins_is : (bytes : List ℕ) (lines : List Line) (rest : List ℕ) → BeginsWith bytes lines rest → bytes ≡ header_text ++ newline ∷ (flat_map printed lines ++ rest)
-begins_is bytes lines rest begins = begins.is ∙ append_assoc header_line (flat_map printed lines) rest ∙ append_assoc header_text (newline ∷ []) (flat_map printed lines ++ rest)
+begins_is : (bytes : List ℕ) (lines : List Line) (rest : List ℕ) → BeginsWith bytes lines rest → bytes ≡ header_text ++ newline ∷ (flat_map (printed Plain) lines ++ rest)
+begins_is bytes lines rest begins = begins.is ∙ append_assoc header_line (flat_map (printed Plain) lines) rest ∙ append_assoc header_text (newline ∷ []) (flat_map (printed Plain) lines ++ rest)
 
 pub begins_has_newline : (bytes : List ℕ) (lines : List Line) (rest : List ℕ) → BeginsWith bytes lines rest → IsOneLine bytes → ⊥
-begins_has_newline bytes lines rest begins one = one (subst (λ (t : List ℕ). Contains t newline) (sym (begins_is bytes lines rest begins)) (has_newline header_text (flat_map printed lines ++ rest)))
+begins_has_newline bytes lines rest begins one = one (subst (λ (t : List ℕ). Contains t newline) (sym (begins_is bytes lines rest begins)) (has_newline header_text (flat_map (printed Plain) lines ++ rest)))
 
 -- the lines are those others and more, which the rest after the others begins with
 pub record GoesOn (lines others : List Line) (rest after : List ℕ) : Type 0 where
@@ -87,25 +88,25 @@ pub record GoesOn (lines others : List Line) (rest after : List ℕ) : Type 0 wh
   pub more : List Line
   pub formed : IsWellFormed next
   pub is : lines ≡ others ++ next ∷ more
-  pub text : after ≡ printed next ++ (flat_map printed more ++ rest)
+  pub text : after ≡ printed Plain next ++ (flat_map (printed Plain) more ++ rest)
 
 abbrev pub Aligned : List Line → List Line → List ℕ → List ℕ → Type 0
 Aligned ls ms r q = ((ls ≡ ms) × (r ≡ q)) ⊎ (GoesOn ls ms r q ⊎ GoesOn ms ls q r)
 
 module _ (texts : LineTexts) where
   -- a text begins with one printed line alone
-  pub printed_once : (l m : Line) (a b : List ℕ) → IsWellFormed l → IsWellFormed m → printed l ++ a ≡ printed m ++ b → (l ≡ m) × (a ≡ b)
+  pub printed_once : (l m : Line) (a b : List ℕ) → IsWellFormed l → IsWellFormed m → printed Plain l ++ a ≡ printed Plain m ++ b → (l ≡ m) × (a ≡ b)
   printed_once l m a b p q e =
-      let both = whole_once (line_text l) (line_text m) a b (texts.one l p) (texts.one m q) (sym (printed_is l a) ∙ e ∙ printed_is m b) in
-      (texts.once (line_text l) l m (record { formed = p; is = refl }) (record { formed = q; is = both.0 }), both.1)
+      let both = whole_once (line_text Plain l) (line_text Plain m) a b (texts.one l p) (texts.one m q) (sym (printed_is l a) ∙ e ∙ printed_is m b) in
+      (texts.once (line_text Plain l) l m (record { formed = p; fits = tt; is = refl }) (record { formed = q; fits = tt; is = both.0 }), both.1)
 
-  align : (ls ms : List Line) (r q : List ℕ) → All IsWellFormed ls → All IsWellFormed ms → flat_map printed ls ++ r ≡ flat_map printed ms ++ q → Aligned ls ms r q
+  align : (ls ms : List Line) (r q : List ℕ) → All IsWellFormed ls → All IsWellFormed ms → flat_map (printed Plain) ls ++ r ≡ flat_map (printed Plain) ms ++ q → Aligned ls ms r q
   align [] [] r q a b e = inl (refl, e)
-  align [] (m ∷ ms) r q a b e = inr (inr (record { next = m; more = ms; formed = All-head IsWellFormed m ms b; is = refl; text = e ∙ append_assoc (printed m) (flat_map printed ms) q }))
-  align (l ∷ ls) [] r q a b e = inr (inl (record { next = l; more = ls; formed = All-head IsWellFormed l ls a; is = refl; text = sym e ∙ append_assoc (printed l) (flat_map printed ls) r }))
+  align [] (m ∷ ms) r q a b e = inr (inr (record { next = m; more = ms; formed = All-head IsWellFormed m ms b; is = refl; text = e ∙ append_assoc (printed Plain m) (flat_map (printed Plain) ms) q }))
+  align (l ∷ ls) [] r q a b e = inr (inl (record { next = l; more = ls; formed = All-head IsWellFormed l ls a; is = refl; text = sym e ∙ append_assoc (printed Plain l) (flat_map (printed Plain) ls) r }))
   align (l ∷ ls) (m ∷ ms) r q a b e =
-      let both = printed_once l m (flat_map printed ls ++ r) (flat_map printed ms ++ q) (All-head IsWellFormed l ls a) (All-head IsWellFormed m ms b)
-      (sym (append_assoc (printed l) (flat_map printed ls) r) ∙ e ∙ append_assoc (printed m) (flat_map printed ms) q) in
+      let both = printed_once l m (flat_map (printed Plain) ls ++ r) (flat_map (printed Plain) ms ++ q) (All-head IsWellFormed l ls a) (All-head IsWellFormed m ms b)
+      (sym (append_assoc (printed Plain l) (flat_map (printed Plain) ls) r) ∙ e ∙ append_assoc (printed Plain m) (flat_map (printed Plain) ms) q) in
       ⊎_elim
       (λ (same : (ls ≡ ms) × (r ≡ q)). inl (subst (λ (x : Line). l ∷ ls ≡ x ∷ ms) both.0 (ap (λ (xs : List Line). l ∷ xs) same.0), same.1))
       (λ (other : GoesOn ls ms r q ⊎ GoesOn ms ls q r). inr (⊎_elim
@@ -117,7 +118,7 @@ module _ (texts : LineTexts) where
   -- two readings of one log agree as far as both go
   pub begins_align : (bytes : List ℕ) (ls ms : List Line) (r q : List ℕ) → BeginsWith bytes ls r → BeginsWith bytes ms q → Aligned ls ms r q
   begins_align bytes ls ms r q a b = align ls ms r q a.formed b.formed
-      (whole_once header_text header_text (flat_map printed ls ++ r) (flat_map printed ms ++ q) header_one header_one (sym (begins_is bytes ls r a) ∙ begins_is bytes ms q b)).1
+      (whole_once header_text header_text (flat_map (printed Plain) ls ++ r) (flat_map (printed Plain) ms ++ q) header_one header_one (sym (begins_is bytes ls r a) ∙ begins_is bytes ms q b)).1
 
 -- ---- ends
 
@@ -126,11 +127,11 @@ pub spelled_whole : (bytes : List ℕ) (lines : List Line) → HoldsNoFurtherLin
 spelled_whole bytes lines held whole = ⊎_elim
     (λ (part : IsPrefixOf bytes header_text). absurd (header_part_one bytes part (subst (λ (t : List ℕ). Contains t newline) (sym (whole.1 ∙ append_assoc header_text (newline ∷ []) whole.0)) (has_newline header_text whole.0))))
     (λ (rest : (r : List ℕ) × BeginsWith bytes lines r × IsOneLine r).
-    let after : whole.0 ≡ flat_map printed lines ++ rest.0 = (whole_once header_text header_text whole.0 (flat_map printed lines ++ rest.0) header_one header_one
+    let after : whole.0 ≡ flat_map (printed Plain) lines ++ rest.0 = (whole_once header_text header_text whole.0 (flat_map (printed Plain) lines ++ rest.0) header_one header_one
     (sym (whole.1 ∙ append_assoc header_text (newline ∷ []) whole.0) ∙ begins_is bytes lines rest.0 rest.1)).1 in
     let none : rest.0 ≡ [] = ⊎_elim
-    (λ (empty : whole.0 ≡ []). nothing (flat_map printed lines) rest.0 (sym after ∙ empty))
-    (λ (ends : (before : List ℕ) × (whole.0 ≡ before ++ newline ∷ [])). ⊎_elim (λ (h : rest.0 ≡ []). h) (λ (h : Contains rest.0 newline). absurd (rest.2 h)) (tail_newline (flat_map printed lines) rest.0 ends.0 (sym after ∙ ends.1)))
+    (λ (empty : whole.0 ≡ []). nothing (flat_map (printed Plain) lines) rest.0 (sym after ∙ empty))
+    (λ (ends : (before : List ℕ) × (whole.0 ≡ before ++ newline ∷ [])). ⊎_elim (λ (h : rest.0 ≡ []). h) (λ (h : Contains rest.0 newline). absurd (rest.2 h)) (tail_newline (flat_map (printed Plain) lines) rest.0 ends.0 (sym after ∙ ends.1)))
     whole.2 in
     subst (λ (r : List ℕ). BeginsWith bytes lines r) none rest.1)
     held
@@ -139,12 +140,12 @@ spelled_whole bytes lines held whole = ⊎_elim
     nothing [] ys e = e
     nothing (x ∷ xs) ys e = cc
 
-flat_ends : (pre : List ℕ) (lines : List Line) → (before : List ℕ) × ((pre ++ newline ∷ []) ++ flat_map printed lines ≡ before ++ newline ∷ [])
+flat_ends : (pre : List ℕ) (lines : List Line) → (before : List ℕ) × ((pre ++ newline ∷ []) ++ flat_map (printed Plain) lines ≡ before ++ newline ∷ [])
 flat_ends pre [] = (pre, append-nil (pre ++ newline ∷ []))
 flat_ends pre (l ∷ lines) =
-    let pre' : List ℕ = (pre ++ newline ∷ []) ++ line_text l in
+    let pre' : List ℕ = (pre ++ newline ∷ []) ++ line_text Plain l in
     let rest = flat_ends pre' lines in
-    (rest.0, sym (append_assoc (pre ++ newline ∷ []) (printed l) (flat_map printed lines)) ∙ ap (λ (t : List ℕ). t ++ flat_map printed lines) (sym (append_assoc (pre ++ newline ∷ []) (line_text l) (newline ∷ []))) ∙ rest.1)
+    (rest.0, sym (append_assoc (pre ++ newline ∷ []) (printed Plain l) (flat_map (printed Plain) lines)) ∙ ap (λ (t : List ℕ). t ++ flat_map (printed Plain) lines) (sym (append_assoc (pre ++ newline ∷ []) (line_text Plain l) (newline ∷ []))) ∙ rest.1)
 
 -- the text of a log doesn't end in the midst of a line
 pub spelled_finished : (bytes : List ℕ) (lines : List Line) (k : ℕ) → SpellsLog bytes lines → IsUnfinishedAt bytes k → ⊥

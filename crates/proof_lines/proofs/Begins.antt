@@ -7,11 +7,14 @@ use Rattle.std.proofs.lemmas.Int.{ints}
 use Rattle.scut_base.specs.Literal.{Literal}
 use Rattle.cutting_planes.specs.declared.token.PolToken.{PolToken}
 use Rattle.cutting_planes.specs.declared.token.PolToken.TheVariants.{Id, Axiom, Negated, Denied, Add, Mul, Div, Saturate, Weaken}
-use Rattle.proof_laws.specs.WellFormed.{IsToken}
+use Rattle.proof_laws.specs.WellFormed.{IsId, IsToken}
 use Rattle.proof_lines.specs.LineText.{literal_word, token_words, variable_word}
 use Rattle.proof_lines.specs.Reading.{EndsPart, first_letter}
+use Rattle.proof_lines.proofs.IdWords.{id_first}
 use Rattle.proof_lines.proofs.Numbers.{decimal_first}
 use Rattle.proof_lines.proofs.TokenWords.{first_byte, FollowsAny}
+use Rattle.proof_lines.specs.declared.spelling.Spelling.{Spelling}
+use Rattle.proof_lines.specs.Ids.{IsSpelling, id_word}
 
 -- whether a word that begins with this byte may end a part or belong to a token before it
 abbrev pub is_mark : ℕ → Bool
@@ -32,6 +35,10 @@ no_mark byte other plain mark same = let both : is_mark byte ≡ is_mark other =
 digit_plain : (byte : ℕ) → IsInRange 48 57 byte → is_mark byte ≡ false
 digit_plain byte digit = grind (arith, nat_tests)
 
+-- a digit, or `-`
+low_plain : (byte : ℕ) → IsInRange 45 57 byte → is_mark byte ≡ false
+low_plain byte low = grind (arith, nat_tests)
+
 number_plain : (n : ℕ) → n < 10 ^ 64 → is_mark (get_or (decimal n) 0 0) ≡ false
 number_plain n small = digit_plain (get_or (decimal n) 0 0) (decimal_first n small)
 
@@ -45,18 +52,22 @@ literal_plain l = signed_plain l.var l.neg
 begins : (word : List ℕ) (rest : List (List ℕ)) → is_mark (get_or word 0 0) ≡ false → BeginsPlain (word ∷ rest)
 begins word rest plain = record { word = word; rest = rest; is = refl; plain = plain }
 
-pub token_begins : (t : PolToken) (r : List (List ℕ)) → IsToken t → BeginsPlain (token_words t ++ r)
-token_begins (Id id) r valid = begins (decimal id) r (number_plain id (omega arith))
-token_begins (Axiom l) r valid = begins (literal_word l) r (literal_plain l)
-token_begins Negated r valid = begins (codes "~") r refl
-token_begins Denied r valid = begins (codes "!") r refl
-token_begins Add r valid = begins (codes "+") r refl
-token_begins (Mul (pos n)) r valid = begins (decimal n) (codes "*" ∷ r) (number_plain n (omega (arith, ints)))
-token_begins (Mul (negsuc n)) r valid = absurd (omega (arith, ints))
-token_begins (Div (pos n)) r valid = begins (decimal n) (codes "d" ∷ r) (number_plain n (omega (arith, ints)))
-token_begins (Div (negsuc n)) r valid = absurd (omega (arith, ints))
-token_begins Saturate r valid = begins (codes "s") r refl
-token_begins (Weaken var) r valid = begins (variable_word var) (codes "w" ∷ r) refl
+module _ (spelling : Spelling) (fine : IsSpelling spelling) where
+  id_plain : (id : ℕ) → IsId id → is_mark (get_or (id_word spelling id) 0 0) ≡ false
+  id_plain id valid = low_plain (get_or (id_word spelling id) 0 0) (id_first spelling id valid)
+
+  pub token_begins : (t : PolToken) (r : List (List ℕ)) → IsToken t → BeginsPlain (token_words spelling t ++ r)
+  token_begins (Id id) r valid = begins (id_word spelling id) r (id_plain id valid)
+  token_begins (Axiom l) r valid = begins (literal_word l) r (literal_plain l)
+  token_begins Negated r valid = begins (codes "~") r refl
+  token_begins Denied r valid = begins (codes "!") r refl
+  token_begins Add r valid = begins (codes "+") r refl
+  token_begins (Mul (pos n)) r valid = begins (decimal n) (codes "*" ∷ r) (number_plain n (omega (arith, ints)))
+  token_begins (Mul (negsuc n)) r valid = absurd (omega (arith, ints))
+  token_begins (Div (pos n)) r valid = begins (decimal n) (codes "d" ∷ r) (number_plain n (omega (arith, ints)))
+  token_begins (Div (negsuc n)) r valid = absurd (omega (arith, ints))
+  token_begins Saturate r valid = begins (codes "s") r refl
+  token_begins (Weaken var) r valid = begins (variable_word var) (codes "w" ∷ r) refl
 
 -- ---- what ends a part
 

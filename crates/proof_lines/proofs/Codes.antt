@@ -11,8 +11,11 @@ use Rattle.scut_base.specs.Literal.{Literal}
 use Rattle.hint_rup.specs.declared.hint.Hint.{Hint}
 use Rattle.hint_rup.specs.declared.hint.Hint.TheVariants.{Id, Negated, Denied}
 use Rattle.proof_laws.specs.WellFormed.{IsId, IsVariable, IsHint}
+use Rattle.proof_lines.specs.declared.spelling.Spelling.{Spelling}
+use Rattle.proof_lines.specs.Ids.{IsSpelling, id_word}
 use Rattle.proof_lines.specs.LineText.{variable_word, literal_word, hint_word}
 use Rattle.proof_lines.proofs.Numbers.{one_number, decimal_first}
+use Rattle.proof_lines.proofs.IdWords.{no_id, one_id}
 use Rattle.proof_lines.proofs.Items.{Words}
 
 -- ---- first bytes
@@ -65,24 +68,6 @@ literal_first l = spelled_first l.neg l.var
 pub no_literal : (l : Literal) (word : List ℕ) → (IsInRange 120 126 (first_byte word) → ⊥) → literal_word l ≡ word → ⊥
 no_literal l word other is = other (subst (λ (w : List ℕ). IsInRange 120 126 (get_or w 0 0)) is (literal_first l))
 
--- ---- hints
-
-pub one_hint : (h k : Hint) → IsHint h → IsHint k → hint_word h ≡ hint_word k → h ≡ k
-one_hint (Id m) (Id n) p q e = let small : m < 2 ^ 63 = p in let other : n < 2 ^ 63 = q in ap Id (one_number m n (omega arith) (omega arith) e)
-one_hint (Id m) Negated p q e = let small : m < 2 ^ 63 = p in absurd (no_decimal m (omega arith) (126 ∷ []) (λ digit. omega arith) e)
-one_hint (Id m) Denied p q e = let small : m < 2 ^ 63 = p in absurd (no_decimal m (omega arith) (33 ∷ []) (λ digit. omega arith) e)
-one_hint Negated (Id n) p q e = let other : n < 2 ^ 63 = q in absurd (no_decimal n (omega arith) (126 ∷ []) (λ digit. omega arith) (sym e))
-one_hint Negated Negated p q e = refl
-one_hint Negated Denied p q e = absurd (heads_apart 126 33 _ _ refl e)
-one_hint Denied (Id n) p q e = let other : n < 2 ^ 63 = q in absurd (no_decimal n (omega arith) (33 ∷ []) (λ digit. omega arith) (sym e))
-one_hint Denied Negated p q e = absurd (heads_apart 33 126 _ _ refl e)
-one_hint Denied Denied p q e = refl
-
-no_mark_hint : (h : Hint) → IsHint h → hint_word h ≡ 58 ∷ [] → ⊥
-no_mark_hint (Id n) p e = let small : n < 2 ^ 63 = p in no_decimal n (omega arith) (58 ∷ []) (λ digit. omega arith) e
-no_mark_hint Negated p e = heads_apart 126 58 [] [] refl e
-no_mark_hint Denied p e = heads_apart 33 58 [] [] refl e
-
 -- ---- items of one word
 
 abbrev pub one_word : {X : Type 0} → (X → List ℕ) → X → Words
@@ -96,20 +81,39 @@ pub record IsWordCode {X : Type 0} (word : X → List ℕ) (IsValid : X → Type
   pub one : (x y : X) → IsValid x → IsValid y → word x ≡ word y → x ≡ y
   pub no_mark : (x : X) → IsValid x → word x ≡ 58 ∷ [] → ⊥
 
-pub id_code : IsWordCode decimal IsId
-id_code = record {
-  one = λ m n p q e. one_number m n (omega arith) (omega arith) e;
-  no_mark = λ n p e. no_decimal n (omega arith) (58 ∷ []) (λ digit. omega arith) e;
-}
-
 pub literal_code : IsWordCode literal_word (λ l. IsVariable l.var)
 literal_code = record {
   one = one_literal;
   no_mark = λ l p e. no_literal l (58 ∷ []) (λ first. omega arith) e;
 }
 
-pub hint_code : IsWordCode hint_word IsHint
-hint_code = record { one = one_hint; no_mark = no_mark_hint }
+-- ---- ids and hints
+
+module _ (spelling : Spelling) (fine : IsSpelling spelling) where
+  pub one_hint : (h k : Hint) → IsHint h → IsHint k → hint_word spelling h ≡ hint_word spelling k → h ≡ k
+  one_hint (Id m) (Id n) p q e = ap Id (one_id spelling fine m n p q e)
+  one_hint (Id m) Negated p q e = absurd (no_id spelling m p (126 ∷ []) (λ digit. omega arith) e)
+  one_hint (Id m) Denied p q e = absurd (no_id spelling m p (33 ∷ []) (λ digit. omega arith) e)
+  one_hint Negated (Id n) p q e = absurd (no_id spelling n q (126 ∷ []) (λ digit. omega arith) (sym e))
+  one_hint Negated Negated p q e = refl
+  one_hint Negated Denied p q e = absurd (heads_apart 126 33 _ _ refl e)
+  one_hint Denied (Id n) p q e = absurd (no_id spelling n q (33 ∷ []) (λ digit. omega arith) (sym e))
+  one_hint Denied Negated p q e = absurd (heads_apart 33 126 _ _ refl e)
+  one_hint Denied Denied p q e = refl
+
+  no_mark_hint : (h : Hint) → IsHint h → hint_word spelling h ≡ 58 ∷ [] → ⊥
+  no_mark_hint (Id n) p e = no_id spelling n p (58 ∷ []) (λ digit. omega arith) e
+  no_mark_hint Negated p e = heads_apart 126 58 [] [] refl e
+  no_mark_hint Denied p e = heads_apart 33 58 [] [] refl e
+
+  pub id_code : IsWordCode (id_word spelling) IsId
+  id_code = record {
+    one = λ m n p q e. one_id spelling fine m n p q e;
+    no_mark = λ n p e. no_id spelling n p (58 ∷ []) (λ digit. omega arith) e;
+  }
+
+  pub hint_code : IsWordCode (hint_word spelling) IsHint
+  hint_code = record { one = one_hint; no_mark = no_mark_hint }
 
 -- two texts that the test tells apart
 pub texts_apart : (word text other : List ℕ) (r : Bool) → r ≡ bytes_eq word text → text ≡ other → r ≡ false → word ≡ other → ⊥

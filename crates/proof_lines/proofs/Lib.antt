@@ -2,10 +2,13 @@ pub mod Appends
 pub mod TokenWords
 pub mod Cutting
 pub mod Numbers
+pub mod IdWords
 pub mod Begins
 pub mod Items
 pub mod Codes
 pub mod WordParts
+pub mod Pieces
+pub mod RunWords
 pub mod RisingLists
 pub mod TermLists
 pub mod TokenCode

@@ -1,5 +1,5 @@
 -- Terms of a constraint: how they are kept, how they are spelled, and how they rise.
-use Rattle.std.proofs.Common.{◌≡◌, ℕ, suc, ◌+◌, ◌<◌, ◌≤◌, ◌^◌, List, [], ◌∷◌, ◌++◌, length, get_or, refl, sym, ap, subst, ◌∙◌, arith}
+use Rattle.std.proofs.Common.{◌≡◌, ℕ, suc, ◌+◌, ◌<◌, ◌≤◌, ◌^◌, List, [], ◌∷◌, ◌++◌, length, get_or, Err, refl, sym, ap, subst, ◌∙◌, arith}
 use Rattle.std.specs.List.{All, AllPairs, flat_map}
 use Rattle.std.specs.Fmt.{decimal}
 use Rattle.std.proofs.lemmas.List.{append-nil, append_assoc}
@@ -13,7 +13,9 @@ use Rattle.pb_lin.proofs.Ones.{total_ones, AreOnes-ones, rising-literals}
 use Rattle.pb_lin.proofs.Merges.{rising_head, rising_tail}
 use Rattle.proof_laws.specs.WellFormed.{IsVariable, IsConstraint}
 use Rattle.proof_lines.specs.LineText.{literal_word, constraint_words}
-use Rattle.proof_lines.specs.Reading.{BeginsWith, IsTerm, AreTerms, MayFollow, term_words}
+use Rattle.proof_lines.specs.declared.reader.LineFault.{LineFault}
+use Rattle.proof_lines.specs.declared.reader.LineFault.TheVariants.{Syntax, NoMemory}
+use Rattle.proof_lines.specs.Reading.{BeginsWith, IsTerm, AreTerms, MayFollow, Reads, ReadsTerms, term_words}
 use Rattle.proof_lines.proofs.Numbers.{one_number}
 use Rattle.proof_lines.proofs.Codes.{AnyFollows, no_decimal, one_literal}
 use Rattle.proof_lines.proofs.Items.{IsCode, ItemsSoFar, Words, other_items, All-back, no_item_here, one_list}
@@ -230,6 +232,25 @@ one_constraint c d r s left right e =
     let small : total c.terms + c.degree ≤ 2 ^ 100 = left.normal.small in
     let other_small : total d.terms + d.degree ≤ 2 ^ 100 = right.normal.small in
     (same_constraint c d same.0 (one_number c.degree d.degree (omega arith) (omega arith) (head_same _ _ _ _ same.1)), tail_same _ _ _ _ same.1)
+
+-- where no terms begin, no constraint does
+pub terms_wrong : (f : LineFault) (old new after : Words) → ReadsTerms old new (Err f) → Reads constraint_words IsConstraint old after (Err f)
+terms_wrong Syntax old new after none = λ c rest valid spelled. none c.terms (decimal c.degree ∷ rest) (terms_of_constraint c valid) (spelled ∙ constraint_words_is c rest)
+terms_wrong NoMemory old new after none = tt
+
+pub sum_small : (terms : List (Literal × ℕ)) (sum : ℕ) → AreTerms terms → sum ≡ total terms → sum ≤ 2 ^ 100
+sum_small terms sum formed sum_is = let small : total terms + 0 ≤ 2 ^ 100 = formed.normal.small in omega arith
+
+-- terms with a degree that keeps the size small
+pub normal_with : (terms : List (Literal × ℕ)) (sum degree : ℕ) → AreTerms terms → sum ≡ total terms → sum + degree ≤ 2 ^ 100 → IsNormal terms degree
+normal_with terms sum degree formed sum_is small = record { merged = formed.normal.merged; small = omega arith }
+
+pub constraint_read : (old here new : Words) (terms : List (Literal × ℕ)) (sum degree : ℕ) (c : ConstraintValue) → AreTerms terms × (sum ≡ total terms) × (old ≡ flat_map term_words terms ++ (62 ∷ 61 ∷ []) ∷ here) → (sum + degree ≤ 2 ^ 100) × (here ≡ decimal degree ∷ new) → c ≡ record { terms = terms; degree = degree } → IsConstraint c × (old ≡ constraint_words c ++ new)
+constraint_read old here new terms sum degree c read last is =
+    let made : ConstraintValue = record { terms = terms; degree = degree } in
+    let valid : IsConstraint made = record { normal = normal_with terms sum degree read.0 read.1 last.0; variables = read.0.variables } in
+    let words : old ≡ constraint_words made ++ new = read.2 ∙ ap (λ ws. flat_map term_words terms ++ (62 ∷ 61 ∷ []) ∷ ws) last.1 ∙ sym (constraint_words_is made new) in
+    subst (λ (d : ConstraintValue). IsConstraint d × (old ≡ constraint_words d ++ new)) (sym is) (valid, words)
 
 -- where terms but no degree follow, no constraint begins
 pub no_degree : (old new : Words) (terms : List (Literal × ℕ)) (sum : ℕ) → AreTerms terms → sum ≡ total terms → old ≡ flat_map term_words terms ++ (62 ∷ 61 ∷ []) ∷ new → ((d : ℕ) (rest : Words) → sum + d ≤ 2 ^ 100 → new ≡ decimal d ∷ rest → ⊥) → (c : ConstraintValue) (rest : Words) → IsConstraint c → old ≡ constraint_words c ++ rest → ⊥

@@ -1,4 +1,6 @@
 pub use Rattle.proof_laws.specs.WellFormed
+pub mod Ids
+pub mod Pieces
 pub mod LineText
 pub mod Spaces
 pub mod Reading

@@ -1,4 +1,4 @@
--- The text of a line of a log: words with one space between each two.
+-- The text of a line of a log: words with one space between each two. Its ids are spelled as the log's version asks.
 use Rattle.std.specs.Prelude.{◌≡◌, ℕ, if◌then◌else◌, List, [], ◌∷◌, ◌++◌, map, codes}
 use Rattle.std.specs.List.{flat_map}
 use Rattle.std.specs.Fmt.{decimal, signed_decimal}
@@ -18,6 +18,8 @@ use Rattle.proof_laws.specs.declared.goal.GoalProof.TheVariants.{Rup as ByRup, P
 use Rattle.proof_laws.specs.declared.line.Line.{Line}
 use Rattle.proof_laws.specs.declared.line.Line.TheVariants.{Pol, Rup, Learn, Def, Red, Dom, Sol, Del, Reduce, End}
 use Rattle.proof_laws.specs.WellFormed.{IsWellFormed}
+use Rattle.proof_lines.specs.declared.spelling.Spelling.{Spelling}
+use Rattle.proof_lines.specs.Ids.{FitsNext, deleted_words, id_word}
 
 -- ---- words
 
@@ -33,21 +35,21 @@ literal_word l = if l.neg then codes "~" ++ variable_word l.var else variable_wo
 abbrev pub constraint_words : ConstraintValue → List (List ℕ)
 constraint_words c = flat_map (λ t. decimal t.1 ∷ literal_word t.0 ∷ []) c.terms ++ codes ">=" ∷ decimal c.degree ∷ []
 
-abbrev pub token_words : PolToken → List (List ℕ)
-token_words (IdToken id) = decimal id ∷ []
-token_words (Axiom l) = literal_word l ∷ []
-token_words NegatedToken = codes "~" ∷ []
-token_words DeniedToken = codes "!" ∷ []
-token_words Add = codes "+" ∷ []
-token_words (Mul k) = signed_decimal k ∷ codes "*" ∷ []
-token_words (Div k) = signed_decimal k ∷ codes "d" ∷ []
-token_words Saturate = codes "s" ∷ []
-token_words (Weaken var) = variable_word var ∷ codes "w" ∷ []
+abbrev pub token_words : Spelling → PolToken → List (List ℕ)
+token_words spelling (IdToken id) = id_word spelling id ∷ []
+token_words spelling (Axiom l) = literal_word l ∷ []
+token_words spelling NegatedToken = codes "~" ∷ []
+token_words spelling DeniedToken = codes "!" ∷ []
+token_words spelling Add = codes "+" ∷ []
+token_words spelling (Mul k) = signed_decimal k ∷ codes "*" ∷ []
+token_words spelling (Div k) = signed_decimal k ∷ codes "d" ∷ []
+token_words spelling Saturate = codes "s" ∷ []
+token_words spelling (Weaken var) = variable_word var ∷ codes "w" ∷ []
 
-abbrev pub hint_word : Hint → List ℕ
-hint_word (IdHint id) = decimal id
-hint_word NegatedHint = codes "~"
-hint_word DeniedHint = codes "!"
+abbrev pub hint_word : Spelling → Hint → List ℕ
+hint_word spelling (IdHint id) = id_word spelling id
+hint_word spelling NegatedHint = codes "~"
+hint_word spelling DeniedHint = codes "!"
 
 abbrev pub image_word : Image → List ℕ
 image_word Zero = codes "0"
@@ -58,41 +60,41 @@ image_word (Lit l) = literal_word l
 abbrev pub image_words : ℕ × Image → List (List ℕ)
 image_words i = variable_word i.0 ∷ image_word i.1 ∷ []
 
-abbrev pub goal_word : Goal → List ℕ
-goal_word (Row id) = decimal id
-goal_word Itself = codes "c"
-goal_word (Objective i) = codes "o" ++ decimal i
-goal_word Strict = codes "s"
+abbrev pub goal_word : Spelling → Goal → List ℕ
+goal_word spelling (Row id) = id_word spelling id
+goal_word spelling Itself = codes "c"
+goal_word spelling (Objective i) = codes "o" ++ decimal i
+goal_word spelling Strict = codes "s"
 
-abbrev pub proof_words : GoalProof → List (List ℕ)
-proof_words (ByRup hints) = codes "rup" ∷ map hint_word hints
-proof_words (ByPol tokens) = codes "pol" ∷ flat_map token_words tokens
+abbrev pub proof_words : Spelling → GoalProof → List (List ℕ)
+proof_words spelling (ByRup hints) = codes "rup" ∷ map (hint_word spelling) hints
+proof_words spelling (ByPol tokens) = codes "pol" ∷ flat_map (token_words spelling) tokens
 
 -- `: o1 pol 1 ~ +`
-abbrev pub goal_words : Goal × GoalProof → List (List ℕ)
-goal_words q = codes ":" ∷ goal_word q.0 ∷ proof_words q.1
+abbrev pub goal_words : Spelling → Goal × GoalProof → List (List ℕ)
+goal_words spelling q = codes ":" ∷ goal_word spelling q.0 ∷ proof_words spelling q.1
 
 -- the words of a constraint, and of the hints that lead to it
-abbrev pub hinted_words : ConstraintValue → List Hint → List (List ℕ)
-hinted_words goal hints = constraint_words goal ++ codes ":" ∷ map hint_word hints
+abbrev pub hinted_words : Spelling → ConstraintValue → List Hint → List (List ℕ)
+hinted_words spelling goal hints = constraint_words goal ++ codes ":" ∷ map (hint_word spelling) hints
 
 -- the words of a constraint, of a witness, and of the proofs of goals
-abbrev pub witnessed_words : ConstraintValue → List (ℕ × Image) → List (Goal × GoalProof) → List (List ℕ)
-witnessed_words goal witness proofs = constraint_words goal ++ codes ":" ∷ flat_map image_words witness ++ flat_map goal_words proofs
+abbrev pub witnessed_words : Spelling → ConstraintValue → List (ℕ × Image) → List (Goal × GoalProof) → List (List ℕ)
+witnessed_words spelling goal witness proofs = constraint_words goal ++ codes ":" ∷ flat_map image_words witness ++ flat_map (goal_words spelling) proofs
 
 -- ---- lines
 
-abbrev pub line_words : Line → List (List ℕ)
-line_words (Pol tokens) = codes "pol" ∷ flat_map token_words tokens
-line_words (Rup goal hints) = codes "rup" ∷ hinted_words goal hints
-line_words (Learn goal hints) = codes "learn" ∷ hinted_words goal hints
-line_words (Def var sum) = codes "def" ∷ variable_word var ∷ codes ":" ∷ constraint_words sum
-line_words (Red goal witness proofs) = codes "red" ∷ witnessed_words goal witness proofs
-line_words (Dom goal witness proofs) = codes "dom" ∷ witnessed_words goal witness proofs
-line_words (Sol model cut rows) = codes "sol" ∷ map literal_word model ++ codes ":" ∷ map literal_word cut ++ codes ":" ∷ map decimal rows
-line_words (Del ids) = codes "del" ∷ map decimal ids
-line_words (Reduce ids) = codes "reduce" ∷ map decimal ids
-line_words (End id) = codes "end" ∷ decimal id ∷ []
+abbrev pub line_words : Spelling → Line → List (List ℕ)
+line_words spelling (Pol tokens) = codes "pol" ∷ flat_map (token_words spelling) tokens
+line_words spelling (Rup goal hints) = codes "rup" ∷ hinted_words spelling goal hints
+line_words spelling (Learn goal hints) = codes "learn" ∷ hinted_words spelling goal hints
+line_words spelling (Def var sum) = codes "def" ∷ variable_word var ∷ codes ":" ∷ constraint_words sum
+line_words spelling (Red goal witness proofs) = codes "red" ∷ witnessed_words spelling goal witness proofs
+line_words spelling (Dom goal witness proofs) = codes "dom" ∷ witnessed_words spelling goal witness proofs
+line_words spelling (Sol model cut rows) = codes "sol" ∷ map literal_word model ++ codes ":" ∷ map literal_word cut ++ codes ":" ∷ map (id_word spelling) rows
+line_words spelling (Del ids) = codes "del" ∷ deleted_words spelling ids
+line_words spelling (Reduce ids) = codes "reduce" ∷ deleted_words spelling ids
+line_words spelling (End id) = codes "end" ∷ id_word spelling id ∷ []
 
 -- words with one space between each two
 abbrev pub spaced : List (List ℕ) → List ℕ
@@ -100,18 +102,19 @@ spaced [] = []
 spaced (word ∷ words) = word ++ flat_map (λ w. space ∷ w) words
 
 -- the text of a line, without its line feed
-abbrev pub line_text : Line → List ℕ
-line_text line = spaced (line_words line)
+abbrev pub line_text : Spelling → Line → List ℕ
+line_text spelling line = spaced (line_words spelling line)
 
--- the text is that of this line
-pub record SpellsLine (text : List ℕ) (line : Line) : Type 0 where
+-- the text is that of this line, which makes no id that is too large for the spelling
+pub record SpellsLine (spelling : Spelling) (text : List ℕ) (line : Line) : Type 0 where
   pub formed : IsWellFormed line
-  pub is : text ≡ line_text line
+  pub fits : FitsNext spelling line
+  pub is : text ≡ line_text spelling line
 
 -- no line has this text
-abbrev pub SpellsNoLine : List ℕ → Type 0
-SpellsNoLine text = (line : Line) → SpellsLine text line → ⊥
+abbrev pub SpellsNoLine : Spelling → List ℕ → Type 0
+SpellsNoLine spelling text = (line : Line) → SpellsLine spelling text line → ⊥
 
 -- the text of a line with its line feed
-abbrev pub printed : Line → List ℕ
-printed line = line_text line ++ newline ∷ []
+abbrev pub printed : Spelling → Line → List ℕ
+printed spelling line = line_text spelling line ++ newline ∷ []

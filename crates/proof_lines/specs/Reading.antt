@@ -8,10 +8,12 @@ use Rattle.scut_base.specs.Literal.{Literal}
 use Rattle.pb_lin.specs.Constraint.{total}
 use Rattle.cutting_planes.specs.declared.token.PolToken.{PolToken}
 use Rattle.cutting_planes.specs.declared.token.PolToken.TheVariants.{Id, Axiom, Negated, Denied, Add, Saturate}
-use Rattle.proof_laws.specs.WellFormed.{IsVariable, IsConstraint, IsToken}
+use Rattle.proof_laws.specs.WellFormed.{IsId, IsVariable, IsConstraint, IsToken}
+use Rattle.proof_lines.specs.Ids.{id_word}
 use Rattle.proof_lines.specs.LineText.{literal_word, token_words}
 use Rattle.proof_lines.specs.declared.reader.LineFault.{LineFault}
 use Rattle.proof_lines.specs.declared.reader.LineFault.TheVariants.{Syntax, NoMemory}
+use Rattle.proof_lines.specs.declared.spelling.Spelling.{Spelling}
 
 -- ---- words
 
@@ -130,9 +132,14 @@ FollowsToken (Axiom l) rest = first_letter rest ≢ 119
 FollowsToken t rest = Unit {0}
 
 -- the token that the old words begin with, or none
-abbrev pub TakesToken : List (List ℕ) → List (List ℕ) → Option PolToken → Type 0
-TakesToken old new None = (t : PolToken) (rest : List (List ℕ)) → IsToken t → FollowsToken t rest → old ≡ token_words t ++ rest → ⊥
-TakesToken old new (Some t) = IsToken t × (old ≡ token_words t ++ new) × FollowsToken t new
+abbrev pub TakesToken : Spelling → List (List ℕ) → List (List ℕ) → Option PolToken → Type 0
+TakesToken spelling old new None = (t : PolToken) (rest : List (List ℕ)) → IsToken t → FollowsToken t rest → old ≡ token_words spelling t ++ rest → ⊥
+TakesToken spelling old new (Some t) = IsToken t × (old ≡ token_words spelling t ++ new) × FollowsToken t new
+
+-- the same of a token that is an id
+abbrev pub TakesId : Spelling → List (List ℕ) → List (List ℕ) → Option PolToken → Type 0
+TakesId spelling old new None = (id : ℕ) (rest : List (List ℕ)) → IsId id → FollowsToken (Id id) rest → old ≡ id_word spelling id ∷ rest → ⊥
+TakesId spelling old new (Some t) = IsToken t × (old ≡ token_words spelling t ++ new) × FollowsToken t new
 
 -- tokens that are one letter
 abbrev pub IsSymbol : PolToken → Type 0

@@ -2,12 +2,16 @@
 ghost use Rattle.std.specs.Prelude.{◌≡◌, ◌++◌, map, OnOk, codes};
 ghost use Rattle.std.specs.List.{flat_map};
 ghost use Rattle.std.specs.Fmt.{decimal, signed_decimal};
+ghost use Rattle.proof_lines.specs.Ids.{deleted_words, id_word, piece_word, spelled_pieces};
 ghost use Rattle.proof_lines.specs.LineText.{constraint_words, goal_words, goal_word, hint_word};
 ghost use Rattle.proof_lines.specs.LineText.{image_word, image_words, literal_word};
 ghost use Rattle.proof_lines.specs.LineText.{proof_words, token_words, variable_word};
 ghost use Rattle.proof_lines.specs.Reading.{term_words};
 ghost use Rattle.proof_lines.specs.Spaces.{after_space, after_spaces};
 
+use crate::Spelling;
+use crate::ids::distance_back;
+use crate::runs::spelled_pieces;
 use cutting_planes::PolToken;
 use hint_rup::Hint;
 use itoa::Buffer;
@@ -23,27 +27,116 @@ pub(crate) fn append(text: &mut Vec<u8>, bytes: &[u8]) -> Result<(), NoMemory>
     Ok(())
 }
 
+// Puts the word of an id at the end.
+fn append_bare_id(
+    text: &mut Vec<u8>,
+    buffer: &mut Buffer,
+    spelling: Spelling,
+    id: u64,
+) -> Result<(), NoMemory>
+    ensures { OnOk result (text.new.items ≡ text.old.items ++ id_word spelling id) }
+{
+    match distance_back(spelling, id) {
+        Some(distance) => {
+            append(text, b"-")?;
+            append(text, buffer.format(distance).as_bytes())
+        }
+        None => append(text, buffer.format(id).as_bytes()),
+    }
+}
+
 // Puts an id at the end.
-pub(crate) fn append_id(text: &mut Vec<u8>, buffer: &mut Buffer, id: u64) -> Result<(), NoMemory>
-    ensures { OnOk result (text.new.items ≡ text.old.items ++ after_space (decimal id)) }
+pub(crate) fn append_id(
+    text: &mut Vec<u8>,
+    buffer: &mut Buffer,
+    spelling: Spelling,
+    id: u64,
+) -> Result<(), NoMemory>
+    ensures { OnOk result (text.new.items ≡ text.old.items ++ after_space (id_word spelling id)) }
 {
     text.push(b' ')?;
-    append(text, buffer.format(id).as_bytes())
+    append_bare_id(text, buffer, spelling, id)
 }
 
 // Puts ids at the end.
 pub(crate) fn append_ids(
     text: &mut Vec<u8>,
     buffer: &mut Buffer,
+    spelling: Spelling,
     ids: &[u64],
 ) -> Result<(), NoMemory>
     ensures { OnOk result
-        (text.new.items ≡ text.old.items ++ after_spaces (map decimal ids.now)) }
+        (text.new.items ≡ text.old.items ++ after_spaces (map (id_word spelling) ids.now)) }
 {
     for id in ids {
-        append_id(text, buffer, *id)?;
+        append_id(text, buffer, spelling, *id)?;
     }
     Ok(())
+}
+
+// Puts ids that are deleted at the end.
+pub(crate) fn append_deleted(
+    text: &mut Vec<u8>,
+    buffer: &mut Buffer,
+    spelling: Spelling,
+    ids: &[u64],
+) -> Result<(), NoMemory>
+    ensures { OnOk result
+        (text.new.items ≡ text.old.items ++ after_spaces (deleted_words spelling ids.now)) }
+{
+    match spelling {
+        Spelling::Plain => append_ids(text, buffer, spelling, ids),
+        Spelling::Relative { .. } => append_runs(text, buffer, spelling, ids),
+    }
+}
+
+// Puts ids at the end, those that follow one another as runs.
+fn append_runs(
+    text: &mut Vec<u8>,
+    buffer: &mut Buffer,
+    spelling: Spelling,
+    ids: &[u64],
+) -> Result<(), NoMemory>
+    ensures { OnOk result (text.new.items ≡ text.old.items
+        ++ after_spaces (map (piece_word spelling) (spelled_pieces ids.now))) }
+{
+    let pieces = spelled_pieces(*text.allocator(), ids)?;
+    append_pieces(text, buffer, spelling, pieces.as_slice())
+}
+
+// Puts pieces of ids at the end.
+fn append_pieces(
+    text: &mut Vec<u8>,
+    buffer: &mut Buffer,
+    spelling: Spelling,
+    pieces: &[(u64, u64)],
+) -> Result<(), NoMemory>
+    ensures { OnOk result (text.new.items
+        ≡ text.old.items ++ after_spaces (map (piece_word spelling) pieces.now)) }
+{
+    for piece in pieces {
+        append_piece(text, buffer, spelling, *piece)?;
+    }
+    Ok(())
+}
+
+// Puts the word of a piece of ids at the end.
+fn append_piece(
+    text: &mut Vec<u8>,
+    buffer: &mut Buffer,
+    spelling: Spelling,
+    piece: (u64, u64),
+) -> Result<(), NoMemory>
+    ensures { OnOk result
+        (text.new.items ≡ text.old.items ++ after_space (piece_word spelling piece)) }
+{
+    let (first, last) = piece;
+    append_id(text, buffer, spelling, first)?;
+    if first == last {
+        return Ok(());
+    }
+    append(text, b"..")?;
+    append_bare_id(text, buffer, spelling, last)
 }
 
 // Puts a variable at the end.
@@ -121,12 +214,17 @@ fn append_terms(text: &mut Vec<u8>, buffer: &mut Buffer, c: &Constraint) -> Resu
 }
 
 // Puts a token at the end.
-fn append_token(text: &mut Vec<u8>, buffer: &mut Buffer, token: &PolToken) -> Result<(), NoMemory>
+fn append_token(
+    text: &mut Vec<u8>,
+    buffer: &mut Buffer,
+    spelling: Spelling,
+    token: &PolToken,
+) -> Result<(), NoMemory>
     ensures { OnOk result
-        (text.new.items ≡ text.old.items ++ after_spaces (token_words token.now)) }
+        (text.new.items ≡ text.old.items ++ after_spaces (token_words spelling token.now)) }
 {
     match token {
-        PolToken::Id(id) => append_id(text, buffer, *id),
+        PolToken::Id(id) => append_id(text, buffer, spelling, *id),
         PolToken::Axiom(lit) => append_literal(text, buffer, *lit),
         PolToken::Negated => append(text, b" ~"),
         PolToken::Denied => append(text, b" !"),
@@ -166,23 +264,29 @@ fn append_weakened(text: &mut Vec<u8>, buffer: &mut Buffer, var: u64) -> Result<
 pub(crate) fn append_tokens(
     text: &mut Vec<u8>,
     buffer: &mut Buffer,
+    spelling: Spelling,
     tokens: &[PolToken],
 ) -> Result<(), NoMemory>
     ensures { OnOk result
-        (text.new.items ≡ text.old.items ++ after_spaces (flat_map token_words tokens.now)) }
+        (text.new.items ≡ text.old.items ++ after_spaces (flat_map (token_words spelling) tokens.now)) }
 {
     for token in tokens {
-        append_token(text, buffer, token)?;
+        append_token(text, buffer, spelling, token)?;
     }
     Ok(())
 }
 
 // Puts a hint at the end.
-fn append_hint(text: &mut Vec<u8>, buffer: &mut Buffer, hint: &Hint) -> Result<(), NoMemory>
-    ensures { OnOk result (text.new.items ≡ text.old.items ++ after_space (hint_word hint.now)) }
+fn append_hint(
+    text: &mut Vec<u8>,
+    buffer: &mut Buffer,
+    spelling: Spelling,
+    hint: &Hint,
+) -> Result<(), NoMemory>
+    ensures { OnOk result (text.new.items ≡ text.old.items ++ after_space (hint_word spelling hint.now)) }
 {
     match hint {
-        Hint::Id(id) => append_id(text, buffer, *id),
+        Hint::Id(id) => append_id(text, buffer, spelling, *id),
         Hint::Negated => append(text, b" ~"),
         Hint::Denied => append(text, b" !"),
     }
@@ -192,13 +296,14 @@ fn append_hint(text: &mut Vec<u8>, buffer: &mut Buffer, hint: &Hint) -> Result<(
 pub(crate) fn append_hints(
     text: &mut Vec<u8>,
     buffer: &mut Buffer,
+    spelling: Spelling,
     hints: &[Hint],
 ) -> Result<(), NoMemory>
     ensures { OnOk result
-        (text.new.items ≡ text.old.items ++ after_spaces (map hint_word hints.now)) }
+        (text.new.items ≡ text.old.items ++ after_spaces (map (hint_word spelling) hints.now)) }
 {
     for hint in hints {
-        append_hint(text, buffer, hint)?;
+        append_hint(text, buffer, spelling, hint)?;
     }
     Ok(())
 }
@@ -231,11 +336,16 @@ pub(crate) fn append_images(
 }
 
 // Puts a goal at the end.
-fn append_goal(text: &mut Vec<u8>, buffer: &mut Buffer, goal: &Goal) -> Result<(), NoMemory>
-    ensures { OnOk result (text.new.items ≡ text.old.items ++ after_space (goal_word goal.now)) }
+fn append_goal(
+    text: &mut Vec<u8>,
+    buffer: &mut Buffer,
+    spelling: Spelling,
+    goal: &Goal,
+) -> Result<(), NoMemory>
+    ensures { OnOk result (text.new.items ≡ text.old.items ++ after_space (goal_word spelling goal.now)) }
 {
     match goal {
-        Goal::Row(id) => append_id(text, buffer, *id),
+        Goal::Row(id) => append_id(text, buffer, spelling, *id),
         Goal::Itself => append(text, b" c"),
         Goal::Objective(number) => append_objective(text, buffer, *number),
         Goal::Strict => append(text, b" s"),
@@ -252,18 +362,23 @@ fn append_objective(text: &mut Vec<u8>, buffer: &mut Buffer, number: u32) -> Res
 }
 
 // Puts how a goal is proved at the end.
-fn append_proof(text: &mut Vec<u8>, buffer: &mut Buffer, proof: &GoalProof) -> Result<(), NoMemory>
+fn append_proof(
+    text: &mut Vec<u8>,
+    buffer: &mut Buffer,
+    spelling: Spelling,
+    proof: &GoalProof,
+) -> Result<(), NoMemory>
     ensures { OnOk result
-        (text.new.items ≡ text.old.items ++ after_spaces (proof_words proof.now)) }
+        (text.new.items ≡ text.old.items ++ after_spaces (proof_words spelling proof.now)) }
 {
     match proof {
         GoalProof::Rup(hints) => {
             append(text, b" rup")?;
-            append_hints(text, buffer, hints.as_slice())
+            append_hints(text, buffer, spelling, hints.as_slice())
         }
         GoalProof::Pol(tokens) => {
             append(text, b" pol")?;
-            append_tokens(text, buffer, tokens.as_slice())
+            append_tokens(text, buffer, spelling, tokens.as_slice())
         }
     }
 }
@@ -272,15 +387,16 @@ fn append_proof(text: &mut Vec<u8>, buffer: &mut Buffer, proof: &GoalProof) -> R
 pub(crate) fn append_goals(
     text: &mut Vec<u8>,
     buffer: &mut Buffer,
+    spelling: Spelling,
     proofs: &[(Goal, GoalProof)],
 ) -> Result<(), NoMemory>
     ensures { OnOk result
-        (text.new.items ≡ text.old.items ++ after_spaces (flat_map goal_words proofs.now)) }
+        (text.new.items ≡ text.old.items ++ after_spaces (flat_map (goal_words spelling) proofs.now)) }
 {
     for proved in proofs {
         append(text, b" :")?;
-        append_goal(text, buffer, &proved.0)?;
-        append_proof(text, buffer, &proved.1)?;
+        append_goal(text, buffer, spelling, &proved.0)?;
+        append_proof(text, buffer, spelling, &proved.1)?;
     }
     Ok(())
 }

@@ -4,15 +4,17 @@ ghost use Rattle.std.specs.List.{flat_map};
 ghost use Rattle.std.specs.Fmt.{decimal};
 ghost use Rattle.proof_laws.specs.WellFormed.{AreProofs, ComesBefore, IsGoal, IsGoalProof};
 ghost use Rattle.proof_laws.specs.WellFormed.{goal_kind, goal_number};
+ghost use Rattle.proof_lines.specs.Ids.{IsSpelling};
 ghost use Rattle.proof_lines.specs.LineText.{goal_word, goal_words, proof_words};
 ghost use Rattle.proof_lines.specs.Reading.{IsValueOf, ReadsAll, ReadsPart, Takes};
 ghost use Rattle.proof_lines.specs.Witnessed.{IsObjective, IsProved, proved_words};
 
-use crate::LineFault;
 use crate::hints::read_hints;
-use crate::number::id_of;
+use crate::ids::id_of;
+use crate::number::plain_id;
 use crate::tokens::read_tokens;
 use crate::words::Words;
+use crate::{LineFault, Spelling};
 use proof_laws::{Goal, GoalProof};
 use scut_base::Items;
 use std::alloc::Global;
@@ -21,11 +23,13 @@ use std::alloc::Global;
 /// the proofs.
 pub(crate) fn read_proofs(
     alloc: Global,
+    spelling: Spelling,
     words: &mut Words<'_>,
 ) -> Result<Items<(Goal, GoalProof)>, LineFault>
-    ensures { ReadsAll (flat_map goal_words) AreProofs words.old result }
+    requires { IsSpelling spelling }
+    ensures { ReadsAll (flat_map (goal_words spelling)) AreProofs words.old result }
 {
-    let proofs = read_goals(alloc, words)?;
+    let proofs = read_goals(alloc, spelling, words)?;
     if !are_ordered(proofs.as_slice()) {
         return Err(LineFault::Syntax);
     }
@@ -33,12 +37,17 @@ pub(crate) fn read_proofs(
 }
 
 // Takes goals with their proofs up to the last word.
-fn read_goals(alloc: Global, words: &mut Words<'_>) -> Result<Items<(Goal, GoalProof)>, LineFault>
-    ensures { ReadsAll (flat_map goal_words) (All IsProved) words.old result }
+fn read_goals(
+    alloc: Global,
+    spelling: Spelling,
+    words: &mut Words<'_>,
+) -> Result<Items<(Goal, GoalProof)>, LineFault>
+    requires { IsSpelling spelling }
+    ensures { ReadsAll (flat_map (goal_words spelling)) (All IsProved) words.old result }
 {
     let mut proofs = Items::new(alloc);
     while words.skip(b':') {
-        let proved = read_goal(alloc, words)?;
+        let proved = read_goal(alloc, spelling, words)?;
         proofs.push(proved)?;
     }
     if !words.is_at_end() {
@@ -48,27 +57,34 @@ fn read_goals(alloc: Global, words: &mut Words<'_>) -> Result<Items<(Goal, GoalP
 }
 
 // Takes a goal and its proof up to the end of a part.
-fn read_goal(alloc: Global, words: &mut Words<'_>) -> Result<(Goal, GoalProof), LineFault>
-    ensures { ReadsPart proved_words IsProved words.old words.new result }
+fn read_goal(
+    alloc: Global,
+    spelling: Spelling,
+    words: &mut Words<'_>,
+) -> Result<(Goal, GoalProof), LineFault>
+    requires { IsSpelling spelling }
+    ensures { ReadsPart (proved_words spelling) IsProved words.old words.new result }
 {
-    let Some(goal) = take_goal(words) else {
+    let Some(goal) = take_goal(spelling, words) else {
         return Err(LineFault::Syntax);
     };
-    let proof = read_proof(alloc, words)?;
+    let proof = read_proof(alloc, spelling, words)?;
     Ok((goal, proof))
 }
 
 // Takes the name of a goal.
-fn take_goal(words: &mut Words<'_>) -> Option<Goal>
-    ensures { Takes (λ goal. goal_word goal ∷ []) IsGoal words.old words.new result }
+fn take_goal(spelling: Spelling, words: &mut Words<'_>) -> Option<Goal>
+    requires { IsSpelling spelling }
+    ensures { Takes (λ goal. goal_word spelling goal ∷ []) IsGoal words.old words.new result }
 {
     let word = words.next()?;
-    goal_of(word)
+    goal_of(spelling, word)
 }
 
 // The goal that a word names.
-fn goal_of(word: &[u8]) -> Option<Goal>
-    ensures { IsValueOf goal_word IsGoal word.now result }
+fn goal_of(spelling: Spelling, word: &[u8]) -> Option<Goal>
+    requires { IsSpelling spelling }
+    ensures { IsValueOf (goal_word spelling) IsGoal word.now result }
 {
     if let [b'o', digits @ ..] = word {
         let number = objective_of(digits)?;
@@ -78,7 +94,7 @@ fn goal_of(word: &[u8]) -> Option<Goal>
         [b'c'] => Some(Goal::Itself),
         [b's'] => Some(Goal::Strict),
         _ => {
-            let id = id_of(word)?;
+            let id = id_of(spelling, word)?;
             Some(Goal::Row(id))
         }
     }
@@ -88,7 +104,7 @@ fn goal_of(word: &[u8]) -> Option<Goal>
 fn objective_of(digits: &[u8]) -> Option<u32>
     ensures { IsValueOf decimal IsObjective digits.now result }
 {
-    let number = id_of(digits)?;
+    let number = plain_id(digits)?;
     if number == 0 || number > u64::from(u32::MAX) {
         return None;
     }
@@ -96,19 +112,24 @@ fn objective_of(digits: &[u8]) -> Option<u32>
 }
 
 // Takes how a goal is proved, up to the end of a part.
-fn read_proof(alloc: Global, words: &mut Words<'_>) -> Result<GoalProof, LineFault>
-    ensures { ReadsPart proof_words IsGoalProof words.old words.new result }
+fn read_proof(
+    alloc: Global,
+    spelling: Spelling,
+    words: &mut Words<'_>,
+) -> Result<GoalProof, LineFault>
+    requires { IsSpelling spelling }
+    ensures { ReadsPart (proof_words spelling) IsGoalProof words.old words.new result }
 {
     let Some(kind) = words.next() else {
         return Err(LineFault::Syntax);
     };
     match kind {
         b"rup" => {
-            let hints = read_hints(alloc, words)?;
+            let hints = read_hints(alloc, spelling, words)?;
             Ok(GoalProof::Rup(hints))
         }
         b"pol" => {
-            let tokens = read_tokens(alloc, words)?;
+            let tokens = read_tokens(alloc, spelling, words)?;
             Ok(GoalProof::Pol(tokens))
         }
         _ => Err(LineFault::Syntax),

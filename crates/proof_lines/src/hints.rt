@@ -1,23 +1,29 @@
 // Hints of a line.
 ghost use Rattle.std.specs.Prelude.{map, All};
 ghost use Rattle.proof_laws.specs.WellFormed.{IsHint};
+ghost use Rattle.proof_lines.specs.Ids.{IsSpelling};
 ghost use Rattle.proof_lines.specs.LineText.{hint_word};
 ghost use Rattle.proof_lines.specs.Reading.{IsValueOf, ReadsPart};
 
-use crate::LineFault;
-use crate::number::id_of;
+use crate::ids::id_of;
 use crate::words::Words;
+use crate::{LineFault, Spelling};
 use hint_rup::Hint;
 use scut_base::Items;
 use std::alloc::Global;
 
 /// Takes hints up to the end of a part. One pass; takes memory for the hints.
-pub(crate) fn read_hints(alloc: Global, words: &mut Words<'_>) -> Result<Items<Hint>, LineFault>
-    ensures { ReadsPart (map hint_word) (All IsHint) words.old words.new result }
+pub(crate) fn read_hints(
+    alloc: Global,
+    spelling: Spelling,
+    words: &mut Words<'_>,
+) -> Result<Items<Hint>, LineFault>
+    requires { IsSpelling spelling }
+    ensures { ReadsPart (map (hint_word spelling)) (All IsHint) words.old words.new result }
 {
     let mut hints = Items::new(alloc);
     while let Some(word) = words.next_in_part() {
-        match hint_of(word) {
+        match hint_of(spelling, word) {
             Some(hint) => hints.push(hint)?,
             None => return Err(LineFault::Syntax),
         }
@@ -26,14 +32,15 @@ pub(crate) fn read_hints(alloc: Global, words: &mut Words<'_>) -> Result<Items<H
 }
 
 // The hint that a word spells.
-fn hint_of(word: &[u8]) -> Option<Hint>
-    ensures { IsValueOf hint_word IsHint word.now result }
+fn hint_of(spelling: Spelling, word: &[u8]) -> Option<Hint>
+    requires { IsSpelling spelling }
+    ensures { IsValueOf (hint_word spelling) IsHint word.now result }
 {
     match word {
         [b'~'] => Some(Hint::Negated),
         [b'!'] => Some(Hint::Denied),
         _ => {
-            let id = id_of(word)?;
+            let id = id_of(spelling, word)?;
             Some(Hint::Id(id))
         }
     }

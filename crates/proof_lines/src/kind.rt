@@ -1,6 +1,13 @@
 // The kinds of lines.
-ghost use Rattle.proof_lines.specs.Kinds.{word_of};
+ghost use Rattle.std.specs.Prelude.{◌≡◌, ◌↔◌, IsTrue};
+ghost use Rattle.proof_lines.specs.Ids.{IsSpelling};
+ghost use Rattle.proof_lines.specs.Kinds.{HasRoom, made_by, word_of};
 ghost use Rattle.proof_lines.specs.Reading.{IsValueOf};
+
+use crate::Spelling;
+
+// The next id is at most this.
+const MAX_NEXT_ID: u64 = 1 << 63;
 
 /// What a line does, by its first word.
 #[derive(Clone, Copy)]
@@ -33,5 +40,27 @@ pub(crate) fn kind_of(word: &[u8]) -> Option<Kind>
         b"reduce" => Some(Kind::Reduce),
         b"end" => Some(Kind::End),
         _ => None,
+    }
+}
+
+/// Whether the ids that a line of this kind makes are below 2^63, where ids are counted.
+pub(crate) fn has_room(spelling: Spelling, kind: Kind) -> bool
+    requires { IsSpelling spelling }
+    ensures { IsTrue result ↔ HasRoom spelling kind }
+{
+    match spelling {
+        Spelling::Plain => true,
+        Spelling::Relative { next_id, .. } => next_id + made_by(kind) <= MAX_NEXT_ID,
+    }
+}
+
+// How many ids a line of this kind makes.
+fn made_by(kind: Kind) -> u64
+    ensures { result ≡ made_by kind }
+{
+    match kind {
+        Kind::Def => 2,
+        Kind::Del | Kind::Reduce | Kind::End => 0,
+        _ => 1,
     }
 }

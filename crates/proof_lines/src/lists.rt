@@ -1,37 +1,32 @@
 // Lists of ids and of literals.
 ghost use Rattle.std.specs.Prelude.{◌<◌, ◌↔◌, map, All, AllPairs, IsTrue};
-ghost use Rattle.std.specs.Fmt.{decimal};
-ghost use Rattle.proof_laws.specs.WellFormed.{IsId, IsVariable, AreRisingIds, AreRisingLiterals};
+ghost use Rattle.proof_laws.specs.WellFormed.{IsId, IsVariable, AreRisingLiterals};
+ghost use Rattle.proof_lines.specs.Ids.{IsSpelling, id_word};
 ghost use Rattle.proof_lines.specs.LineText.{literal_word};
 ghost use Rattle.proof_lines.specs.Reading.{ReadsPart};
 
-use crate::LineFault;
-use crate::number::{id_of, literal_of};
+use crate::ids::id_of;
+use crate::number::literal_of;
 use crate::words::Words;
+use crate::{LineFault, Spelling};
 use scut_base::{Items, Lit};
 use std::alloc::Global;
 
 /// Takes ids up to the end of a part. One pass; takes memory for the ids.
-pub(crate) fn read_ids(alloc: Global, words: &mut Words<'_>) -> Result<Items<u64>, LineFault>
-    ensures { ReadsPart (map decimal) (All IsId) words.old words.new result }
+pub(crate) fn read_ids(
+    alloc: Global,
+    spelling: Spelling,
+    words: &mut Words<'_>,
+) -> Result<Items<u64>, LineFault>
+    requires { IsSpelling spelling }
+    ensures { ReadsPart (map (id_word spelling)) (All IsId) words.old words.new result }
 {
     let mut ids = Items::new(alloc);
     while let Some(word) = words.next_in_part() {
-        match id_of(word) {
+        match id_of(spelling, word) {
             Some(id) => ids.push(id)?,
             None => return Err(LineFault::Syntax),
         }
-    }
-    Ok(ids)
-}
-
-/// Takes rising ids up to the end of a part, at least one. Costs two passes.
-pub(crate) fn read_rising_ids(alloc: Global, words: &mut Words<'_>) -> Result<Items<u64>, LineFault>
-    ensures { ReadsPart (map decimal) AreRisingIds words.old words.new result }
-{
-    let ids = read_ids(alloc, words)?;
-    if ids.is_empty() || !are_rising(ids.as_slice()) {
-        return Err(LineFault::Syntax);
     }
     Ok(ids)
 }
@@ -65,8 +60,8 @@ pub(crate) fn read_rising_literals(
     Ok(lits)
 }
 
-// Whether each number is above the one before it.
-fn are_rising(ids: &[u64]) -> bool
+/// Whether each number is above the one before it.
+pub(crate) fn are_rising(ids: &[u64]) -> bool
     ensures { IsTrue result ↔ AllPairs (λ i j. i < j) ids.now }
 {
     for at in 1..ids.len() {

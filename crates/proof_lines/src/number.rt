@@ -30,8 +30,8 @@ pub(crate) fn number_of(word: &[u8]) -> Option<u128>
     Some(u128::from(number))
 }
 
-/// The id below 2^63 that a word spells. One pass.
-pub(crate) fn id_of(word: &[u8]) -> Option<u64>
+/// The id below 2^63 whose digits a word are. One pass.
+pub(crate) fn plain_id(word: &[u8]) -> Option<u64>
     ensures { IsValueOf decimal IsId word.now result }
 {
     if word.len() > NARROW_DIGITS || !is_plain(word) {
@@ -51,7 +51,7 @@ pub(crate) fn variable_of(word: &[u8]) -> Option<u64>
     let [b'x', digits @ ..] = word else {
         return None;
     };
-    let var = id_of(digits)?;
+    let var = plain_id(digits)?;
     if var == 0 {
         return None;
     }

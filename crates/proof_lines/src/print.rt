@@ -4,9 +4,10 @@ ghost use Rattle.proof_lines.specs.LineText.{hinted_words, line_text, line_words
 ghost use Rattle.proof_lines.specs.LineText.{witnessed_words};
 ghost use Rattle.proof_lines.specs.Spaces.{after_spaces, definition_words, kind_word, later_words, solution_words};
 
+use crate::Spelling;
 use crate::append::{
-    append, append_constraint, append_goals, append_hints, append_id, append_ids, append_images,
-    append_literals, append_tokens, append_variable,
+    append, append_constraint, append_deleted, append_goals, append_hints, append_id, append_ids,
+    append_images, append_literals, append_tokens, append_variable,
 };
 use hint_rup::Hint;
 use itoa::Buffer;
@@ -14,13 +15,13 @@ use pb_lin::{Constraint, Witness};
 use proof_laws::{Goal, GoalProof, Line};
 use scut_base::{Lit, NoMemory};
 
-/// Puts the text of a line and its line feed at the end of a text. After `NoMemory` a part of it may stand
-/// there. Costs one pass, and memory for the text alone.
-pub fn append_line(text: &mut Vec<u8>, line: &Line) -> Result<(), NoMemory>
-    ensures { OnOk result (text.new.items ≡ text.old.items ++ printed line.now) }
+/// Puts the text of a line and its line feed at the end of a text, its ids as the spelling says. After `NoMemory` a part of it may stand
+/// there. Costs one pass, and memory for the text; in `del` and `reduce` also for runs.
+pub fn append_line(text: &mut Vec<u8>, spelling: Spelling, line: &Line) -> Result<(), NoMemory>
+    ensures { OnOk result (text.new.items ≡ text.old.items ++ printed spelling line.now) }
 {
     append(text, kind_word(line))?;
-    append_fields(text, &mut Buffer::new(), line)?;
+    append_fields(text, &mut Buffer::new(), spelling, line)?;
     append(text, b"\n")
 }
 
@@ -43,14 +44,19 @@ fn kind_word(line: &Line) -> &'static [u8]
 }
 
 // Puts the words after the first at the end.
-fn append_fields(text: &mut Vec<u8>, buffer: &mut Buffer, line: &Line) -> Result<(), NoMemory>
+fn append_fields(
+    text: &mut Vec<u8>,
+    buffer: &mut Buffer,
+    spelling: Spelling,
+    line: &Line,
+) -> Result<(), NoMemory>
     ensures { OnOk result
-        (text.new.items ≡ text.old.items ++ after_spaces (later_words line.now)) }
+        (text.new.items ≡ text.old.items ++ after_spaces (later_words spelling line.now)) }
 {
     match line {
-        Line::Pol { tokens } => append_tokens(text, buffer, tokens.as_slice()),
+        Line::Pol { tokens } => append_tokens(text, buffer, spelling, tokens.as_slice()),
         Line::Rup { goal, hints } | Line::Learn { goal, hints } => {
-            append_hinted(text, buffer, goal, hints.as_slice())
+            append_hinted(text, buffer, spelling, goal, hints.as_slice())
         }
         Line::Def { var, sum } => append_definition(text, buffer, *var, sum),
         Line::Red {
@@ -62,16 +68,22 @@ fn append_fields(text: &mut Vec<u8>, buffer: &mut Buffer, line: &Line) -> Result
             goal,
             witness,
             proofs,
-        } => append_witnessed(text, buffer, goal, witness, proofs.as_slice()),
+        } => append_witnessed(text, buffer, spelling, goal, witness, proofs.as_slice()),
         Line::Sol { model, cut, rows } => append_solution(
             text,
             buffer,
+            spelling,
             model.as_slice(),
             cut.as_slice(),
             rows.as_slice(),
         ),
-        Line::Del { ids } | Line::Reduce { ids } => append_ids(text, buffer, ids.as_slice()),
-        Line::End { id } => append_id(text, buffer, *id),
+        Line::Del { ids } | Line::Reduce { ids } => append_deleted(
+            text,
+            buffer,
+            spelling,
+            ids.as_slice(),
+        ),
+        Line::End { id } => append_id(text, buffer, spelling, *id),
     }
 }
 
@@ -79,32 +91,34 @@ fn append_fields(text: &mut Vec<u8>, buffer: &mut Buffer, line: &Line) -> Result
 fn append_hinted(
     text: &mut Vec<u8>,
     buffer: &mut Buffer,
+    spelling: Spelling,
     goal: &Constraint,
     hints: &[Hint],
 ) -> Result<(), NoMemory>
     ensures { OnOk result
-        (text.new.items ≡ text.old.items ++ after_spaces (hinted_words goal.now hints.now)) }
+        (text.new.items ≡ text.old.items ++ after_spaces (hinted_words spelling goal.now hints.now)) }
 {
     append_constraint(text, buffer, goal)?;
     append(text, b" :")?;
-    append_hints(text, buffer, hints)
+    append_hints(text, buffer, spelling, hints)
 }
 
 // Puts a constraint, a witness and the proofs of goals at the end.
 fn append_witnessed(
     text: &mut Vec<u8>,
     buffer: &mut Buffer,
+    spelling: Spelling,
     goal: &Constraint,
     witness: &Witness,
     proofs: &[(Goal, GoalProof)],
 ) -> Result<(), NoMemory>
     ensures { OnOk result (text.new.items
-        ≡ text.old.items ++ after_spaces (witnessed_words goal.now witness.now proofs.now)) }
+        ≡ text.old.items ++ after_spaces (witnessed_words spelling goal.now witness.now proofs.now)) }
 {
     append_constraint(text, buffer, goal)?;
     append(text, b" :")?;
     append_images(text, buffer, witness.images())?;
-    append_goals(text, buffer, proofs)
+    append_goals(text, buffer, spelling, proofs)
 }
 
 // Puts a variable and the sum that it stands for at the end.
@@ -126,17 +140,18 @@ fn append_definition(
 fn append_solution(
     text: &mut Vec<u8>,
     buffer: &mut Buffer,
+    spelling: Spelling,
     model: &[Lit],
     cut: &[Lit],
     rows: &[u64],
 ) -> Result<(), NoMemory>
     ensures { OnOk result
         (text.new.items ≡ text.old.items ++ after_spaces
-        (solution_words model.now cut.now rows.now)) }
+        (solution_words spelling model.now cut.now rows.now)) }
 {
     append_literals(text, buffer, model)?;
     append(text, b" :")?;
     append_literals(text, buffer, cut)?;
     append(text, b" :")?;
-    append_ids(text, buffer, rows)
+    append_ids(text, buffer, spelling, rows)
 }

@@ -20,6 +20,7 @@ use Rattle.proof_text.specs.LogFile.{IsLogFile}
 use Rattle.proof_text.specs.Recorders.{IsHeld, IsPutPartly, without_file}
 use Rattle.proof_text.proofs.Logs.{log_text_push}
 use Rattle.proof_text.proofs.Replaying.{kept_none, kept_more}
+use Rattle.proof_lines.specs.declared.spelling.Spelling.TheVariants.{Plain}
 
 -- ---- the other files
 
@@ -60,15 +61,15 @@ grown old new name more p lines log is told =
     let there : content old name ≡ Some (log_text lines) = log.file told_old ∙ ap (λ (t : List ℕ). Some (log_text lines ++ t)) (log.whole refl) ∙ ap Some (append-nil (log_text lines)) in
     ap (λ (f : Option Files). content f name) is ∙ content-same old name _ told_old ∙ ap (λ (o : Option (List ℕ)). Some (bytes_or_none o ++ more)) there
 
-log_more : (old new : Option Files) (name : List ℕ) (p : ProblemValue) (lines : List Line) (line : Line) → IsLogFile old name p lines false → new ≡ with_appended old name (printed line) → IsLogFile new name p (lines ++ line ∷ []) false
+log_more : (old new : Option Files) (name : List ℕ) (p : ProblemValue) (lines : List Line) (line : Line) → IsLogFile old name p lines false → new ≡ with_appended old name (printed Plain line) → IsLogFile new name p (lines ++ line ∷ []) false
 log_more old new name p lines line log is = record {
   part = [];
-  file = λ told. grown old new name (printed line) p lines log is told ∙ ap Some (sym (log_text_push lines line) ∙ sym (append-nil (log_text (lines ++ line ∷ []))));
+  file = λ told. grown old new name (printed Plain line) p lines log is told ∙ ap Some (sym (log_text_push lines line) ∙ sym (append-nil (log_text (lines ++ line ∷ []))));
   whole = λ _. refl;
   next = inl refl;
 }
 
-log_partly : (old new : Option Files) (name : List ℕ) (p : ProblemValue) (lines : List Line) (line : Line) → IsLogFile old name p lines false → IsWellFormed line → (s : StateValue) → IsReplay p lines s → IsLegal p s line → IsPutPartly old new name (printed line) → IsLogFile new name p lines true
+log_partly : (old new : Option Files) (name : List ℕ) (p : ProblemValue) (lines : List Line) (line : Line) → IsLogFile old name p lines false → IsWellFormed line → (s : StateValue) → IsReplay p lines s → IsLegal p s line → IsPutPartly old new name (printed Plain line) → IsLogFile new name p lines true
 log_partly old new name p lines line log formed s replay legal (inl same) = subst (λ (f : Option Files). IsLogFile f name p lines true) (sym same) (record {
   part = log.part;
   file = log.file;
@@ -95,14 +96,14 @@ held_none old new name p s first fits is = record {
 }
 
 -- a line more
-pub held_more : (old new : Option Files) (name : List ℕ) (p : ProblemValue) (lines : List Line) (s : StateValue) (line : Line) (t : StateValue) → IsHeld old name p lines s false → IsWellFormed line → new ≡ with_appended old name (printed line) → IsNext p s line t → Fits p t → IsHeld new name p (lines ++ line ∷ []) t false
+pub held_more : (old new : Option Files) (name : List ℕ) (p : ProblemValue) (lines : List Line) (s : StateValue) (line : Line) (t : StateValue) → IsHeld old name p lines s false → IsWellFormed line → new ≡ with_appended old name (printed Plain line) → IsNext p s line t → Fits p t → IsHeld new name p (lines ++ line ∷ []) t false
 held_more old new name p lines s line t held formed is next fits = record {
   kept = kept_more p lines s line t held.kept formed next fits;
   file = log_more old new name p lines line held.file is;
 }
 
 -- a part of a line more
-pub held_partly : (old new : Option Files) (name : List ℕ) (p : ProblemValue) (lines : List Line) (s : StateValue) (line : Line) → IsHeld old name p lines s false → IsWellFormed line → IsLegal p s line → IsPutPartly old new name (printed line) → IsHeld new name p lines s true
+pub held_partly : (old new : Option Files) (name : List ℕ) (p : ProblemValue) (lines : List Line) (s : StateValue) (line : Line) → IsHeld old name p lines s false → IsWellFormed line → IsLegal p s line → IsPutPartly old new name (printed Plain line) → IsHeld new name p lines s true
 held_partly old new name p lines s line held formed legal put = record {
   kept = held.kept;
   file = log_partly old new name p lines line held.file formed s held.kept.replay legal put;

@@ -12,6 +12,7 @@ use Rattle.proof_lines.specs.LineText.{line_text, printed, SpellsLine, SpellsNoL
 use Rattle.proof_text.specs.LogText.{header_text, header_line, log_text, BeginsWith, SpellsLog, IsOneLine, IsWholeLine, IsWholeLines, HasWrongHeader, IsSyntaxAt, IsWhole, IsUnfinishedAt, HoldsNoFurtherLine}
 use Rattle.proof_text.proofs.OneLines.{nil_right, cons_same, same_line, one_front, not_one, not_empty, ends_one, whole_append}
 use Rattle.proof_text.proofs.Words.{one_from_plain, line_text-one}
+use Rattle.proof_lines.specs.declared.spelling.Spelling.TheVariants.{Plain}
 
 pub header_one : IsOneLine header_text
 header_one = one_from_plain header_text refl
@@ -42,56 +43,56 @@ header_more bytes piece wrong = (
 
 -- ---- the first line of some
 
-first_printed : (line : Line) (lines : List Line) (rest : List ℕ) → flat_map printed (line ∷ lines) ++ rest ≡ line_text line ++ newline ∷ (flat_map printed lines ++ rest)
-first_printed line lines rest = append_assoc (printed line) (flat_map printed lines) rest ∙ append_assoc (line_text line) (newline ∷ []) (flat_map printed lines ++ rest)
+first_printed : (line : Line) (lines : List Line) (rest : List ℕ) → flat_map (printed Plain) (line ∷ lines) ++ rest ≡ line_text Plain line ++ newline ∷ (flat_map (printed Plain) lines ++ rest)
+first_printed line lines rest = append_assoc (printed Plain line) (flat_map (printed Plain) lines) rest ∙ append_assoc (line_text Plain line) (newline ∷ []) (flat_map (printed Plain) lines ++ rest)
 
-peeled : (l m : Line) (lines more : List Line) (rest other : List ℕ) → flat_map printed (l ∷ lines) ++ rest ≡ flat_map printed (m ∷ more) ++ other → (line_text l ≡ line_text m) × (flat_map printed lines ++ rest ≡ flat_map printed more ++ other)
-peeled l m lines more rest other e = same_line (line_text l) (line_text m) _ _ (line_text-one l) (line_text-one m) (sym (first_printed l lines rest) ∙ e ∙ first_printed m more other)
+peeled : (l m : Line) (lines more : List Line) (rest other : List ℕ) → flat_map (printed Plain) (l ∷ lines) ++ rest ≡ flat_map (printed Plain) (m ∷ more) ++ other → (line_text Plain l ≡ line_text Plain m) × (flat_map (printed Plain) lines ++ rest ≡ flat_map (printed Plain) more ++ other)
+peeled l m lines more rest other e = same_line (line_text Plain l) (line_text Plain m) _ _ (line_text-one Plain l) (line_text-one Plain m) (sym (first_printed l lines rest) ∙ e ∙ first_printed m more other)
 
-body : (lines : List Line) (rest : List ℕ) → log_text lines ++ rest ≡ header_line ++ (flat_map printed lines ++ rest)
-body lines rest = append_assoc header_line (flat_map printed lines) rest
+body : (lines : List Line) (rest : List ℕ) → log_text lines ++ rest ≡ header_line ++ (flat_map (printed Plain) lines ++ rest)
+body lines rest = append_assoc header_line (flat_map (printed Plain) lines) rest
 
-headed : (lines : List Line) (rest : List ℕ) → log_text lines ++ rest ≡ header_text ++ newline ∷ (flat_map printed lines ++ rest)
-headed lines rest = body lines rest ∙ append_assoc header_text (newline ∷ []) (flat_map printed lines ++ rest)
+headed : (lines : List Line) (rest : List ℕ) → log_text lines ++ rest ≡ header_text ++ newline ∷ (flat_map (printed Plain) lines ++ rest)
+headed lines rest = body lines rest ∙ append_assoc header_text (newline ∷ []) (flat_map (printed Plain) lines ++ rest)
 
-same_bodies : (lines more : List Line) (rest other : List ℕ) → log_text lines ++ rest ≡ log_text more ++ other → flat_map printed lines ++ rest ≡ flat_map printed more ++ other
+same_bodies : (lines more : List Line) (rest other : List ℕ) → log_text lines ++ rest ≡ log_text more ++ other → flat_map (printed Plain) lines ++ rest ≡ flat_map (printed Plain) more ++ other
 same_bodies lines more rest other e = append_cancel_left header_line _ _ (sym (body lines rest) ∙ e ∙ body more other)
 
-pub log_text_push : (lines : List Line) (line : Line) → log_text (lines ++ line ∷ []) ≡ log_text lines ++ printed line
-log_text_push lines line = sym (flat_map_more printed header_line lines line)
+pub log_text_push : (lines : List Line) (line : Line) → log_text (lines ++ line ∷ []) ≡ log_text lines ++ printed Plain line
+log_text_push lines line = sym (flat_map_more (printed Plain) header_line lines line)
 
 -- ---- what follows a log
 
 -- no log goes on past a line that is the text of none
-wrong_stops : (lines more : List Line) (rest other text after : List ℕ) → All IsWellFormed more → flat_map printed lines ++ rest ≡ flat_map printed more ++ other → IsWholeLine rest text after → SpellsNoLine text → length more ≤ length lines
+wrong_stops : (lines more : List Line) (rest other text after : List ℕ) → All IsWellFormed more → flat_map (printed Plain) lines ++ rest ≡ flat_map (printed Plain) more ++ other → IsWholeLine rest text after → SpellsNoLine Plain text → length more ≤ length lines
 wrong_stops lines [] rest other text after formed e line wrong = omega arith
 wrong_stops [] (m ∷ more) rest other text after formed e line wrong =
-    let same = same_line text (line_text m) after (flat_map printed more ++ other) line.one (line_text-one m) (sym line.is ∙ e ∙ first_printed m more other) in
-    absurd (wrong m (record { formed = All-head IsWellFormed m more formed; is = same.0 }))
+    let same = same_line text (line_text Plain m) after (flat_map (printed Plain) more ++ other) line.one (line_text-one Plain m) (sym line.is ∙ e ∙ first_printed m more other) in
+    absurd (wrong m (record { formed = All-head IsWellFormed m more formed; fits = tt; is = same.0 }))
 wrong_stops (l ∷ lines) (m ∷ more) rest other text after formed e line wrong =
     let shorter : length more ≤ length lines = wrong_stops lines more rest other text after (All-tail IsWellFormed m more formed) (peeled l m lines more rest other e).1 line wrong in
     omega arith
 
 -- where as many lines or more are the whole text, nothing follows them
-nothing_left : (lines more : List Line) (rest : List ℕ) → length more ≤ length lines → flat_map printed lines ++ rest ≡ flat_map printed more ++ [] → rest ≡ []
+nothing_left : (lines more : List Line) (rest : List ℕ) → length more ≤ length lines → flat_map (printed Plain) lines ++ rest ≡ flat_map (printed Plain) more ++ [] → rest ≡ []
 nothing_left [] [] rest le e = e
 nothing_left [] (m ∷ more) rest le e = absurd (omega arith)
-nothing_left (l ∷ lines) [] rest le e = absurd (not_empty (line_text l) (flat_map printed lines ++ rest) (sym (first_printed l lines rest) ∙ e))
+nothing_left (l ∷ lines) [] rest le e = absurd (not_empty (line_text Plain l) (flat_map (printed Plain) lines ++ rest) (sym (first_printed l lines rest) ∙ e))
 nothing_left (l ∷ lines) (m ∷ more) rest le e = nothing_left lines more rest (omega arith) (peeled l m lines more rest [] e).1
 
 -- ---- laws
 
 -- a text is that of one line at most
 abbrev pub OneLine : Type 0
-OneLine = (text : List ℕ) (l m : Line) → SpellsLine text l → SpellsLine text m → l ≡ m
+OneLine = (text : List ℕ) (l m : Line) → SpellsLine Plain text l → SpellsLine Plain text m → l ≡ m
 
-same_lines : OneLine → (lines more : List Line) → All IsWellFormed lines → All IsWellFormed more → flat_map printed lines ++ [] ≡ flat_map printed more ++ [] → lines ≡ more
+same_lines : OneLine → (lines more : List Line) → All IsWellFormed lines → All IsWellFormed more → flat_map (printed Plain) lines ++ [] ≡ flat_map (printed Plain) more ++ [] → lines ≡ more
 same_lines law [] [] formed others e = refl
-same_lines law [] (m ∷ more) formed others e = absurd (not_empty (line_text m) (flat_map printed more ++ []) (sym (first_printed m more []) ∙ sym e))
-same_lines law (l ∷ lines) [] formed others e = absurd (not_empty (line_text l) (flat_map printed lines ++ []) (sym (first_printed l lines []) ∙ e))
+same_lines law [] (m ∷ more) formed others e = absurd (not_empty (line_text Plain m) (flat_map (printed Plain) more ++ []) (sym (first_printed m more []) ∙ sym e))
+same_lines law (l ∷ lines) [] formed others e = absurd (not_empty (line_text Plain l) (flat_map (printed Plain) lines ++ []) (sym (first_printed l lines []) ∙ e))
 same_lines law (l ∷ lines) (m ∷ more) formed others e =
     let rest = peeled l m lines more [] [] e in
-    let first : l ≡ m = law (line_text l) l m (record { formed = All-head IsWellFormed l lines formed; is = refl }) (record { formed = All-head IsWellFormed m more others; is = rest.0 }) in
+    let first : l ≡ m = law (line_text Plain l) l m (record { formed = All-head IsWellFormed l lines formed; fits = tt; is = refl }) (record { formed = All-head IsWellFormed m more others; fits = tt; is = rest.0 }) in
     cons_same l m lines more first (same_lines law lines more (All-tail IsWellFormed l lines formed) (All-tail IsWellFormed m more others) rest.1)
 
 -- bytes spell one list of lines at most
@@ -99,27 +100,27 @@ pub spelled_once : OneLine → (bytes : List ℕ) (lines more : List Line) → S
 spelled_once law bytes lines more spells others = same_lines law lines more spells.formed others.formed (same_bodies lines more [] [] (sym spells.is ∙ others.is))
 
 pub not_headless : (bytes : List ℕ) (lines : List Line) (rest : List ℕ) → BeginsWith bytes lines rest → HasWrongHeader bytes → ⊥
-not_headless bytes lines rest begins fault = fault.0 (flat_map printed lines ++ rest, sym (begins.is ∙ body lines rest))
+not_headless bytes lines rest begins fault = fault.0 (flat_map (printed Plain) lines ++ rest, sym (begins.is ∙ body lines rest))
 
 -- bytes that spell a log have no wrong line
 pub never_wrong : (bytes : List ℕ) (lines : List Line) → SpellsLog bytes lines → (k : ℕ) → IsSyntaxAt bytes k → ⊥
 never_wrong bytes lines spells zero fault = fault
 never_wrong bytes lines spells (suc zero) fault = not_headless bytes lines [] spells fault
 never_wrong bytes lines spells (suc (suc n)) fault =
-    let same : flat_map printed fault.lines ++ fault.rest ≡ flat_map printed lines ++ [] = same_bodies fault.lines lines fault.rest [] (sym fault.begins.is ∙ spells.is) in
+    let same : flat_map (printed Plain) fault.lines ++ fault.rest ≡ flat_map (printed Plain) lines ++ [] = same_bodies fault.lines lines fault.rest [] (sym fault.begins.is ∙ spells.is) in
     let shorter : length lines ≤ length fault.lines = wrong_stops fault.lines lines fault.rest [] fault.text fault.after spells.formed same fault.line fault.wrong in
     let none : fault.rest ≡ [] = nothing_left fault.lines lines fault.rest shorter same in
     not_empty fault.text fault.after (sym fault.line.is ∙ none)
 
-printed_whole : (lines : List Line) → IsWholeLines (flat_map printed lines)
+printed_whole : (lines : List Line) → IsWholeLines (flat_map (printed Plain) lines)
 printed_whole [] = inl refl
-printed_whole (l ∷ lines) = whole_append (printed l) (flat_map printed lines) (inr (line_text l, refl)) (printed_whole lines)
+printed_whole (l ∷ lines) = whole_append (printed Plain l) (flat_map (printed Plain) lines) (inr (line_text Plain l, refl)) (printed_whole lines)
 
 pub log_whole : (lines : List Line) → IsWholeLines (log_text lines)
-log_whole lines = whole_append header_line (flat_map printed lines) (inr (header_text, refl)) (printed_whole lines)
+log_whole lines = whole_append header_line (flat_map (printed Plain) lines) (inr (header_text, refl)) (printed_whole lines)
 
 log_some : (lines : List Line) (rest : List ℕ) → log_text lines ++ rest ≡ [] → ⊥
-log_some lines rest e = not_empty header_text (flat_map printed lines ++ rest) (sym (headed lines rest) ∙ e)
+log_some lines rest e = not_empty header_text (flat_map (printed Plain) lines ++ rest) (sym (headed lines rest) ∙ e)
 
 -- a text with no line feed behind whole lines is empty, where all is whole lines
 left_empty : (before text whole : List ℕ) → IsOneLine text → before ++ text ≡ whole → IsWholeLines whole → text ≡ []
@@ -141,7 +142,7 @@ wrong_once bytes (suc zero) (suc zero) fault other = refl
 wrong_once bytes (suc zero) (suc (suc m)) fault other = absurd (not_headless bytes other.lines other.rest other.begins fault)
 wrong_once bytes (suc (suc n)) (suc zero) fault other = absurd (not_headless bytes fault.lines fault.rest fault.begins other)
 wrong_once bytes (suc (suc n)) (suc (suc m)) fault other =
-    let same : flat_map printed fault.lines ++ fault.rest ≡ flat_map printed other.lines ++ other.rest = same_bodies fault.lines other.lines fault.rest other.rest (sym fault.begins.is ∙ other.begins.is) in
+    let same : flat_map (printed Plain) fault.lines ++ fault.rest ≡ flat_map (printed Plain) other.lines ++ other.rest = same_bodies fault.lines other.lines fault.rest other.rest (sym fault.begins.is ∙ other.begins.is) in
     let up : length other.lines ≤ length fault.lines = wrong_stops fault.lines other.lines fault.rest other.rest fault.text fault.after other.begins.formed same fault.line fault.wrong in
     let down : length fault.lines ≤ length other.lines = wrong_stops other.lines fault.lines other.rest fault.rest other.text other.after fault.begins.formed (sym same) other.line other.wrong in
     omega (arith, fault.right, other.right)
@@ -152,7 +153,7 @@ printed_spells lines formed = record { formed = formed; is = sym (append-nil (lo
 
 whole_left : (lines : List Line) (rest after : List ℕ) → header_line ++ after ≡ log_text lines ++ rest → IsOneLine rest → IsWholeLines after → rest ≡ []
 whole_left lines rest after e one whole =
-    left_empty (flat_map printed lines) rest after one (append_cancel_left header_line _ _ (sym (body lines rest) ∙ sym e)) whole
+    left_empty (flat_map (printed Plain) lines) rest after one (append_cancel_left header_line _ _ (sym (body lines rest) ∙ sym e)) whole
 
 -- where no further line follows what was given, and no bytes are left, it is all
 pub spelled_whole : (bytes : List ℕ) (lines : List Line) → HoldsNoFurtherLine bytes lines → IsWhole bytes → SpellsLog bytes lines

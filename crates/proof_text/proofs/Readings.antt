@@ -15,6 +15,7 @@ use Rattle.proof_text.specs.Reading.{ReaderValue, HasRead, HasGiven, HasReadUpTo
 use Rattle.proof_text.proofs.OneLines.{cut_last, whole_append, newlines-append, newlines-one}
 use Rattle.proof_text.proofs.Words.{line_text-one}
 use Rattle.proof_text.proofs.Logs.{header_one, header_part_one, header_more, log_text_push, log_whole}
+use Rattle.proof_lines.specs.declared.spelling.Spelling.TheVariants.{Plain}
 
 -- ---- a piece more
 
@@ -62,12 +63,12 @@ reader given begun rest wrong = record { given = given; begun = begun; rest = re
 
 -- ---- a line more
 
-begins_next : (bytes rest text after : List ℕ) (lines : List Line) (line : Line) → BeginsWith bytes lines rest → IsWholeLine rest text after → SpellsLine text line → BeginsWith bytes (lines ++ line ∷ []) after
+begins_next : (bytes rest text after : List ℕ) (lines : List Line) (line : Line) → BeginsWith bytes lines rest → IsWholeLine rest text after → SpellsLine Plain text line → BeginsWith bytes (lines ++ line ∷ []) after
 begins_next bytes rest text after lines line begins whole spells = record {
   formed = All-push IsWellFormed lines line begins.formed spells.formed;
   is = begins.is
-      ∙ ap (λ (t : List ℕ). log_text lines ++ t) (whole.is ∙ ap (λ (t : List ℕ). t ++ newline ∷ after) spells.is ∙ sym (append_assoc (line_text line) (newline ∷ []) after))
-      ∙ sym (append_assoc (log_text lines) (printed line) after)
+      ∙ ap (λ (t : List ℕ). log_text lines ++ t) (whole.is ∙ ap (λ (t : List ℕ). t ++ newline ∷ after) spells.is ∙ sym (append_assoc (line_text Plain line) (newline ∷ []) after))
+      ∙ sym (append_assoc (log_text lines) (printed Plain line) after)
       ∙ ap (λ (t : List ℕ). t ++ after) (sym (log_text_push lines line));
 }
 
@@ -82,7 +83,7 @@ stands_by r sound begun bytes lines count begins = record {
 
 module _ (old : ReaderValue) (sound : old.wrong ≡ None) (begun : old.begun ≡ true) (len : ℕ) (first : IsLineOf old.rest len) where
   -- the first whole line was given
-  pub given_line : (new : ReaderValue) (line : Line) → SpellsLine (take len old.rest) line → new.given ≡ old.given + 1 → new.begun ≡ old.begun → new.rest ≡ drop (len + 1) old.rest → new.wrong ≡ old.wrong → (bytes : List ℕ) (lines : List Line) → StandsFor old bytes lines → StandsFor new bytes (lines ++ line ∷ [])
+  pub given_line : (new : ReaderValue) (line : Line) → SpellsLine Plain (take len old.rest) line → new.given ≡ old.given + 1 → new.begun ≡ old.begun → new.rest ≡ drop (len + 1) old.rest → new.wrong ≡ old.wrong → (bytes : List ℕ) (lines : List Line) → StandsFor old bytes lines → StandsFor new bytes (lines ++ line ∷ [])
   given_line new line spells count still rest right bytes lines stands =
       let begins : BeginsWith bytes (lines ++ line ∷ []) (drop (len + 1) old.rest) = begins_next bytes old.rest (take len old.rest) (drop (len + 1) old.rest) lines line (begins_of old sound begun bytes lines stands) first.line spells in
       stands_by new (right ∙ sound) (still ∙ begun) bytes (lines ++ line ∷ []) (length_push lines line ∙ ap (λ (n : ℕ). n + 1) stands.given ∙ sym count) (subst (λ (t : List ℕ). BeginsWith bytes (lines ++ line ∷ []) t) (sym rest) begins)
@@ -103,30 +104,30 @@ ends_early r sound unbegun part bytes lines stands =
       number = refl;
     }
 
-printed_all : (lines : List Line) → IsWholeLines (flat_map printed lines)
+printed_all : (lines : List Line) → IsWholeLines (flat_map (printed Plain) lines)
 printed_all [] = inl refl
-printed_all (l ∷ lines) = whole_append (printed l) (flat_map printed lines) (inr (line_text l, refl)) (printed_all lines)
+printed_all (l ∷ lines) = whole_append (printed Plain l) (flat_map (printed Plain) lines) (inr (line_text Plain l, refl)) (printed_all lines)
 
 pub ends_well : (r : ReaderValue) → r.wrong ≡ None → r.begun ≡ true → IsWholeLines r.rest → (bytes : List ℕ) (lines : List Line) → StandsFor r bytes lines → IsWhole bytes
 ends_well r sound begun whole bytes lines stands =
     let begins = begins_of r sound begun bytes lines stands in
-    (flat_map printed lines ++ r.rest, begins.is ∙ append_assoc header_line (flat_map printed lines) r.rest, whole_append (flat_map printed lines) r.rest (printed_all lines) whole)
+    (flat_map (printed Plain) lines ++ r.rest, begins.is ∙ append_assoc header_line (flat_map (printed Plain) lines) r.rest, whole_append (flat_map (printed Plain) lines) r.rest (printed_all lines) whole)
 
-printed_feeds : (lines : List Line) → newlines (flat_map printed lines) ≡ length lines
+printed_feeds : (lines : List Line) → newlines (flat_map (printed Plain) lines) ≡ length lines
 printed_feeds [] = refl
 printed_feeds (l ∷ lines) =
-    let all : newlines (printed l ++ flat_map printed lines) ≡ newlines (printed l) + newlines (flat_map printed lines) = newlines-append (printed l) (flat_map printed lines) in
-    let first : newlines (printed l) ≡ newlines (line_text l) + 1 = newlines-append (line_text l) (newline ∷ []) in
-    let none : newlines (line_text l) ≡ 0 = newlines-one (line_text l) (line_text-one l) in
-    let rest : newlines (flat_map printed lines) ≡ length lines = printed_feeds lines in
+    let all : newlines (printed Plain l ++ flat_map (printed Plain) lines) ≡ newlines (printed Plain l) + newlines (flat_map (printed Plain) lines) = newlines-append (printed Plain l) (flat_map (printed Plain) lines) in
+    let first : newlines (printed Plain l) ≡ newlines (line_text Plain l) + 1 = newlines-append (line_text Plain l) (newline ∷ []) in
+    let none : newlines (line_text Plain l) ≡ 0 = newlines-one (line_text Plain l) (line_text-one Plain l) in
+    let rest : newlines (flat_map (printed Plain) lines) ≡ length lines = printed_feeds lines in
     omega arith
 
 log_feeds : (lines : List Line) → newlines (log_text lines) ≡ length lines + 1
 log_feeds lines =
-    let all : newlines (log_text lines) ≡ newlines header_line + newlines (flat_map printed lines) = newlines-append header_line (flat_map printed lines) in
+    let all : newlines (log_text lines) ≡ newlines header_line + newlines (flat_map (printed Plain) lines) = newlines-append header_line (flat_map (printed Plain) lines) in
     let first : newlines header_line ≡ newlines header_text + 1 = newlines-append header_text (newline ∷ []) in
     let none : newlines header_text ≡ 0 = newlines-one header_text header_one in
-    let rest : newlines (flat_map printed lines) ≡ length lines = printed_feeds lines in
+    let rest : newlines (flat_map (printed Plain) lines) ≡ length lines = printed_feeds lines in
     omega arith
 
 -- bytes are left behind the last line feed

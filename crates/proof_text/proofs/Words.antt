@@ -1,5 +1,5 @@
 -- No line of a log has a line feed in its text.
-use Rattle.std.proofs.Common.{◌≡◌, ℕ, zero, suc, ◌+◌, ◌/◌, ◌%◌, ◌==◌, Bool, true, false, not, cond, List, [], ◌∷◌, ◌++◌, map, ℤ, pos, negsuc, refl, sym, ap, ◌∙◌, arith}
+use Rattle.std.proofs.Common.{◌≡◌, ℕ, zero, suc, ◌+◌, ◌-◌, ◌/◌, ◌%◌, ◌==◌, Bool, true, false, not, cond, List, [], ◌∷◌, ◌++◌, map, ℤ, pos, negsuc, refl, sym, ap, ◌∙◌, arith}
 use Rattle.std.specs.Prelude.{◌&&◌, nat_lt, codes}
 use Rattle.std.specs.List.{list_all, flat_map}
 use Rattle.std.specs.Fmt.{digit_glyph, digits_onto, digits, decimal, signed_decimal}
@@ -20,6 +20,9 @@ use Rattle.proof_laws.specs.declared.goal.GoalProof.{GoalProof}
 use Rattle.proof_laws.specs.declared.goal.GoalProof.TheVariants.{Rup as ByRup, Pol as ByPol}
 use Rattle.proof_laws.specs.declared.line.Line.{Line}
 use Rattle.proof_laws.specs.declared.line.Line.TheVariants.{Pol, Rup, Learn, Def, Red, Dom, Sol, Del, Reduce, End}
+use Rattle.proof_lines.specs.declared.spelling.Spelling.{Spelling}
+use Rattle.proof_lines.specs.declared.spelling.Spelling.TheVariants.{Plain, Relative}
+use Rattle.proof_lines.specs.Ids.{deleted_words, id_word, is_made, piece_word, spelled_pieces}
 use Rattle.proof_lines.specs.LineText.{variable_word, literal_word, constraint_words, token_words, hint_word, image_word, image_words, goal_word, proof_words, goal_words, hinted_words, witnessed_words, line_words, line_text, spaced}
 use Rattle.proof_text.specs.LogText.{IsOneLine}
 use Rattle.proof_text.proofs.OneLines.{one_nil, one_cons}
@@ -92,69 +95,22 @@ constraint_plain c = words_append (flat_map (λ t. decimal t.1 ∷ literal_word 
     (each_words (λ (t : Literal × ℕ). decimal t.1 ∷ literal_word t.0 ∷ []) (λ t. pair (decimal t.1) (literal_word t.0) (decimal_plain t.1) (literal_plain t.0)) c.terms)
     (pair (codes ">=") (decimal c.degree) refl (decimal_plain c.degree))
 
-token_plain : (t : PolToken) → all_plain (token_words t) ≡ true
-token_plain (IdToken id) = one_word (decimal id) (decimal_plain id)
-token_plain (Axiom l) = one_word (literal_word l) (literal_plain l)
-token_plain NegatedToken = refl
-token_plain DeniedToken = refl
-token_plain Add = refl
-token_plain (Mul k) = pair (signed_decimal k) (codes "*") (signed_plain k) refl
-token_plain (Div k) = pair (signed_decimal k) (codes "d") (signed_plain k) refl
-token_plain Saturate = refl
-token_plain (Weaken var) = pair (variable_word var) (codes "w") (decimal_plain var) refl
+id_plain : (spelling : Spelling) (id : ℕ) → plain (id_word spelling id) ≡ true
+id_plain Plain id = decimal_plain id
+id_plain (Relative rows next) id = cond_both (is_made rows next id) (codes "-" ++ decimal (next - id)) (decimal id) (λ (t : List ℕ). plain t ≡ true) (λ _. decimal_plain (next - id)) (λ _. decimal_plain id)
 
-hint_plain : (h : Hint) → plain (hint_word h) ≡ true
-hint_plain (IdHint id) = decimal_plain id
-hint_plain NegatedHint = refl
-hint_plain DeniedHint = refl
+piece_plain : (spelling : Spelling) (p : ℕ × ℕ) → plain (piece_word spelling p) ≡ true
+piece_plain spelling p = cond_both (p.0 == p.1) (id_word spelling p.0) (id_word spelling p.0 ++ (codes ".." ++ id_word spelling p.1)) (λ (t : List ℕ). plain t ≡ true) (λ _. id_plain spelling p.0)
+    (λ _. plain_append (id_word spelling p.0) (codes ".." ++ id_word spelling p.1) (id_plain spelling p.0) (plain_append (codes "..") (id_word spelling p.1) refl (id_plain spelling p.1)))
+
+deleted_plain : (spelling : Spelling) (ids : List ℕ) → all_plain (deleted_words spelling ids) ≡ true
+deleted_plain Plain ids = each_word (id_word Plain) (id_plain Plain) ids
+deleted_plain (Relative rows next) ids = each_word (piece_word (Relative rows next)) (piece_plain (Relative rows next)) (spelled_pieces ids)
 
 image_plain : (i : Image) → plain (image_word i) ≡ true
 image_plain Zero = refl
 image_plain One = refl
 image_plain (Lit l) = literal_plain l
-
-goal_plain : (g : Goal) → plain (goal_word g) ≡ true
-goal_plain (Row id) = decimal_plain id
-goal_plain Itself = refl
-goal_plain (Objective i) = decimal_plain i
-goal_plain Strict = refl
-
-proof_plain : (q : GoalProof) → all_plain (proof_words q) ≡ true
-proof_plain (ByRup hints) = before (codes "rup") (map hint_word hints) refl (each_word hint_word hint_plain hints)
-proof_plain (ByPol tokens) = before (codes "pol") (flat_map token_words tokens) refl (each_words token_words token_plain tokens)
-
-proved_plain : (q : Goal × GoalProof) → all_plain (goal_words q) ≡ true
-proved_plain q = before (codes ":") (goal_word q.0 ∷ proof_words q.1) refl (before (goal_word q.0) (proof_words q.1) (goal_plain q.0) (proof_plain q.1))
-
-hinted_plain : (goal : ConstraintValue) (hints : List Hint) → all_plain (hinted_words goal hints) ≡ true
-hinted_plain goal hints = words_append (constraint_words goal) (codes ":" ∷ map hint_word hints) (constraint_plain goal) (before (codes ":") (map hint_word hints) refl (each_word hint_word hint_plain hints))
-
-witnessed_plain : (goal : ConstraintValue) (witness : List (ℕ × Image)) (proofs : List (Goal × GoalProof)) → all_plain (witnessed_words goal witness proofs) ≡ true
-witnessed_plain goal witness proofs =
-    let images : List (List ℕ) = codes ":" ∷ flat_map image_words witness in
-    words_append (constraint_words goal ++ images) (flat_map goal_words proofs)
-    (words_append (constraint_words goal) images (constraint_plain goal) (before (codes ":") (flat_map image_words witness) refl
-    (each_words image_words (λ i. pair (variable_word i.0) (image_word i.1) (decimal_plain i.0) (image_plain i.1)) witness)))
-    (each_words goal_words proved_plain proofs)
-
-line_plain : (line : Line) → all_plain (line_words line) ≡ true
-line_plain (Pol tokens) = before (codes "pol") (flat_map token_words tokens) refl (each_words token_words token_plain tokens)
-line_plain (Rup goal hints) = before (codes "rup") (hinted_words goal hints) refl (hinted_plain goal hints)
-line_plain (Learn goal hints) = before (codes "learn") (hinted_words goal hints) refl (hinted_plain goal hints)
-line_plain (Def var sum) = before (codes "def") (variable_word var ∷ codes ":" ∷ constraint_words sum) refl
-    (before (variable_word var) (codes ":" ∷ constraint_words sum) (decimal_plain var) (before (codes ":") (constraint_words sum) refl (constraint_plain sum)))
-line_plain (Red goal witness proofs) = before (codes "red") (witnessed_words goal witness proofs) refl (witnessed_plain goal witness proofs)
-line_plain (Dom goal witness proofs) = before (codes "dom") (witnessed_words goal witness proofs) refl (witnessed_plain goal witness proofs)
-line_plain (Sol model cut rows) =
-    let first : List (List ℕ) = codes "sol" ∷ map literal_word model in
-    let second : List (List ℕ) = codes ":" ∷ map literal_word cut in
-    let third : List (List ℕ) = codes ":" ∷ map decimal rows in
-    words_append (first ++ second) third
-    (words_append first second (before (codes "sol") (map literal_word model) refl (each_word literal_word literal_plain model)) (before (codes ":") (map literal_word cut) refl (each_word literal_word literal_plain cut)))
-    (before (codes ":") (map decimal rows) refl (each_word decimal decimal_plain rows))
-line_plain (Del ids) = before (codes "del") (map decimal ids) refl (each_word decimal decimal_plain ids)
-line_plain (Reduce ids) = before (codes "reduce") (map decimal ids) refl (each_word decimal decimal_plain ids)
-line_plain (End id) = pair (codes "end") (decimal id) refl (decimal_plain id)
 
 -- ---- lines
 
@@ -176,6 +132,66 @@ one_from_plain (b ∷ bs) p =
     let parts = and_parts (not (b == newline)) (plain bs) p in
     one_cons b bs (λ e. false≢true (sym (ap not (eq-eqb b newline e)) ∙ parts.0)) (one_from_plain bs parts.1)
 
--- the text of a line has no line feed
-pub line_text-one : (line : Line) → IsOneLine (line_text line)
-line_text-one line = one_from_plain (line_text line) (spaced_plain (line_words line) (line_plain line))
+module _ (spelling : Spelling) where
+  token_plain : (t : PolToken) → all_plain (token_words spelling t) ≡ true
+  token_plain (IdToken id) = one_word (id_word spelling id) (id_plain spelling id)
+  token_plain (Axiom l) = one_word (literal_word l) (literal_plain l)
+  token_plain NegatedToken = refl
+  token_plain DeniedToken = refl
+  token_plain Add = refl
+  token_plain (Mul k) = pair (signed_decimal k) (codes "*") (signed_plain k) refl
+  token_plain (Div k) = pair (signed_decimal k) (codes "d") (signed_plain k) refl
+  token_plain Saturate = refl
+  token_plain (Weaken var) = pair (variable_word var) (codes "w") (decimal_plain var) refl
+
+  hint_plain : (h : Hint) → plain (hint_word spelling h) ≡ true
+  hint_plain (IdHint id) = id_plain spelling id
+  hint_plain NegatedHint = refl
+  hint_plain DeniedHint = refl
+
+  goal_plain : (g : Goal) → plain (goal_word spelling g) ≡ true
+  goal_plain (Row id) = id_plain spelling id
+  goal_plain Itself = refl
+  goal_plain (Objective i) = decimal_plain i
+  goal_plain Strict = refl
+
+  proof_plain : (q : GoalProof) → all_plain (proof_words spelling q) ≡ true
+  proof_plain (ByRup hints) = before (codes "rup") (map (hint_word spelling) hints) refl (each_word (hint_word spelling) hint_plain hints)
+  proof_plain (ByPol tokens) = before (codes "pol") (flat_map (token_words spelling) tokens) refl (each_words (token_words spelling) token_plain tokens)
+
+  proved_plain : (q : Goal × GoalProof) → all_plain (goal_words spelling q) ≡ true
+  proved_plain q = before (codes ":") (goal_word spelling q.0 ∷ proof_words spelling q.1) refl (before (goal_word spelling q.0) (proof_words spelling q.1) (goal_plain q.0) (proof_plain q.1))
+
+  hinted_plain : (goal : ConstraintValue) (hints : List Hint) → all_plain (hinted_words spelling goal hints) ≡ true
+  hinted_plain goal hints = words_append (constraint_words goal) (codes ":" ∷ map (hint_word spelling) hints) (constraint_plain goal) (before (codes ":") (map (hint_word spelling) hints) refl (each_word (hint_word spelling) hint_plain hints))
+
+  witnessed_plain : (goal : ConstraintValue) (witness : List (ℕ × Image)) (proofs : List (Goal × GoalProof)) → all_plain (witnessed_words spelling goal witness proofs) ≡ true
+  witnessed_plain goal witness proofs =
+      let images : List (List ℕ) = codes ":" ∷ flat_map image_words witness in
+      words_append (constraint_words goal ++ images) (flat_map (goal_words spelling) proofs)
+      (words_append (constraint_words goal) images (constraint_plain goal) (before (codes ":") (flat_map image_words witness) refl
+      (each_words image_words (λ i. pair (variable_word i.0) (image_word i.1) (decimal_plain i.0) (image_plain i.1)) witness)))
+      (each_words (goal_words spelling) proved_plain proofs)
+
+  line_plain : (line : Line) → all_plain (line_words spelling line) ≡ true
+  line_plain (Pol tokens) = before (codes "pol") (flat_map (token_words spelling) tokens) refl (each_words (token_words spelling) token_plain tokens)
+  line_plain (Rup goal hints) = before (codes "rup") (hinted_words spelling goal hints) refl (hinted_plain goal hints)
+  line_plain (Learn goal hints) = before (codes "learn") (hinted_words spelling goal hints) refl (hinted_plain goal hints)
+  line_plain (Def var sum) = before (codes "def") (variable_word var ∷ codes ":" ∷ constraint_words sum) refl
+      (before (variable_word var) (codes ":" ∷ constraint_words sum) (decimal_plain var) (before (codes ":") (constraint_words sum) refl (constraint_plain sum)))
+  line_plain (Red goal witness proofs) = before (codes "red") (witnessed_words spelling goal witness proofs) refl (witnessed_plain goal witness proofs)
+  line_plain (Dom goal witness proofs) = before (codes "dom") (witnessed_words spelling goal witness proofs) refl (witnessed_plain goal witness proofs)
+  line_plain (Sol model cut rows) =
+      let first : List (List ℕ) = codes "sol" ∷ map literal_word model in
+      let second : List (List ℕ) = codes ":" ∷ map literal_word cut in
+      let third : List (List ℕ) = codes ":" ∷ map (id_word spelling) rows in
+      words_append (first ++ second) third
+      (words_append first second (before (codes "sol") (map literal_word model) refl (each_word literal_word literal_plain model)) (before (codes ":") (map literal_word cut) refl (each_word literal_word literal_plain cut)))
+      (before (codes ":") (map (id_word spelling) rows) refl (each_word (id_word spelling) (id_plain spelling) rows))
+  line_plain (Del ids) = before (codes "del") (deleted_words spelling ids) refl (deleted_plain spelling ids)
+  line_plain (Reduce ids) = before (codes "reduce") (deleted_words spelling ids) refl (deleted_plain spelling ids)
+  line_plain (End id) = pair (codes "end") (id_word spelling id) refl (id_plain spelling id)
+
+  -- the text of a line has no line feed
+  pub line_text-one : (line : Line) → IsOneLine (line_text spelling line)
+  line_text-one line = one_from_plain (line_text spelling line) (spaced_plain (line_words spelling line) (line_plain line))

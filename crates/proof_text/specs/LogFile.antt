@@ -10,6 +10,7 @@ use Rattle.proof_laws.specs.Replay.{IsReplay}
 use Rattle.proof_laws.specs.Legal.{IsLegal}
 use Rattle.proof_lines.specs.LineText.{printed}
 use Rattle.proof_text.specs.LogText.{log_text, header_line}
+use Rattle.proof_lines.specs.declared.spelling.Spelling.TheVariants.{Plain}
 
 -- a prefix of the text of a line that is legal after these
 pub record IsPartOfNext (p : ProblemValue) (lines : List Line) (part : List ℕ) : Type 0 where
@@ -18,7 +19,7 @@ pub record IsPartOfNext (p : ProblemValue) (lines : List Line) (part : List ℕ)
   pub state : StateValue
   pub replay : IsReplay p lines state
   pub legal : IsLegal p state line
-  pub prefix : IsPrefixOf part (printed line)
+  pub prefix : IsPrefixOf part (printed Plain line)
 
 -- The file holds the header and the lines, where the files are told; after a fault a prefix of the next one may follow.
 pub record IsLogFile (files : Option Files) (name : List ℕ) (p : ProblemValue) (lines : List Line) (broken : Bool) : Type 0 where

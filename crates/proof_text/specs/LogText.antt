@@ -6,6 +6,7 @@ use Rattle.scut_base.specs.Files.{IsPrefixOf}
 use Rattle.proof_laws.specs.WellFormed.{IsWellFormed}
 use Rattle.proof_laws.specs.declared.line.Line.{Line}
 use Rattle.proof_lines.specs.LineText.{printed, SpellsNoLine}
+use Rattle.proof_lines.specs.declared.spelling.Spelling.TheVariants.{Plain}
 
 -- the first line of each log
 abbrev pub header_text : List ℕ
@@ -16,7 +17,7 @@ header_line = header_text ++ newline ∷ []
 
 -- the header, and each line with its line feed
 abbrev pub log_text : List Line → List ℕ
-log_text lines = header_line ++ flat_map printed lines
+log_text lines = header_line ++ flat_map (printed Plain) lines
 
 -- The bytes begin with the text of a log of these lines, and the rest follows.
 pub record BeginsWith (bytes : List ℕ) (lines : List Line) (rest : List ℕ) : Type 0 where
@@ -49,7 +50,7 @@ pub record GoesWrongAfter (bytes : List ℕ) (n : ℕ) : Type 0 where
   pub text : List ℕ
   pub after : List ℕ
   pub line : IsWholeLine rest text after
-  pub wrong : SpellsNoLine text
+  pub wrong : SpellsNoLine Plain text
 
 -- The first line that is wrong, by its number from 1 and by bytes that are there, whatever follows: the first is another than the
 -- header, or a later one is whole and the text of none.

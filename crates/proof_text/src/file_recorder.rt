@@ -6,6 +6,7 @@ ghost use Rattle.proof_laws.specs.WellFormed.{IsWellFormed};
 ghost use Rattle.proof_laws.specs.State.{Fits};
 ghost use Rattle.proof_laws.specs.Legal.{IsLegal, IsNext};
 ghost use Rattle.proof_rules.specs.Recording.{KeepsRecorder, MayBeAdded, IsNextId};
+ghost use Rattle.proof_lines.specs.declared.spelling.Spelling.TheVariants.{Plain};
 ghost use Rattle.proof_lines.specs.LineText.{printed};
 ghost use Rattle.proof_text.specs.LogText.{header_line};
 ghost use Rattle.proof_text.specs.LogFile.{IsLogFile, IsNotBegun};
@@ -14,7 +15,7 @@ ghost use Rattle.proof_text.specs.Recorders.{fault_of, without_file, file_seen, 
 use crate::keeping::{advance, is_full, pop_last, push_copy, start};
 use pb_lin::PbProblem;
 use proof_laws::Line;
-use proof_lines::append_line;
+use proof_lines::{Spelling, append_line};
 use proof_rules::{ProofState, RecordFault, Recorder};
 use scut_base::{Items, NoMemory, Shelf, ShelfFault};
 use std::alloc::Global;
@@ -178,9 +179,9 @@ impl<'a, H: Shelf> Recorder for FileRecorder<'a, H> {
         ensures short_broken { IsErrOf result RecordFault.NoMemory → self.new.broken ≡ true }
         ensures keeps { KeepsRecorder (file_seen H.world self.old) (file_seen H.world self.new) }
         ensures written { OnOk result ((H.world self.new.shelf.now).files
-            ≡ with_appended (H.world self.old.shelf.now).files self.old.name (printed line.now)) }
+            ≡ with_appended (H.world self.old.shelf.now).files self.old.name (printed Plain line.now)) }
         ensures partly { OnErr result (IsPutPartly (H.world self.old.shelf.now).files
-            (H.world self.new.shelf.now).files self.old.name (printed line.now)) }
+            (H.world self.new.shelf.now).files self.old.name (printed Plain line.now)) }
     {
         if is_full(&self.lines, &self.state) {
             return Err(RecordFault::Full);
@@ -260,10 +261,10 @@ fn commit<H: Shelf>(
     requires legal { IsLegal problem.now state.old line.now }
     ensures written { OnOk result
         ((H.world shelf.new).files ≡ with_appended (H.world shelf.old).files name.now
-        (printed line.now)) }
+        (printed Plain line.now)) }
     ensures partly { OnErr result
         (IsPutPartly (H.world shelf.old).files (H.world shelf.new).files name.now
-        (printed line.now)) }
+        (printed Plain line.now)) }
     ensures id { IfOk result (λ id. id ≡ state.old.next_id) }
     ensures next { OnOk result (IsNext problem.now state.old line.now state.new) }
     ensures fits { OnOk result (Fits problem.now state.new) }
@@ -292,10 +293,10 @@ fn write_line<H: Shelf>(
         → IsSome (content (H.world shelf.old).files name.now) }
     ensures written { OnOk result
         ((H.world shelf.new).files ≡ with_appended (H.world shelf.old).files name.now
-        (printed line.now)) }
+        (printed Plain line.now)) }
     ensures partly { OnErr result
         (IsPutPartly (H.world shelf.old).files (H.world shelf.new).files name.now
-        (printed line.now)) }
+        (printed Plain line.now)) }
     ensures others { without_file (H.world shelf.new).files name.now
         ≡ without_file (H.world shelf.old).files name.now }
     ensures said { (H.world shelf.new).said ≡ (H.world shelf.old).said }
@@ -303,7 +304,7 @@ fn write_line<H: Shelf>(
     ensures cause { IsWrite name.now (H.world shelf.old).faults (H.world shelf.new).faults result }
 {
     text.clear();
-    if append_line(text, line).is_err() {
+    if append_line(text, Spelling::Plain, line).is_err() {
         return Err(RecordFault::NoMemory);
     }
     match shelf.append(name, text.as_slice()) {

@@ -22,4 +22,5 @@ pub use file_recorder::{FileRecorder, NotBegun};
 pub use laws::{no_fault_where_spelled, one_fault, one_log, printed_back};
 pub use line_reader::LineReader;
 pub use mem_recorder::MemRecorder;
-pub use printing::print;
+pub use printing::{print, print_relative};
+pub use proof_lines::made;

@@ -10,7 +10,7 @@ use crate::line_feeds::{count_line_feeds, ends_whole};
 use crate::opening::{HEADER_LEN, Opening, opening_of};
 use crate::pending::Pending;
 use proof_laws::Line;
-use proof_lines::{LineFault, read_line};
+use proof_lines::{LineFault, Spelling, read_line};
 use scut_base::NoMemory;
 use std::alloc::Global;
 use std::marker::Model;
@@ -144,7 +144,7 @@ impl LineReader {
             Some(number) => number,
             None => return Err(TextFault::NoMemory),
         };
-        match read_line(self.alloc, &self.pending.as_slice()[..len]) {
+        match read_line(self.alloc, Spelling::Plain, &self.pending.as_slice()[..len]) {
             Ok(line) => {
                 self.pending.skip_line(len);
                 self.given += 1;

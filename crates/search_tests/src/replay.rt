@@ -4,7 +4,7 @@ ghost use Rattle.proof_laws.specs.State.{Fits};
 
 use pb_lin::PbProblem;
 use proof_laws::Line;
-use proof_lines::{append_line, read_line};
+use proof_lines::{Spelling, append_line, read_line};
 use proof_rules::ProofState;
 use std::alloc::Global;
 use std::test::Fail;
@@ -24,10 +24,10 @@ fn step(alloc: Global, problem: &PbProblem, state: &mut ProofState, line: &Line)
     ensures { OnOk result (Fits problem.now state.new) }
 {
     let mut text = Vec::new(alloc);
-    append_line(&mut text, line)?;
+    append_line(&mut text, Spelling::Plain, line)?;
     // The line feed isn't part of what is read.
     let _ = text.pop();
-    let read = read_line(alloc, text.as_slice())?;
+    let read = read_line(alloc, Spelling::Plain, text.as_slice())?;
     state.step(problem, &read)?;
     Ok(())
 }

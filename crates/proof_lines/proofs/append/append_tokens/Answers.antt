@@ -3,4 +3,4 @@ use Rattle.proof_lines.proofs.Appends.{all_put}
 use Rattle.proof_lines.proofs.append.append_tokens.Goals as goal
 
 pub returns : goal.returns
-returns c = all_put token_words c.args.tokens.now c.loop-token.token-index _ _ c.loop-token-test.false c.loop-token.invariant
+returns c = all_put (token_words c.args.spelling) c.args.tokens.now c.loop-token.token-index _ _ c.loop-token-test.false c.loop-token.invariant

@@ -9,7 +9,7 @@ use Rattle.proof_lines.proofs.goals.read_proofs.Goals as goal
 
 pub returns-then-not-are_ordered : goal.returns-then-not-are_ordered
 returns-then-not-are_ordered c = λ x valid is.
-    let same = only_goals c.args.words.now c.in_ok-proofs.proofs c.in_ok-proofs.ensures x valid is in
+    let same = only_goals c.args.spelling c.requires c.args.words.now c.in_ok-proofs.proofs c.in_ok-proofs.ensures x valid is in
     absurd (false≢true (c.if-not-are_ordered.ensures.1 (subst (λ (qs : List (Goal × GoalProof)). AllPairs IsBefore qs) (same ∙ sym c.as_slice.ensures) valid.order)))
 
 pub returns : goal.returns

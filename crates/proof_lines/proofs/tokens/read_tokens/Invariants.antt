@@ -6,7 +6,7 @@ use Rattle.proof_lines.proofs.Items.{ItemsSoFar}
 use Rattle.proof_lines.proofs.tokens.read_tokens.Given as goal
 
 abbrev pub invariant-loop-word : goal.invariant-loop-word
-invariant-loop-word l = ItemsSoFar token_words IsToken FollowsToken l.fn.words l.words l.tokens
+invariant-loop-word l = ItemsSoFar (token_words l.fn.spelling) IsToken FollowsToken l.fn.words l.words l.tokens
 
 abbrev pub decreases-loop-word : goal.decreases-loop-word
 decreases-loop-word l = length l.words

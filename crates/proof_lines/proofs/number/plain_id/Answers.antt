@@ -2,8 +2,8 @@ use Rattle.std.proofs.Common.{◌≡◌, ◌^◌, arith, refl, sym, ◌∙◌}
 use Rattle.std.specs.Fmt.{decimal}
 use Rattle.std.proofs.lemmas.Bool.{false≢true}
 use Rattle.proof_lines.proofs.Numbers.{not_plain, not_read, too_long, digits_spell, one_number}
-use Rattle.proof_lines.proofs.number.id_of.Goals as goal
-use Rattle.proof_lines.proofs.number.id_of.Goals.{then-word-gt-NARROW_DIGITS-via-then-word-gt-NARROW_DIGITS, then-word-gt-NARROW_DIGITS-via-else-word-gt-NARROW_DIGITS+then-not-is_plain}
+use Rattle.proof_lines.proofs.number.plain_id.Goals as goal
+use Rattle.proof_lines.proofs.number.plain_id.Goals.{then-word-gt-NARROW_DIGITS-via-then-word-gt-NARROW_DIGITS, then-word-gt-NARROW_DIGITS-via-else-word-gt-NARROW_DIGITS+then-not-is_plain}
 
 pub returns-then-word-gt-NARROW_DIGITS : goal.returns-then-word-gt-NARROW_DIGITS
 returns-then-word-gt-NARROW_DIGITS c = λ x below is.
