@@ -65,7 +65,8 @@ fn run_front<H: Shelf>(
     words: &[String],
     shelf: &mut H,
 ) -> (Status, Result<(), ShelfFault>)
-    ensures answered { Answered (TableOf (option_map FrontOf (front_asked (map string_bytes words.now))))
+    ensures answered { Answered
+        (TableOf (option_map FrontOf (front_asked (map string_bytes words.now))))
         (own_calls (option_map FrontOf (front_asked (map string_bytes words.now)))) result.0
         (H.world shelf.old) (H.world shelf.new) }
     ensures warned { IsWarned (warning_text result.0) (H.world shelf.old)
@@ -84,7 +85,8 @@ fn run_solve<H: Shelf>(
     words: &[String],
     shelf: &mut H,
 ) -> (Status, Result<(), ShelfFault>)
-    ensures answered { Answered (TableOf (option_map SolveOf (solve_asked (map string_bytes words.now))))
+    ensures answered { Answered
+        (TableOf (option_map SolveOf (solve_asked (map string_bytes words.now))))
         (own_calls (option_map SolveOf (solve_asked (map string_bytes words.now)))) result.0
         (H.world shelf.old) (H.world shelf.new) }
     ensures warned { IsWarned (warning_text result.0) (H.world shelf.old)
@@ -103,7 +105,8 @@ fn run_check<H: Shelf>(
     words: &[String],
     shelf: &mut H,
 ) -> (Status, Result<(), ShelfFault>)
-    ensures answered { Answered (TableOf (option_map CheckOf (check_asked (map string_bytes words.now))))
+    ensures answered { Answered
+        (TableOf (option_map CheckOf (check_asked (map string_bytes words.now))))
         (own_calls (option_map CheckOf (check_asked (map string_bytes words.now)))) result.0
         (H.world shelf.old) (H.world shelf.new) }
     ensures warned { IsWarned (warning_text result.0) (H.world shelf.old)
