@@ -20,8 +20,8 @@ use command_solve::read_solve;
 use scut_base::{Shelf, ShelfFault};
 use std::alloc::Global;
 
-/// Runs the command that the words ask for, and warns of a status of which nothing is said; the words are
-/// those of the command line without the program's name. A warning that fails changes no status.
+/// Runs the command that the words ask for, and warns of a status of which nothing is said; the words
+/// are those of the command line without the program's name. A warning that fails changes no status.
 pub fn run<H: Shelf>(alloc: Global, words: &[String], shelf: &mut H) -> Status
     ensures usage { request_of (map string_bytes words.now) ≡ None → result ≢ Status.NoMemory
         → result ≡ Status.Usage }
