@@ -47,13 +47,41 @@ pub fn certified_front<O: Oracle>(
     ensures later { (O.seen oracle.old).faults ≤ (O.seen oracle.new).faults }
     ensures around { KeepsSurroundings (O.seen oracle.old).around (O.seen oracle.new).around }
 {
+    certified_front_by(alloc, oracle, problem, inst, &mut PMinimal::new(alloc))
+}
+
+/// The same by any search that serves the problem. After a fault the search isn't used again.
+pub fn certified_front_by<O: Oracle, S: Search>(
+    alloc: Global,
+    oracle: &mut O,
+    problem: &PbProblem,
+    inst: &Instance,
+    search: &mut S,
+) -> Result<Found, RecordFault>
+    requires normal { IsNormalFormOf inst.now problem.now }
+    requires problem { (O.seen oracle.old).problem ≡ problem.now }
+    requires begun { (O.seen oracle.old).lines ≡ [] }
+    requires whole { (O.seen oracle.old).broken ≡ false }
+    requires serves { S.serves search.old problem.now }
+    ensures covers { IfOk result
+        (λ found. CoversLogged inst.now problem.now (O.seen oracle.new).lines found.entries.items) }
+    ensures ending { IfOk result
+        (λ found. IsEnding (O.seen oracle.old).limit problem.now
+        (O.seen oracle.new).lines found.ending) }
+    ensures whole { OnOk result ((O.seen oracle.new).broken ≡ false) }
+    ensures failed { IsErrOf result RecordFault.Failed
+        → Rose (O.seen oracle.old).faults (O.seen oracle.new).faults }
+    ensures full { IsErrOf result RecordFault.Full → length (O.seen oracle.new).lines ≡ 2 ^ 61 }
+    ensures problem { (O.seen oracle.new).problem ≡ (O.seen oracle.old).problem }
+    ensures later { (O.seen oracle.old).faults ≤ (O.seen oracle.new).faults }
+    ensures around { KeepsSurroundings (O.seen oracle.old).around (O.seen oracle.new).around }
+{
     no_lines_are_prepared();
     // Tells that the problem is within its limits.
     let _vars = problem.vars();
     let own = in_memory(own_reforms(alloc, problem))?;
     let reforms = in_memory(ordered(alloc, problem, own))?;
-    let mut search = PMinimal::new(alloc);
-    front_by(alloc, oracle, problem, inst, reforms, &mut search)
+    front_by(alloc, oracle, problem, inst, reforms, search)
 }
 
 /// Searches for the front of an instance by a search that serves its problem, from lines that were prepared,

@@ -1,85 +1,82 @@
--- What an answer says after a warning, of the words, and where it completes.
-use Rattle.std.proofs.Common.{◌≡◌, ◌≢◌, ◌↔◌, List, [], ℕ, refl, sym, subst}
+-- What is answered where a command was run, where none was, and what that says of Usage and of completing.
+use Rattle.std.proofs.Common.{◌≡◌, ◌≢◌, List, [], ℕ, refl, sym, ap, subst}
 use Rattle.std.specs.Prelude.{Option, Some, None, Result, Ok, Err}
+use Rattle.std.specs.Option.{option_map}
 use Rattle.std.proofs.lemmas.List.{append-nil}
 use Rattle.std.proofs.lemmas.Option.{none-some}
 use Rattle.scut_base.specs.declared.shelf.ShelfFault.{ShelfFault}
-use Rattle.scut_base.specs.Files.{IsPartlyFollowed}
+use Rattle.scut_base.specs.Files.{Files, IsPartlyFollowed}
 use Rattle.scut_base.specs.Faults.{NoneFell}
 use Rattle.scut_base.specs.World.{World}
-use Rattle.scuttle_commands.specs.Messages.{IsWarned}
-use Rattle.scuttle_commands.specs.FrontAnswers.{FrontAnswers}
-use Rattle.scuttle_commands.specs.CheckAnswers.{CheckAnswers}
-use Rattle.scuttle_commands.specs.SolveAnswers.{SolveAnswers}
-use Rattle.scuttle_commands.specs.declared.instance_file.Format.{Format}
-use Rattle.scuttle_commands.specs.declared.status.Status.{Status}
-use Rattle.scuttle_commands.specs.declared.status.Status.TheVariants.{Complete, Incomplete, LogFull, Accepted, Refused, Usage, BadInput, TooLarge, NoMemory, ShelfFailed}
-use Rattle.scuttle_commands.proofs.Kept.{check_kept, front_kept, solve_kept, untouched_kept}
-use Rattle.scuttle_commands.proofs.Completing.{check_completes, front_completes, solve_completes}
-use Rattle.scuttle_cli.specs.Command.{Request, FrontOf, SolveOf, CheckOf}
-use Rattle.scuttle_cli.specs.Answers.{Answers, Completes, UsageAnswers}
+use Rattle.command_base.specs.Answering.{Answered, UsageTable}
+use Rattle.command_base.specs.Messages.{IsWarned}
+use Rattle.command_base.specs.Views.{view}
+use Rattle.command_base.specs.declared.status.Status.{Status}
+use Rattle.command_base.specs.declared.status.Status.TheVariants.{Done, Complete, Incomplete, Trimmed, Models, LogFull, Accepted, Refused, Usage, BadInput, TooLarge, NoMemory, ShelfFailed}
+use Rattle.command_base.proofs.Answered.{ended}
+use Rattle.command_front.specs.Table.{FrontTable}
+use Rattle.command_front.proofs.Completing.{front_completes}
+use Rattle.command_front.proofs.FrontEnds.{nothing_done as front_not_done}
+use Rattle.command_solve.specs.Table.{SolveTable}
+use Rattle.command_solve.proofs.Completing.{solve_completes}
+use Rattle.command_check.specs.Table.{CheckTable}
+use Rattle.command_check.proofs.Completing.{check_completes}
+use Rattle.command_check.proofs.CheckEnds.{nothing_done as check_not_done}
+use Rattle.scuttle_cli.specs.Answers.{CompletesOf, HasUsage, TableOf, own_calls}
+use Rattle.scuttle_cli.specs.Requests.{CheckOf, FrontOf, Request, SolveOf}
 
--- ---- what is warned changes nothing that an answer speaks of
+-- what is answered by what was asked for
+abbrev pub AnsweredFor : Option Request → Status → World → World → Type 0
+AnsweredFor request status before after = Answered (TableOf request) (own_calls request) status before after
 
-module _ (before mid after : World) (files : after.files ≡ mid.files) (said : after.said ≡ mid.said) where
-  usage_kept : (status : Status) → UsageAnswers status before mid → UsageAnswers status before after
-  usage_kept (Complete size) was = was
-  usage_kept (Incomplete size learned) was = was
-  usage_kept (LogFull lines) was = was
-  usage_kept Accepted was = was
-  usage_kept (Refused fault) was = was
-  usage_kept Usage was = untouched_kept before mid after files said was
-  usage_kept (BadInput line kind) was = was
-  usage_kept (TooLarge line which) was = was
-  usage_kept NoMemory was = untouched_kept before mid after files said was
-  usage_kept ShelfFailed was = was
+-- ---- no command was run
 
-  pub answer_kept : (request : Option Request) (status : Status) → NoneFell mid.faults after.faults → Answers request status before mid → Answers request status before after
-  answer_kept None status later was = usage_kept status was
-  answer_kept (Some (FrontOf format input list)) status later was = front_kept before mid after files said format input list status later was
-  answer_kept (Some (SolveOf format input list log limit)) status later was = solve_kept before mid after files said format input list log limit status later was
-  answer_kept (Some (CheckOf format input list log)) status later was = check_kept before mid after files said format input list log status later was
+-- words that ask for nothing
+pub no_request : (status : Status) (before after : World) → status ≡ Usage → view after ≡ view before → NoneFell before.faults after.faults → AnsweredFor None status before after
+no_request status before after is same later =
+    subst (λ (s : Status). AnsweredFor None s before after) (sym is) (ended UsageTable [] Usage before after same (λ is'. cc) later)
+
+-- memory was wanted, and nothing has changed
+no_memory_row : (request : Option Request) (before after : World) → view after ≡ view before → TableOf request NoMemory (view before) (view after)
+no_memory_row None before after same = same
+no_memory_row (Some (FrontOf a)) before after same = front_not_done a (view before) (view after) same
+no_memory_row (Some (SolveOf a)) before after same = inl same
+no_memory_row (Some (CheckOf a)) before after same = check_not_done a (view before) (view after) same
+
+pub no_memory : (request : Option Request) (status : Status) (before after : World) → status ≡ NoMemory → view after ≡ view before → NoneFell before.faults after.faults → AnsweredFor request status before after
+no_memory request status before after is same later =
+    subst (λ (s : Status). AnsweredFor request s before after) (sym is)
+    (ended (TableOf request) (own_calls request) NoMemory before after (no_memory_row request before after same) (λ is'. cc) later)
 
 -- ---- where it completes
 
-pub completes : (request : Option Request) (status : Status) (before after : World) → Answers request status before after → Completes request status before after
+pub completes : (request : Option Request) (status : Status) (before after : World) → AnsweredFor request status before after → CompletesOf request status before after
 completes None status before after was = tt
-completes (Some (FrontOf format input list)) status before after was = front_completes format input list status before after was
-completes (Some (SolveOf format input list log limit)) status before after was = solve_completes format input list log limit status before after was
-completes (Some (CheckOf format input list log)) status before after was = check_completes format input list log status before after was
+completes (Some (FrontOf a)) status before after was = front_completes a status before after was
+completes (Some (SolveOf a)) status before after was = solve_completes a status before after was
+completes (Some (CheckOf a)) status before after was = check_completes a status before after was
 
 -- ---- Usage
 
 -- words that ask for nothing have no other answer than Usage and want of memory
-only_usage : (status : Status) (before after : World) → UsageAnswers status before after → status ≢ NoMemory → status ≡ Usage
-only_usage (Complete size) before after was memory = absurd was
-only_usage (Incomplete size learned) before after was memory = absurd was
-only_usage (LogFull lines) before after was memory = absurd was
-only_usage Accepted before after was memory = absurd was
-only_usage (Refused fault) before after was memory = absurd was
-only_usage Usage before after was memory = refl
-only_usage (BadInput line kind) before after was memory = absurd was
-only_usage (TooLarge line which) before after was memory = absurd was
-only_usage NoMemory before after was memory = absurd (memory refl)
-only_usage ShelfFailed before after was memory = absurd was
+other_status : (status : Status) (before after : World) → UsageTable status (view before) (view after) → status ≢ NoMemory → status ≡ Usage
+other_status Usage before after was memory = refl
+other_status NoMemory before after was memory = absurd (memory refl)
+other_status status before after was memory = absurd was
 
-no_usage : (format : Format) (input list : List ℕ) (status : Status) (before after : World) → FrontAnswers format input list status before after → status ≡ Usage → ⊥
-no_usage format input list status before after was is = subst (λ (s : Status). FrontAnswers format input list s before after) is was
+pub usage : (request : Option Request) (status : Status) (before after : World) → AnsweredFor request status before after → request ≡ None → status ≢ NoMemory → status ≡ Usage
+usage None status before after was is memory = other_status status before after was.table memory
+usage (Some request) status before after was is memory = absurd (none-some request (sym is))
 
-no_solve_usage : (format : Format) (input list log : List ℕ) (limit : Option ℕ) (status : Status) (before after : World) → SolveAnswers format input list log limit status before after → status ≡ Usage → ⊥
-no_solve_usage format input list log limit status before after was is = subst (λ (s : Status). SolveAnswers format input list log limit s before after) is was
+has_usage : (request : Option Request) (before after : World) → TableOf request Usage (view before) (view after) → HasUsage request before.files
+has_usage None before after row = tt
+has_usage (Some (FrontOf a)) before after row = row
+has_usage (Some (SolveOf a)) before after row = row.cause
+has_usage (Some (CheckOf a)) before after row = row
 
-no_check_usage : (format : Format) (input list log : List ℕ) (status : Status) (before after : World) → CheckAnswers format input list log status before after → status ≡ Usage → ⊥
-no_check_usage format input list log status before after was is = subst (λ (s : Status). CheckAnswers format input list log s before after) is was
-
-pub usage_exactly : (request : Option Request) (status : Status) (before after : World) → Answers request status before after → status ≢ NoMemory → (status ≡ Usage) ↔ (request ≡ None)
-usage_exactly None status before after was memory = (λ is. refl, λ is. only_usage status before after was memory)
-usage_exactly (Some (FrontOf format input list)) status before after was memory =
-    (λ is. absurd (no_usage format input list status before after was is), λ is. absurd (none-some (FrontOf format input list) (sym is)))
-usage_exactly (Some (SolveOf format input list log limit)) status before after was memory =
-    (λ is. absurd (no_solve_usage format input list log limit status before after was is), λ is. absurd (none-some (SolveOf format input list log limit) (sym is)))
-usage_exactly (Some (CheckOf format input list log)) status before after was memory =
-    (λ is. absurd (no_check_usage format input list log status before after was is), λ is. absurd (none-some (CheckOf format input list log) (sym is)))
+pub only_usage : (request : Option Request) (status : Status) (before after : World) → AnsweredFor request status before after → status ≡ Usage → HasUsage request before.files
+only_usage request status before after was is =
+    has_usage request before after (subst (λ (s : Status). TableOf request s (view before) (view after)) is was.table)
 
 -- ---- warnings
 

@@ -1,30 +1,38 @@
--- What a run answers, by what the words ask for: for each command a table from its statuses to what they say of the world before and after.
-use Rattle.std.specs.Prelude.{Option, Some, None}
+-- What a run answers, by what the words ask for: the table of the command, and the calls that are its own.
+use Rattle.std.specs.Prelude.{List, [], Option, Some, None}
+use Rattle.scut_base.specs.Files.{Files}
 use Rattle.scut_base.specs.World.{World}
-use Rattle.scuttle_commands.specs.Causes.{IsUntouched}
-use Rattle.scuttle_cli.specs.Command.{Request, FrontOf, SolveOf, CheckOf}
-use Rattle.scuttle_commands.specs.FrontAnswers.{FrontAnswers, FrontCompletes}
-use Rattle.scuttle_commands.specs.SolveAnswers.{SolveAnswers, SolveCompletes}
-use Rattle.scuttle_commands.specs.CheckAnswers.{CheckAnswers, CheckCompletes}
-use Rattle.scuttle_commands.specs.declared.status.Status.{Status}
-use Rattle.scuttle_commands.specs.declared.status.Status.TheVariants.{Usage, NoMemory}
-
--- the answers to words that are none of a command
-abbrev pub UsageAnswers : Status → World → World → Type 0
-UsageAnswers Usage before after = IsUntouched before after
-UsageAnswers NoMemory before after = IsUntouched before after
-UsageAnswers status before after = ⊥
+use Rattle.command_base.specs.Answering.{Call, UsageTable}
+use Rattle.command_base.specs.Causes.{HasText}
+use Rattle.command_base.specs.Views.{View}
+use Rattle.command_base.specs.declared.status.Status.{Status}
+use Rattle.command_front.specs.Table.{FrontCompletes, FrontTable, front_calls}
+use Rattle.command_solve.specs.Table.{HasOtherObjectives, SolveCompletes, SolveTable, solve_calls}
+use Rattle.command_check.specs.Table.{CheckCompletes, CheckTable, check_calls}
+use Rattle.scuttle_cli.specs.Requests.{Request, FrontOf, SolveOf, CheckOf}
 
 -- an equation for each command
 
-abbrev pub Answers : Option Request → Status → World → World → Type 0
-Answers None status before after = UsageAnswers status before after
-Answers (Some (FrontOf format input list)) status before after = FrontAnswers format input list status before after
-Answers (Some (SolveOf format input list log limit)) status before after = SolveAnswers format input list log limit status before after
-Answers (Some (CheckOf format input list log)) status before after = CheckAnswers format input list log status before after
+abbrev pub TableOf : Option Request → Status → View → View → Type 0
+TableOf None = UsageTable
+TableOf (Some (FrontOf a)) = FrontTable a
+TableOf (Some (SolveOf a)) = SolveTable a
+TableOf (Some (CheckOf a)) = CheckTable a
 
-abbrev pub Completes : Option Request → Status → World → World → Type 0
-Completes None status before after = Unit {0}
-Completes (Some (FrontOf format input list)) status before after = FrontCompletes format input list status before after
-Completes (Some (SolveOf format input list log limit)) status before after = SolveCompletes format input list log limit status before after
-Completes (Some (CheckOf format input list log)) status before after = CheckCompletes format input list log status before after
+abbrev pub own_calls : Option Request → List Call
+own_calls None = []
+own_calls (Some (FrontOf a)) = front_calls a
+own_calls (Some (SolveOf a)) = solve_calls a
+own_calls (Some (CheckOf a)) = check_calls a
+
+abbrev pub CompletesOf : Option Request → Status → World → World → Type 0
+CompletesOf None status before after = Unit {0}
+CompletesOf (Some (FrontOf a)) status before after = FrontCompletes a status before after
+CompletesOf (Some (SolveOf a)) status before after = SolveCompletes a status before after
+CompletesOf (Some (CheckOf a)) status before after = CheckCompletes a status before after
+
+-- Usage: the words ask for nothing, or for a search that doesn't take the instance of the file.
+abbrev pub HasUsage : Option Request → Option Files → Type 0
+HasUsage None files = Unit {0}
+HasUsage (Some (SolveOf a)) files = HasText files a.input (HasOtherObjectives a)
+HasUsage (Some request) files = ⊥

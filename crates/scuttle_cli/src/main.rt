@@ -2,16 +2,16 @@
 //!
 //! Its public contract is that of `run`, by what the words ask for: after Complete the list file holds
 //! exactly the front of the instance, after Accepted list and log are accepted for it, and every other
-//! answer has its stated cause. The commands are those of `scuttle_commands`; here stand the words, and
-//! `main`, which runs them over the real files.
+//! answer has its stated cause. Each command is a crate with a table of its own; here stand the first words,
+//! and `main`, which runs them over the real files.
 #![tactic(auto)]
 
-mod command;
+mod names;
 mod running;
 
+use command_base::{Status, warn_of};
 use running::run;
 use scut_base::{HostShelf, Shelf};
-use scuttle_commands::{Status, warn_of};
 use std::alloc::Global;
 use std::io::ErrorKind;
 use std::process::ExitCode;

@@ -1,78 +1,136 @@
 // The top call.
-ghost use Rattle.std.specs.Prelude.{◌≡◌, ◌≢◌, ◌↔◌, None, map, string_bytes};
+ghost use Rattle.std.specs.Prelude.{◌≡◌, ◌≢◌, None, map, string_bytes};
+ghost use Rattle.std.specs.Option.{option_map};
 ghost use Rattle.scut_base.specs.Faults.{NoneFell};
 ghost use Rattle.scut_base.specs.Files.{IsPartlyFollowed};
-ghost use Rattle.scuttle_commands.specs.Messages.{warning_text, IsWarned};
-ghost use Rattle.scuttle_cli.specs.Command.{request_of};
-ghost use Rattle.scuttle_cli.specs.Answers.{Answers, Completes};
+ghost use Rattle.command_base.specs.Answering.{Answered};
+ghost use Rattle.command_base.specs.Messages.{IsWarned, warning_text};
+ghost use Rattle.command_base.specs.Views.{view};
+ghost use Rattle.command_check.specs.Words.{check_asked};
+ghost use Rattle.command_front.specs.Words.{front_asked};
+ghost use Rattle.command_solve.specs.Words.{solve_asked};
+ghost use Rattle.scuttle_cli.specs.Answers.{CompletesOf, HasUsage, TableOf, own_calls};
+ghost use Rattle.scuttle_cli.specs.Requests.{CheckOf, FrontOf, SolveOf, request_of};
 
-use crate::command::{Command, read_command};
+use crate::names::{CommandName, command_in};
+use command_base::{Status, run_and_warn, warn_of};
+use command_check::read_check;
+use command_front::read_front;
+use command_solve::read_solve;
 use scut_base::{Shelf, ShelfFault};
-use scuttle_commands::{Status, check, front, solve, warn_of};
 use std::alloc::Global;
 
-/// Runs the command that the words ask for, and warns of a status of which nothing is said; the words are
-/// those of the command line without the program's name. A warning that fails changes no status.
+/// Runs the command that the words ask for, and warns of a status of which nothing is said; the words
+/// are those of the command line without the program's name. A warning that fails changes no status.
 pub fn run<H: Shelf>(alloc: Global, words: &[String], shelf: &mut H) -> Status
-    ensures usage { result ≢ Status.NoMemory
-        → ((result ≡ Status.Usage) ↔ (request_of (map string_bytes words.now) ≡ None)) }
-    ensures answer { Answers (request_of (map string_bytes words.now)) result (H.world shelf.old)
-        (H.world shelf.new) }
-    ensures complete { Completes (request_of (map string_bytes words.now)) result
+    ensures usage { request_of (map string_bytes words.now) ≡ None → result ≢ Status.NoMemory
+        → result ≡ Status.Usage }
+    ensures only_usage { result ≡ Status.Usage
+        → HasUsage (request_of (map string_bytes words.now)) (H.world shelf.old).files }
+    ensures answered { Answered (TableOf (request_of (map string_bytes words.now)))
+        (own_calls (request_of (map string_bytes words.now))) result
+        (H.world shelf.old) (H.world shelf.new) }
+    ensures complete { CompletesOf (request_of (map string_bytes words.now)) result
         (H.world shelf.old) (H.world shelf.new) }
     ensures warned { IsPartlyFollowed (H.world shelf.old).warned (H.world shelf.new).warned
         (warning_text result) }
-    ensures later { NoneFell (H.world shelf.old).faults (H.world shelf.new).faults }
 {
-    let (status, _) = run_and_warn(alloc, words, shelf);
+    let (status, _) = run_named(alloc, words, shelf);
     status
 }
 
 // The same, and how the warning went: what `run` can't tell is why a warning was cut off.
-fn run_and_warn<H: Shelf>(
+fn run_named<H: Shelf>(
     alloc: Global,
     words: &[String],
     shelf: &mut H,
 ) -> (Status, Result<(), ShelfFault>)
-    ensures answer { Answers (request_of (map string_bytes words.now)) result.0 (H.world shelf.old)
-        (H.world shelf.new) }
+    ensures answered { Answered (TableOf (request_of (map string_bytes words.now)))
+        (own_calls (request_of (map string_bytes words.now))) result.0
+        (H.world shelf.old) (H.world shelf.new) }
     ensures warned { IsWarned (warning_text result.0) (H.world shelf.old)
         (H.world shelf.new) result.1 }
-    ensures later { NoneFell (H.world shelf.old).faults (H.world shelf.new).faults }
 {
-    let status = answer(alloc, words, shelf);
-    let warning = warn_of(alloc, status, shelf);
-    (status, warning)
+    match command_in(words) {
+        Some(CommandName::Front) => run_front(alloc, words, shelf),
+        Some(CommandName::Solve) => run_solve(alloc, words, shelf),
+        Some(CommandName::Check) => run_check(alloc, words, shelf),
+        None => not_run(alloc, Status::Usage, shelf),
+    }
 }
 
-// The command's answer, with nothing warned yet.
-fn answer<H: Shelf>(alloc: Global, words: &[String], shelf: &mut H) -> Status
-    ensures answer { Answers (request_of (map string_bytes words.now)) result (H.world shelf.old)
-        (H.world shelf.new) }
-    ensures warned { (H.world shelf.new).warned ≡ (H.world shelf.old).warned }
-    ensures later { NoneFell (H.world shelf.old).faults (H.world shelf.new).faults }
+// The command `front`.
+fn run_front<H: Shelf>(
+    alloc: Global,
+    words: &[String],
+    shelf: &mut H,
+) -> (Status, Result<(), ShelfFault>)
+    ensures answered { Answered
+        (TableOf (option_map FrontOf (front_asked (map string_bytes words.now))))
+        (own_calls (option_map FrontOf (front_asked (map string_bytes words.now)))) result.0
+        (H.world shelf.old) (H.world shelf.new) }
+    ensures warned { IsWarned (warning_text result.0) (H.world shelf.old)
+        (H.world shelf.new) result.1 }
 {
-    let Some(command) = read_command(words) else {
-        return Status::Usage;
-    };
-    match command {
-        Command::Front {
-            format,
-            input,
-            list,
-        } => Status::of(front(alloc, format, input, list, shelf)),
-        Command::Solve {
-            format,
-            input,
-            list,
-            log,
-            limit,
-        } => Status::of_solving(solve(alloc, format, input, list, log, limit, shelf)),
-        Command::Check {
-            format,
-            input,
-            list,
-            log,
-        } => Status::of_check(check(alloc, format, input, list, log, shelf)),
+    match read_front(alloc, words) {
+        Ok(Some(command)) => run_and_warn(alloc, &command, shelf),
+        Ok(None) => not_run(alloc, Status::Usage, shelf),
+        Err(_) => not_run(alloc, Status::NoMemory, shelf),
     }
+}
+
+// The command `solve`.
+fn run_solve<H: Shelf>(
+    alloc: Global,
+    words: &[String],
+    shelf: &mut H,
+) -> (Status, Result<(), ShelfFault>)
+    ensures answered { Answered
+        (TableOf (option_map SolveOf (solve_asked (map string_bytes words.now))))
+        (own_calls (option_map SolveOf (solve_asked (map string_bytes words.now)))) result.0
+        (H.world shelf.old) (H.world shelf.new) }
+    ensures warned { IsWarned (warning_text result.0) (H.world shelf.old)
+        (H.world shelf.new) result.1 }
+{
+    match read_solve(alloc, words) {
+        Ok(Some(command)) => run_and_warn(alloc, &command, shelf),
+        Ok(None) => not_run(alloc, Status::Usage, shelf),
+        Err(_) => not_run(alloc, Status::NoMemory, shelf),
+    }
+}
+
+// The command `check`.
+fn run_check<H: Shelf>(
+    alloc: Global,
+    words: &[String],
+    shelf: &mut H,
+) -> (Status, Result<(), ShelfFault>)
+    ensures answered { Answered
+        (TableOf (option_map CheckOf (check_asked (map string_bytes words.now))))
+        (own_calls (option_map CheckOf (check_asked (map string_bytes words.now)))) result.0
+        (H.world shelf.old) (H.world shelf.new) }
+    ensures warned { IsWarned (warning_text result.0) (H.world shelf.old)
+        (H.world shelf.new) result.1 }
+{
+    match read_check(alloc, words) {
+        Ok(Some(command)) => run_and_warn(alloc, &command, shelf),
+        Ok(None) => not_run(alloc, Status::Usage, shelf),
+        Err(_) => not_run(alloc, Status::NoMemory, shelf),
+    }
+}
+
+// Answers a status where no command was run, and warns of it.
+fn not_run<H: Shelf>(
+    alloc: Global,
+    status: Status,
+    shelf: &mut H,
+) -> (Status, Result<(), ShelfFault>)
+    ensures status { result.0 ≡ status }
+    ensures same { view (H.world shelf.new) ≡ view (H.world shelf.old) }
+    ensures later { NoneFell (H.world shelf.old).faults (H.world shelf.new).faults }
+    ensures warned { IsWarned (warning_text result.0) (H.world shelf.old)
+        (H.world shelf.new) result.1 }
+{
+    let warning = warn_of(alloc, status, shelf);
+    (status, warning)
 }

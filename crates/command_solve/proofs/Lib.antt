@@ -1,0 +1,5 @@
+pub mod LearnLimits
+pub mod SearchedLogs
+pub mod ListEnds
+pub mod SolveEnds
+pub mod Completing

@@ -1,0 +1,171 @@
+-- What a search leaves in its log.
+use Rattle.std.proofs.Common.{◌≡◌, ◌≢◌, inr, ⊎_elim, ℕ, ◌<◌, ◌^◌, Bool, true, false, None, Some, List, [], ◌++◌, length, refl, sym, ap, subst, ◌∙◌, arith, append-nil}
+use Rattle.std.specs.Prelude.{Option, Result, Ok, Err, IfOk, IfErr, IsErrOf, OnOk, nat_lt}
+use Rattle.std.specs.Ordering.{nat_cmp, eq_by_cmp}
+use Rattle.std.specs.Cmp.Lexicographic.{slice_cmp}
+use Rattle.std.specs.FinMap.{insert, same_map, slice_cmp-IsAntisymmetric, nat_cmp-IsAntisymmetric}
+use Rattle.std.proofs.lemmas.Bool.{ltb-true}
+use Rattle.std.proofs.lemmas.Cmp.{nat_list_cmp_total}
+use Rattle.std.proofs.lemmas.Option.{none-some}
+use Rattle.std.proofs.Math.Bool.{true≢false}
+use Rattle.scut_base.specs.Files.{Files, content, with_file, IsTold, IsTouched}
+use Rattle.scut_base.specs.Faults.{Faults, NoneFell, Rose, WritingFailed, count}
+use Rattle.scut_base.specs.declared.shelf.ShelfCall.TheVariants.{Append}
+use Rattle.scut_base.specs.World.{World}
+use Rattle.scut_base.proofs.FileLaws.{content-same, content-other, tied_is, tied_same, with_file-untold}
+use Rattle.instance.specs.Shape.{InstanceValue}
+use Rattle.pb_lin.specs.Problem.{ProblemValue}
+use Rattle.proof_laws.specs.State.{StateValue}
+use Rattle.proof_laws.specs.declared.line.Line.{Line}
+use Rattle.proof_laws.specs.declared.why.Why.TheVariants.{LogLong}
+use Rattle.proof_laws.proofs.Derivations.{unless_none}
+use Rattle.proof_laws.proofs.NextCovers.{legal_parts}
+use Rattle.proof_laws.proofs.Replays.{replay_lines}
+use Rattle.proof_rules.specs.declared.recorder.RecordFault.{RecordFault}
+use Rattle.proof_rules.specs.declared.recorder.RecordFault.TheVariants.{Failed, Full, NoMemory}
+use Rattle.proof_text.specs.LogFile.{Held, IsLogFile, IsNotBegun, IsPartOfNext}
+use Rattle.proof_text.specs.LogText.{SpellsLog, header_line, log_text}
+use Rattle.proof_text.specs.Recorders.{IsKept, file_seen, without_file}
+use Rattle.proof_text.proofs.LogFiles.{others_same}
+use Rattle.certified_front.specs.Certified.{CoversLogged, IsEnding}
+use Rattle.certified_front.specs.declared.ending.Found.{Found}
+use Rattle.command_base.proofs.Answered.{rose_at_last}
+use Rattle.command_solve.specs.Logging.{IsFull, IsLogStopped, IsLogged, IsPartOfLog, IsSearched}
+
+-- ---- one file alone has changed
+
+module _ (name header bytes : List ℕ) where
+  by_tie : (m n : Files) → without_file (Some n) name ≡ without_file (with_file (Some m) name header) name → content (Some n) name ≡ Some bytes
+      → (q : List ℕ) (b : Bool) → eq_by_cmp (slice_cmp nat_cmp) q name ≡ b → content (Some n) q ≡ content (with_file (Some m) name bytes) q
+  by_tie m n others there q true tied =
+      let is : q ≡ name = tied_is q name tied in
+      ap (content (Some n)) is ∙ there ∙ sym (content-same (Some m) name bytes tt) ∙ sym (ap (content (with_file (Some m) name bytes)) is)
+  by_tie m n others there q false tied =
+      let other : q ≢ name = λ e. true≢false (sym (tied_same name) ∙ ap (λ (r : List ℕ). eq_by_cmp (slice_cmp nat_cmp) r name) (sym e) ∙ tied) in
+      others_same (Some n) (with_file (Some m) name header) name q others other ∙ content-other (Some m) name header q other ∙ sym (content-other (Some m) name bytes q other)
+
+  same_files : (m n : Files) → ((q : List ℕ) → content (Some n) q ≡ content (with_file (Some m) name bytes) q) → Some n ≡ with_file (Some m) name bytes
+  unfolding content with_file
+  same_files m n same = ap Some (same_map nat_list_cmp_total (slice_cmp-IsAntisymmetric nat_cmp-IsAntisymmetric) n (insert m name bytes) same)
+
+  none_from_none : (n : Files) → without_file (Some n) name ≡ without_file (with_file None name header) name → ⊥
+  unfolding with_file without_file
+  none_from_none n e = none-some _ (sym e)
+
+  some_from_some : (m : Files) → without_file None name ≡ without_file (with_file (Some m) name header) name → ⊥
+  unfolding with_file without_file
+  some_from_some m e = none-some _ e
+
+  only_this : (old new : Option Files) → without_file new name ≡ without_file (with_file old name header) name → (IsTold new → content new name ≡ Some bytes) → new ≡ with_file old name bytes
+  only_this None None others there = sym (with_file-untold name bytes)
+  only_this None (Some n) others there = absurd (none_from_none n others)
+  only_this (Some m) None others there = absurd (some_from_some m others)
+  only_this (Some m) (Some n) others there = same_files m n (λ q. by_tie m n others (there tt) q (eq_by_cmp (slice_cmp nat_cmp) q name) refl)
+
+-- ---- the log
+
+touched_part : (old new : Option Files) (name : List ℕ) (p : ProblemValue) → IsNotBegun old new name → IsTouched old new name (IsPartOfLog p)
+touched_part old new name p (inl same) = inl same
+touched_part old new name p (inr put) = inr (put.0, inl put.1, put.2)
+
+-- no line is legal after 2^61
+none_follows : (p : ProblemValue) (lines : List Line) (part : List ℕ) → length lines ≡ 2 ^ 61 → IsPartOfNext p lines part → ⊥
+none_follows p lines part full next =
+    let parts = legal_parts p next.state next.line next.legal in
+    let short : next.state.lines < 2 ^ 61 = ltb-true next.state.lines (2 ^ 61) (unless_none (nat_lt next.state.lines (2 ^ 61)) LogLong parts.short) in
+    let count = replay_lines p lines next.state next.replay in
+    omega (arith, full, short, count)
+
+-- a log that was begun anew, over other files that stayed
+module _ (old begun new : Option Files) (name : List ℕ) (p : ProblemValue) (lines : List Line) (s : StateValue) (broken : Bool)
+    (is : begun ≡ with_file old name header_line) (others : without_file new name ≡ without_file begun name) (log : IsLogFile new name p lines broken) (kept : IsKept p lines s) where
+  written : new ≡ with_file old name (log_text lines ++ log.part)
+  written = only_this name header_line (log_text lines ++ log.part) old new (others ∙ ap (λ (f : Option Files). without_file f name) is) log.file
+
+  whole : log.part ≡ [] → new ≡ with_file old name (log_text lines)
+  whole none = written ∙ ap (λ (part : List ℕ). with_file old name (log_text lines ++ part)) none ∙ ap (with_file old name) (append-nil (log_text lines))
+
+  part_left : IsTouched old new name (IsPartOfLog p)
+  part_left = inr (
+    log_text lines ++ log.part,
+    inr (record { lines = lines; part = log.part; begins = record { formed = kept.formed; is = refl }; replay = (s, kept.replay); next = log.next }),
+    written,
+  )
+
+  spelled : SpellsLog (log_text lines) lines
+  spelled = record { formed = kept.formed; is = sym (append-nil (log_text lines)) }
+
+  none_left : length lines ≡ 2 ^ 61 → log.part ≡ []
+  none_left full = ⊎_elim (λ none. none) (λ next. absurd (none_follows p lines log.part full next)) log.next
+
+  full_left : length lines ≡ 2 ^ 61 → IsFull old new p name
+  full_left full = record { proof = log_text lines; lines = lines; spelled = spelled; full = full; replay = (s, kept.replay); files = whole (none_left full) }
+
+  logged : (i : InstanceValue) (limit : Option ℕ) (found : Found) → broken ≡ false → CoversLogged i p lines found.entries.items → IsEnding limit p lines found.ending → IsLogged old new i p name limit found
+  logged i limit found unbroken covers ending = record {
+    proof = log_text lines;
+    lines = lines;
+    spelled = spelled;
+    covers = covers;
+    ending = ending;
+    files = whole (log.whole unbroken);
+  }
+
+  logged_by : (i : InstanceValue) (limit : Option ℕ) (r : Result Found RecordFault) → OnOk r (broken ≡ false) → IfOk r (λ found. CoversLogged i p lines found.entries.items) → IfOk r (λ found. IsEnding limit p lines found.ending)
+      → IfOk r (IsLogged old new i p name limit)
+  logged_by i limit (Ok found) unbroken covers ending = logged i limit found unbroken covers ending
+  logged_by i limit (Err fault) unbroken covers ending = tt
+
+  stopped_by : (before after : Faults) (r : Result Found RecordFault) → (IsErrOf r Failed → WritingFailed before after name) → (IsErrOf r Full → length lines ≡ 2 ^ 61)
+      → IfErr r (λ fault. IsLogStopped fault old new p name before after)
+  stopped_by before after (Ok found) failed full = tt
+  stopped_by before after (Err Failed) failed full = (part_left, failed refl)
+  stopped_by before after (Err Full) failed full = full_left (full refl)
+  stopped_by before after (Err NoMemory) failed full = part_left
+
+-- ---- the recorder, as it was begun and as it was handed back
+
+module _ {H : Type 0} (world : H → World) (old : Option Files) (name : List ℕ) (p : ProblemValue) (first last : Held H) (end : H)
+    (i : InstanceValue) (limit : Option ℕ) (r : Result Found RecordFault)
+    (named : first.name ≡ name) (of_problem : first.problem ≡ p)
+    (begun : (world first.shelf.now).files ≡ with_file old name header_line)
+    (same : end ≡ last.shelf.now)
+    (log : IsLogFile (world end).files last.name last.problem last.lines last.broken) (kept : IsKept last.problem last.lines last.state)
+    (searched : IsSearched i p limit (file_seen world first) (file_seen world last) r) where
+  names : last.name ≡ name
+  names = searched.around.name ∙ named
+
+  problems : last.problem ≡ p
+  problems = searched.problem ∙ of_problem
+
+  log_here : IsLogFile (world end).files name p last.lines last.broken
+  log_here = subst (λ (n : List ℕ). IsLogFile (world end).files n p last.lines last.broken) names
+      (subst (λ (q : ProblemValue). IsLogFile (world end).files last.name q last.lines last.broken) problems log)
+
+  kept_here : IsKept p last.lines last.state
+  kept_here = subst (λ (q : ProblemValue). IsKept q last.lines last.state) problems kept
+
+  others_here : without_file (world end).files name ≡ without_file (world first.shelf.now).files name
+  others_here = ap (λ (h : H). without_file (world h).files name) same
+      ∙ sym (ap (without_file (world last.shelf.now).files) names)
+      ∙ searched.around.others
+      ∙ ap (without_file (world first.shelf.now).files) named
+
+  pub found_left : IfOk r (IsLogged old (world end).files i p name limit)
+  found_left = logged_by old (world first.shelf.now).files (world end).files name p last.lines last.state last.broken begun others_here log_here kept_here i limit r searched.whole searched.covers searched.ending
+
+  rose_here : (began : Faults) → NoneFell began (world first.shelf.now).faults → Rose (count (world first.shelf.now).faults Append first.name) (count (world last.shelf.now).faults Append last.name) → WritingFailed began (world end).faults name
+  rose_here began later rose = inr (rose_at_last _ _ _ (later Append name)
+      (subst (λ (h : H). Rose (count (world first.shelf.now).faults Append name) (count (world h).faults Append name)) (sym same)
+      (subst (λ (n : List ℕ). Rose (count (world first.shelf.now).faults Append name) (count (world last.shelf.now).faults Append n)) names
+      (subst (λ (n : List ℕ). Rose (count (world first.shelf.now).faults Append n) (count (world last.shelf.now).faults Append last.name)) named rose))))
+
+  pub stopped_left : (began : Faults) → NoneFell began (world first.shelf.now).faults → IfErr r (λ fault. IsLogStopped fault old (world end).files p name began (world end).faults)
+  stopped_left began later = stopped_by old (world first.shelf.now).files (world end).files name p last.lines last.state last.broken begun others_here log_here kept_here began (world end).faults r
+      (λ e. rose_here began later (searched.failed e)) searched.full
+
+-- the log wasn't begun
+pub not_begun : (old new : Option Files) (name : List ℕ) (p : ProblemValue) (before after : Faults) (fault : RecordFault) → IsNotBegun old new name → (fault ≡ Failed → WritingFailed before after name) → fault ≢ Full → IsLogStopped fault old new p name before after
+not_begun old new name p before after Failed touched rose other = (touched_part old new name p touched, rose refl)
+not_begun old new name p before after Full touched rose other = absurd (other refl)
+not_begun old new name p before after NoMemory touched rose other = touched_part old new name p touched

@@ -1,0 +1,14 @@
+pub use Rattle.front_set.specs.ListText
+pub use Rattle.instance.specs.Shape
+pub use Rattle.instance.specs.Meaning
+pub use Rattle.instance.specs.ParetoFront
+pub use Rattle.log_checker.specs.Accepted
+pub use Rattle.certified_front.specs.Certified
+pub use Rattle.proof_text.specs.LogText
+pub use Rattle.command_base.specs.Answering
+pub use Rattle.command_base.specs.Messages
+pub use Rattle.command_base.specs.Views
+pub mod Words
+pub mod Listing
+pub mod Logging
+pub mod Table

@@ -1,0 +1,69 @@
+-- The words of `solve IN LIST LOG [--search S] [--learn N]`.
+use Rattle.std.specs.Prelude.{ℕ, ◌^◌, ◌&&◌, not, nat_lt, if◌then◌else◌, List, codes, Option, Some, None}
+use Rattle.std.specs.Option.{option_and_then, option_map}
+use Rattle.std.specs.Str.{bytes_eq}
+use Rattle.scut_base.specs.Number.{is_natural, natural_value}
+use Rattle.clap.specs.Words.{App, Row, first_of, new_app, with_rule}
+use Rattle.command_base.specs.CommandWords.{file_rule, option_rule, rows_by, value_of}
+use Rattle.command_base.specs.InstanceFile.{format_of_three}
+use Rattle.command_base.specs.declared.instance_file.Format.{Format}
+use Rattle.command_solve.specs.declared.Solve.{Solve}
+use Rattle.command_solve.specs.declared.options.SearchKind.{SearchKind}
+use Rattle.command_solve.specs.declared.options.SearchKind.TheVariants.{PMinimal, LowerBounding, BiOptSat}
+
+-- what is asked for: the front of the instance in the first file, as a list and a log in the two others, by this search,
+-- with so many learned clauses at most as the limit says
+pub record SolveAsked : Type 0 where
+  pub format : Format
+  pub input : List ℕ
+  pub list : List ℕ
+  pub log : List ℕ
+  pub search : SearchKind
+  pub limit : Option ℕ
+
+abbrev pub asked : Solve → SolveAsked
+asked c = record { format = c.format; input = c.input.now; list = c.list.now; log = c.log.now; search = c.search; limit = c.limit }
+
+-- the words, as clap reads them
+abbrev pub solve_files : App
+solve_files = with_rule (with_rule (with_rule (new_app (codes "solve")) (file_rule (codes "IN"))) (file_rule (codes "LIST"))) (file_rule (codes "LOG"))
+
+abbrev pub solve_app : App
+solve_app = with_rule (with_rule solve_files (option_rule (codes "search"))) (option_rule (codes "learn"))
+
+-- the search of this name
+abbrev pub search_named : List ℕ → Option SearchKind
+search_named name =
+    if bytes_eq name (codes "p-minimal") then Some PMinimal
+    else (if bytes_eq name (codes "lower-bounding") then Some LowerBounding
+    else (if bytes_eq name (codes "bioptsat") then Some BiOptSat else None))
+
+-- S of `--search S`, where it is given
+abbrev pub search_of : Option (List ℕ) → Option SearchKind
+search_of None = Some PMinimal
+search_of (Some name) = search_named name
+
+-- N of `--learn N`: a number from 1 to 2^62
+abbrev pub number_in : List ℕ → Option ℕ
+number_in text = if is_natural text && (nat_lt 0 (natural_value text) && not (nat_lt (2 ^ 62) (natural_value text))) then Some (natural_value text) else None
+
+-- the limit, where one is given
+abbrev pub limit_of : Option (List ℕ) → Option (Option ℕ)
+limit_of None = Some None
+limit_of (Some text) = option_map (λ n. let limit : Option ℕ = Some n in limit) (number_in text)
+
+abbrev pub solve_by : List ℕ → List ℕ → List ℕ → Format → SearchKind → Option ℕ → SolveAsked
+solve_by input list log format search limit = record { format = format; input = input; list = list; log = log; search = search; limit = limit }
+
+-- the files, the search and the limit, where none of them is refused
+abbrev pub solve_of_values : List ℕ → List ℕ → List ℕ → Option (List ℕ) → Option (List ℕ) → Option SolveAsked
+solve_of_values input list log search learn =
+    option_and_then (λ format. option_and_then (λ kind. option_map (solve_by input list log format kind) (limit_of learn)) (search_of search)) (format_of_three input list log)
+
+abbrev pub solve_of_rows : List Row → Option SolveAsked
+solve_of_rows rows =
+    solve_of_values (value_of (codes "IN") rows) (value_of (codes "LIST") rows) (value_of (codes "LOG") rows) (first_of (codes "search") rows) (first_of (codes "learn") rows)
+
+-- What the words ask for, of which the first is `solve`; nothing where clap, the names or the options refuse them.
+abbrev pub solve_asked : List (List ℕ) → Option SolveAsked
+solve_asked words = option_and_then solve_of_rows (rows_by solve_app words)

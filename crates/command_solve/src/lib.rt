@@ -1,0 +1,187 @@
+//! The command `solve IN LIST LOG [--search S] [--learn N]`: the front of the instance in the file IN by search, as a list in
+//! the file LIST, with a log in the file LOG.
+//!
+//! Its public contract: what it answers goes by its table (`SolveTable`), and what its words ask for is `solve_asked`. The
+//! log is begun before the search, and the list after it.
+#![tactic(auto)]
+
+ghost use Rattle.std.specs.Prelude.{◌≡◌, IfOk, map, option_map, string_bytes};
+ghost use Rattle.clap.specs.Words.{app_of, found_of, rows_of};
+ghost use Rattle.instance.specs.Shape.{IsWithinLimits};
+ghost use Rattle.instance_normal.specs.NormalForm.{IsNormalFormOf};
+ghost use Rattle.command_base.specs.Answering.{Answered};
+ghost use Rattle.command_base.specs.Causes.{HasText};
+ghost use Rattle.command_base.specs.InstanceFile.{IsTextOf};
+ghost use Rattle.command_solve.specs.Table.{IsProblemOf, SolveTable, solve_calls};
+ghost use Rattle.command_solve.specs.Words.{asked, solve_app, solve_asked, solve_files, solve_of_rows};
+
+mod listing;
+mod logging;
+mod options;
+
+use crate::listing::write_found;
+use crate::logging::search_with_log;
+use crate::options::{limit_of, search_of};
+use bioptsat::BiOpt;
+use clap::ArgMatches;
+use command_base::{
+    Command, Format, Status, file, format_of_three, option, optional, read_by, read_instance,
+    value, with_arg,
+};
+use instance::Instance;
+use instance_normal::normalise;
+use lower_bounding::LowerBounding;
+pub use options::SearchKind;
+use p_minimal::PMinimal;
+use pb_lin::PbProblem;
+use scut_base::{NoMemory, Shelf};
+use search_base::Search;
+use std::alloc::Global;
+
+/// The command `solve`, with its files, its search, and how many clauses it may learn.
+#[derive(Clone, Copy, Debug)]
+pub struct Solve<'a> {
+    pub format: Format,
+    pub input: &'a str,
+    pub list: &'a str,
+    pub log: &'a str,
+    pub search: SearchKind,
+    pub limit: Option<u64>,
+}
+
+// The words of the command, as clap reads them.
+fn solve_words<'a>(alloc: Global) -> Result<clap::Command<'a>, NoMemory>
+    ensures { IfOk result (λ c. app_of c ≡ solve_app) }
+{
+    let command = file_words(alloc)?;
+    let command = with_arg(command, option(alloc, "search"))?;
+    with_arg(command, option(alloc, "learn"))
+}
+
+// The command's files.
+fn file_words<'a>(alloc: Global) -> Result<clap::Command<'a>, NoMemory>
+    ensures { IfOk result (λ c. app_of c ≡ solve_files) }
+{
+    let command = clap::Command::new(alloc, "solve");
+    let command = with_arg(command, file(alloc, "IN"))?;
+    let command = with_arg(command, file(alloc, "LIST"))?;
+    with_arg(command, file(alloc, "LOG"))
+}
+
+// The command of three different names, the first of an instance file, and of options that are there.
+fn solve_of_matches<'a>(matches: &ArgMatches<'a>) -> Option<Solve<'a>>
+    ensures { option_map asked result ≡ solve_of_rows (rows_of (found_of matches.now)) }
+{
+    let input = value(matches, "IN");
+    let list = value(matches, "LIST");
+    let log = value(matches, "LOG");
+    Some(Solve {
+        format: format_of_three(input, list, log)?,
+        input,
+        list,
+        log,
+        search: search_of(optional(matches, "search"))?,
+        limit: limit_of(optional(matches, "learn"))?,
+    })
+}
+
+/// The command that the words ask for, of which the first is `solve`; `None` exactly where clap, the names or the options
+/// refuse them.
+pub fn read_solve<'a>(alloc: Global, words: &'a [String]) -> Result<Option<Solve<'a>>, NoMemory>
+    ensures { IfOk result (λ found.
+        option_map asked found ≡ solve_asked (map string_bytes words.entry.now)) }
+{
+    let command = solve_words(alloc)?;
+    match read_by(command, words)? {
+        Some(matches) => Ok(solve_of_matches(&matches)),
+        None => Ok(None),
+    }
+}
+
+impl<'a> Command for Solve<'a> {
+    ghost use Rattle.command_solve.specs.Table.{SolveTable, solve_calls};
+    ghost use Rattle.command_solve.specs.Words.{asked};
+
+    ghost table = { λ c. SolveTable (asked c) };
+
+    ghost own = { λ c. solve_calls (asked c) };
+
+    fn run<H: Shelf>(&self, alloc: Global, shelf: &mut H) -> Status {
+        match read_instance(alloc, self.format, self.input, shelf) {
+            Ok(inst) => self.solve(alloc, &inst, shelf),
+            Err(stop) => Status::from(stop),
+        }
+    }
+}
+
+impl<'a> Solve<'a> {
+    // Searches for the front of an instance, by its normal form.
+    fn solve<H: Shelf>(&self, alloc: Global, inst: &Instance, shelf: &mut H) -> Status
+        requires text { HasText (H.world shelf.old).files self.now.input.now
+            (IsTextOf self.now.format inst.now) }
+        requires limits { IsWithinLimits inst.now }
+        ensures answered { Answered (SolveTable (asked self.now)) (solve_calls (asked self.now))
+            result (H.world shelf.old) (H.world shelf.new) }
+        ensures warned { (H.world shelf.new).warned ≡ (H.world shelf.old).warned }
+    {
+        match normalise(alloc, inst) {
+            Ok(problem) => self.search(alloc, inst, &problem, shelf),
+            Err(fault) => Status::from(fault),
+        }
+    }
+
+    // Makes the search that is asked for, where it takes the instance.
+    fn search<H: Shelf>(
+        &self,
+        alloc: Global,
+        inst: &Instance,
+        problem: &PbProblem,
+        shelf: &mut H,
+    ) -> Status
+        requires text { HasText (H.world shelf.old).files self.now.input.now
+            (IsTextOf self.now.format inst.now) }
+        requires normal { IsNormalFormOf inst.now problem.now }
+        requires limits { IsWithinLimits inst.now }
+        ensures answered { Answered (SolveTable (asked self.now)) (solve_calls (asked self.now))
+            result (H.world shelf.old) (H.world shelf.new) }
+        ensures warned { (H.world shelf.new).warned ≡ (H.world shelf.old).warned }
+    {
+        match self.search {
+            SearchKind::PMinimal => {
+                self.search_by(alloc, inst, problem, &mut PMinimal::new(alloc), shelf)
+            }
+            SearchKind::LowerBounding => match LowerBounding::new(alloc, problem) {
+                Ok(mut search) => self.search_by(alloc, inst, problem, &mut search, shelf),
+                Err(fault) => Status::from(fault),
+            },
+            SearchKind::BiOptSat => {
+                if inst.objectives.len() != 2 {
+                    return Status::Usage;
+                }
+                self.search_by(alloc, inst, problem, &mut BiOpt::new(alloc), shelf)
+            }
+        }
+    }
+
+    // Searches with a log, and writes what is found.
+    fn search_by<S: Search, H: Shelf>(
+        &self,
+        alloc: Global,
+        inst: &Instance,
+        problem: &PbProblem,
+        search: &mut S,
+        shelf: &mut H,
+    ) -> Status
+        requires problem { IsProblemOf (H.world shelf.old).files (asked self.now) inst.now problem.now }
+        requires limits { IsWithinLimits inst.now }
+        requires serves { S.serves search.old problem.now }
+        ensures answered { Answered (SolveTable (asked self.now)) (solve_calls (asked self.now))
+            result (H.world shelf.old) (H.world shelf.new) }
+        ensures warned { (H.world shelf.new).warned ≡ (H.world shelf.old).warned }
+    {
+        match search_with_log(alloc, inst, problem, self.log, self.limit, search, shelf) {
+            Ok(found) => write_found(alloc, &found, self.list, shelf),
+            Err(fault) => Status::from(fault),
+        }
+    }
+}

@@ -1,0 +1,38 @@
+-- What the words of a command line ask for.
+use Rattle.std.specs.Prelude.{ℕ, if◌then◌else◌, List, [], ◌∷◌, codes, Option, Some, None}
+use Rattle.std.specs.Option.{option_map}
+use Rattle.std.specs.Str.{bytes_eq}
+use Rattle.command_front.specs.Words.{FrontAsked, front_asked}
+use Rattle.command_solve.specs.Words.{SolveAsked, solve_asked}
+use Rattle.command_check.specs.Words.{CheckAsked, check_asked}
+use Rattle.scuttle_cli.specs.declared.names.CommandName.{CommandName}
+use Rattle.scuttle_cli.specs.declared.names.CommandName.TheVariants.{Front, Solve, Check}
+
+-- a command with its files and options
+pub data Request : Type 0 where
+  FrontOf : (asked : FrontAsked) → Request
+  SolveOf : (asked : SolveAsked) → Request
+  CheckOf : (asked : CheckAsked) → Request
+
+-- the command of this name
+abbrev pub command_named : List ℕ → Option CommandName
+command_named word =
+    if bytes_eq word (codes "front") then Some Front
+    else (if bytes_eq word (codes "solve") then Some Solve
+    else (if bytes_eq word (codes "check") then Some Check else None))
+
+-- the command that the first word names
+abbrev pub command_in : List (List ℕ) → Option CommandName
+command_in [] = None
+command_in (word ∷ words) = command_named word
+
+-- what the words ask of a command
+abbrev pub request_by : Option CommandName → List (List ℕ) → Option Request
+request_by None words = None
+request_by (Some Front) words = option_map FrontOf (front_asked words)
+request_by (Some Solve) words = option_map SolveOf (solve_asked words)
+request_by (Some Check) words = option_map CheckOf (check_asked words)
+
+-- What the words ask for. Words that are none of a command ask for nothing.
+abbrev pub request_of : List (List ℕ) → Option Request
+request_of words = request_by (command_in words) words

@@ -1,9 +1,0 @@
-use Rattle.std.proofs.Common.{◌≡◌, length}
-use Rattle.scuttle_commands.specs.Enumeration.{StandsForModels}
-use Rattle.scuttle_commands.proofs.enumeration.minimal_models.Given as goal
-
-abbrev pub invariant-loop-number : goal.invariant-loop-number
-invariant-loop-number l = record {
-  variables : length l.a ≡ l.inst.vars;
-  stands : StandsForModels l.inst l.front l.number;
-}
