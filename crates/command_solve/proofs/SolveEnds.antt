@@ -192,6 +192,6 @@ module _ (a : SolveAsked) where
         table = row (view after) status was.table;
         cause = λ failed.
             let rose = was.cause failed in
-            own_rose_at_last (solve_calls a) before.faults mid.faults after.faults later (rose.0 + 3, rose.1, omega (arith, rose.2), rose.3, rose.4);
+            own_rose_at_last (solve_calls a) before.faults mid.faults after.faults later (suc (suc (suc rose.0)), rose.1, omega (arith, rose.2), rose.3, rose.4);
         later = λ call name. omega (arith, later call name, was.later call name);
       }

@@ -17,7 +17,7 @@ pub enum SearchKind {
 
 // S of `--search S`, where it is given; `None` where there is no such search.
 pub(crate) fn search_of(name: Option<&str>) -> Option<SearchKind>
-    ensures { result ≡ search_of (option_map (λ s. s.now) name) }
+    ensures { result ≡ search_of (option_map (λ s. s.now) name.entry) }
 {
     match name {
         Some(name) => search_named(name),
@@ -39,7 +39,7 @@ fn search_named(name: &str) -> Option<SearchKind>
 
 // How many clauses may be learned, where N of `--learn N` is given; `None` where N is no such number.
 pub(crate) fn limit_of(text: Option<&str>) -> Option<Option<u64>>
-    ensures { result ≡ limit_of (option_map (λ s. s.now) text) }
+    ensures { result ≡ limit_of (option_map (λ s. s.now) text.entry) }
 {
     match text {
         Some(text) => Some(Some(number_in(text)?)),
