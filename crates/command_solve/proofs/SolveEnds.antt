@@ -51,10 +51,6 @@ objective_count i p normal = AllZip-long IsCostRowOf (cost_sources (i.vars + 1) 
 small_costs : (i : InstanceValue) (entries : List Entry) → AreProblemVectors i entries → All HasCosts entries
 small_costs i entries vectors = All-weaker (λ (e : Entry). IsProblemVector i e.costs) HasCosts (λ e vector. vector.small) entries vectors
 
--- the instance of the file, its normal form, and a search that takes it
-pub problem_of : (files : Option Files) (a : SolveAsked) (i : InstanceValue) (p : ProblemValue) → HasText files a.input (IsTextOf a.format i) → IsNormalFormOf i p → HasSearch a i → IsProblemOf files a i p
-problem_of files a i p text normal search = record { text = text; search = search; normal = normal }
-
 module _ (a : SolveAsked) where
   pub reads_input : Contains (solve_calls a) (reading a.input)
   reads_input = (0, omega arith, refl)
@@ -71,11 +67,6 @@ module _ (a : SolveAsked) where
   -- memory was wanted, and nothing has changed
   pub no_memory : (w : World) → Answered (SolveTable a) (solve_calls a) NoMemory w w
   no_memory w = ended (SolveTable a) (solve_calls a) NoMemory w w (inl refl) (λ is. cc) (λ call name. omega arith)
-
-  -- the search doesn't take the instance
-  pub other_objectives : (w : World) (i : InstanceValue) → HasText w.files a.input (IsTextOf a.format i) → a.search ≡ BiOptSat → length i.objectives ≢ 2 → Answered (SolveTable a) (solve_calls a) Usage w w
-  other_objectives w i text search other = ended (SolveTable a) (solve_calls a) Usage w w
-      (record { cause = λ told. let f = text told in (f.0, f.1, (search, (i, f.2, other))); same = refl }) (λ is. cc) (λ call name. omega arith)
 
   module _ (i : InstanceValue) (p : ProblemValue) where
     -- the search didn't end
