@@ -1,11 +1,10 @@
 -- How each end of the command `solve` is answered.
-use Rattle.std.proofs.Common.{◌≡◌, ◌≢◌, ◌↔◌, ℕ, suc, ◌+◌, ◌<◌, ◌^◌, true, List, [], ◌∷◌, length, refl, sym, ap, subst, ◌∙◌, inl, inr, arith}
-use Rattle.std.specs.Prelude.{All, Contains, Option}
+use Rattle.std.proofs.Common.{◌≡◌, ℕ, suc, ◌+◌, ◌^◌, true, List, [], ◌∷◌, length, refl, sym, ap, subst, ◌∙◌, inl, inr, arith}
+use Rattle.std.specs.Prelude.{All, Contains}
 use Rattle.std.specs.List.{filter}
 use Rattle.std.proofs.lemmas.List.Elements.{All-weaker}
 use Rattle.std.proofs.lemmas.Slice.Zip.{AllZip-long}
-use Rattle.scut_base.specs.Files.{Files, with_file, IsTouched}
-use Rattle.scut_base.specs.Faults.{NoneFell, WritingFailed}
+use Rattle.scut_base.specs.Faults.{NoneFell}
 use Rattle.scut_base.specs.World.{World}
 use Rattle.front_set.specs.declared.entry.Entry.{Entry}
 use Rattle.front_set.specs.ListText.{list_text}
@@ -23,10 +22,7 @@ use Rattle.certified_front.specs.Certified.{HasEnded, IsEnding}
 use Rattle.certified_front.specs.declared.ending.Ending.{Ending}
 use Rattle.certified_front.specs.declared.ending.Ending.TheVariants.{Complete as EndingComplete, Incomplete as EndingIncomplete}
 use Rattle.certified_front.specs.declared.ending.Found.{Found}
-use Rattle.command_base.specs.Answering.{Answered, CallRose, OwnRose, appending, beginning, reading}
-use Rattle.command_base.specs.Causes.{HasText}
-use Rattle.command_base.specs.InstanceFile.{IsTextOf}
-use Rattle.command_base.specs.ListSizes.{HasNoModel}
+use Rattle.command_base.specs.Answering.{Answered, appending, beginning, reading}
 use Rattle.command_base.specs.Statuses.{status_of_recording}
 use Rattle.command_base.specs.Views.{View, view}
 use Rattle.command_base.specs.declared.status.Status.{Status}
@@ -34,10 +30,9 @@ use Rattle.command_base.specs.declared.status.Status.TheVariants.{Done, Complete
 use Rattle.command_base.proofs.Answered.{TakesInput, ended, own_rose, own_rose_at_last}
 use Rattle.command_base.proofs.ListSizes.{size_zero}
 use Rattle.command_solve.specs.Listing.{IsListed, ListTable, is_complete, list_calls, status_of}
-use Rattle.command_solve.specs.Logging.{IsLogStopped, IsLogged, IsPartOfLog}
-use Rattle.command_solve.specs.Table.{HasSearch, IsCertified, IsFound, IsListTouched, IsLogTouched, IsProblemOf, IsSolvedPartly, IsUnfinished, SolveTable, solve_calls, with_log}
+use Rattle.command_solve.specs.Logging.{IsLogStopped, IsLogged}
+use Rattle.command_solve.specs.Table.{IsCertified, IsFound, IsListTouched, IsProblemOf, IsUnfinished, SolveTable, solve_calls, with_log}
 use Rattle.command_solve.specs.Words.{SolveAsked}
-use Rattle.command_solve.specs.declared.options.SearchKind.TheVariants.{BiOptSat}
 
 sources_count : (var : ℕ) (os : List Objective) → length (cost_sources var os) ≡ length os
 sources_count var [] = refl

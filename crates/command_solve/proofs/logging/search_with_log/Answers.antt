@@ -1,7 +1,7 @@
-use Rattle.std.proofs.Common.{rules, ◌≡◌, subst, ap}
+use Rattle.std.proofs.Common.{rules, subst}
 use Rattle.std.specs.Prelude.{IfOk, IfErr}
 use Rattle.command_solve.specs.Logging.{IsLogStopped, IsLogged}
-use Rattle.command_solve.proofs.SearchedLogs.{found_left, not_begun, stopped_left}
+use Rattle.command_solve.proofs.SearchedLogs.{found_left, stopped_left}
 use Rattle.command_solve.proofs.logging.search_with_log.Goals as goal
 
 pub returns-clause-found : goal.returns-clause-found
