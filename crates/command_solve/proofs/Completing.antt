@@ -1,13 +1,13 @@
 -- Where the command `solve` completes.
-use Rattle.std.proofs.Common.{◌≡◌, ◌≢◌, ℕ, ◌∙◌, sym, ap, subst, List, length, refl}
+use Rattle.std.proofs.Common.{◌≡◌, ◌≢◌, ℕ, ◌∙◌, ap, subst, length, refl}
 use Rattle.std.specs.Prelude.{Option, Some, None}
-use Rattle.scut_base.specs.Files.{Files, content}
+use Rattle.scut_base.specs.Files.{Files}
 use Rattle.scut_base.specs.World.{World}
 use Rattle.instance.specs.Shape.{InstanceValue}
 use Rattle.command_base.specs.Answering.{Answered, OwnRose}
 use Rattle.command_base.specs.Causes.{HasText}
 use Rattle.command_base.specs.InstanceFile.{IsTextOf}
-use Rattle.command_base.specs.Views.{View, view}
+use Rattle.command_base.specs.Views.{view}
 use Rattle.command_base.specs.declared.status.Status.{Status}
 use Rattle.command_base.specs.declared.status.Status.TheVariants.{Done, Complete, Incomplete, Trimmed, Models, LogFull, Accepted, Refused, Usage, BadInput, TooLarge, NoMemory, ShelfFailed}
 use Rattle.command_base.proofs.InstanceFiles.{one_in}

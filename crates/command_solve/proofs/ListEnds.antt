@@ -1,5 +1,5 @@
 -- How each end of writing a list is answered.
-use Rattle.std.proofs.Common.{◌≡◌, ℕ, List, [], refl, ap, subst, ◌∙◌, inl, inr, arith}
+use Rattle.std.proofs.Common.{◌≡◌, ℕ, List, refl, ap, subst, ◌∙◌, inl, inr, arith}
 use Rattle.std.specs.Prelude.{Option}
 use Rattle.scut_base.specs.Files.{IsPartlyFollowed, IsPrefixOf, IsTouched, followed, with_file}
 use Rattle.scut_base.specs.Faults.{NoneFell, SayingFailed, WritingFailed}

@@ -1,11 +1,10 @@
 -- How each end of the command `solve` is answered.
-use Rattle.std.proofs.Common.{◌≡◌, ◌≢◌, ◌↔◌, ℕ, suc, ◌+◌, ◌<◌, ◌^◌, true, List, [], ◌∷◌, length, refl, sym, ap, subst, ◌∙◌, inl, inr, arith}
-use Rattle.std.specs.Prelude.{All, Contains, Option}
+use Rattle.std.proofs.Common.{◌≡◌, ℕ, suc, ◌+◌, ◌^◌, true, List, [], ◌∷◌, length, refl, sym, ap, subst, ◌∙◌, inl, inr, arith}
+use Rattle.std.specs.Prelude.{All, Contains}
 use Rattle.std.specs.List.{filter}
 use Rattle.std.proofs.lemmas.List.Elements.{All-weaker}
 use Rattle.std.proofs.lemmas.Slice.Zip.{AllZip-long}
-use Rattle.scut_base.specs.Files.{Files, with_file, IsTouched}
-use Rattle.scut_base.specs.Faults.{NoneFell, WritingFailed}
+use Rattle.scut_base.specs.Faults.{NoneFell}
 use Rattle.scut_base.specs.World.{World}
 use Rattle.front_set.specs.declared.entry.Entry.{Entry}
 use Rattle.front_set.specs.ListText.{list_text}
@@ -23,10 +22,7 @@ use Rattle.certified_front.specs.Certified.{HasEnded, IsEnding}
 use Rattle.certified_front.specs.declared.ending.Ending.{Ending}
 use Rattle.certified_front.specs.declared.ending.Ending.TheVariants.{Complete as EndingComplete, Incomplete as EndingIncomplete}
 use Rattle.certified_front.specs.declared.ending.Found.{Found}
-use Rattle.command_base.specs.Answering.{Answered, CallRose, OwnRose, appending, beginning, reading}
-use Rattle.command_base.specs.Causes.{HasText}
-use Rattle.command_base.specs.InstanceFile.{IsTextOf}
-use Rattle.command_base.specs.ListSizes.{HasNoModel}
+use Rattle.command_base.specs.Answering.{Answered, appending, beginning, reading}
 use Rattle.command_base.specs.Statuses.{status_of_recording}
 use Rattle.command_base.specs.Views.{View, view}
 use Rattle.command_base.specs.declared.status.Status.{Status}
@@ -34,10 +30,9 @@ use Rattle.command_base.specs.declared.status.Status.TheVariants.{Done, Complete
 use Rattle.command_base.proofs.Answered.{TakesInput, ended, own_rose, own_rose_at_last}
 use Rattle.command_base.proofs.ListSizes.{size_zero}
 use Rattle.command_solve.specs.Listing.{IsListed, ListTable, is_complete, list_calls, status_of}
-use Rattle.command_solve.specs.Logging.{IsLogStopped, IsLogged, IsPartOfLog}
-use Rattle.command_solve.specs.Table.{HasSearch, IsCertified, IsFound, IsListTouched, IsLogTouched, IsProblemOf, IsSolvedPartly, IsUnfinished, SolveTable, solve_calls, with_log}
+use Rattle.command_solve.specs.Logging.{IsLogStopped, IsLogged}
+use Rattle.command_solve.specs.Table.{IsCertified, IsFound, IsListTouched, IsProblemOf, IsUnfinished, SolveTable, solve_calls, with_log}
 use Rattle.command_solve.specs.Words.{SolveAsked}
-use Rattle.command_solve.specs.declared.options.SearchKind.TheVariants.{BiOptSat}
 
 sources_count : (var : ℕ) (os : List Objective) → length (cost_sources var os) ≡ length os
 sources_count var [] = refl
@@ -50,10 +45,6 @@ objective_count i p normal = AllZip-long IsCostRowOf (cost_sources (i.vars + 1) 
 -- vectors of models are small enough for a list's text
 small_costs : (i : InstanceValue) (entries : List Entry) → AreProblemVectors i entries → All HasCosts entries
 small_costs i entries vectors = All-weaker (λ (e : Entry). IsProblemVector i e.costs) HasCosts (λ e vector. vector.small) entries vectors
-
--- the instance of the file, its normal form, and a search that takes it
-pub problem_of : (files : Option Files) (a : SolveAsked) (i : InstanceValue) (p : ProblemValue) → HasText files a.input (IsTextOf a.format i) → IsNormalFormOf i p → HasSearch a i → IsProblemOf files a i p
-problem_of files a i p text normal search = record { text = text; search = search; normal = normal }
 
 module _ (a : SolveAsked) where
   pub reads_input : Contains (solve_calls a) (reading a.input)
@@ -71,11 +62,6 @@ module _ (a : SolveAsked) where
   -- memory was wanted, and nothing has changed
   pub no_memory : (w : World) → Answered (SolveTable a) (solve_calls a) NoMemory w w
   no_memory w = ended (SolveTable a) (solve_calls a) NoMemory w w (inl refl) (λ is. cc) (λ call name. omega arith)
-
-  -- the search doesn't take the instance
-  pub other_objectives : (w : World) (i : InstanceValue) → HasText w.files a.input (IsTextOf a.format i) → a.search ≡ BiOptSat → length i.objectives ≢ 2 → Answered (SolveTable a) (solve_calls a) Usage w w
-  other_objectives w i text search other = ended (SolveTable a) (solve_calls a) Usage w w
-      (record { cause = λ told. let f = text told in (f.0, f.1, (search, (i, f.2, other))); same = refl }) (λ is. cc) (λ call name. omega arith)
 
   module _ (i : InstanceValue) (p : ProblemValue) where
     -- the search didn't end
@@ -192,6 +178,6 @@ module _ (a : SolveAsked) where
         table = row (view after) status was.table;
         cause = λ failed.
             let rose = was.cause failed in
-            own_rose_at_last (solve_calls a) before.faults mid.faults after.faults later (rose.0 + 3, rose.1, omega (arith, rose.2), rose.3, rose.4);
+            own_rose_at_last (solve_calls a) before.faults mid.faults after.faults later (suc (suc (suc rose.0)), rose.1, omega (arith, rose.2), rose.3, rose.4);
         later = λ call name. omega (arith, later call name, was.later call name);
       }

@@ -1,6 +1,6 @@
 -- The answers of `solve IN LIST LOG [--search S] [--learn N]`, a record for each. None of them tells which search it was.
-use Rattle.std.specs.Prelude.{◌≡◌, ◌≢◌, ◌↔◌, ◌⊎◌, ℕ, ◌^◌, true, List, [], ◌∷◌, length, Option, Some}
-use Rattle.scut_base.specs.Files.{Files, content, followed, with_file, IsPartlyFollowed, IsTouched}
+use Rattle.std.specs.Prelude.{◌≡◌, ◌≢◌, ◌↔◌, ◌⊎◌, ℕ, ◌^◌, true, List, ◌∷◌, length, Option, Some}
+use Rattle.scut_base.specs.Files.{Files, content, with_file, IsTouched}
 use Rattle.scut_base.specs.World.{World}
 use Rattle.front_set.specs.declared.entry.Entry.{Entry}
 use Rattle.front_set.specs.ListText.{list_text}
@@ -8,27 +8,23 @@ use Rattle.instance.specs.Shape.{InstanceValue}
 use Rattle.instance.specs.ParetoFront.{IsFront}
 use Rattle.instance_normal.specs.NormalForm.{IsNormalFormOf}
 use Rattle.pb_lin.specs.Problem.{ProblemValue}
-use Rattle.proof_laws.specs.State.{StateValue}
-use Rattle.proof_laws.specs.Replay.{IsReplay}
 use Rattle.proof_laws.specs.declared.line.Line.{Line}
 use Rattle.proof_text.specs.LogText.{SpellsLog}
 use Rattle.log_checker.specs.Accepted.{IsAccepted}
 use Rattle.certified_front.specs.Certified.{CoversLogged, IsEnding}
 use Rattle.certified_front.specs.declared.ending.Ending.{Ending}
-use Rattle.certified_front.specs.declared.ending.Ending.TheVariants.{Complete as EndingComplete, Incomplete as EndingIncomplete}
-use Rattle.command_base.specs.Answering.{Call, Completes, appending, beginning, reading, saying}
+use Rattle.certified_front.specs.declared.ending.Ending.TheVariants.{Incomplete as EndingIncomplete}
+use Rattle.command_base.specs.Answering.{Call, Completes, appending, beginning, reading}
 use Rattle.command_base.specs.Causes.{HasText, IsRefused}
 use Rattle.command_base.specs.InputTable.{InputTable}
 use Rattle.command_base.specs.InstanceFile.{IsTextOf}
 use Rattle.command_base.specs.ListSizes.{HasNoModel}
-use Rattle.command_base.specs.Messages.{said_of}
 use Rattle.command_base.specs.Views.{View}
 use Rattle.command_base.specs.declared.status.Status.{Status}
 use Rattle.command_base.specs.declared.status.Status.TheVariants.{Complete, Incomplete, Usage, LogFull, NoMemory, ShelfFailed}
 use Rattle.command_solve.specs.Listing.{IsListPartlySaid, IsListUnsaid, IsListed, is_complete, list_calls}
 use Rattle.command_solve.specs.Logging.{IsFull, IsPartOfLog}
 use Rattle.command_solve.specs.Words.{SolveAsked}
-use Rattle.command_solve.specs.declared.options.SearchKind.{SearchKind}
 use Rattle.command_solve.specs.declared.options.SearchKind.TheVariants.{BiOptSat}
 
 -- it reads IN, begins and appends to LOG and LIST, and says something

@@ -1,4 +1,3 @@
-use Rattle.std.proofs.Common.{◌≡◌, length}
 use Rattle.command_solve.specs.Words.{asked}
 use Rattle.command_solve.proofs.SolveEnds.{search_listed, search_stopped}
 use Rattle.command_solve.proofs.Solve.search_by.Goals as goal

@@ -1,4 +1,3 @@
-use Rattle.std.proofs.Common.{rules}
 use Rattle.command_solve.specs.Words.{asked}
 use Rattle.command_solve.proofs.SolveEnds.{no_memory}
 use Rattle.command_solve.proofs.Solve.solve.Goals as goal

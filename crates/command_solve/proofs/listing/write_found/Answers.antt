@@ -1,4 +1,3 @@
-use Rattle.std.proofs.Common.{rules, ◌≡◌, length}
 use Rattle.command_solve.proofs.ListEnds.{no_lines}
 use Rattle.command_solve.proofs.listing.write_found.Goals as goal
 
