@@ -1,5 +1,5 @@
 -- What is answered where a command was run, where none was, and what that says of Usage and of completing.
-use Rattle.std.proofs.Common.{◌≡◌, ◌≢◌, List, [], ℕ, refl, sym, ap, subst}
+use Rattle.std.proofs.Common.{◌≡◌, ◌≢◌, List, [], ℕ, inl, refl, sym, subst}
 use Rattle.std.specs.Prelude.{Option, Some, None, Result, Ok, Err}
 use Rattle.std.specs.Option.{option_map}
 use Rattle.std.proofs.lemmas.List.{append-nil}
@@ -23,7 +23,8 @@ use Rattle.command_check.specs.Table.{CheckTable}
 use Rattle.command_check.proofs.Completing.{check_completes}
 use Rattle.command_check.proofs.CheckEnds.{nothing_done as check_not_done}
 use Rattle.scuttle_cli.specs.Answers.{CompletesOf, HasUsage, TableOf, own_calls}
-use Rattle.scuttle_cli.specs.Requests.{CheckOf, FrontOf, Request, SolveOf}
+use Rattle.scuttle_cli.specs.Requests.{CheckOf, FrontOf, Request, SolveOf, command_in, request_by, request_of}
+use Rattle.scuttle_cli.specs.declared.names.CommandName.{CommandName}
 
 -- what is answered by what was asked for
 abbrev pub AnsweredFor : Option Request → Status → World → World → Type 0
@@ -47,6 +48,21 @@ pub no_memory : (request : Option Request) (status : Status) (before after : Wor
 no_memory request status before after is same later =
     subst (λ (s : Status). AnsweredFor request s before after) (sym is)
     (ended (TableOf request) (own_calls request) NoMemory before after (no_memory_row request before after same) (λ is'. cc) later)
+
+-- ---- by what the words ask for
+
+module _ {A : Type 0} (request : A → Request) (status : Status) (before after : World) where
+  -- the words ask for this, which was run
+  pub was_run : (asked : A) (found : Option A) → Some asked ≡ found → AnsweredFor (Some (request asked)) status before after → AnsweredFor (option_map request found) status before after
+  was_run asked found is was = subst (λ (f : Option A). AnsweredFor (option_map request f) status before after) is was
+
+  -- the words are refused
+  pub was_refused : (found : Option A) → None ≡ found → status ≡ Usage → view after ≡ view before → NoneFell before.faults after.faults → AnsweredFor (option_map request found) status before after
+  was_refused found is usage same later = subst (λ (f : Option A). AnsweredFor (option_map request f) status before after) is (no_request status before after usage same later)
+
+-- what the first word names is what the words ask for
+pub was_named : (name : Option CommandName) (words : List (List ℕ)) (status : Status) (before after : World) → name ≡ command_in words → AnsweredFor (request_by name words) status before after → AnsweredFor (request_of words) status before after
+was_named name words status before after is was = subst (λ (n : Option CommandName). AnsweredFor (request_by n words) status before after) is was
 
 -- ---- where it completes
 

@@ -1,0 +1,21 @@
+use Rattle.std.proofs.Common.{map, string_bytes}
+use Rattle.std.specs.Prelude.{None, Some}
+use Rattle.scuttle_cli.specs.declared.names.CommandName.TheVariants.{Front, Solve, Check}
+use Rattle.scuttle_cli.proofs.Answered.{no_request, was_named}
+use Rattle.scuttle_cli.proofs.running.run_named.Goals as goal
+
+pub returns-in-Some-Front-clause-answered : goal.returns-in-Some-Front-clause-answered
+returns-in-Some-Front-clause-answered g c =
+    was_named (Some Front) (map string_bytes c.args.words.now) _ _ _ (rw c.in-Some-Front.field-0-is at c.in-Some-Front.ensures) c.run_front.ensures.answered
+
+pub returns-in-Some-Solve-clause-answered : goal.returns-in-Some-Solve-clause-answered
+returns-in-Some-Solve-clause-answered g c =
+    was_named (Some Solve) (map string_bytes c.args.words.now) _ _ _ (rw c.in-Some-Solve.field-0-is at c.in-Some-Solve.ensures) c.run_solve.ensures.answered
+
+pub returns-in-Some-Check-clause-answered : goal.returns-in-Some-Check-clause-answered
+returns-in-Some-Check-clause-answered g c =
+    was_named (Some Check) (map string_bytes c.args.words.now) _ _ _ (rw c.in-Some-Check.field-0-is at c.in-Some-Check.ensures) c.run_check.ensures.answered
+
+pub returns-in-None-clause-answered : goal.returns-in-None-clause-answered
+returns-in-None-clause-answered g c =
+    was_named None (map string_bytes c.args.words.now) _ _ _ c.in-None.ensures (no_request _ _ _ c.not_run.ensures.status c.not_run.ensures.same c.not_run.ensures.later)
