@@ -15,15 +15,15 @@ abbrev pub search_count : {C : Type 0} → Option C → ℕ
 search_count (Some third) = 3
 search_count None = 2
 
--- at least one turn, and each of a search that is there
-pub record AreTurns {C : Type 0} (turns : List ℕ) (third : Option C) : Type 0 where
+-- at least one turn, and each that of one of so many searches
+pub record AreTurns (count : ℕ) (turns : List ℕ) : Type 0 where
   pub some : 0 < length turns
-  pub each : All (λ n. (0 < n) × (n ≤ search_count third)) turns
+  pub each : All (λ n. (0 < n) × (n ≤ count)) turns
 
 -- a place in the list of turns
-pub record IsPlace {C : Type 0} (turns : List ℕ) (third : Option C) (place : ℕ) : Type 0 where
+pub record IsPlace (count : ℕ) (turns : List ℕ) (place : ℕ) : Type 0 where
   pub within : place < length turns
-  pub there : AreTurns turns third
+  pub there : AreTurns count turns
 
 -- the number of the search whose turn is next
 abbrev pub next_of : {A B C : Type 0} → CycleValue A B C → ℕ

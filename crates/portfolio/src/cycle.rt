@@ -3,7 +3,7 @@ ghost use Rattle.std.specs.Prelude.{◌≡◌, IfOk, IfErr};
 ghost use Rattle.std.specs.Option.{option_copied_mut};
 ghost use Rattle.search_base.specs.Good.{GoesOn, IsGood, KeepsBoard};
 ghost use Rattle.search_base.specs.Turns.{IsInOrder, IsSearchFault, IsTurn};
-ghost use Rattle.portfolio.specs.Cycles.{AreTurns, GivesTurn, ServeAll, next_of, own_number};
+ghost use Rattle.portfolio.specs.Cycles.{AreTurns, GivesTurn, ServeAll, next_of, own_number, search_count};
 
 use oracle::{Oracle, OracleFault};
 use search_base::{Board, Bounds, Search, Turn};
@@ -23,7 +23,7 @@ pub struct Cycle<'a, A: Search, B: Search, C: Search> {
 
 impl<'a, A: Search, B: Search, C: Search> Model for Cycle<'a, A, B, C> {
     ghost use Rattle.std.specs.Option.{option_copied_mut};
-    ghost use Rattle.portfolio.specs.Cycles.{CycleValue, IsPlace};
+    ghost use Rattle.portfolio.specs.Cycles.{CycleValue, IsPlace, search_count};
 
     ghost Value = { CycleValue A B C };
 
@@ -35,7 +35,7 @@ impl<'a, A: Search, B: Search, C: Search> Model for Cycle<'a, A, B, C> {
       place = c.place;
     } };
 
-    ghost invariant = { λ c. IsPlace c.turns.now (option_copied_mut c.third) c.place };
+    ghost invariant = { λ c. IsPlace (search_count (option_copied_mut c.third)) c.turns.now c.place };
 }
 
 impl<'a, A: Search, B: Search, C: Search> Cycle<'a, A, B, C> {
@@ -46,7 +46,7 @@ impl<'a, A: Search, B: Search, C: Search> Cycle<'a, A, B, C> {
         third: Option<&'a mut C>,
         turns: &'a [u8],
     ) -> Cycle<'a, A, B, C>
-        requires { AreTurns turns.now (option_copied_mut third) }
+        requires { AreTurns (search_count (option_copied_mut third)) turns.now }
         ensures first { result.first ≡ first.old }
         ensures second { result.second ≡ second.old }
         ensures third { result.third ≡ option_copied_mut third.entry }

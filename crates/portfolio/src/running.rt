@@ -3,7 +3,7 @@ ghost use Rattle.std.specs.Prelude.{IfOk, IfErr, IfSome};
 ghost use Rattle.std.specs.Option.{option_copied_mut};
 ghost use Rattle.search_base.specs.Good.{GoesOn, IsGood, KeepsBoard};
 ghost use Rattle.search_base.specs.Turns.{IsEndLine, IsInOrder, IsSearchFault};
-ghost use Rattle.portfolio.specs.Cycles.{AreTurns};
+ghost use Rattle.portfolio.specs.Cycles.{AreTurns, search_count};
 
 use crate::Cycle;
 use oracle::{Oracle, OracleFault};
@@ -26,7 +26,7 @@ pub fn run_turns<O: Oracle, A: Search, B: Search, C: Search>(
     requires second { B.serves second.old (O.seen oracle.old).problem }
     requires third { IfSome (option_copied_mut third)
         (λ search. C.serves search (O.seen oracle.old).problem) }
-    requires turns { AreTurns turns.now (option_copied_mut third) }
+    requires turns { AreTurns (search_count (option_copied_mut third)) turns.now }
     ensures end { IfOk result (IsEndLine (O.seen oracle.new).problem (O.seen oracle.new).lines) }
     ensures good { IsInOrder result → IsGood (O.seen oracle.new) bounds.new board.new }
     ensures fault { IfErr result (IsSearchFault (O.seen oracle.old) (O.seen oracle.new)) }
