@@ -6,3 +6,4 @@ pub mod Objectives
 pub mod Spelled
 pub mod Drawing
 pub mod Within
+pub mod Occurring

@@ -2,6 +2,7 @@
 ghost use Rattle.std.specs.Prelude.{◌≡◌, ◌<◌, ◌≤◌, ◌*◌, ◌^◌, IfOk, OnOk};
 ghost use Rattle.gen_instance.specs.Draws.{below, next_state, state_after};
 ghost use Rattle.gen_instance.specs.Generated.{drawn_clause, drawn_clauses, drawn_objective, drawn_objectives, generated, soft_of};
+ghost use Rattle.gen_instance.specs.Printed.{AllOccur};
 
 use crate::draws::Draws;
 use instance::{Instance, Objective, Sense, Soft};
@@ -13,7 +14,8 @@ use std::alloc::Global;
 pub fn make(alloc: Global, number: u64, vars: u32, objectives: u32) -> Result<Instance, NoMemory>
     requires vars { (3 ≤ vars) × (vars ≤ 4096) }
     requires objectives { (1 ≤ objectives) × (objectives ≤ 64) }
-    ensures { IfOk result (λ i. i ≡ generated number vars objectives) }
+    ensures instance { IfOk result (λ i. i ≡ generated number vars objectives) }
+    ensures occur { IfOk result AllOccur }
 {
     let mut draws = Draws::new(number);
     let clauses = draw_clauses(alloc, &mut draws, vars)?;
