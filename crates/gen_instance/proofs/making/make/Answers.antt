@@ -1,0 +1,27 @@
+use Rattle.std.proofs.Common.{◌∙◌, sym, subst, arith}
+use Rattle.instance.specs.Shape.{IsWithinLimits}
+use Rattle.gen_instance.proofs.Drawing.{made_is}
+use Rattle.gen_instance.specs.Printed.{AllOccur}
+use Rattle.gen_instance.proofs.Occurring.{generated_occurs}
+use Rattle.gen_instance.proofs.Within.{generated_within}
+use Rattle.gen_instance.proofs.making.make.Goals as goal
+
+pub new-requires-2 : goal.new-requires-2
+new-requires-2 c =
+    let is = made_is c.args.number c.args.vars c.args.objectives c.from.result c.new-draws.result c.draw_clauses.new.draws c.in_ok-clauses.clauses c.new.result c.in_ok-objectives.objectives
+    c.from.ensures c.new-draws.ensures c.in_ok-clauses.ensures.clauses c.new.ensures c.in_ok-clauses.ensures.state c.in_ok-objectives.ensures.objectives in
+    subst IsWithinLimits (sym is) (generated_within c.args.vars (omega (arith, c.requires.vars.0)) c.requires.vars.1 c.args.number c.args.objectives c.requires.objectives.1)
+
+pub returns-clause-instance : goal.returns-clause-instance
+returns-clause-instance c =
+    c.new-2.ensures
+    ∙ made_is c.args.number c.args.vars c.args.objectives c.from.result c.new-draws.result c.draw_clauses.new.draws c.in_ok-clauses.clauses c.new.result c.in_ok-objectives.objectives
+    c.from.ensures c.new-draws.ensures c.in_ok-clauses.ensures.clauses c.new.ensures c.in_ok-clauses.ensures.state c.in_ok-objectives.ensures.objectives
+
+pub returns-clause-occur : goal.returns-clause-occur
+returns-clause-occur c =
+    subst AllOccur (sym (
+    c.new-2.ensures
+    ∙ made_is c.args.number c.args.vars c.args.objectives c.from.result c.new-draws.result c.draw_clauses.new.draws c.in_ok-clauses.clauses c.new.result c.in_ok-objectives.objectives
+    c.from.ensures c.new-draws.ensures c.in_ok-clauses.ensures.clauses c.new.ensures c.in_ok-clauses.ensures.state c.in_ok-objectives.ensures.objectives))
+    (generated_occurs c.args.number c.args.vars c.args.objectives (omega (arith, c.requires.vars.0)) c.requires.vars.1 (omega (arith, c.requires.objectives.0)) c.requires.objectives.1)

@@ -1,0 +1,2 @@
+pub use Rattle.search_base.specs.Turns
+pub mod Cycles
