@@ -77,7 +77,7 @@ module _ (store : LineMap) (t : TrailValue) (reach : Reach) (lines : AreLines t.
       })
     where
       clash : (b : Bool) → b ≡ true → b ≡ false → ⊥
-      clash b yes no = let both : true ≡ false = sym yes ∙ no in cc
+      clash b on off = let both : true ≡ false = sym on ∙ off in cc
 
   -- past a step that isn't marked, or isn't resolved
   pub closing_skip : (marks : List Bool) (end next : ℕ) (given : List Literal) (hints : List Hint) → next ≡ end + 1 → ((s : Step) → IsStepAt t end s → is_marked marks end ≡ true → is_resolved reach s ≡ true → ⊥) → IsClosing store t reach marks next given hints → IsClosing store t reach marks end given hints

@@ -130,6 +130,29 @@ impl Implied {
         (verdict, Visit { place: visit.place, done })
     }
 
+    // Reads the line that forces the step on.
+    fn look(
+        &self,
+        store: &ClauseStore,
+        trail: &Trail,
+        marks: &Marks,
+        levels: u64,
+        visit: Visit,
+    ) -> (Verdict, Visit)
+        requires busy { IsBusy (length trail.now.steps) self.now }
+        requires long { length trail.now.steps ≤ length marks.now.on.items }
+        requires lines { AreLines trail.now.vars store.now }
+        requires place { visit.place < length trail.now.steps }
+        ensures verdict { IsVerdict (length trail.now.steps) result.0 }
+        ensures place { result.1.place ≡ visit.place }
+    {
+        let reason = trail.step_at(visit.place).reason;
+        match store.get(reason) {
+            Some(line) => self.read(trail, marks, levels, visit, line),
+            None => (Verdict::Free, visit),
+        }
+    }
+
     // Notes whether a step is implied.
     fn judge(&mut self, place: u64, implied: bool) -> Result<(), NoMemory>
         requires place { place < length self.old.memo.items }
@@ -188,11 +211,7 @@ impl Implied {
         let Some(visit) = self.stack.pop() else {
             return Ok(left);
         };
-        let reason = trail.step_at(visit.place).reason;
-        let (verdict, visit) = match store.get(reason) {
-            Some(line) => self.read(trail, marks, levels, visit, line),
-            None => (Verdict::Free, visit),
-        };
+        let (verdict, visit) = self.look(store, trail, marks, levels, visit);
         self.follow(visit, verdict, left)
     }
 

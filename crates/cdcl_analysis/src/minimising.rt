@@ -77,8 +77,11 @@ impl Marks {
             → IsClosing store.now trail.now (Level top) self.new.on.items end []
             (reverse hints.new.items)) }
     {
-        for place in places.iter().rev() {
-            self.drop_step(store, trail, top, *place, hints)?;
+        let mut left = places.len();
+        'down: while left > 0 {
+            left -= 1;
+            let place = places[left];
+            self.drop_step(store, trail, top, place, hints)?;
         }
         Ok(())
     }

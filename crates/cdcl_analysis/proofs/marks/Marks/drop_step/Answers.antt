@@ -35,6 +35,20 @@ returns-clause-closing c end rest =
     subst (λ (hs : List Hint). IsClosing store t (Level c.args.top) (slice_set c.mark_all.new.self.on.items c.args.place false) end [] hs) (sym (pushed_first c.args.hints.now.items c.push.new.self.items s.reason (c.in_ok-push.ensures).items))
     (closing_drop store t (Level c.args.top) c.requires.lines c.requires.search c.args.self.now.on.items c.mark_all.new.self.on.items c.args.place end [] (reverse c.args.hints.now.items) s s.reason c.in-Some.line.now at there forces done.more done.marked free rest)
 
+pub returns-in_err-mark_all-clause-least : goal.returns-in_err-mark_all-clause-least
+returns-in_err-mark_all-clause-least c =
+    let told = c.if-not-is_forced_below.ensures refl in
+    c.mark_all.ensures.stays (below_top c.args.store.now c.args.trail.now c.args.top c.args.place c.step_at-step.result c.requires.search c.requires.top c.step_at-step.ensures.value told.0)
+
+pub returns-in_err-push-clause-walk : goal.returns-in_err-push-clause-walk
+returns-in_err-push-clause-walk c =
+    walk_unmarked c.args.trail.now (Level c.args.top) c.mark_all.new.self.on.items c.mark_all.new.self.seen.items c.mark_all.new.self.places c.mark_all.new.self.least c.args.place (c.in_ok-mark_all.ensures).walk
+
+pub returns-in_err-push-clause-least : goal.returns-in_err-push-clause-least
+returns-in_err-push-clause-least c =
+    let told = c.if-not-is_forced_below.ensures refl in
+    (c.in_ok-mark_all.ensures).stays (below_top c.args.store.now c.args.trail.now c.args.top c.args.place c.step_at-step.result c.requires.search c.requires.top c.step_at-step.ensures.value told.0)
+
 pub returns-clause-least : goal.returns-clause-least
 returns-clause-least c =
     let told = c.if-not-is_forced_below.ensures refl in

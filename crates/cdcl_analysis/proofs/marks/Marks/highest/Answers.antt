@@ -20,7 +20,7 @@ loop-place-preserved c =
     elim c.if-index.branch [
       | then-index w ↦ subst (λ (best : ℕ). IsHighest c.args.trail.now c.args.self.now.on.items (take (i + 1) c.args.self.now.places) c.args.top best) (sym w.best-is)
           (highest_next _ c.args.self.now.on.items c.args.self.now.seen.items c.args.self.now.places items i (get_or items i 0) c.requires.are c.as_slice-place-items.ensures c.loop-place-test.true refl
-          c.args.trail.now c.args.top c.loop-place.best w.raised.result w.step_at.result c.loop-place.invariant (on ∙ w.if-index.true) w.step_at.ensures.value w.raised.ensures.kept w.raised.ensures.reached w.raised.ensures.one_of)
+          c.args.trail.now c.args.top c.loop-place.best w.raised-best.result w.step_at-level.result c.loop-place.invariant (on ∙ w.if-index.true) w.step_at-level.ensures.value w.raised-best.ensures.kept w.raised-best.ensures.reached w.raised-best.ensures.one_of)
       | else-index w ↦ subst (λ (best : ℕ). IsHighest c.args.trail.now c.args.self.now.on.items (take (i + 1) c.args.self.now.places) c.args.top best) (sym w.best-is)
           (highest_past _ c.args.self.now.on.items c.args.self.now.seen.items c.args.self.now.places items i (get_or items i 0) c.requires.are c.as_slice-place-items.ensures c.loop-place-test.true refl c.args.trail.now c.args.top c.loop-place.best c.loop-place.invariant (on ∙ w.if-index.false))
     ]

@@ -68,7 +68,7 @@ returns-clause-walk c =
 
 pub returns-clause-stays : goal.returns-clause-stays
 returns-clause-stays c free =
-    let before : c.in-Some.place < c.args.end = omega (arith, c.else-place-end) in
+    let before : c.in-Some.place < c.args.end = omega (arith, c.if-place-end.false) in
     least_stays c.args.trail.now c.args.reach c.args.end c.in-Some.place c.args.self.now.least c.lowered-self.result c.step_at-step.result before c.step_at-step.ensures.value
     (subst (λ (n : ℕ). (c.lowered-self.result ≡ n) ⊎ ((c.lowered-self.result ≡ c.in-Some.place) × (is_resolved c.args.reach c.step_at-step.result ≡ true))) (c.list.ensures).least c.lowered-self.ensures.one_of) free
 
