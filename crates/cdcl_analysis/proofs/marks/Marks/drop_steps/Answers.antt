@@ -1,10 +1,10 @@
-use Rattle.std.specs.Prelude.{ℕ, ◌<◌, length}
+use Rattle.std.specs.Prelude.{ℕ, ◌<◌, ◌-◌, length}
 use Rattle.std.proofs.Common.{◌∙◌, sym, subst, arith}
 use Rattle.cdcl_analysis.proofs.marks.Marks.drop_steps.Goals as goal
 
 pub drop_step-requires-clause-within : goal.drop_step-requires-clause-within
 drop_step-requires-clause-within c =
-    subst (λ (k : ℕ). k < length c.args.trail.now.steps) (sym c.index-place.is) (c.requires.within (c.down.left - 1) c.index-place.result (omega (arith, c.down.invariant.within, c.down-test.true)))
+    c.requires.within (c.down.left - 1) _ (omega (arith, c.down.invariant.within, c.down-test.true))
 
 pub down-preserved : goal.down-preserved
 down-preserved c =

@@ -3,12 +3,12 @@ use Rattle.std.proofs.Common.{arith}
 use Rattle.cdcl_analysis.proofs.Judging.{idle_busy}
 use Rattle.cdcl_analysis.proofs.walk.Walk.learn.Goals as goal
 
-pub lesson-requires-clause-busy : goal.lesson-requires-clause-busy
-lesson-requires-clause-busy c =
-    idle_busy (length c.args.trail.now.steps) c.args.self.inside.implied c.args.self.invariant.1.0 (omega arith)
+pub lesson-lesson-requires-clause-busy : goal.lesson-lesson-requires-clause-busy
+lesson-lesson-requires-clause-busy c =
+    idle_busy (length c.args.trail.now.steps) c.self.inside.implied c.self.invariant.1 (omega (arith, c.requires.room, c.self.invariant.2, c.len-steps.ensures.within, c.self.view_is))
 
 pub clear-requires : goal.clear-requires
-clear-requires c = (length c.args.trail.now.steps, c.lesson.ensures.marks)
+clear-requires c = (length c.args.trail.now.steps, c.lesson-lesson.ensures.marks)
 
-pub clear-2-requires : goal.clear-2-requires
-clear-2-requires c = (length c.args.trail.now.steps, c.lesson.ensures.busy)
+pub clear-requires-2 : goal.clear-requires-2
+clear-requires-2 c = (length c.args.trail.now.steps, c.lesson-lesson.ensures.busy)
