@@ -1,5 +1,5 @@
 -- The search for steps that marked ones imply: its memo and its stack.
-use Rattle.std.specs.Prelude.{◌≡◌, ℕ, ◌+◌, ◌*◌, ◌<◌, ◌≤◌, ◌⊎◌, Bool, Option, None, List, [], length, slice_index_or, All, Contains}
+use Rattle.std.specs.Prelude.{◌≡◌, ℕ, ◌+◌, ◌*◌, ◌<◌, ◌≤◌, ◌⊎◌, None, [], length, slice_index_or, All, Contains}
 use Rattle.cdcl_analysis.specs.declared.implied.Implied.{Implied}
 use Rattle.cdcl_analysis.specs.declared.implied.Verdict.{Verdict}
 use Rattle.cdcl_analysis.specs.declared.implied.Verdict.TheVariants.{Implied as IsImplied, Free, Unknown}

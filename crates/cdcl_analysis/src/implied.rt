@@ -10,7 +10,8 @@ use pb_lin::Constraint;
 use scut_base::{Items, Lit, NoMemory};
 use std::alloc::Global;
 
-// A search for the steps that marked ones imply, with a memo of those that are implied and those that aren't.
+// A search for the steps that marked ones imply (Sörensson and Biere 2009), with a memo of those that are implied and
+// those that aren't. Nothing rests on its answers: it chooses the steps whose marks `drop_steps` takes off.
 #[derive(Debug, Drop)]
 pub(crate) struct Implied {
     // By place of the trail whether its step is implied, where that is known.
@@ -84,7 +85,8 @@ impl Implied {
         self.places.truncate(0);
     }
 
-    // The verdict of a literal of the line that forces the step at the place `end`.
+    // The verdict of a literal of the line that forces the step at the place `end`. Steps of other levels than these
+    // aren't asked.
     fn verdict(&self, trail: &Trail, marks: &Marks, levels: u64, end: u64, lit: Lit) -> Verdict
         requires busy { IsBusy (length trail.now.steps) self.now }
         requires long { length trail.now.steps ≤ length marks.now.on.items }
@@ -127,7 +129,13 @@ impl Implied {
             done += 1;
         }
         let done = done.saturating_sub(1);
-        (verdict, Visit { place: visit.place, done })
+        (
+            verdict,
+            Visit {
+                place: visit.place,
+                done,
+            },
+        )
     }
 
     // Reads the line that forces the step on.
@@ -256,8 +264,8 @@ impl Implied {
     {
         let levels = levels_of(trail, marks.places.as_slice(), top);
         for place in marks.places.as_slice() {
-            let level = trail.step_at(*place).level;
-            if level != top && self.memo[*place as usize].is_none() {
+            let step = trail.step_at(*place);
+            if step.level != top && step.reason != 0 && self.memo[*place as usize].is_none() {
                 self.explore(store, trail, marks, levels, *place)?;
             }
         }

@@ -123,9 +123,7 @@ impl Walk {
     {
         // Tells that there are at most as many steps as variables.
         let _steps = trail.len();
-        let hints = self
-            .marks
-            .refutation(self.alloc, store, trail, conflict);
+        let hints = self.marks.refutation(self.alloc, store, trail, conflict);
         self.marks.clear();
         hints
     }

@@ -1,4 +1,3 @@
-use Rattle.std.proofs.Common.{ℕ}
 use Rattle.cdcl_analysis.proofs.Judging.{pushed_busy}
 use Rattle.cdcl_analysis.proofs.implied.Implied.follow.Goals as goal
 

@@ -2,7 +2,6 @@ use Rattle.std.specs.Prelude.{ℕ, ◌≤◌}
 use Rattle.std.proofs.lemmas.List.Elements.{All-map}
 use Rattle.scut_base.specs.Literal.{Literal}
 use Rattle.pb_lin.specs.Constraint.{literals}
-use Rattle.std.proofs.Common.{arith}
 use Rattle.cdcl_analysis.proofs.Marking.{read_one}
 use Rattle.cdcl_analysis.proofs.implied.Implied.read.Goals as goal
 

@@ -1,5 +1,5 @@
-use Rattle.std.specs.Prelude.{◌≡◌, ℕ, [], true, false, List, reverse, slice_set}
-use Rattle.std.proofs.Common.{◌∙◌, sym, subst, refl, arith}
+use Rattle.std.specs.Prelude.{[], false, List, reverse, slice_set}
+use Rattle.std.proofs.Common.{sym, subst, refl, arith}
 use Rattle.hint_rup.specs.declared.hint.Hint.{Hint}
 use Rattle.cdcl_analysis.specs.declared.reach.Reach.TheVariants.{Level}
 use Rattle.cdcl_analysis.specs.Walking.{IsClosing}

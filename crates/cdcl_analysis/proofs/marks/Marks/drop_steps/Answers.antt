@@ -1,5 +1,5 @@
-use Rattle.std.specs.Prelude.{ℕ, ◌<◌, ◌-◌, length}
-use Rattle.std.proofs.Common.{◌∙◌, sym, subst, arith}
+use Rattle.std.specs.Prelude.{◌-◌}
+use Rattle.std.proofs.Common.{◌∙◌, arith}
 use Rattle.cdcl_analysis.proofs.marks.Marks.drop_steps.Goals as goal
 
 pub drop_step-requires-clause-within : goal.drop_step-requires-clause-within

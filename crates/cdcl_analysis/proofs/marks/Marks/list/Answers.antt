@@ -1,5 +1,5 @@
-use Rattle.std.specs.Prelude.{ℕ, ◌<◌, ◌≤◌, List, true, false}
-use Rattle.std.proofs.Common.{sym, ◌∙◌, subst, set, get_or-set_same, arith}
+use Rattle.std.specs.Prelude.{ℕ, List, true}
+use Rattle.std.proofs.Common.{sym, ◌∙◌, subst, set, arith}
 use Rattle.cdcl_analysis.specs.Walking.{AreMarks}
 use Rattle.cdcl_analysis.proofs.Marking.{are_marked, mark_read}
 use Rattle.cdcl_analysis.proofs.marks.Marks.list.Goals as goal

@@ -1,9 +1,9 @@
-use Rattle.std.specs.Prelude.{◌≡◌, ◌+◌, ◌++◌, ◌≤◌, [], ◌∷◌, ℕ, List, All, length, reverse}
+use Rattle.std.specs.Prelude.{◌≡◌, ◌++◌, ◌≤◌, [], ◌∷◌, ℕ, List, All, length, reverse}
 use Rattle.std.proofs.Common.{◌∙◌, sym, ap, subst, arith}
 use Rattle.pb_lin.specs.Constraint.{literals}
 use Rattle.hint_rup.specs.declared.hint.Hint.{Hint}
 use Rattle.hint_rup.specs.declared.hint.Hint.TheVariants.{Id as IdHint}
-use Rattle.cdcl_analysis.specs.Walking.{IsClosing, IsMarkedBefore, spare}
+use Rattle.cdcl_analysis.specs.Walking.{IsClosing, IsMarkedBefore}
 use Rattle.cdcl_analysis.proofs.Closing.{closing_start, violated_line}
 use Rattle.cdcl_analysis.proofs.TopLevel.{least_within}
 use Rattle.cdcl_analysis.proofs.marks.Marks.trace.Goals as goal
