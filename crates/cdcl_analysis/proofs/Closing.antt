@@ -1,9 +1,9 @@
 -- What the hints prove, step by step on the way back.
 use Rattle.std.specs.Prelude.{◌≡◌, ◌≢◌, ℕ, ◌+◌, ◌<◌, ◌≤◌, Bool, true, false, not, nat_eq, Option, Some, None, List, [], ◌∷◌, ◌++◌, length, reverse, slice_get, All, IsSome, pos, ◌<ℤ◌, refl}
 use Rattle.std.specs.FinMap.{get}
-use Rattle.std.proofs.Common.{sym, ◌∙◌, ap, subst, inl, inr, get_or, arith}
+use Rattle.std.proofs.Common.{sym, ◌∙◌, ap, subst, inl, inr, get_or, set, arith}
 use Rattle.std.proofs.lemmas.Bool.{cases_eq, eqb-true, false_from_ne_true}
-use Rattle.std.proofs.lemmas.List.{get_or-map, length-map, reverse-append}
+use Rattle.std.proofs.lemmas.List.{get_or-map, get_or-set_other, length-map, reverse-append}
 use Rattle.std.proofs.lemmas.List.Elements.{All-nil, All-cons, All-weaker}
 use Rattle.std.proofs.lemmas.Option.{same_Some, slice_get-get_or, slice_get_within}
 use Rattle.scut_base.specs.Literal.{Literal}
@@ -15,15 +15,15 @@ use Rattle.hint_rup.specs.Propagation.{Conflicts}
 use Rattle.hint_rup.specs.declared.hint.Hint.{Hint}
 use Rattle.hint_rup.specs.declared.hint.Hint.TheVariants.{Id as IdHint}
 use Rattle.clause_prop.specs.declared.step.Step.{Step}
-use Rattle.clause_prop.specs.Steps.{TrailValue, cut, partial}
+use Rattle.clause_prop.specs.Steps.{TrailValue, cut, last_level, partial}
 use Rattle.clause_prop.specs.Propagating.{Forces, IsConflict}
 use Rattle.cdcl_trail.specs.SearchTrail.{AreLines, IsSearchTrail, IsStepAt}
 use Rattle.cdcl_trail.specs.Learning.{stored}
 use Rattle.cdcl_analysis.specs.declared.reach.Reach.{Reach}
 use Rattle.cdcl_analysis.specs.declared.reach.Reach.TheVariants.{Level, Decisions}
-use Rattle.cdcl_analysis.specs.Walking.{IsClosing, IsMarkedBefore, IsMore, IsStoredHint, IsWalk, Meets, is_marked, is_resolved, spare}
+use Rattle.cdcl_analysis.specs.Walking.{AreUnresolved, IsClosing, IsMarkedBefore, IsMore, IsStoredHint, IsWalk, Meets, is_marked, is_resolved, spare}
 use Rattle.cdcl_analysis.proofs.Rows.{KeepsFalse, closes_last, row_last, row_more, truth_kept}
-use Rattle.cdcl_analysis.proofs.TrailSteps.{false_before, opposite_back, opposite_false, step_same, step_variable, true_of_opposite, whole_cut}
+use Rattle.cdcl_analysis.proofs.TrailSteps.{false_before, opposite_back, opposite_false, read_at, step_same, step_variable, true_of_opposite, upto_last, whole_cut}
 
 named_id : (store : LineMap) (id : ℕ) (line : ConstraintValue) (hints : List Hint) → get store id ≡ Some line → named (stored store) (IdHint id ∷ hints) ≡ line ∷ named (stored store) hints
 unfolding named
@@ -40,9 +40,9 @@ nonzero : (n : ℕ) → not (nat_eq n 0) ≡ true → n ≢ 0
 nonzero n test same = let both : false ≡ true = sym (ap (λ (m : ℕ). not (nat_eq m 0)) same) ∙ test in cc
 
 -- a step that the walk resolves, after what it leaves, is no decision
-pub has_reason : (store : LineMap) (t : TrailValue) (reach : Reach) (marks : List Bool) (places : List ℕ) (least end : ℕ) (s : Step) → IsSearchTrail store t → IsWalk t reach marks places least → least + spare reach ≤ end → IsStepAt t end s → is_resolved reach s ≡ true → s.reason ≢ 0
+pub has_reason : (store : LineMap) (t : TrailValue) (reach : Reach) (marks seen : List Bool) (places : List ℕ) (least end : ℕ) (s : Step) → IsSearchTrail store t → IsWalk t reach marks seen places least → least + spare reach ≤ end → IsStepAt t end s → is_resolved reach s ≡ true → s.reason ≢ 0
 unfolding is_resolved spare
-has_reason store t (Level level) marks places least end s search walk after at resolved none =
+has_reason store t (Level level) marks seen places least end s search walk after at resolved none =
     let within : end < length t.steps = slice_get_within t.steps end s at in
     let u : Step = get_or t.steps least s in
     let there : IsStepAt t least u = slice_get-get_or t.steps least s (omega arith) in
@@ -50,7 +50,12 @@ has_reason store t (Level level) marks places least end s search walk after at r
     let one : u.level ≡ level = eqb-true u.level level (walk.resolved u there) in
     let two : s.level ≡ level = eqb-true s.level level resolved in
     omega arith
-has_reason store t Decisions marks places least end s search walk after at resolved none = nonzero s.reason resolved none
+has_reason store t Decisions marks seen places least end s search walk after at resolved none = nonzero s.reason resolved none
+
+-- marks before a place stay where that of the place is taken off
+still_marked : (t : TrailValue) (marks : List Bool) (x : ℕ) (lits : List Literal) → All (IsMarkedBefore t marks x) lits → All (IsMarkedBefore t (set marks x false) x) lits
+still_marked t marks x lits marked = All-weaker (IsMarkedBefore t marks x) (IsMarkedBefore t (set marks x false) x)
+    (λ l one p s before at is. get_or-set_other marks x p false false (λ (same : p ≡ x). absurd (omega arith)) ∙ one p s before at is) lits marked
 
 module _ (store : LineMap) (t : TrailValue) (reach : Reach) (lines : AreLines t.vars store) (search : IsSearchTrail store t) where
   -- what led to the conflict makes the literals false that the first steps make false
@@ -62,6 +67,17 @@ module _ (store : LineMap) (t : TrailValue) (reach : Reach) (lines : AreLines t.
       let inside : k < length (literals line.terms) = subst (λ (n : ℕ). k < n) (sym (length-map line.terms (λ (u : Literal × ℕ). u.0))) within in
       let on : is_marked marks b.place ≡ true = subst (IsMarkedBefore t marks end) read (marked k d.0 inside) b.place b.step b.before b.there b.is in
       true_of_opposite p b.step.lit l b.is (meets.at b.place b.step b.there on (λ resolved. b.before))
+
+  -- so it does where none of those steps is resolved, wherever the walk is
+  kept_below : (marks : List Bool) (end back id : ℕ) (given : List Literal) (p : List (Option Bool)) (line : ConstraintValue) → get store id ≡ Some line → All (IsMarkedBefore t marks end) (literals line.terms) → AreUnresolved t reach end → Meets t reach marks back given p → KeepsFalse (partial (cut t end)) p line
+  kept_below marks end back id given p line there marked free meets = kept_false marks end id given p line there marked
+      (record {
+        at = λ k s there on low. meets.at k s there on (λ resolved. absurd (clash (is_resolved reach s) resolved (free k s (low resolved) there)));
+        besides = meets.besides;
+      })
+    where
+      clash : (b : Bool) → b ≡ true → b ≡ false → ⊥
+      clash b on off = let both : true ≡ false = sym on ∙ off in cc
 
   -- past a step that isn't marked, or isn't resolved
   pub closing_skip : (marks : List Bool) (end next : ℕ) (given : List Literal) (hints : List Hint) → next ≡ end + 1 → ((s : Step) → IsStepAt t end s → is_marked marks end ≡ true → is_resolved reach s ≡ true → ⊥) → IsClosing store t reach marks next given hints → IsClosing store t reach marks end given hints
@@ -96,6 +112,27 @@ module _ (store : LineMap) (t : TrailValue) (reach : Reach) (lines : AreLines t.
         })));
   }
 
+  -- without the mark of a step whose reason is marked
+  pub closing_drop : (marks more : List Bool) (x back : ℕ) (given : List Literal) (hints : List Hint) (s : Step) (id : ℕ) (line : ConstraintValue) → IsStepAt t x s → get store id ≡ Some line → Forces (partial (cut t x)) line s.lit → IsMore marks more → All (IsMarkedBefore t more x) (literals line.terms) → AreUnresolved t reach x
+      → IsClosing store t reach marks back given hints → IsClosing store t reach (set more x false) back given (IdHint id ∷ hints)
+  closing_drop marks more x back given hints s id line at there forces grows marked free rest = record {
+    ids = All-cons (IsStoredHint store) (IdHint id) hints (stored_hint store id line there) rest.ids;
+    closing = λ p long meets.
+        let variable = step_variable t x s search.steps at in
+        let positive : 0 < s.lit.var = variable.0 in
+        let upto : s.lit.var ≤ t.vars = variable.1 in
+        subst (Conflicts p) (sym (named_id store id line hints there))
+        (row_more (partial (cut t x)) p line (named (stored store) hints) s.lit (lines.normal id line there).merged forces
+        (kept_below (set more x false) x back id given p line there (still_marked t more x (literals line.terms) marked) free meets) (omega arith)
+        (λ q extends truth. rest.closing q (extends.as_long ∙ long) (record {
+          at = λ k r here on low. elim (cases_eq k x) [
+            | inl same ↦ subst (λ (l : Literal). partial_truth q l ≡ Some true) (ap (λ (u : Step). u.lit) (step_same t x k s r at here (sym same))) truth
+            | inr apart ↦ truth_kept p q r.lit true extends (meets.at k r here (get_or-set_other more x k false false apart ∙ grows k on) low)
+          ];
+          besides = All-weaker (λ l. partial_truth p l ≡ Some true) (λ l. partial_truth q l ≡ Some true) (λ l. truth_kept p q l true extends) given meets.besides;
+        })));
+  }
+
   -- the conflict alone
   pub closing_start : (marks : List Bool) (given : List Literal) (id : ℕ) (line : ConstraintValue) → get store id ≡ Some line → slack (partial t) line <ℤ pos 0 → All (IsMarkedBefore t marks (length t.steps)) (literals line.terms) → IsClosing store t reach marks (length t.steps) given (IdHint id ∷ [])
   closing_start marks given id line there violated marked = record {
@@ -112,6 +149,17 @@ module _ (store : LineMap) (t : TrailValue) (reach : Reach) (lines : AreLines t.
         (row_last (partial (cut t end)) p line s.lit forces (kept_false marks end id (l ∷ []) p line there marked meets)
         (opposite_false p s.lit (subst (λ (m : Literal). partial_truth p m ≡ Some true) (sym (opposite_back s.lit l is)) (meets.besides 0 l (omega arith)))));
   }
+
+-- before a step below the top level there is none of that level
+pub below_top : (store : LineMap) (t : TrailValue) (top x : ℕ) (s : Step) → IsSearchTrail store t → top ≡ last_level t.steps → IsStepAt t x s → s.level ≢ top → AreUnresolved t (Level top) x
+unfolding is_resolved
+below_top store t top x s search last at other p r before there = false_from_ne_true (nat_eq r.level top) (λ is.
+    (let inside : x < length t.steps = slice_get_within t.steps x s at in
+    let most : s.level ≤ last_level t.steps = upto_last t search.rising x s at in
+    let rises : (get_or t.steps p s).level ≤ (get_or t.steps x s).level = search.rising p x s before inside in
+    let low : r.level ≤ s.level = subst (λ (u : Step). u.level ≤ s.level) (read_at t p r s there) (subst (λ (u : Step). (get_or t.steps p s).level ≤ u.level) (read_at t x s s at) rises) in
+    let same : r.level ≡ top = eqb-true r.level top is in
+    omega arith))
 
 -- the line that is a step's reason
 pub reason_line : (store : LineMap) (t : TrailValue) (p : ℕ) (s : Step) → IsSearchTrail store t → IsStepAt t p s → s.reason ≢ 0 → get store s.reason ≡ None → ⊥

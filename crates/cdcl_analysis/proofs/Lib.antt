@@ -2,6 +2,7 @@ pub mod TrailSteps
 pub mod Rows
 pub mod Negations
 pub mod Marking
+pub mod Judging
 pub mod Closing
 pub mod TopLevel
 pub mod Collecting

@@ -14,7 +14,7 @@ use Rattle.clause_prop.specs.declared.step.Step.{Step}
 use Rattle.clause_prop.specs.Steps.{TrailValue, AreSteps, IsPlaceOf, partial}
 use Rattle.cdcl_trail.specs.SearchTrail.{IsStepAt}
 use Rattle.cdcl_analysis.specs.declared.reach.Reach.{Reach}
-use Rattle.cdcl_analysis.specs.Walking.{AreMarks, IsClear, IsMarkedBefore, IsMore, IsWalk, is_marked, is_resolved}
+use Rattle.cdcl_analysis.specs.Walking.{AreMarks, AreSeen, AreUnresolved, IsClear, IsMarkedBefore, IsMore, IsWalk, is_marked, is_resolved}
 use Rattle.cdcl_analysis.proofs.TrailSteps.{no_step, place_same, step_same}
 
 marked_within : (marks : List Bool) (q : ℕ) → is_marked marks q ≡ true → q < length marks
@@ -31,7 +31,7 @@ more_set marks p q on = elim (cases_eq q p) [
 before_set : (marks : List Bool) (p q : ℕ) → q ≢ p → is_marked (set marks p true) q ≡ true → is_marked marks q ≡ true
 before_set marks p q apart on = sym (get_or-set_other marks p q true false apart) ∙ on
 
-are_marked : (n : ℕ) (marks : List Bool) (places : List ℕ) (p : ℕ) → AreMarks n marks places → n ≤ length marks → p < n → is_marked marks p ≡ false → AreMarks n (set marks p true) (places ++ p ∷ [])
+pub are_marked : (n : ℕ) (marks : List Bool) (places : List ℕ) (p : ℕ) → AreMarks n marks places → n ≤ length marks → p < n → is_marked marks p ≡ false → AreMarks n (set marks p true) (places ++ p ∷ [])
 are_marked n marks places p are long within off = record {
   listed = λ q on. elim (cases_eq q p) [
     | inl here ↦ subst (λ (k : ℕ). Contains (places ++ p ∷ []) k) (sym here) (Contains-push places p)
@@ -47,24 +47,82 @@ are_marked n marks places p are long within off = record {
   within = All-push (λ q. q < n) places p are.within within;
 }
 
-module _ (t : TrailValue) (reach : Reach) (marks : List Bool) (places : List ℕ) (least : ℕ) where
-  -- one place more is marked
-  pub walk_marked : (p : ℕ) (s : Step) (low : ℕ) → IsWalk t reach marks places least → IsStepAt t p s → is_marked marks p ≡ false → low ≤ least → (is_resolved reach s ≡ true → low ≤ p) → (low ≡ least) ⊎ ((low ≡ p) × (is_resolved reach s ≡ true))
-      → IsWalk t reach (set marks p true) (places ++ p ∷ []) low
-  walk_marked p s low walk at off falls reached one_of = record {
-    are = are_marked (length t.steps) marks places p walk.are walk.long (slice_get_within t.steps p s at) off;
-    long = omega (arith, length-set marks p true, walk.long);
-    above = λ q r there resolved on. elim (cases_eq q p) [
-      | inl here ↦ (let same : r ≡ s = step_same t q p r s there at here in
-          let low_p : low ≤ p = reached (ap (is_resolved reach) (sym same) ∙ resolved) in
+-- a mark that is put on a place that is seen
+more_known : (marks seen : List Bool) (p : ℕ) → IsMore marks seen → is_marked seen p ≡ true → IsMore (set marks p true) seen
+more_known marks seen p known there q on = elim (cases_eq q p) [
+  | inl here ↦ ap (is_marked seen) here ∙ there
+  | inr apart ↦ known q (before_set marks p q apart on)
+]
+
+fewer : (marks : List Bool) (p q : ℕ) → is_marked (set marks p false) q ≡ true → is_marked marks q ≡ true
+fewer marks p q on = elim (cases_eq q p) [
+  | inl here ↦ absurd (off here)
+  | inr apart ↦ sym (get_or-set_other marks p q false false apart) ∙ on
+]
+  where
+    off : q ≡ p → ⊥
+    off here =
+        let inside : q < length (set marks p false) = marked_within (set marks p false) q on in
+        let low : p < length marks = omega (arith, inside, length-set marks p false) in
+        let clear : is_marked (set marks p false) p ≡ false = get_or-set_same marks p false false low in
+        let both : true ≡ false = sym on ∙ ap (is_marked (set marks p false)) here ∙ clear in
+        cc
+
+module _ (t : TrailValue) (reach : Reach) (marks seen more : List Bool) (places list : List ℕ) (least : ℕ) (walk : IsWalk t reach marks seen places least) (are : AreMarks (length t.steps) more list) (grows : IsMore seen more) (same : length more ≡ length seen) where
+  -- one place more is listed
+  pub walk_listed : IsWalk t reach marks more list least
+  walk_listed = record {
+    all = record {
+      are = are;
+      known = λ p on. grows p (walk.all.known p on);
+      long = walk.all.long;
+      room = omega (arith, walk.all.room);
+    };
+    above = walk.above;
+    resolved = walk.resolved;
+  }
+
+  -- and marked
+  pub walk_marked : (p : ℕ) (s : Step) (low : ℕ) → is_marked more p ≡ true → IsStepAt t p s → low ≤ least → (is_resolved reach s ≡ true → low ≤ p) → (low ≡ least) ⊎ ((low ≡ p) × (is_resolved reach s ≡ true))
+      → IsWalk t reach (set marks p true) more list low
+  walk_marked p s low there at falls reached one_of = record {
+    all = record {
+      are = are;
+      known = more_known marks more p (λ q on. grows q (walk.all.known q on)) there;
+      long = omega (arith, length-set marks p true, walk.all.long);
+      room = omega (arith, length-set marks p true, walk.all.room);
+    };
+    above = λ q r here resolved on. elim (cases_eq q p) [
+      | inl is ↦ (let one : r ≡ s = step_same t q p r s here at is in
+          let low_p : low ≤ p = reached (ap (is_resolved reach) (sym one) ∙ resolved) in
           omega arith)
-      | inr apart ↦ (let before : least ≤ q = walk.above q r there resolved (before_set marks p q apart on) in omega arith)
+      | inr apart ↦ (let before : least ≤ q = walk.above q r here resolved (before_set marks p q apart on) in omega arith)
     ];
-    resolved = λ r there. elim one_of [
-      | inl same ↦ walk.resolved r (ap (slice_get t.steps) (sym same) ∙ there)
-      | inr here ↦ ap (is_resolved reach) (step_same t low p r s there at here.0) ∙ here.1
+    resolved = λ r here. elim one_of [
+      | inl is ↦ walk.resolved r (ap (slice_get t.steps) (sym is) ∙ here)
+      | inr is ↦ ap (is_resolved reach) (step_same t low p r s here at is.0) ∙ is.1
     ];
   }
+
+-- a mark is taken off
+pub walk_unmarked : (t : TrailValue) (reach : Reach) (marks seen : List Bool) (places : List ℕ) (least p : ℕ) → IsWalk t reach marks seen places least → IsWalk t reach (set marks p false) seen places least
+walk_unmarked t reach marks seen places least p walk = record {
+  all = record {
+    are = walk.all.are;
+    known = λ q on. walk.all.known q (fewer marks p q on);
+    long = omega (arith, length-set marks p false, walk.all.long);
+    room = omega (arith, length-set marks p false, walk.all.room);
+  };
+  above = λ q s at resolved on. walk.above q s at resolved (fewer marks p q on);
+  resolved = walk.resolved;
+}
+
+-- where the walk resolves no step before a place, a mark before it lowers nothing
+pub least_stays : (t : TrailValue) (reach : Reach) (end p least low : ℕ) (s : Step) → p < end → IsStepAt t p s → (low ≡ least) ⊎ ((low ≡ p) × (is_resolved reach s ≡ true)) → AreUnresolved t reach end → low ≡ least
+least_stays t reach end p least low s before at one_of free = elim one_of [
+  | inl is ↦ is
+  | inr is ↦ absurd (let both : true ≡ false = sym is.1 ∙ free p s before at in cc)
+]
 
 module _ (t : TrailValue) (marks : List Bool) (end : ℕ) (l : Literal) (are : AreSteps t.vars t.steps) where
   pub marked_open : partial_truth (partial t) l ≡ None → IsMarkedBefore t marks end l
@@ -123,15 +181,22 @@ read_one P lits items i l each same within is =
     subst P (sym (is ∙ ap (λ (ls : List Literal). get_or ls i l) same)) (each i l (subst (λ (ls : List Literal). i < length ls) same within))
 
 -- before the walk nothing is marked
-pub walk_start : (t : TrailValue) (reach : Reach) (marks : List Bool) (places : List ℕ) (least : ℕ) → IsClear marks → places ≡ [] → length t.steps ≤ length marks → ((s : Step) → IsStepAt t least s → is_resolved reach s ≡ true) → IsWalk t reach marks places least
-walk_start t reach marks places least clear none long resolved = subst (λ (ps : List ℕ). IsWalk t reach marks ps least) (sym none) (record {
+pub seen_start : (n : ℕ) (marks seen : List Bool) (places : List ℕ) → IsClear marks → IsClear seen → places ≡ [] → length marks ≤ length seen → n ≤ length marks → AreSeen n marks seen places
+seen_start n marks seen places clear unseen none room long = subst (λ (ps : List ℕ). AreSeen n marks seen ps) (sym none) (record {
   are = record {
-    listed = λ p on. absurd (let both : true ≡ false = sym on ∙ clear p in cc);
-    on = All-nil (λ p. is_marked marks p ≡ true);
+    listed = λ p on. absurd (let both : true ≡ false = sym on ∙ unseen p in cc);
+    on = All-nil (λ p. is_marked seen p ≡ true);
     apart = λ i j d before inside. absurd (omega (arith, inside));
-    within = All-nil (λ p. p < length t.steps);
+    within = All-nil (λ p. p < n);
   };
+  known = λ p on. absurd (let both : true ≡ false = sym on ∙ clear p in cc);
   long = long;
+  room = room;
+})
+
+pub walk_start : (t : TrailValue) (reach : Reach) (marks seen : List Bool) (places : List ℕ) (least : ℕ) → IsClear marks → AreSeen (length t.steps) marks seen places → ((s : Step) → IsStepAt t least s → is_resolved reach s ≡ true) → IsWalk t reach marks seen places least
+walk_start t reach marks seen places least clear all resolved = record {
+  all = all;
   above = λ p s at res on. absurd (let both : true ≡ false = sym on ∙ clear p in cc);
   resolved = resolved;
-})
+}

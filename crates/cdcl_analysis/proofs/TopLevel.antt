@@ -126,10 +126,10 @@ conflict_level store t id line lines search there violated above =
     ]
 
 -- what the walk leaves at the end is there
-pub least_within : (store : LineMap) (t : TrailValue) (reach : Reach) (marks : List Bool) (places : List ℕ) (least id : ℕ) (line : ConstraintValue) → AreLines t.vars store → IsSearchTrail store t → IsAbove t reach → IsWalk t reach marks places least → least ≤ length t.steps
+pub least_within : (store : LineMap) (t : TrailValue) (reach : Reach) (marks seen : List Bool) (places : List ℕ) (least id : ℕ) (line : ConstraintValue) → AreLines t.vars store → IsSearchTrail store t → IsAbove t reach → IsWalk t reach marks seen places least → least ≤ length t.steps
     → get store id ≡ Some line → slack (partial t) line <ℤ pos 0 → All (IsMarkedBefore t marks (length t.steps)) (literals line.terms) → least + spare reach ≤ length t.steps
 unfolding is_resolved spare
-least_within store t (Level level) marks places least id line lines search above walk within there violated marked =
+least_within store t (Level level) marks seen places least id line lines search above walk within there violated marked =
     let top : level ≡ last_level t.steps = above.0 in
     let high : 0 < level = above.1 in
     let found = conflict_level store t id line lines search there violated (omega arith) in
@@ -138,4 +138,4 @@ least_within store t (Level level) marks places least id line lines search above
     let level_is : found.step.level ≡ level = found.at ∙ sym top in
     let low : least ≤ found.place = walk.above found.place found.step found.there (eq-eqb found.step.level level level_is) on in
     omega arith
-least_within store t Decisions marks places least id line lines search above walk within there violated marked = omega arith
+least_within store t Decisions marks seen places least id line lines search above walk within there violated marked = omega arith

@@ -1,5 +1,5 @@
 -- The walk back over a trail: its marks, and what the hints that it has found so far prove.
-use Rattle.std.specs.Prelude.{◌≡◌, ◌≢◌, ℕ, ◌<◌, ◌≤◌, ◌⊎◌, Bool, true, false, not, nat_eq, Option, Some, List, length, slice_index_or, All, AllPairs, Contains, IsSome}
+use Rattle.std.specs.Prelude.{◌≡◌, ◌≢◌, ℕ, ◌<◌, ◌≤◌, ◌⊎◌, Bool, true, false, not, nat_eq, [], Option, Some, List, length, slice_index_or, All, AllPairs, Contains, IsSome}
 use Rattle.std.specs.FinMap.{get}
 use Rattle.scut_base.specs.Literal.{Literal}
 use Rattle.scut_base.specs.Assignment.{partial_truth}
@@ -13,6 +13,7 @@ use Rattle.clause_prop.specs.Steps.{TrailValue, last_level}
 use Rattle.clause_prop.specs.declared.step.Step.{Step}
 use Rattle.cdcl_trail.specs.SearchTrail.{IsStepAt}
 use Rattle.cdcl_trail.specs.Learning.{stored}
+use Rattle.cdcl_analysis.specs.declared.marks.Marks.{Marks}
 use Rattle.cdcl_analysis.specs.declared.reach.Reach.{Reach}
 use Rattle.cdcl_analysis.specs.declared.reach.Reach.TheVariants.{Level, Decisions}
 
@@ -42,6 +43,10 @@ is_marked marks p = slice_index_or marks p false
 abbrev pub IsClear : List Bool → Type 0
 IsClear marks = (p : ℕ) → is_marked marks p ≡ false
 
+-- the walk resolves no step before `end`
+abbrev pub AreUnresolved : TrailValue → Reach → ℕ → Type 0
+AreUnresolved t reach end = (p : ℕ) (s : Step) → p < end → IsStepAt t p s → is_resolved reach s ≡ false
+
 -- the places are those that are marked, each once, and of the first n
 pub record AreMarks (n : ℕ) (marks : List Bool) (places : List ℕ) : Type 0 where
   pub listed : (p : ℕ) → is_marked marks p ≡ true → Contains places p
@@ -49,16 +54,35 @@ pub record AreMarks (n : ℕ) (marks : List Bool) (places : List ℕ) : Type 0 w
   pub apart : AllPairs (λ p q. p ≢ q) places
   pub within : All (λ p. p < n) places
 
--- Marks on a trail, where those on steps that the walk resolves are at `least` or after it.
-pub record IsWalk (t : TrailValue) (reach : Reach) (marks : List Bool) (places : List ℕ) (least : ℕ) : Type 0 where
-  pub are : AreMarks (length t.steps) marks places
-  pub long : length t.steps ≤ length marks
-  pub above : (p : ℕ) (s : Step) → IsStepAt t p s → is_resolved reach s ≡ true → is_marked marks p ≡ true → least ≤ p
-  pub resolved : (s : Step) → IsStepAt t least s → is_resolved reach s ≡ true
-
 -- every mark stays
 abbrev pub IsMore : List Bool → List Bool → Type 0
 IsMore marks more = (p : ℕ) → is_marked marks p ≡ true → is_marked more p ≡ true
+
+-- Marks on the first n places. The places in the list are those that were seen: those that are marked, and those whose marks were taken off.
+pub record AreSeen (n : ℕ) (marks seen : List Bool) (places : List ℕ) : Type 0 where
+  pub are : AreMarks n seen places
+  pub known : IsMore marks seen
+  pub long : n ≤ length marks
+  pub room : length marks ≤ length seen
+
+-- Marks on a trail, where those on steps that the walk resolves are at `least` or after it.
+pub record IsWalk (t : TrailValue) (reach : Reach) (marks seen : List Bool) (places : List ℕ) (least : ℕ) : Type 0 where
+  pub all : AreSeen (length t.steps) marks seen places
+  pub above : (p : ℕ) (s : Step) → IsStepAt t p s → is_resolved reach s ≡ true → is_marked marks p ≡ true → least ≤ p
+  pub resolved : (s : Step) → IsStepAt t least s → is_resolved reach s ≡ true
+
+abbrev pub IsMarking : TrailValue → Reach → Marks → Type 0
+IsMarking t reach m = IsWalk t reach m.on.items m.seen.items m.places m.least
+
+abbrev pub HasSeen : ℕ → Marks → Type 0
+HasSeen n m = AreSeen n m.on.items m.seen.items m.places
+
+-- no place is marked, or was
+pub record IsUnmarked (m : Marks) : Type 0 where
+  pub on : IsClear m.on.items
+  pub seen : IsClear m.seen.items
+  pub places : m.places ≡ []
+  pub room : length m.on.items ≤ length m.seen.items
 
 -- where a step before `end` makes the literal false, its place is marked
 abbrev pub IsMarkedBefore : TrailValue → List Bool → ℕ → Literal → Type 0
@@ -78,32 +102,33 @@ pub record IsClosing (store : LineMap) (t : TrailValue) (reach : Reach) (marks :
   pub ids : All (IsStoredHint store) hints
   pub closing : (p : List (Option Bool)) → length p ≡ t.vars → Meets t reach marks end given p → Conflicts p (named (stored store) hints)
 
--- the literal is what the outcome says of the step at one of the places, which the walk doesn't resolve
-pub record IsAside (t : TrailValue) (reach : Reach) (places : List ℕ) (l : Literal) : Type 0 where
+-- the literal is what the outcome says of the marked step at one of the places, which the walk doesn't resolve
+pub record IsAside (t : TrailValue) (reach : Reach) (marks : List Bool) (places : List ℕ) (l : Literal) : Type 0 where
   pub place : ℕ
   pub step : Step
   pub there : IsStepAt t place step
   pub among : Contains places place
+  pub on : is_marked marks place ≡ true
   pub unresolved : is_resolved reach step ≡ false
   pub is : l ≡ said reach step.lit
 
--- what the outcome says of the steps at the places, which are of different variables
-pub record AreAside (t : TrailValue) (reach : Reach) (places : List ℕ) (lits : List Literal) : Type 0 where
-  pub each : All (IsAside t reach places) lits
-  pub covers : (p : ℕ) (s : Step) → IsStepAt t p s → Contains places p → is_resolved reach s ≡ false → Contains lits (said reach s.lit)
+-- what the outcome says of the marked steps at the places, which are of different variables
+pub record AreAside (t : TrailValue) (reach : Reach) (marks : List Bool) (places : List ℕ) (lits : List Literal) : Type 0 where
+  pub each : All (IsAside t reach marks places) lits
+  pub covers : (p : ℕ) (s : Step) → IsStepAt t p s → Contains places p → is_marked marks p ≡ true → is_resolved reach s ≡ false → Contains lits (said reach s.lit)
   pub apart : AllPairs (λ l m. l.var ≢ m.var) lits
 
 -- the same with one literal more, in rising order of variables
-pub record IsOutcome (t : TrailValue) (reach : Reach) (places : List ℕ) (more : Literal) (lits : List Literal) : Type 0 where
+pub record IsOutcome (t : TrailValue) (reach : Reach) (marks : List Bool) (places : List ℕ) (more : Literal) (lits : List Literal) : Type 0 where
   pub rising : AllPairs (λ l m. l.var < m.var) lits
   pub among : Contains lits more
-  pub others : All (λ l. (l ≡ more) ⊎ IsAside t reach places l) lits
-  pub covers : (p : ℕ) (s : Step) → IsStepAt t p s → Contains places p → is_resolved reach s ≡ false → Contains lits (said reach s.lit)
+  pub others : All (λ l. (l ≡ more) ⊎ IsAside t reach marks places l) lits
+  pub covers : (p : ℕ) (s : Step) → IsStepAt t p s → Contains places p → is_marked marks p ≡ true → is_resolved reach s ≡ false → Contains lits (said reach s.lit)
 
--- the highest level of the steps at the places that aren't of the level `top`, or 0
-pub record IsHighest (t : TrailValue) (places : List ℕ) (top level : ℕ) : Type 0 where
-  pub most : (p : ℕ) (s : Step) → IsStepAt t p s → Contains places p → s.level ≢ top → s.level ≤ level
-  pub reached : (level ≡ 0) ⊎ ((p : ℕ) × (s : Step) × IsStepAt t p s × Contains places p × (s.level ≢ top) × (s.level ≡ level))
+-- the highest level of the marked steps at the places that aren't of the level `top`, or 0
+pub record IsHighest (t : TrailValue) (marks : List Bool) (places : List ℕ) (top level : ℕ) : Type 0 where
+  pub most : (p : ℕ) (s : Step) → IsStepAt t p s → Contains places p → is_marked marks p ≡ true → s.level ≢ top → s.level ≤ level
+  pub reached : (level ≡ 0) ⊎ ((p : ℕ) × (s : Step) × IsStepAt t p s × Contains places p × (is_marked marks p ≡ true) × (s.level ≢ top) × (s.level ≡ level))
 
 -- literals of the variables 1 to n
 abbrev pub AreVariables : ℕ → List Literal → Type 0

@@ -6,8 +6,10 @@
 //! lines. The crate changes no trail and stores no clause.
 #![tactic(auto)]
 
+mod implied;
 mod lesson;
 mod marks;
+mod minimising;
 mod outcome;
 mod reach;
 mod walk;

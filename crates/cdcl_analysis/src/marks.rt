@@ -1,12 +1,12 @@
 // Marks on the steps of a trail, and the walk back that makes them.
-ghost use Rattle.std.specs.Prelude.{◌≡◌, ◌≢◌, ◌∷◌, ℕ, ◌+◌, ◌<◌, ◌≤◌, ◌⊎◌, true, [], max, List, All, Contains, OnOk, OnErr, IfOk, length, reverse};
+ghost use Rattle.std.specs.Prelude.{◌≡◌, ◌≢◌, ◌∷◌, ℕ, ◌+◌, ◌<◌, ◌≤◌, ◌⊎◌, true, [], max, List, All, OnOk, OnErr, IfOk, length, reverse};
 ghost use Rattle.std.specs.FinMap.{get};
 ghost use Rattle.scut_base.specs.Literal.{Literal};
 ghost use Rattle.pb_lin.specs.Constraint.{UpTo, literals, opposite};
 ghost use Rattle.clause_prop.specs.declared.step.Step.{Step};
 ghost use Rattle.clause_prop.specs.Propagating.{IsConflict};
 ghost use Rattle.cdcl_trail.specs.SearchTrail.{AreLines, IsSearchTrail, IsStepAt};
-ghost use Rattle.cdcl_analysis.specs.Walking.{AreMarks, IsAbove, IsClear, IsClosing, IsMarkedBefore, IsMore, IsWalk, is_marked, is_resolved, spare};
+ghost use Rattle.cdcl_analysis.specs.Walking.{AreMarks, AreUnresolved, HasSeen, IsAbove, IsClosing, IsMarkedBefore, IsMarking, IsMore, IsUnmarked, is_marked, is_resolved, spare};
 
 use crate::reach::Reach;
 use clause_prop::{ClauseStore, Step, Trail};
@@ -20,7 +20,9 @@ use std::alloc::Global;
 pub(crate) struct Marks {
     // By place of the trail.
     pub(crate) on: Vec<bool>,
-    // The places that are marked.
+    // By place of the trail whether it was marked, even where the mark was taken off.
+    pub(crate) seen: Vec<bool>,
+    // The places that were marked.
     pub(crate) places: Items<u64>,
     // No marked place of a step that the walk resolves is before it.
     pub(crate) least: u64,
@@ -30,10 +32,11 @@ impl Marks {
     // No room.
     pub(crate) fn new(alloc: Global) -> Marks
         ensures room { result.on.items ≡ [] }
-        ensures places { result.places ≡ [] }
+        ensures unmarked { IsUnmarked result }
     {
         Marks {
             on: Vec::new(alloc),
+            seen: Vec::new(alloc),
             places: Items::new(alloc),
             least: 0,
         }
@@ -41,14 +44,16 @@ impl Marks {
 
     // Makes room for so many places, which are not marked.
     pub(crate) fn grow(&mut self, places: u64) -> Result<(), NoMemory>
-        requires clear { IsClear self.old.on.items }
-        ensures clear { IsClear self.new.on.items }
-        ensures places { self.new.places ≡ self.old.places }
+        requires unmarked { IsUnmarked self.old }
+        ensures unmarked { IsUnmarked self.new }
         ensures ok { OnOk result
             (length self.new.on.items ≡ max places (length self.old.on.items)) }
         ensures err { OnErr result (length self.new.on.items ≡ length self.old.on.items) }
     {
         let places = places as usize;
+        if self.seen.len() < places {
+            self.seen.resize(places, false)?;
+        }
         if self.on.len() < places {
             self.on.resize(places, false)?;
         }
@@ -57,27 +62,45 @@ impl Marks {
 
     // Takes all marks away.
     pub(crate) fn clear(&mut self)
-        requires listed { (p : ℕ) → is_marked self.old.on.items p ≡ true
-            → Contains self.old.places p }
-        requires within { All (λ p. p < length self.old.on.items) self.old.places }
-        ensures clear { IsClear self.new.on.items }
-        ensures places { self.new.places ≡ [] }
+        requires { (n : ℕ) × HasSeen n self.old }
+        ensures unmarked { IsUnmarked self.new }
         ensures room { length self.new.on.items ≡ length self.old.on.items }
     {
         while let Some(place) = self.places.pop() {
             self.on[place as usize] = false;
+            self.seen[place as usize] = false;
         }
+    }
+
+    // Lists a place, where it isn't listed yet.
+    fn list(&mut self, place: u64) -> Result<(), NoMemory>
+        requires { place < length self.old.seen.items }
+        ensures are { (n : ℕ) → AreMarks n self.old.seen.items self.old.places
+            → n ≤ length self.old.seen.items → place < n
+            → AreMarks n self.new.seen.items self.new.places }
+        ensures more { IsMore self.old.seen.items self.new.seen.items }
+        ensures room { length self.new.seen.items ≡ length self.old.seen.items }
+        ensures seen { OnOk result (is_marked self.new.seen.items place ≡ true) }
+        ensures on { self.new.on.items ≡ self.old.on.items }
+        ensures least { self.new.least ≡ self.old.least }
+    {
+        if !self.seen[place as usize] {
+            self.places.push(place)?;
+            self.seen[place as usize] = true;
+        }
+        Ok(())
     }
 
     // Marks the step that makes the literal false, where it stands before the place `end`.
     fn mark(&mut self, trail: &Trail, reach: Reach, end: u64, lit: Lit) -> Result<(), NoMemory>
-        requires walk { IsWalk trail.now reach self.old.on.items self.old.places self.old.least }
+        requires walk { IsMarking trail.now reach self.old }
         requires from_one { 0 < lit.var }
         requires upto { lit.var ≤ trail.now.vars }
-        ensures walk { IsWalk trail.now reach self.new.on.items self.new.places self.new.least }
+        ensures walk { IsMarking trail.now reach self.new }
         ensures more { IsMore self.old.on.items self.new.on.items }
         ensures room { length self.new.on.items ≡ length self.old.on.items }
         ensures falls { self.new.least ≤ self.old.least }
+        ensures stays { AreUnresolved trail.now reach end → self.new.least ≡ self.old.least }
         ensures marked { OnOk result (IsMarkedBefore trail.now self.new.on.items end lit) }
     {
         // Tells that no other step is of the literal's variable.
@@ -92,26 +115,27 @@ impl Marks {
         if step.lit.is_neg() == lit.is_neg() {
             return Ok(());
         }
-        self.places.push(place)?;
+        self.list(place)?;
         self.on[place as usize] = true;
         self.least = lowered(self.least, reach, &step, place);
         Ok(())
     }
 
     // Marks the steps before the place `end` that make literals of the line false.
-    fn mark_all(
+    pub(crate) fn mark_all(
         &mut self,
         trail: &Trail,
         reach: Reach,
         end: u64,
         line: &Constraint,
     ) -> Result<(), NoMemory>
-        requires walk { IsWalk trail.now reach self.old.on.items self.old.places self.old.least }
+        requires walk { IsMarking trail.now reach self.old }
         requires upto { UpTo trail.now.vars line.now }
-        ensures walk { IsWalk trail.now reach self.new.on.items self.new.places self.new.least }
+        ensures walk { IsMarking trail.now reach self.new }
         ensures more { IsMore self.old.on.items self.new.on.items }
         ensures room { length self.new.on.items ≡ length self.old.on.items }
         ensures falls { self.new.least ≤ self.old.least }
+        ensures stays { AreUnresolved trail.now reach end → self.new.least ≡ self.old.least }
         ensures marked { OnOk result
             (All (IsMarkedBefore trail.now self.new.on.items end) (literals line.now.terms)) }
     {
@@ -131,12 +155,12 @@ impl Marks {
         place: u64,
         hints: &mut Vec<Hint>,
     ) -> Result<(), NoMemory>
-        requires walk { IsWalk trail.now reach self.old.on.items self.old.places self.old.least }
+        requires walk { IsMarking trail.now reach self.old }
         requires lines { AreLines trail.now.vars store.now }
         requires search { IsSearchTrail store.now trail.now }
         requires after { self.old.least + spare reach ≤ place }
         requires within { place < length trail.now.steps }
-        ensures walk { IsWalk trail.now reach self.new.on.items self.new.places self.new.least }
+        ensures walk { IsMarking trail.now reach self.new }
         ensures room { length self.new.on.items ≡ length self.old.on.items }
         ensures falls { self.new.least ≤ self.old.least }
         ensures closing { OnOk result ((given : List Literal)
@@ -169,12 +193,12 @@ impl Marks {
         end: u64,
         hints: &mut Vec<Hint>,
     ) -> Result<(), NoMemory>
-        requires walk { IsWalk trail.now reach self.old.on.items self.old.places self.old.least }
+        requires walk { IsMarking trail.now reach self.old }
         requires lines { AreLines trail.now.vars store.now }
         requires search { IsSearchTrail store.now trail.now }
         requires after { self.old.least + spare reach ≤ end }
         requires within { end ≤ length trail.now.steps }
-        ensures walk { IsWalk trail.now reach self.new.on.items self.new.places self.new.least }
+        ensures walk { IsMarking trail.now reach self.new }
         ensures room { length self.new.on.items ≡ length self.old.on.items }
         ensures after { self.new.least + spare reach ≤ end }
         ensures closing { OnOk result ((given : List Literal)
@@ -192,8 +216,8 @@ impl Marks {
         Ok(())
     }
 
-    // Walks back from a conflict. The hints are in the order of the trail, and the conflict is the
-    // last.
+    // Walks back from a conflict. The conflict is the first of the hints, and the others are from
+    // behind in the order of the trail.
     pub(crate) fn trace(
         &mut self,
         alloc: Global,
@@ -201,21 +225,20 @@ impl Marks {
         trail: &Trail,
         reach: Reach,
         conflict: u64,
-    ) -> Result<Items<Hint>, NoMemory>
-        requires clear { IsClear self.old.on.items }
-        requires places { self.old.places ≡ [] }
+    ) -> Result<Vec<Hint>, NoMemory>
+        requires unmarked { IsUnmarked self.old }
         requires long { length trail.now.steps ≤ length self.old.on.items }
         requires lines { AreLines trail.now.vars store.now }
         requires search { IsSearchTrail store.now trail.now }
         requires conflict { IsConflict store.now trail.now conflict }
         requires above { IsAbove trail.now reach }
-        ensures walk { IsWalk trail.now reach self.new.on.items self.new.places self.new.least }
+        ensures walk { IsMarking trail.now reach self.new }
         ensures room { length self.new.on.items ≡ length self.old.on.items }
         ensures within { IfOk result
             (λ hints. self.new.least + spare reach ≤ length trail.now.steps) }
         ensures closing { IfOk result
-            (IsClosing store.now trail.now reach self.new.on.items (self.new.least + spare reach)
-            []) }
+            (λ hints. IsClosing store.now trail.now reach self.new.on.items
+            (self.new.least + spare reach) [] (reverse hints.items)) }
     {
         self.least = trail.len();
         let Some(line) = store.get(conflict) else {
@@ -225,8 +248,7 @@ impl Marks {
         let mut hints = Vec::new(alloc);
         hints.push(Hint::Id(conflict))?;
         self.walk_back(store, trail, reach, trail.len(), &mut hints)?;
-        hints.reverse();
-        Ok(Items::from_vec(hints))
+        Ok(hints)
     }
 
     // Walks back from a step that a line forces, to the decisions. The hints are in the order of the
@@ -238,15 +260,13 @@ impl Marks {
         trail: &Trail,
         place: u64,
     ) -> Result<Items<Hint>, NoMemory>
-        requires clear { IsClear self.old.on.items }
-        requires places { self.old.places ≡ [] }
+        requires unmarked { IsUnmarked self.old }
         requires long { length trail.now.steps ≤ length self.old.on.items }
         requires lines { AreLines trail.now.vars store.now }
         requires search { IsSearchTrail store.now trail.now }
         requires within { place < length trail.now.steps }
         requires forced { (s : Step) → IsStepAt trail.now place s → s.reason ≢ 0 }
-        ensures walk { IsWalk trail.now Reach.Decisions self.new.on.items self.new.places
-            self.new.least }
+        ensures walk { IsMarking trail.now Reach.Decisions self.new }
         ensures room { length self.new.on.items ≡ length self.old.on.items }
         ensures closing { IfOk result (λ hints. (l : Literal) (s : Step)
             → IsStepAt trail.now place s → s.lit ≡ opposite l

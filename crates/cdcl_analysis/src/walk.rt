@@ -6,8 +6,8 @@ ghost use Rattle.cdcl_trail.specs.SearchTrail.{AreLines, IsSearchTrail, IsUndeci
 ghost use Rattle.cdcl_trail.specs.Learning.{AreHints};
 ghost use Rattle.cdcl_analysis.specs.Analysis.{IsBlame, IsForcedFalse, IsLesson};
 
+use crate::implied::Implied;
 use crate::marks::Marks;
-use crate::reach::Reach;
 use crate::{Blame, Lesson};
 use clause_prop::{ClauseStore, Trail};
 use hint_rup::Hint;
@@ -21,17 +21,20 @@ use std::marker::Model;
 pub struct Walk {
     alloc: Global,
     marks: Marks,
+    implied: Implied,
 }
 
 impl Model for Walk {
-    ghost use Rattle.std.specs.Prelude.{◌≡◌, ℕ, [], length};
-    ghost use Rattle.cdcl_analysis.specs.Walking.{IsClear};
+    ghost use Rattle.std.specs.Prelude.{ℕ, ◌≤◌, length};
+    ghost use Rattle.cdcl_analysis.specs.Minimising.{IsIdle};
+    ghost use Rattle.cdcl_analysis.specs.Walking.{IsUnmarked};
 
     ghost Value = { ℕ };
 
     ghost view = { λ w. length w.marks.on.items };
 
-    ghost invariant = { λ w. IsClear w.marks.on.items × (w.marks.places ≡ []) };
+    ghost invariant = { λ w. IsUnmarked w.marks × IsIdle w.implied
+        × (length w.marks.on.items ≤ length w.implied.memo.items) };
 }
 
 impl Walk {
@@ -42,6 +45,7 @@ impl Walk {
         Walk {
             alloc,
             marks: Marks::new(alloc),
+            implied: Implied::new(alloc),
         }
     }
 
@@ -50,11 +54,13 @@ impl Walk {
         ensures ok { OnOk result (self.new ≡ max vars self.old) }
         ensures err { OnErr result (self.new ≡ self.old) }
     {
+        self.implied.grow(vars)?;
         self.marks.grow(vars)
     }
 
     /// The clause of the first unique implication point (Marques-Silva and Sakallah 1999; Moskewicz and
-    /// others 2001) of a conflict above level 0. Costs the lines of the steps that it resolves, the
+    /// others 2001) of a conflict above level 0, without the literals that the others imply (Sörensson
+    /// and Biere 2009). Costs the lines of the steps that it resolves or finds to be implied or not, the
     /// steps of the highest level, and a sort of the clause. It may be called again after `NoMemory`.
     pub fn learn(
         &mut self,
@@ -72,8 +78,11 @@ impl Walk {
     {
         // Tells that there are at most as many steps as variables.
         let _steps = trail.len();
-        let lesson = self.marks.lesson(self.alloc, store, trail, conflict);
+        let lesson = self
+            .marks
+            .lesson(self.alloc, &mut self.implied, store, trail, conflict);
         self.marks.clear();
+        self.implied.clear();
         lesson
     }
 
@@ -114,9 +123,7 @@ impl Walk {
     {
         // Tells that there are at most as many steps as variables.
         let _steps = trail.len();
-        let hints = self
-            .marks
-            .trace(self.alloc, store, trail, Reach::Decisions, conflict);
+        let hints = self.marks.refutation(self.alloc, store, trail, conflict);
         self.marks.clear();
         hints
     }

@@ -42,6 +42,6 @@ returns-clause-blame c =
     record {
       rising = outcome.rising;
       among = outcome.among;
-      decisions = blamed t places l lits outcome;
-      hints = blame_hints c.args.store.now t c.explain.new.self.on.items places c.explain.new.self.least c.in_ok-hints.hints lits l c.requires.search.steps variable (c.in_ok-hints.ensures).walk outcome ((c.in_ok-hints.ensures).closing l f.step there f.is);
+      decisions = blamed t c.explain.new.self.on.items places l lits outcome;
+      hints = blame_hints c.args.store.now t c.explain.new.self.on.items c.explain.new.self.seen.items places c.explain.new.self.least c.in_ok-hints.hints lits l c.requires.search.steps variable (c.in_ok-hints.ensures).walk outcome ((c.in_ok-hints.ensures).closing l f.step there f.is);
     }

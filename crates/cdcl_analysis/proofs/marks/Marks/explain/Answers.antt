@@ -1,4 +1,4 @@
-use Rattle.std.specs.Prelude.{◌≡◌, ◌+◌, ◌++◌, [], ◌∷◌, ℕ, List, reverse}
+use Rattle.std.specs.Prelude.{◌≡◌, ◌+◌, ◌++◌, [], ◌∷◌, ℕ, List, length, reverse}
 use Rattle.std.proofs.Common.{◌∙◌, sym, ap, subst, arith}
 use Rattle.std.proofs.lemmas.Option.{same_Some}
 use Rattle.hint_rup.specs.declared.hint.Hint.{Hint}
@@ -7,7 +7,7 @@ use Rattle.clause_prop.specs.declared.step.Step.{Step}
 use Rattle.cdcl_analysis.specs.declared.reach.Reach.TheVariants.{Decisions}
 use Rattle.cdcl_analysis.specs.Walking.{IsClosing, spare}
 use Rattle.cdcl_analysis.proofs.Closing.{closing_blame, reason_forces, reason_line, spare_none, with_reason}
-use Rattle.cdcl_analysis.proofs.Marking.{walk_start}
+use Rattle.cdcl_analysis.proofs.Marking.{seen_start, walk_start}
 use Rattle.cdcl_analysis.proofs.marks.Marks.explain.Goals as goal
 
 pub unreachable-requires : goal.unreachable-requires
@@ -17,11 +17,15 @@ unreachable-requires c =
 
 pub returns-in_err-push-clause-walk : goal.returns-in_err-push-clause-walk
 returns-in_err-push-clause-walk c =
-    walk_start c.args.trail.now Decisions c.args.self.now.on.items c.args.self.now.places c.args.place c.requires.clear c.requires.places c.requires.long (λ s at. with_reason s (c.requires.forced s at))
+    let u = c.requires.unmarked in
+    walk_start c.args.trail.now Decisions c.args.self.now.on.items c.args.self.now.seen.items c.args.self.now.places c.args.place u.on
+    (seen_start (length c.args.trail.now.steps) c.args.self.now.on.items c.args.self.now.seen.items c.args.self.now.places u.on u.seen u.places u.room c.requires.long) (λ s at. with_reason s (c.requires.forced s at))
 
 pub mark_all-requires-clause-walk : goal.mark_all-requires-clause-walk
 mark_all-requires-clause-walk c =
-    walk_start c.args.trail.now Decisions c.args.self.now.on.items c.args.self.now.places c.args.place c.requires.clear c.requires.places c.requires.long (λ s at. with_reason s (c.requires.forced s at))
+    let u = c.requires.unmarked in
+    walk_start c.args.trail.now Decisions c.args.self.now.on.items c.args.self.now.seen.items c.args.self.now.places c.args.place u.on
+    (seen_start (length c.args.trail.now.steps) c.args.self.now.on.items c.args.self.now.seen.items c.args.self.now.places u.on u.seen u.places u.room c.requires.long) (λ s at. with_reason s (c.requires.forced s at))
 
 pub walk_back-requires-clause-after : goal.walk_back-requires-clause-after
 walk_back-requires-clause-after c = omega (arith, (c.in_ok-mark_all.ensures).falls, spare_none c.mark_all.new.self.least)

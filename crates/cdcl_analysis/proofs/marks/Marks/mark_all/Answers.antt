@@ -26,6 +26,7 @@ loop-lit-preserved c =
       more = λ p on. done.more p (c.loop-lit.invariant.more p on);
       room = done.room ∙ c.loop-lit.invariant.room;
       falls = omega (arith, done.falls, c.loop-lit.invariant.falls);
+      stays = λ free. done.stays free ∙ c.loop-lit.invariant.stays free;
       marked = marked_step c.args.trail.now c.loop-lit.self.on.items c.mark.new.self.on.items c.args.end (literals c.args.line.now.terms) c.literals-lit-items.result.now c.loop-lit.lit-index c.lit-item.result c.literals-lit-items.ensures.value c.loop-lit-test.true c.lit-item.is done.more c.loop-lit.invariant.marked done.marked;
     }
 

@@ -12,12 +12,12 @@ unreachable-requires c =
     let s = c.step_at-step.result in
     let at = c.step_at-step.ensures.value in
     let resolved : is_resolved c.args.reach s ≡ true = sym c.if-not-resolves.ensures in
-    let reason = has_reason c.args.store.now c.args.trail.now c.args.reach c.args.self.now.on.items c.args.self.now.places c.args.self.now.least c.args.place s c.requires.search c.requires.walk c.requires.after at resolved in
+    let reason = has_reason c.args.store.now c.args.trail.now c.args.reach c.args.self.now.on.items c.args.self.now.seen.items c.args.self.now.places c.args.self.now.least c.args.place s c.requires.search c.requires.walk c.requires.after at resolved in
     reason_line c.args.store.now c.args.trail.now c.args.place s c.requires.search at reason c.in_default.ensures
 
 pub returns-then-not-index-clause-closing : goal.returns-then-not-index-clause-closing
 returns-then-not-index-clause-closing c =
-    let off = mark_read c.args.self.now.on.items c.args.place c.index.result.now (omega (arith, c.requires.within, c.requires.walk.long)) c.index.ensures ∙ c.if-not-index.true in
+    let off = mark_read c.args.self.now.on.items c.args.place c.index.result.now (omega (arith, c.requires.within, c.requires.walk.all.long)) c.index.ensures ∙ c.if-not-index.true in
     λ given rest. closing_skip c.args.store.now c.args.trail.now c.args.reach c.requires.lines c.requires.search c.args.self.now.on.items c.args.place (c.args.place + 1) given (reverse c.args.hints.now.items) refl
     (λ s at on resolved. (let both : true ≡ false = sym on ∙ off in cc)) rest
 
@@ -32,7 +32,7 @@ returns-clause-closing c =
     let s = c.step_at-step.result in
     let at = c.step_at-step.ensures.value in
     let resolved : is_resolved c.args.reach s ≡ true = sym c.if-not-resolves.ensures in
-    let reason = has_reason c.args.store.now c.args.trail.now c.args.reach c.args.self.now.on.items c.args.self.now.places c.args.self.now.least c.args.place s c.requires.search c.requires.walk c.requires.after at resolved in
+    let reason = has_reason c.args.store.now c.args.trail.now c.args.reach c.args.self.now.on.items c.args.self.now.seen.items c.args.self.now.places c.args.self.now.least c.args.place s c.requires.search c.requires.walk c.requires.after at resolved in
     let there = c.in-Some.ensures in
     let forces = reason_forces c.args.store.now c.args.trail.now c.args.place s c.in-Some.line.now c.requires.search at reason there in
     let done = c.in_ok-mark_all.ensures in

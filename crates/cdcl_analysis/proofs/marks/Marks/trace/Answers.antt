@@ -1,9 +1,9 @@
-use Rattle.std.specs.Prelude.{◌≡◌, ◌+◌, ◌++◌, ◌≤◌, [], ◌∷◌, ℕ, List, All, length, reverse}
+use Rattle.std.specs.Prelude.{◌≡◌, ◌++◌, ◌≤◌, [], ◌∷◌, ℕ, List, All, length, reverse}
 use Rattle.std.proofs.Common.{◌∙◌, sym, ap, subst, arith}
 use Rattle.pb_lin.specs.Constraint.{literals}
 use Rattle.hint_rup.specs.declared.hint.Hint.{Hint}
 use Rattle.hint_rup.specs.declared.hint.Hint.TheVariants.{Id as IdHint}
-use Rattle.cdcl_analysis.specs.Walking.{IsClosing, IsMarkedBefore, spare}
+use Rattle.cdcl_analysis.specs.Walking.{IsClosing, IsMarkedBefore}
 use Rattle.cdcl_analysis.proofs.Closing.{closing_start, violated_line}
 use Rattle.cdcl_analysis.proofs.TopLevel.{least_within}
 use Rattle.cdcl_analysis.proofs.marks.Marks.trace.Goals as goal
@@ -14,7 +14,7 @@ walk_back-requires-clause-after c =
     let done = c.in_ok-mark_all.ensures in
     let marked = subst (λ (n : ℕ). All (IsMarkedBefore t c.mark_all.new.self.on.items n) (literals c.in-Some.line.now.terms)) c.len.ensures.value done.marked in
     let least : c.mark_all.new.self.least ≤ length t.steps = omega (arith, done.falls, c.len-self.ensures.value) in
-    let within = least_within c.args.store.now t c.args.reach c.mark_all.new.self.on.items c.mark_all.new.self.places c.mark_all.new.self.least c.args.conflict c.in-Some.line.now c.requires.lines c.requires.search c.requires.above done.walk least c.in-Some.ensures
+    let within = least_within c.args.store.now t c.args.reach c.mark_all.new.self.on.items c.mark_all.new.self.seen.items c.mark_all.new.self.places c.mark_all.new.self.least c.args.conflict c.in-Some.line.now c.requires.lines c.requires.search c.requires.above done.walk least c.in-Some.ensures
     (violated_line c.args.store.now t c.args.conflict c.in-Some.line.now c.requires.conflict c.in-Some.ensures) marked in
     omega (arith, within, c.len-2.ensures.value)
 
@@ -32,5 +32,4 @@ returns-clause-closing c =
     let pushed : c.push.new.self.items ≡ IdHint c.args.conflict ∷ [] = (c.in_ok-push.ensures).items ∙ ap (λ (hs : List Hint). hs ++ IdHint c.args.conflict ∷ []) c.new-hints.ensures.items in
     let begin = subst (λ (hs : List Hint). IsClosing c.args.store.now t c.args.reach marks (length t.steps) [] (reverse hs)) (sym pushed) start in
     let end = subst (λ (n : ℕ). IsClosing c.args.store.now t c.args.reach marks n [] (reverse c.push.new.self.items)) (sym c.len-2.ensures.value) begin in
-    subst (λ (hs : List Hint). IsClosing c.args.store.now t c.args.reach c.walk_back.new.self.on.items (c.walk_back.new.self.least + spare c.args.reach) [] hs) (sym (c.from_vec.ensures ∙ c.reverse.ensures.items))
-    ((c.in_ok-walk_back.ensures).closing [] end)
+    (c.in_ok-walk_back.ensures).closing [] end

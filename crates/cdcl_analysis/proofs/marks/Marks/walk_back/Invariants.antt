@@ -6,7 +6,7 @@ use Rattle.cdcl_analysis.proofs.marks.Marks.walk_back.Given as goal
 
 abbrev pub invariant-back : goal.invariant-back
 invariant-back l = record {
-  walk : IsWalk l.trail l.reach l.self.on.items l.self.places l.self.least;
+  walk : IsWalk l.trail l.reach l.self.on.items l.self.seen.items l.self.places l.self.least;
   room : length l.self.on.items ≡ length l.fn.self.on.items;
   falls : l.self.least ≤ l.fn.self.least;
   after : l.self.least + spare l.reach ≤ l.place;
