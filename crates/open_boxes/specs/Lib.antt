@@ -1,0 +1,3 @@
+pub use Rattle.front_set.specs.Vector
+pub mod Boxes
+pub mod Parts
