@@ -1,12 +1,14 @@
 // The search for minimal models.
-ghost use Rattle.std.specs.Prelude.{◌≡◌, None, IfOk, IfErr, option_copied};
+ghost use Rattle.std.specs.Prelude.{◌≡◌, None, IfOk, IfErr, IfSome, option_copied};
 ghost use Rattle.search_base.specs.Good.{GoesOn, IsGood, KeepsBoard};
 ghost use Rattle.search_base.specs.Turns.{IsInOrder, IsSearchFault, IsTurn};
-ghost use Rattle.search_questions.specs.Telling.{IsGoodWithSome, StaysGood};
+ghost use Rattle.search_questions.specs.Telling.{IsGoodWithSome, SeeksOn, StaysGood};
 ghost use Rattle.p_minimal.specs.Aiming.{Aims, Serves, TellsOfAim, own_number};
 
+use crate::relaxed::Relaxed;
 use front_set::CostVec;
 use oracle::{Oracle, OracleFault};
+use pb_lin::PbProblem;
 use scut_base::{Duplicate, NoMemory};
 use search_base::{Board, Bounds, Search, Turn};
 use search_questions::{Below, seek_any, seek_below};
@@ -14,11 +16,12 @@ use std::alloc::Global;
 use std::marker::Model;
 
 /// Finds a model, and then one whose costs are below the last one's and differ, until none is left: then it
-/// starts afresh.
+/// starts afresh. Where it has the relaxations of the problem, it asks them before it asks the oracle.
 #[derive(Drop)]
 pub struct PMinimal {
     alloc: Global,
     aim: Option<CostVec>,
+    relaxed: Option<Relaxed>,
 }
 
 impl Model for PMinimal {
@@ -30,11 +33,27 @@ impl Model for PMinimal {
 }
 
 impl PMinimal {
-    /// A search without an aim, for any problem. Takes no memory.
+    /// A search without an aim, for any problem, that asks the oracle alone. Takes no memory.
     pub fn new(alloc: Global) -> PMinimal
         ensures { result ≡ None }
     {
-        PMinimal { alloc, aim: None }
+        PMinimal {
+            alloc,
+            aim: None,
+            relaxed: None,
+        }
+    }
+
+    /// A search without an aim that asks linear relaxations of the problem before it asks the oracle. Of another
+    /// problem it's as good as one that asks the oracle alone. Costs what `LinearSearch::new` does.
+    pub fn relaxed(alloc: Global, problem: &PbProblem) -> Result<PMinimal, NoMemory>
+        ensures { IfOk result (λ search. search ≡ None) }
+    {
+        Ok(PMinimal {
+            alloc,
+            aim: None,
+            relaxed: Some(Relaxed::new(alloc, problem)?),
+        })
     }
 
     /// The vector that the next turn tries to improve.
@@ -42,22 +61,6 @@ impl PMinimal {
         ensures { option_copied result ≡ self.now }
     {
         self.aim.as_ref()
-    }
-
-    // Whether a model is left whose costs are at most the aim, or any where there is no aim.
-    fn seek<O: Oracle>(&self, oracle: &mut O, bounds: &mut Bounds) -> Result<Below, OracleFault>
-        requires good { IsGoodWithSome (O.seen oracle.old) bounds.old }
-        requires serves { Serves self.now (O.seen oracle.old).problem }
-        ensures tells { IfOk result (TellsOfAim (O.seen oracle.new) self.now) }
-        ensures good { IsInOrder result → StaysGood (O.seen oracle.old) (O.seen oracle.new)
-            bounds.old bounds.new }
-        ensures fault { IfErr result (IsSearchFault (O.seen oracle.old) (O.seen oracle.new)) }
-        ensures goes_on { GoesOn (O.seen oracle.old) (O.seen oracle.new) }
-    {
-        match &self.aim {
-            Some(aim) => seek_below(self.alloc, oracle, bounds, aim),
-            None => seek_any(oracle, bounds),
-        }
     }
 }
 
@@ -87,7 +90,8 @@ impl Search for PMinimal {
         ensures goes_on { GoesOn (O.seen oracle.old) (O.seen oracle.new) }
         ensures board { KeepsBoard board.old board.new }
     {
-        match self.seek(oracle, bounds)? {
+        let relaxed = &mut self.relaxed;
+        match seek(self.alloc, &self.aim, relaxed, oracle, bounds, board)? {
             Below::Model(model) => {
                 board.take(oracle, bounds, &model)?;
                 self.aim = copy_of_last(self.alloc, board)?;
@@ -100,6 +104,76 @@ impl Search for PMinimal {
             }
         }
     }
+}
+
+// Whether a model is left whose costs are at most the aim, or any where there is no aim: what relaxations don't
+// tell, the oracle does.
+fn seek<O: Oracle>(
+    alloc: Global,
+    aim: &Option<CostVec>,
+    relaxed: &mut Option<Relaxed>,
+    oracle: &mut O,
+    bounds: &mut Bounds,
+    board: &Board<'_>,
+) -> Result<Below, OracleFault>
+    requires good { IsGoodWithSome (O.seen oracle.old) bounds.old }
+    requires problem { (O.seen oracle.old).problem ≡ board.now.problem }
+    requires serves { Serves aim.now (O.seen oracle.old).problem }
+    ensures tells { IfOk result (TellsOfAim (O.seen oracle.new) aim.now) }
+    ensures good { IsInOrder result → StaysGood (O.seen oracle.old) (O.seen oracle.new)
+        bounds.old bounds.new }
+    ensures fault { IfErr result (IsSearchFault (O.seen oracle.old) (O.seen oracle.new)) }
+    ensures goes_on { GoesOn (O.seen oracle.old) (O.seen oracle.new) }
+{
+    match relaxations_tell(alloc, aim, relaxed, oracle, bounds, board)? {
+        Some(below) => Ok(below),
+        None => ask_oracle(alloc, aim, oracle, bounds),
+    }
+}
+
+// The same of the oracle alone.
+fn ask_oracle<O: Oracle>(
+    alloc: Global,
+    aim: &Option<CostVec>,
+    oracle: &mut O,
+    bounds: &mut Bounds,
+) -> Result<Below, OracleFault>
+    requires good { IsGoodWithSome (O.seen oracle.old) bounds.old }
+    requires serves { Serves aim.now (O.seen oracle.old).problem }
+    ensures tells { IfOk result (TellsOfAim (O.seen oracle.new) aim.now) }
+    ensures good { IsInOrder result → StaysGood (O.seen oracle.old) (O.seen oracle.new)
+        bounds.old bounds.new }
+    ensures fault { IfErr result (IsSearchFault (O.seen oracle.old) (O.seen oracle.new)) }
+    ensures goes_on { GoesOn (O.seen oracle.old) (O.seen oracle.new) }
+{
+    match aim {
+        Some(aim) => seek_below(alloc, oracle, bounds, aim),
+        None => seek_any(oracle, bounds),
+    }
+}
+
+// What the relaxations tell, where they are there; `None` where they don't.
+fn relaxations_tell<O: Oracle>(
+    alloc: Global,
+    aim: &Option<CostVec>,
+    relaxed: &mut Option<Relaxed>,
+    oracle: &mut O,
+    bounds: &mut Bounds,
+    board: &Board<'_>,
+) -> Result<Option<Below>, OracleFault>
+    requires good { IsGoodWithSome (O.seen oracle.old) bounds.old }
+    requires problem { (O.seen oracle.old).problem ≡ board.now.problem }
+    requires serves { Serves aim.now (O.seen oracle.old).problem }
+    ensures tells { IfOk result (λ below. IfSome below (TellsOfAim (O.seen oracle.new) aim.now)) }
+    ensures seeks { SeeksOn (O.seen oracle.old) (O.seen oracle.new) bounds.old bounds.new result }
+{
+    let Some(relaxed) = relaxed else {
+        return Ok(None);
+    };
+    let Some(aim) = aim else {
+        return Ok(None);
+    };
+    relaxed.seek_better(alloc, oracle, bounds, board.problem(), aim)
 }
 
 // A copy of the vector that was logged last, where there is one.

@@ -10,3 +10,5 @@ pub mod Cutting
 pub mod Good
 pub mod Turns
 pub mod Laws
+pub mod Outputs
+pub mod Adding

@@ -68,6 +68,13 @@ impl<'a> Board<'a> {
         &self.front
     }
 
+    /// The instance's normal form.
+    pub fn problem(&self) -> &PbProblem
+        ensures { result.now ≡ self.now.problem }
+    {
+        self.problem
+    }
+
     /// The vector that was logged last.
     pub fn last(&self) -> Option<&CostVec>
         ensures { option_copied result ≡ self.now.last }

@@ -5,6 +5,7 @@ ghost use Rattle.proof_rules.specs.Recording.{Snapshot};
 ghost use Rattle.sum_outputs.specs.Adding.{IsReady, IsRecorded};
 ghost use Rattle.sum_outputs.specs.Totals.{AreWeights};
 ghost use Rattle.search_base.specs.CostBounds.{AddsBound, AreReforms, FitBounds, FitSome, HasLiteral, IsAnswerFor, IsCostBound, IsNextUnmade, IsNextValue, KeepsOthers, reforms_of};
+ghost use Rattle.search_base.specs.Outputs.{IsMadeAt, IsUnmadeAt};
 ghost use Rattle.search_base.specs.declared.objective_bound.ObjectiveBound.{ObjectiveBound};
 
 use crate::ObjectiveBound;
@@ -12,6 +13,7 @@ use proof_rules::{RecordFault, Recorder};
 use scut_base::NoMemory;
 use std::alloc::Global;
 use std::marker::Model;
+use sum_outputs::SumOutput;
 use totalizer::{Bound, Reform, fitting_stays, own_lines_stay, reform_stays};
 
 /// The bounds of all objectives of a problem, in order.
@@ -81,6 +83,19 @@ impl Bounds {
         own_lines_stay();
         let bound = &mut self.bounds[objective];
         bound.at_least(self.alloc, rec, value)
+    }
+
+    /// The output that stands for "the objective's cost is at least `value`", where it has been made: the literal that
+    /// `at_least` answers, the reform's least sum that reaches the value, and the ids of the output's own two lines, which
+    /// speak of that sum. `None` only where none was made. Objectives are counted from 0. Costs a binary search.
+    pub fn made_for(&self, objective: usize, value: i64) -> Option<&SumOutput>
+        requires there { objective < length self.now }
+        requires fits { FitSome self.now }
+        ensures { (e : ObjectiveBound) → MatchOption result
+            (IsUnmadeAt (slice_index_or self.now objective e) value)
+            (λ o. IsMadeAt (slice_index_or self.now objective e) value o.now) }
+    {
+        self.bounds[objective].made_for(value)
     }
 
     /// The least value above `value` that the objective's reform can have, where that is known: its offset,

@@ -7,12 +7,9 @@ use pb_lin::{PbProblem, row_cost};
 use scut_base::{Assignment, Items, NoMemory};
 use std::alloc::Global;
 
-// What each objective costs. Takes one pass over the terms.
-pub(crate) fn costs_at(
-    alloc: Global,
-    problem: &PbProblem,
-    a: &Assignment,
-) -> Result<CostVec, NoMemory>
+/// What each objective costs under an assignment of the problem's variables, perhaps with others after them.
+/// Takes one pass over the terms.
+pub fn costs_at(alloc: Global, problem: &PbProblem, a: &Assignment) -> Result<CostVec, NoMemory>
     requires { problem.now.vars ≤ length a.now }
     ensures { IfOk result (λ costs. costs ≡ problem_costs problem.now a.now) }
 {

@@ -1,4 +1,5 @@
 // Laws of good states.
+ghost use Rattle.search_base.specs.Adding.{AddingStaysGood};
 ghost use Rattle.search_base.specs.Laws.{AskingStaysGood, BeginningIsGood, BoundingStaysGood, LoggedIsReached, NoLinesArePrepared, TurnLinesJoin, TurnLinesKeepOwn};
 
 use totalizer::{fitting_stays, own_lines_stay, reform_stays};
@@ -32,6 +33,15 @@ pub fn bounding_stays_good()
     ensures { BoundingStaysGood }
 {
     own_lines_stay();
+}
+
+/// Law: lines of a totalizer by which no bound changes keep a good state good.
+pub fn adding_stays_good()
+    ensures { AddingStaysGood }
+{
+    own_lines_stay();
+    fitting_stays();
+    reform_stays();
 }
 
 /// Law: the lines of oracles and totalizers are lines of turns, and may follow each other.

@@ -24,9 +24,10 @@ mod turn;
 
 pub use board::Board;
 pub use bounds::Bounds;
+pub use costs::costs_at;
 pub use laws::{
-    asking_stays_good, beginning_is_good, bounding_stays_good, logged_is_reached,
-    no_lines_are_prepared, turn_lines_join, turn_lines_keep_own,
+    adding_stays_good, asking_stays_good, beginning_is_good, bounding_stays_good,
+    logged_is_reached, no_lines_are_prepared, turn_lines_join, turn_lines_keep_own,
 };
 pub use objective_bound::{ObjectiveBound, ObjectiveLine};
 pub use reforms::own_reforms;

@@ -9,13 +9,14 @@ ghost use Rattle.totalizer.specs.Meaning.{IsBound};
 ghost use Rattle.totalizer.specs.Totalizing.{Fits, FitsSome, terms_of};
 ghost use Rattle.search_base.specs.CostBounds.{AddsBound, BoundsRow, IsAnswerFor, IsCostBound, IsNextUnmade, IsNextValue, greatest_of};
 ghost use Rattle.search_base.specs.OneBound.{AddsObjectiveLine, CanSum, FitsRow, HasOwnLiteral, IsObjectiveLineFor, IsNewBound, IsOutputFor, IsPlaceFor, IsSumFor, KeepsBut, KeepsRow, MakesObjectiveLine, NeedsObjectiveLine, sum_of};
+ghost use Rattle.search_base.specs.Outputs.{IsMadeAt, IsUnmadeAt};
 
 use cutting_planes::PolToken;
 use proof_laws::Line;
 use proof_rules::{RecordFault, Recorder};
 use scut_base::{Items, Lit, NoMemory};
 use std::alloc::Global;
-use sum_outputs::{in_memory, record};
+use sum_outputs::{SumOutput, in_memory, record};
 use totalizer::{Bound, Reform, Totalizer, fitting_stays, own_lines_stay, reform_stays};
 
 /// The line that says of the objective what the line of an output says of the reform's terms.
@@ -157,6 +158,16 @@ impl ObjectiveBound {
             ObjectiveLine { var, line },
         ))?;
         Ok(line)
+    }
+
+    // The output that stands for "the reform is at least `value`", where it has been made.
+    pub(crate) fn made_for(&self, value: i64) -> Option<&SumOutput>
+        requires fits { FitsSome self.now.totalizer }
+        ensures { MatchOption result (IsUnmadeAt self.now value)
+            (λ o. IsMadeAt self.now value o.now) }
+    {
+        let k = u64::try_from(i128::from(value) - i128::from(self.reform.offset)).ok()?;
+        self.totalizer.made_for(k)
     }
 
     // The least value above `value` that the reform can have, where that is known: the offset, or what an

@@ -1,5 +1,7 @@
 -- Calls one after another keep a good state good.
-use Rattle.std.proofs.Common.{◌≡◌, ℕ, false, Option, Result, Err, List, [], ◌∷◌, sym, subst}
+use Rattle.std.proofs.Common.{◌≡◌, ◌∙◌, ℕ, false, Option, Result, Ok, Err, List, [], ◌∷◌, ap, arith, sym, subst}
+use Rattle.std.specs.Prelude.{IfErr, IsErrAnd}
+use Rattle.std.proofs.lemmas.Result.{err_from_is_err_and}
 use Rattle.std.specs.List.{All, AllZip}
 use Rattle.std.proofs.lemmas.List.Elements.{All-nil, All-cons}
 use Rattle.scut_base.specs.Faults.{Rose}
@@ -11,17 +13,17 @@ use Rattle.proof_laws.proofs.Replays.{replay_once}
 use Rattle.proof_rules.specs.Recording.{Snapshot, KeepsRecorder}
 use Rattle.proof_rules.specs.declared.recorder.RecordFault.{RecordFault}
 use Rattle.proof_rules.specs.declared.recorder.RecordFault.TheVariants.{Failed as RecordingFailed, Full as RecordFull, NoMemory as RecordNoMemory}
-use Rattle.oracle.specs.Solving.{AddsSearchLines, AreEarned, HasFault, IsOrderly, IsWithin, Reaches, fault_of_recording}
+use Rattle.oracle.specs.Solving.{AddsSearchLines, AreEarned, HasFault, IsOrderly, IsSpent, IsWithin, Reaches, fault_of_recording}
 use Rattle.oracle.specs.declared.fault.OracleFault.{OracleFault}
 use Rattle.oracle.specs.declared.fault.OracleFault.TheVariants.{Spent, Failed, Full, NoMemory}
-use Rattle.sum_outputs.specs.Adding.{Continues, IsReady}
+use Rattle.sum_outputs.specs.Adding.{Continues, IsFaultAt, IsReady}
 use Rattle.search_base.specs.CostBounds.{FitBounds}
 use Rattle.search_base.specs.Good.{GoesOn}
 use Rattle.search_base.specs.Laws.{AskingStaysGood, BoundingStaysGood, TurnLinesJoin}
-use Rattle.search_base.specs.Turns.{IsInOrder}
+use Rattle.search_base.specs.Turns.{IsInOrder, IsSearchFault}
 use Rattle.search_base.specs.declared.objective_bound.ObjectiveBound.{ObjectiveBound}
-use Rattle.search_base.proofs.Turning.{none_twice}
-use Rattle.search_questions.specs.Telling.{IsGoodWithSome, StaysGood}
+use Rattle.search_base.proofs.Turning.{goes_twice, none_twice}
+use Rattle.search_questions.specs.Telling.{IsGoodWithSome, SeeksOn, StaysGood}
 
 -- ---- before a call
 
@@ -131,3 +133,92 @@ pub recording_ends : {T : Type 0} (a b : Snapshot) (old new : List ObjectiveBoun
     → StaysGood a b old new
 recording_ends {T} a b old new r f is order =
     absurd (ended T f (subst (λ (q : Result T OracleFault). IsInOrder q) is order))
+
+-- ---- a call's result
+
+pub seeks_ok : {T : Type 0} (a b : Snapshot) (old new : List ObjectiveBound) (x : T) → StaysGood a b old new
+    → GoesOn a b → SeeksOn {T = T} a b old new (Ok x)
+seeks_ok a b old new x good on = record { good = λ order. good; fault = tt; goes_on = on }
+
+-- that of a call of this module, whose clauses are three
+pub seeks_by : {T : Type 0} (a b : Snapshot) (old new : List ObjectiveBound) (r : Result T OracleFault)
+    → (IsInOrder r → StaysGood a b old new) → IfErr r (IsSearchFault a b) → GoesOn a b → SeeksOn a b old new r
+seeks_by a b old new r good fault on = record { good = good; fault = fault; goes_on = on }
+
+fault_here : (a b : Snapshot) (f : RecordFault) → IsFaultAt a b f → IsSearchFault a b (fault_of_recording f)
+fault_here a b RecordingFailed is = is
+fault_here a b RecordFull is = is.0
+fault_here a b RecordNoMemory is = tt
+
+-- a fault of recording, which `?` makes one of the oracle
+pub seeks_recording : {T : Type 0} (a b : Snapshot) (old new : List ObjectiveBound) (r : Result T OracleFault)
+    (f : RecordFault) → IsErrAnd r (λ g. g ≡ fault_of_recording f) → IsFaultAt a b f → GoesOn a b
+    → SeeksOn a b old new r
+seeks_recording {T} a b old new r f is fault on =
+    let p = err_from_is_err_and r is in
+    subst (λ (q : Result T OracleFault). SeeksOn a b old new q) (sym (p.1 ∙ ap (λ (g : OracleFault). Err g) p.2))
+    (record { good = λ order. absurd (ended T f order); fault = fault_here a b f fault; goes_on = on })
+
+-- a want of memory
+pub seeks_memory : {T : Type 0} (a b : Snapshot) (old new : List ObjectiveBound) (r : Result T OracleFault)
+    → IsErrAnd r (λ f. f ≡ NoMemory) → GoesOn a b → SeeksOn a b old new r
+seeks_memory a b old new r is on = seeks_recording a b old new r RecordNoMemory is tt on
+
+pub seeks_no_memory : {T : Type 0} (a b : Snapshot) (old new : List ObjectiveBound) (r : Result T OracleFault)
+    (f : OracleFault) → f ≡ NoMemory → IsErrAnd r (λ g. g ≡ f) → GoesOn a b → SeeksOn a b old new r
+seeks_no_memory {T} a b old new r f none is on =
+    seeks_memory a b old new r (subst (λ (h : OracleFault). IsErrAnd r (λ g. g ≡ h)) none is) on
+
+order_same : (T U : Type 0) (f : OracleFault) → IsInOrder {T = T} (Err f) → IsInOrder {T = U} (Err f)
+order_same T U (Spent learned) order = tt
+order_same T U Failed order = absurd order
+order_same T U Full order = absurd order
+order_same T U NoMemory order = absurd order
+
+-- a fault that `?` hands on
+pub seeks_handed : {T U : Type 0} (a b : Snapshot) (old new : List ObjectiveBound) (r : Result T OracleFault)
+    (f : OracleFault) → IsErrAnd r (λ g. g ≡ f) → SeeksOn {T = U} a b old new (Err f) → SeeksOn a b old new r
+seeks_handed {T} {U} a b old new r f is call =
+    let p = err_from_is_err_and r is in
+    subst (λ (q : Result T OracleFault). SeeksOn a b old new q) (sym (p.1 ∙ ap (λ (g : OracleFault). Err g) p.2))
+    (record { good = λ order. call.good (order_same T U f order); fault = call.fault; goes_on = call.goes_on })
+
+fault_after : {T : Type 0} (a b c : Snapshot) (r : Result T OracleFault) → GoesOn a b → IfErr r (IsSearchFault b c)
+    → IfErr r (IsSearchFault a c)
+fault_after a b c (Ok x) on is = tt
+fault_after a b c (Err (Spent learned)) on is = is
+fault_after a b c (Err Failed) on is = let x = on.later in omega arith
+fault_after a b c (Err Full) on is = is
+fault_after a b c (Err NoMemory) on is = tt
+
+-- a call after others, whose answer is handed on
+pub seeks_after : {T : Type 0} (a b c : Snapshot) (old mid new : List ObjectiveBound) (r : Result T OracleFault)
+    → StaysGood a b old mid → GoesOn a b → SeeksOn b c mid new r → SeeksOn a c old new r
+seeks_after a b c old mid new r good on call = record {
+  good = λ order. stays_good_twice a b c old mid new on.problem good (call.good order);
+  fault = fault_after a b c r on call.fault;
+  goes_on = goes_twice a b c on call.goes_on;
+}
+
+-- the oracle was asked and didn't answer
+pub seeks_refused : {T : Type 0} (law : AskingStaysGood) (join : TurnLinesJoin) (a b : Snapshot)
+    (asked : List ObjectiveBound) (keeps : KeepsRecorder a b) (lines : AddsSearchLines a.problem a.lines b.lines)
+    (within : IsWithin a.limit a.problem b.lines) (r : Result T OracleFault) (f : OracleFault)
+    → IsErrAnd r (λ g. g ≡ f) → (IsOrderly (Err f) → AreEarned a.problem b.lines)
+    → HasFault f a.limit a.problem b.lines (Rose a.faults b.faults) b.broken → SeeksOn a b asked asked r
+seeks_refused {T} law join a b asked keeps lines within r f is earned why =
+    let p = err_from_is_err_and r is in
+    subst (λ (q : Result T OracleFault). SeeksOn a b asked asked q) (sym (p.1 ∙ ap (λ (g : OracleFault). Err g) p.2))
+    (record {
+      good = spent law a b asked keeps lines within T f earned why;
+      fault = by f why;
+      goes_on = oracle_goes_on join a b keeps lines;
+    })
+  where
+    by : (g : OracleFault) → HasFault g a.limit a.problem b.lines (Rose a.faults b.faults) b.broken
+        → IsSearchFault a b g
+    by (Spent learned) is = subst (λ (q : ProblemValue). IsSpent b.limit q b.lines learned) (sym keeps.problem)
+        (subst (λ (n : Option ℕ). IsSpent n a.problem b.lines learned) (sym keeps.limit) is.0)
+    by Failed is = is.0
+    by Full is = is.0
+    by NoMemory is = tt

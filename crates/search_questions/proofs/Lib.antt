@@ -7,3 +7,4 @@ pub mod Calls
 pub mod Telling
 pub mod Told
 pub mod Remaining
+mod Proposals

@@ -4,13 +4,14 @@ use Rattle.scut_base.specs.Literal.{Literal}
 use Rattle.pb_lin.specs.Problem.{ProblemValue}
 use Rattle.proof_laws.specs.State.{StateValue}
 use Rattle.proof_laws.specs.Replay.{IsReplay}
-use Rattle.oracle.specs.Solving.{AddsSearchLines, AreEarned, IsAnswer, IsCore, Reaches}
+use Rattle.oracle.specs.Solving.{AreEarned, IsAnswer, IsCore, Reaches}
 use Rattle.oracle.specs.declared.answer.Answer.TheVariants.{Sat}
 use Rattle.proof_rules.specs.Recording.{Snapshot}
 use Rattle.sum_outputs.specs.Adding.{IsReached}
 use Rattle.totalizer.specs.Keeping.{OwnLinesStay}
 use Rattle.totalizer.specs.declared.bound.Bound.{Bound}
-use Rattle.search_base.specs.Laws.{TurnLinesJoin, TurnLinesKeepOwn}
+use Rattle.search_base.specs.Laws.{TurnLinesKeepOwn}
+use Rattle.search_base.specs.Logged.{AddsTurnLines}
 use Rattle.search_base.specs.Turns.{IsEndLine}
 use Rattle.search_questions.specs.Questions.{AreExcesses, Clashes, Denies}
 use Rattle.search_questions.specs.Cores.{IsToldByCore, are_standing, clash_in}
@@ -30,28 +31,28 @@ told_clash m limits bounds last stands excesses clash is = (
   subst (CanRise limits) (sym is) (clash_rises m.problem m.lines limits bounds last excesses clash),
 )
 
--- after the oracle's call
-module _ (m b : Snapshot) (problem : b.problem ≡ m.problem) (earned : AreEarned m.problem b.lines) where
-  state_after : (s : StateValue) × IsReached b s
-  state_after =
-      let replays = earned.1.replays in
-      (replays.0, subst (λ (p : ProblemValue). IsReplay p b.lines replays.0) (sym problem) replays.1)
+-- the oracle's lines reach a state
+pub state_after : (m b : Snapshot) → b.problem ≡ m.problem → AreEarned m.problem b.lines → (s : StateValue) × IsReached b s
+state_after m b problem earned =
+    let replays = earned.1.replays in
+    (replays.0, subst (λ (p : ProblemValue). IsReplay p b.lines replays.0) (sym problem) replays.1)
 
+-- after a call that adds lines of turns
+module _ (m b : Snapshot) (problem : b.problem ≡ m.problem) (state : (s : StateValue) × IsReached b s) where
   module _ (limits : List ℤ) (bounds : List Bound) (lits : List Literal)
-      (law : OwnLinesStay) (join : TurnLinesJoin) (keep : TurnLinesKeepOwn) (s : StateValue) (reached : IsReached m s)
-      (lines : AddsSearchLines m.problem m.lines b.lines) (excesses : AreExcesses m.problem m.lines limits bounds)
+      (law : OwnLinesStay) (keep : TurnLinesKeepOwn) (s : StateValue) (reached : IsReached m s)
+      (lines : AddsTurnLines m.problem m.lines b.lines) (excesses : AreExcesses m.problem m.lines limits bounds)
       (denies : Denies bounds lits) (count : length bounds ≡ length limits) where
     excesses_after : AreExcesses b.problem b.lines limits bounds
     excesses_after = subst (λ (p : ProblemValue). AreExcesses p b.lines limits bounds) (sym problem)
         (excesses_later law m.problem m.lines b.lines s limits bounds
-        (keep m.problem m.lines b.lines (join.search m.problem m.lines b.lines lines)) reached excesses)
+        (keep m.problem m.lines b.lines lines) reached excesses)
 
     pub told_model : (x : List Bool) → length limits ≡ length m.problem.costs
         → IsAnswer m.problem b.lines lits (Sat x) → Tells b limits (Model x)
     told_model x long answer =
         let here : IsAnswer b.problem b.lines lits (Sat x) =
         subst (λ (p : ProblemValue). IsAnswer p b.lines lits (Sat x)) (sym problem) answer in
-        let state = state_after in
         let whole = long ∙ ap (λ (p : ProblemValue). length p.costs) (sym problem) in (
           takable b lits x here,
           model_below b limits bounds lits excesses_after denies state.0 x state.1 count whole here,
@@ -66,7 +67,6 @@ module _ (m b : Snapshot) (problem : b.problem ≡ m.problem) (earned : AreEarne
     told_core core id (Above stands) is told =
         let here : Reaches b.problem b.lines (IsCore lits core id) =
         subst (λ (p : ProblemValue). Reaches p b.lines (IsCore lits core id)) (sym problem) is in
-        let state = state_after in
         let known = here state.0 state.1 in (
           subst (StandInTheWay b limits) (sym told.1)
               (core_stands b limits bounds lits core id excesses_after denies here),

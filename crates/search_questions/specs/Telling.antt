@@ -1,14 +1,15 @@
 -- What the answers to questions tell, and what stays good.
-use Rattle.std.specs.Prelude.{◌≡◌, ℕ, ◌-◌, ◌^◌, ◌<◌, Bool, true, false, List, length, slice_index_or, ℤ, pos, ◌<ℤ◌, ◌≤ℤ◌}
+use Rattle.std.specs.Prelude.{◌≡◌, ℕ, ◌-◌, ◌^◌, ◌<◌, Bool, true, false, List, length, slice_index_or, ℤ, pos, ◌<ℤ◌, ◌≤ℤ◌, Result, IfErr}
 use Rattle.front_set.specs.Vector.{IsBelow}
 use Rattle.pb_lin.specs.Problem.{problem_costs}
 use Rattle.proof_laws.specs.State.{StateValue, Satisfies}
 use Rattle.proof_laws.specs.Replay.{IsReplay}
 use Rattle.proof_rules.specs.Recording.{Snapshot}
+use Rattle.oracle.specs.declared.fault.OracleFault.{OracleFault}
 use Rattle.search_base.specs.Logged.{LogsNone}
 use Rattle.search_base.specs.Boards.{BoardValue}
-use Rattle.search_base.specs.Good.{IsGood}
-use Rattle.search_base.specs.Turns.{IsEndLine, IsTakable}
+use Rattle.search_base.specs.Good.{GoesOn, IsGood}
+use Rattle.search_base.specs.Turns.{IsEndLine, IsInOrder, IsSearchFault, IsTakable}
 use Rattle.search_base.specs.declared.objective_bound.ObjectiveBound.{ObjectiveBound}
 use Rattle.search_questions.specs.declared.below.Below.{Below}
 use Rattle.search_questions.specs.declared.below.Below.TheVariants.{Model, End, Above}
@@ -68,3 +69,11 @@ IsGoodWithSome a asked = (front : BoardValue) × IsGood a asked front
 abbrev pub StaysGood : Snapshot → Snapshot → List ObjectiveBound → List ObjectiveBound → Type 0
 StaysGood a b old new =
     (front : BoardValue) → IsGood a old front → IsGood b new front × LogsNone a.problem a.lines b.lines
+
+-- ---- calls
+
+-- the state stays good where all may go on, and a fault says why there is no answer
+pub record SeeksOn {T : Type 0} (a b : Snapshot) (old new : List ObjectiveBound) (result : Result T OracleFault) : Type 0 where
+  pub good : IsInOrder result → StaysGood a b old new
+  pub fault : IfErr result (IsSearchFault a b)
+  pub goes_on : GoesOn a b

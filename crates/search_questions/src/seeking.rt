@@ -53,7 +53,7 @@ pub fn seek_below<O: Oracle>(
 }
 
 // What a core says of the limits.
-fn told_by_core(
+pub(crate) fn told_by_core(
     alloc: Global,
     excesses: &[Bound],
     core: Core,

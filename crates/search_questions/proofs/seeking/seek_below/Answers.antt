@@ -12,7 +12,7 @@ use Rattle.search_questions.specs.Cores.{IsToldByCore}
 use Rattle.search_questions.specs.Telling.{Tells}
 use Rattle.search_questions.proofs.Calls.{not_ended, good_rows, bounds_stay_good, oracle_stays_good, stays_good_twice, bounds_go_on, oracle_goes_on, recording_ends, spent_stays_good}
 use Rattle.search_questions.proofs.Questions.{are_assumptions}
-use Rattle.search_questions.proofs.Told.{told_clash, told_model, told_core}
+use Rattle.search_questions.proofs.Told.{state_after, told_clash, told_model, told_core}
 use Rattle.search_questions.proofs.seeking.seek_below.Goals as goal
 
 pub questioned-requires-clause-costs : goal.questioned-requires-clause-costs
@@ -185,9 +185,10 @@ returns-in-Sat-clause-tells g c =
     c.requires.count ∙ ap (λ (p : ProblemValue). length p.costs) (sym asked.recorded.continues.problem) in
     let answer : IsAnswer m.problem b.lines c.in-Some.lits (Sat c.in-Sat.model) =
     rw c.as_slice.ensures at rw c.in-Sat.is at call.answer in
-    told_model m b call.keeps.problem (call.earned tt) limits q.excesses c.in-Some.lits
-    c.own_lines_stay.ensures c.turn_lines_join.ensures c.turn_lines_keep_own.ensures
-    good.0.ready.state good.0.ready.reached call.lines asked.asked.excesses is.1 is.0
+    let lines = c.turn_lines_join.ensures.search m.problem m.lines b.lines call.lines in
+    told_model m b call.keeps.problem (state_after m b call.keeps.problem (call.earned tt)) limits q.excesses
+    c.in-Some.lits c.own_lines_stay.ensures c.turn_lines_keep_own.ensures
+    good.0.ready.state good.0.ready.reached lines asked.asked.excesses is.1 is.0
     c.in-Sat.model long answer
 
 pub returns-clause-goes_on : goal.returns-clause-goes_on
@@ -233,10 +234,11 @@ returns-clause-tells g c =
     let core = c.in-Unsat.core in
     let answer : IsAnswer m.problem b.lines c.in-Some.lits (Unsat core) =
     rw c.as_slice.ensures at rw c.in-Unsat.is at call.answer in
+    let lines = c.turn_lines_join.ensures.search m.problem m.lines b.lines call.lines in
     let told : IfOk c.told_by_core.result (IsToldByCore q.excesses core.lits core.id (length limits)) =
     rw c.as_slice-excesses.ensures at rw c.as_slice-objectives.ensures at c.told_by_core.ensures.told in
     IfOk-weaker c.told_by_core.result (IsToldByCore q.excesses core.lits core.id (length limits)) (Tells b limits)
-    (λ below. told_core m b call.keeps.problem (call.earned tt) limits q.excesses c.in-Some.lits
-    c.own_lines_stay.ensures c.turn_lines_join.ensures c.turn_lines_keep_own.ensures
-    good.0.ready.state good.0.ready.reached call.lines asked.asked.excesses is.1 is.0
+    (λ below. told_core m b call.keeps.problem (state_after m b call.keeps.problem (call.earned tt)) limits q.excesses
+    c.in-Some.lits c.own_lines_stay.ensures c.turn_lines_keep_own.ensures
+    good.0.ready.state good.0.ready.reached lines asked.asked.excesses is.1 is.0
     core.lits core.id below answer) told

@@ -1,4 +1,6 @@
 -- The vector that was logged for the model is the new aim.
+use Rattle.std.proofs.Common.{Option, List, ℤ, subst, sym}
+use Rattle.p_minimal.specs.Aiming.{Serves}
 use Rattle.search_base.proofs.Turning.{finds_after, goes_twice}
 use Rattle.p_minimal.proofs.Aims.{aims_lower, end_told, none_told, serves_after, serves_still}
 use Rattle.p_minimal.proofs.p_minimal.PMinimalSearch.turn.Goals as goal
@@ -54,7 +56,7 @@ returns-in-Model-clause-aim g c =
     let b = R.seen c.take.new.rec in
     let asked = c.in_ok-model.ensures in
     let stays = asked.good tt c.args.board.now c.requires.good in
-    let tells = rw c.in-Model.is at asked.tells in
+    let tells = rw c.self.view_is at rw c.in-Model.is at asked.tells in
     let call = c.in_ok-take-in-Model.ensures in
     aims_lower m b c.in-Model.model c.take.new.self c.in_ok-self-inside-in-Model.field-0
     call.taken call.goes_on.problem call.good.board c.in_ok-self-inside-in-Model.ensures
@@ -65,14 +67,16 @@ returns-in-Model-clause-aim g c =
 pub returns-in_err-model-clause-serves : goal.returns-in_err-model-clause-serves
 returns-in_err-model-clause-serves g c =
     let R = g.O.Recorder in
-    λ order. serves_still (R.seen c.args.oracle.now) (R.seen c.seek.new.oracle) c.args.self.now
-    c.seek.ensures.goes_on.problem c.requires.serves
+    let m = R.seen c.seek.new.oracle in
+    λ order. subst (λ (aim : Option (List ℤ)). Serves aim m.problem) (sym c.self.view_is)
+    (serves_still (R.seen c.args.oracle.now) m c.args.self.now c.seek.ensures.goes_on.problem c.requires.serves)
 
 pub returns-in-End-clause-serves : goal.returns-in-End-clause-serves
 returns-in-End-clause-serves g c =
     let R = g.O.Recorder in
-    λ order. serves_still (R.seen c.args.oracle.now) (R.seen c.seek.new.oracle) c.args.self.now
-    c.seek.ensures.goes_on.problem c.requires.serves
+    let m = R.seen c.seek.new.oracle in
+    λ order. subst (λ (aim : Option (List ℤ)). Serves aim m.problem) (sym c.self.view_is)
+    (serves_still (R.seen c.args.oracle.now) m c.args.self.now c.seek.ensures.goes_on.problem c.requires.serves)
 
 pub returns-in-End-clause-turn : goal.returns-in-End-clause-turn
 returns-in-End-clause-turn g c =
@@ -80,7 +84,7 @@ returns-in-End-clause-turn g c =
     let m = R.seen c.seek.new.oracle in
     let asked = c.in_ok-model.ensures in
     let stays = asked.good tt c.args.board.now c.requires.good in
-    (stays.1, end_told m c.args.self.now c.in-End.id (rw c.in-End.is at asked.tells))
+    (stays.1, end_told m c.args.self.now c.in-End.id (rw c.self.view_is at rw c.in-End.is at asked.tells))
 
 pub returns-clause-turn : goal.returns-clause-turn
 returns-clause-turn g c =
@@ -88,10 +92,10 @@ returns-clause-turn g c =
     let m = R.seen c.seek.new.oracle in
     let asked = c.in_ok-model.ensures in
     let stays = asked.good tt c.args.board.now c.requires.good in
-    (stays.1, (none_told m c.args.self.now c.in-Above.stands (rw c.in-Above.is at asked.tells)).0)
+    (stays.1, (none_told m c.args.self.now c.in-Above.stands (rw c.self.view_is at rw c.in-Above.is at asked.tells)).0)
 
 pub returns-clause-aim : goal.returns-clause-aim
 returns-clause-aim g c =
     let R = g.O.Recorder in
     let m = R.seen c.seek.new.oracle in
-    (none_told m c.args.self.now c.in-Above.stands (rw c.in-Above.is at c.in_ok-model.ensures.tells)).1
+    (none_told m c.args.self.now c.in-Above.stands (rw c.self.view_is at rw c.in-Above.is at c.in_ok-model.ensures.tells)).1

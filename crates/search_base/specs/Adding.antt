@@ -1,0 +1,14 @@
+-- Lines by which no bound changes.
+use Rattle.std.specs.Prelude.{◌≡◌, false, List}
+use Rattle.proof_rules.specs.Recording.{Snapshot}
+use Rattle.sum_outputs.specs.Adding.{Continues}
+use Rattle.search_base.specs.Boards.{BoardValue}
+use Rattle.search_base.specs.Good.{IsGood}
+use Rattle.search_base.specs.Logged.{LogsNone}
+use Rattle.search_base.specs.declared.objective_bound.ObjectiveBound.{ObjectiveBound}
+
+-- such lines of a totalizer keep a good state good, and log nothing
+abbrev pub AddingStaysGood : Type 0
+AddingStaysGood = (a b : Snapshot) (bounds : List ObjectiveBound) (board : BoardValue)
+    → IsGood a bounds board → Continues a b → b.broken ≡ false
+    → IsGood b bounds board × LogsNone a.problem a.lines b.lines

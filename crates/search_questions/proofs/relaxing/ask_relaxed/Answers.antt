@@ -1,0 +1,162 @@
+-- What closes a tree is a core, and what is proposed is asked of the oracle.
+use Rattle.std.proofs.Common.{◌≡◌, ◌∙◌, None, Some, List, length, ap, sym, subst, ℤ}
+use Rattle.std.proofs.lemmas.Slice.Zip.{AllZip-long}
+use Rattle.scut_base.specs.Literal.{Literal}
+use Rattle.pb_lin.specs.Problem.{ProblemValue}
+use Rattle.oracle.specs.Solving.{AreAssumptions, Reaches}
+use Rattle.linear_search.specs.Replies.{IsReply}
+use Rattle.linear_search.specs.declared.reply.Reply.TheVariants.{Closed, Model as Proposed}
+use Rattle.search_base.specs.CostBounds.{BoundsRow}
+use Rattle.search_base.proofs.Turning.{goes_again}
+use Rattle.search_questions.specs.Cores.{IsToldByCore}
+use Rattle.search_questions.specs.Questions.{IsAsked, IsQuestion}
+use Rattle.search_questions.specs.declared.below.Below.TheVariants.{Above}
+use Rattle.search_questions.proofs.Calls.{bounds_go_on, seeks_after, seeks_memory, seeks_no_memory, seeks_ok, seeks_recording}
+use Rattle.search_questions.proofs.Proposals.{added_stays_good, closed_told, nothing_stays_good}
+use Rattle.search_questions.proofs.Told.{told_clash}
+use Rattle.search_questions.proofs.relaxing.ask_relaxed.Goals as goal
+
+pub returns-in_err-stands-clause-seeks : goal.returns-in_err-stands-clause-seeks
+returns-in_err-stands-clause-seeks g c =
+    let R = g.O.Recorder in
+    let a = R.seen c.args.oracle.now in
+    let asked = c.args.bounds.now in
+    seeks_memory a a asked asked c.from_residual.result c.from_residual.ensures.1 (goes_again a)
+
+pub returns-in_default-clause-tells : goal.returns-in_default-clause-tells
+returns-in_default-clause-tells g c =
+    let R = g.O.Recorder in
+    let a = R.seen c.args.oracle.now in
+    let q = c.args.question.now in
+    let limits : List ℤ = c.args.limits.now in
+    let is : IsAsked limits q.excesses q.last None = rw c.in_default.is at c.requires.asked.asked in
+    let stands = c.in_ok-stands.ensures in
+    told_clash a limits q.excesses q.last c.in_ok-stands.stands c.requires.asked.excesses is
+    (rw c.as_slice-excesses.ensures at rw c.as_slice-objectives.ensures at stands)
+
+pub returns-in_default-clause-seeks : goal.returns-in_default-clause-seeks
+returns-in_default-clause-seeks g c =
+    let R = g.O.Recorder in
+    let a = R.seen c.args.oracle.now in
+    let asked = c.args.bounds.now in
+    seeks_ok a a asked asked (Some (Above c.in_ok-stands.stands)) (nothing_stays_good a asked) (goes_again a)
+
+pub linear_limits-requires-clause-fits : goal.linear_limits-requires-clause-fits
+linear_limits-requires-clause-fits g c =
+    let R = g.O.Recorder in
+    let a = R.seen c.args.oracle.now in
+    let good = c.requires.good.1 in
+    (a, good.ready, good.bounds)
+
+pub linear_limits-requires-clause-count : goal.linear_limits-requires-clause-count
+linear_limits-requires-clause-count g c =
+    let R = g.O.Recorder in
+    let a = R.seen c.args.oracle.now in
+    c.requires.count ∙ sym (AllZip-long (BoundsRow a) a.problem.costs c.args.bounds.now c.requires.good.1.bounds.rows)
+
+pub returns-in_err-asked-clause-seeks : goal.returns-in_err-asked-clause-seeks
+returns-in_err-asked-clause-seeks g c =
+    let R = g.O.Recorder in
+    let a = R.seen c.args.oracle.now in
+    let asked = c.args.bounds.now in
+    seeks_memory a a asked asked c.from_residual-in_err-asked.result c.from_residual-in_err-asked.ensures.1
+    (goes_again a)
+
+pub ask-requires : goal.ask-requires
+ask-requires g c = record { ready = c.requires.good.1.ready }
+
+pub returns-in_err-core-clause-seeks : goal.returns-in_err-core-clause-seeks
+returns-in_err-core-clause-seeks g c =
+    let R = g.O.Recorder in
+    let a = R.seen c.args.oracle.now in
+    let b = R.seen c.ask.new.rec in
+    let asked = c.args.bounds.now in
+    let call = c.in_err-core.ensures.recorded in
+    seeks_recording a b asked asked c.from_residual-in_err-core.result c.in_err-core.field-0.0
+    c.from_residual-in_err-core.ensures.1 call.fault (bounds_go_on c.turn_lines_join.ensures a b call.continues)
+
+pub returns-in_err-below-in-Closed-clause-seeks : goal.returns-in_err-below-in-Closed-clause-seeks
+returns-in_err-below-in-Closed-clause-seeks g c =
+    let R = g.O.Recorder in
+    let a = R.seen c.args.oracle.now in
+    let b = R.seen c.ask.new.rec in
+    let asked = c.args.bounds.now in
+    let call = c.in_ok-core.ensures.recorded in
+    seeks_no_memory a b asked asked c.from_residual-in_err-below-in-Closed.result c.in_err-below-in-Closed.field-0.0
+    c.in_err-below-in-Closed.ensures.fault c.from_residual-in_err-below-in-Closed.ensures.1
+    (bounds_go_on c.turn_lines_join.ensures a b call.continues)
+
+pub returns-in-Closed-clause-tells : goal.returns-in-Closed-clause-tells
+returns-in-Closed-clause-tells g c =
+    let R = g.O.Recorder in
+    let a = R.seen c.args.oracle.now in
+    let b = R.seen c.ask.new.rec in
+    let q = c.args.question.now in
+    let limits : List ℤ = c.args.limits.now in
+    let lits = c.in-Some.lits in
+    let core = c.in-Closed.core in
+    let question : IsQuestion a limits q.excesses q.last (Some lits) = rw c.in-Some.is at c.requires.asked in
+    let reply : IsReply b lits (Closed core) = rw c.as_slice.ensures at rw c.in-Closed.is at c.in_ok-core.ensures.reply in
+    let told : IsToldByCore q.excesses core.lits core.id (length limits) c.in_ok-below-in-Closed.below =
+    rw c.as_slice-excesses.ensures at rw c.as_slice-objectives.ensures at c.in_ok-below-in-Closed.ensures.told in
+    closed_told c.own_lines_stay.ensures c.turn_lines_join.ensures c.turn_lines_keep_own.ensures a b limits q.excesses
+    q.last lits c.requires.good.1.ready c.in_ok-core.ensures.recorded.continues question core.lits core.id
+    c.in_ok-below-in-Closed.below reply told
+
+pub returns-in-Closed-clause-seeks : goal.returns-in-Closed-clause-seeks
+returns-in-Closed-clause-seeks g c =
+    let R = g.O.Recorder in
+    let a = R.seen c.args.oracle.now in
+    let b = R.seen c.ask.new.rec in
+    let asked = c.args.bounds.now in
+    let call = c.in_ok-core.ensures.recorded in
+    seeks_ok a b asked asked (Some c.in_ok-below-in-Closed.below)
+    (added_stays_good c.adding_stays_good.ensures a b asked call.continues call.whole)
+    (bounds_go_on c.turn_lines_join.ensures a b call.continues)
+
+pub propose-requires-clause-good : goal.propose-requires-clause-good
+propose-requires-clause-good g c =
+    let R = g.O.Recorder in
+    let a = R.seen c.args.oracle.now in
+    let b = R.seen c.ask.new.rec in
+    let call = c.in_ok-core.ensures.recorded in
+    let front = c.requires.good in
+    (front.0, (added_stays_good c.adding_stays_good.ensures a b c.args.bounds.now call.continues call.whole front.0 front.1).0)
+
+pub propose-requires-clause-problem : goal.propose-requires-clause-problem
+propose-requires-clause-problem g c = c.in_ok-core.ensures.recorded.continues.problem ∙ c.requires.problem
+
+pub propose-requires-clause-count : goal.propose-requires-clause-count
+propose-requires-clause-count g c =
+    c.requires.count ∙ ap (λ (p : ProblemValue). length p.costs) (sym c.in_ok-core.ensures.recorded.continues.problem)
+
+pub propose-requires-clause-assumptions : goal.propose-requires-clause-assumptions
+propose-requires-clause-assumptions g c =
+    let R = g.O.Recorder in
+    let b = R.seen c.ask.new.rec in
+    let model = c.in-Model.model in
+    let reply : IsReply b c.as_slice.result.now (Proposed model) = rw c.in-Model.is at c.in_ok-core.ensures.reply in
+    subst (λ (ls : List Literal). Reaches b.problem b.lines (λ s. AreAssumptions s.vars ls))
+    (sym c.as_slice-in-Model.ensures) reply
+
+pub returns-in-Model-clause-seeks : goal.returns-in-Model-clause-seeks
+returns-in-Model-clause-seeks g c =
+    let R = g.O.Recorder in
+    let a = R.seen c.args.oracle.now in
+    let m = R.seen c.ask.new.rec in
+    let b = R.seen c.propose.new.oracle in
+    let asked = c.args.bounds.now in
+    let call = c.in_ok-core.ensures.recorded in
+    seeks_after a m b asked asked asked c.propose.result
+    (added_stays_good c.adding_stays_good.ensures a m asked call.continues call.whole)
+    (bounds_go_on c.turn_lines_join.ensures a m call.continues) c.propose.ensures.seeks
+
+pub returns-clause-seeks : goal.returns-clause-seeks
+returns-clause-seeks g c =
+    let R = g.O.Recorder in
+    let a = R.seen c.args.oracle.now in
+    let b = R.seen c.ask.new.rec in
+    let asked = c.args.bounds.now in
+    let call = c.in_ok-core.ensures.recorded in
+    seeks_ok a b asked asked None (added_stays_good c.adding_stays_good.ensures a b asked call.continues call.whole)
+    (bounds_go_on c.turn_lines_join.ensures a b call.continues)

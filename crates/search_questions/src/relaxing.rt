@@ -1,0 +1,154 @@
+// Questions to linear relaxations.
+ghost use Rattle.std.specs.Prelude.{◌≡◌, ◌<◌, length, IfOk, IfErr, IfSome};
+ghost use Rattle.oracle.specs.Solving.{AreAssumptions, Reaches};
+ghost use Rattle.search_base.specs.CostBounds.{FitSome};
+ghost use Rattle.search_base.specs.Good.{GoesOn};
+ghost use Rattle.search_base.specs.Turns.{IsInOrder, IsSearchFault};
+ghost use Rattle.search_questions.specs.Questions.{IsQuestion};
+ghost use Rattle.search_questions.specs.Telling.{IsGoodWithSome, SeeksOn, StaysGood, Tells};
+
+use crate::Below;
+use crate::question::{Question, questioned};
+use crate::seeking::told_by_core;
+use crate::standing::clashing;
+use front_set::CostVec;
+use linear_search::{Limit, LinearSearch, Reply};
+use oracle::{Answer, Oracle, OracleFault};
+use pb_lin::PbProblem;
+use scut_base::{Items, Lit, NoMemory};
+use search_base::{
+    Bounds, adding_stays_good, asking_stays_good, bounding_stays_good, costs_at, turn_lines_join,
+    turn_lines_keep_own,
+};
+use std::alloc::Global;
+use totalizer::own_lines_stay;
+
+/// What `seek_below` asks, of linear relaxations of the problem: `Some` is an answer as `seek_below` gives it, and `None`
+/// says that it isn't known. The oracle is asked at most once, for the model that a relaxation proposes; where that has
+/// costs above the limits, or none is, the answer is `None`. Where the bounds alone tell, nothing is asked. A limit of
+/// `i64::MAX` is none. After `Spent` it may be asked again.
+///
+/// Costs a bound for each objective, what `LinearSearch::ask` does, and a call of the oracle where a model is proposed.
+pub fn seek_relaxed<O: Oracle>(
+    alloc: Global,
+    oracle: &mut O,
+    bounds: &mut Bounds,
+    linear: &mut LinearSearch,
+    problem: &PbProblem,
+    limits: &CostVec,
+) -> Result<Option<Below>, OracleFault>
+    requires good { IsGoodWithSome (O.seen oracle.old) bounds.old }
+    requires problem { (O.seen oracle.old).problem ≡ problem.now }
+    requires count { length limits.now ≡ length (O.seen oracle.old).problem.costs }
+    ensures tells { IfOk result (λ below. IfSome below (Tells (O.seen oracle.new) limits.now)) }
+    ensures good { IsInOrder result → StaysGood (O.seen oracle.old) (O.seen oracle.new)
+        bounds.old bounds.new }
+    ensures fault { IfErr result (IsSearchFault (O.seen oracle.old) (O.seen oracle.new)) }
+    ensures goes_on { GoesOn (O.seen oracle.old) (O.seen oracle.new) }
+{
+    bounding_stays_good();
+    turn_lines_join();
+    let question = questioned(alloc, oracle, bounds, limits)?;
+    ask_relaxed(alloc, oracle, bounds, linear, problem, limits, &question)
+}
+
+// The same, where the bounds have been asked for.
+fn ask_relaxed<O: Oracle>(
+    alloc: Global,
+    oracle: &mut O,
+    bounds: &Bounds,
+    linear: &mut LinearSearch,
+    problem: &PbProblem,
+    limits: &CostVec,
+    question: &Question,
+) -> Result<Option<Below>, OracleFault>
+    requires good { IsGoodWithSome (O.seen oracle.old) bounds.now }
+    requires problem { (O.seen oracle.old).problem ≡ problem.now }
+    requires count { length limits.now ≡ length (O.seen oracle.old).problem.costs }
+    requires asked { IsQuestion (O.seen oracle.old) limits.now question.now.excesses
+        question.now.last question.now.lits }
+    ensures tells { IfOk result (λ below. IfSome below (Tells (O.seen oracle.new) limits.now)) }
+    ensures seeks { SeeksOn (O.seen oracle.old) (O.seen oracle.new) bounds.now bounds.now result }
+{
+    own_lines_stay();
+    adding_stays_good();
+    turn_lines_join();
+    turn_lines_keep_own();
+    let objectives = limits.as_slice().len();
+    let excesses = question.excesses.as_slice();
+    let Some(lits) = &question.lits else {
+        let stands = clashing(alloc, excesses, question.last, objectives)?;
+        return Ok(Some(Below::Above { stands }));
+    };
+    let asked = linear_limits(alloc, bounds, limits)?;
+    match linear.ask(oracle, lits.as_slice(), asked.as_slice())? {
+        Reply::Closed(core) => {
+            let below = told_by_core(alloc, excesses, core, objectives)?;
+            Ok(Some(below))
+        }
+        Reply::Model(model) => { propose(alloc, oracle, bounds, problem, limits, model.as_slice()) }
+        Reply::Unknown => Ok(None),
+    }
+}
+
+// The model that these literals make, where the oracle answers one whose costs are at most the limits.
+fn propose<O: Oracle>(
+    alloc: Global,
+    oracle: &mut O,
+    bounds: &Bounds,
+    problem: &PbProblem,
+    limits: &CostVec,
+    lits: &[Lit],
+) -> Result<Option<Below>, OracleFault>
+    requires good { IsGoodWithSome (O.seen oracle.old) bounds.now }
+    requires problem { (O.seen oracle.old).problem ≡ problem.now }
+    requires count { length limits.now ≡ length (O.seen oracle.old).problem.costs }
+    requires assumptions { Reaches (O.seen oracle.old).problem (O.seen oracle.old).lines
+        (λ s. AreAssumptions s.vars lits.now) }
+    ensures tells { IfOk result (λ below. IfSome below (Tells (O.seen oracle.new) limits.now)) }
+    ensures seeks { SeeksOn (O.seen oracle.old) (O.seen oracle.new) bounds.now bounds.now result }
+{
+    asking_stays_good();
+    turn_lines_join();
+    let Answer::Sat(model) = oracle.solve(lits)? else {
+        return Ok(None);
+    };
+    // Tells that the lines reach a state.
+    let _state = oracle.state();
+    let costs = costs_at(alloc, problem, &model)?;
+    if costs.weakly_dominates(limits) {
+        return Ok(Some(Below::Model(model)));
+    }
+    Ok(None)
+}
+
+// The limits as a relaxation takes them, of the objectives that have one.
+fn linear_limits(alloc: Global, bounds: &Bounds, limits: &CostVec) -> Result<Items<Limit>, NoMemory>
+    requires fits { FitSome bounds.now }
+    requires count { length limits.now ≡ length bounds.now }
+{
+    let mut asked = Items::new(alloc);
+    for (objective, limit) in limits.as_slice().iter().enumerate() {
+        if let Some(limit) = linear_limit(bounds, objective, *limit) {
+            asked.push(limit)?;
+        }
+    }
+    Ok(asked)
+}
+
+// The limit of an objective, where an output was made that stands for more. It is less by one than what the
+// output stands for, since that is what the output's line speaks of.
+fn linear_limit(bounds: &Bounds, objective: usize, limit: i64) -> Option<Limit>
+    requires fits { FitSome bounds.now }
+    requires there { objective < length bounds.now }
+    ensures { IfSome result (λ l. l.objective ≡ objective) }
+{
+    let output = bounds.made_for(objective, limit.checked_add(1)?)?;
+    let upper_line = output.upper;
+    let next = bounds.next_value(objective, limit)?;
+    Some(Limit {
+        objective,
+        most: next.saturating_sub(1),
+        upper_line,
+    })
+}
