@@ -169,7 +169,7 @@ align a fine (l ∷ ls) (m ∷ ms) r q formed fit others fits e =
     let both = same_line (line_text a l) (line_text a m) _ _ (line_text-one a l) (line_text-one a m) (sym (first_printed a l ls r) ∙ e ∙ first_printed a m ms q) in
     let same : l ≡ m = one_line_of a fine (line_text a l) l m (record { formed = All-head IsWellFormed l ls formed; fits = fit.0; is = refl }) (record { formed = All-head IsWellFormed m ms others; fits = fits.0; is = both.0 }) in
     let rest : (AllFit (after_line a l) ms) → (lines_text (after_line a l) ls ++ r ≡ lines_text (after_line a l) ms ++ q) → Aligned a a (l ∷ ls) (l ∷ ms) r q
-        = λ fits' e'. aligned_more a l ls ms r q (align (after_line a l) (after_fine a l fit.0) ls ms r q (All-tail IsWellFormed l ls formed) fit.1 (All-tail IsWellFormed m ms others) fits' e') in
+    = λ fits' e'. aligned_more a l ls ms r q (align (after_line a l) (after_fine a l fit.0) ls ms r q (All-tail IsWellFormed l ls formed) fit.1 (All-tail IsWellFormed m ms others) fits' e') in
     subst (λ (x : Line). (AllFit (after_line a x) ms) → (lines_text (after_line a l) ls ++ r ≡ lines_text (after_line a x) ms ++ q) → Aligned a a (l ∷ ls) (x ∷ ms) r q) same rest fits.1 both.1
 
 -- two readings of one log are of one version
@@ -181,7 +181,7 @@ pub begins_align : (bytes : List ℕ) (ls ms : List Line) (r q : List ℕ) → (
 begins_align bytes ls ms r q a b =
     let both = one_header a.first b.first _ _ a.version b.version (sym (body a.first ls r) ∙ sym a.is ∙ b.is ∙ body b.first ms q) in
     let under : (AllFit a.first ms) → (lines_text a.first ls ++ r ≡ lines_text a.first ms ++ q) → Aligned a.first a.first ls ms r q
-        = λ fits e. align a.first (first_fine a.first a.version) ls ms r q a.formed a.fit b.formed fits e in
+    = λ fits e. align a.first (first_fine a.first a.version) ls ms r q a.formed a.fit b.formed fits e in
     subst (λ (x : Spelling). (AllFit x ms) → (lines_text a.first ls ++ r ≡ lines_text x ms ++ q) → Aligned a.first x ls ms r q) both.0 under b.fit both.1
 
 -- a whole line that is the text of none is that of no line that goes on there

@@ -107,12 +107,12 @@ module _ (rest : List ℕ) (len : ℕ) (line : IsLineOf rest len) where
   pub rows_wrong : ((rows : ℕ) → rows ≤ 2 ^ 34 → take len rest ≡ decimal rows → ⊥) → HasWrongHeader (rows_words ++ rest)
   rows_wrong lacks = (
     λ first version whole.
-    let e : header_text first ++ newline ∷ whole.0 ≡ (rows_words ++ take len rest) ++ newline ∷ drop (len + 1) rest = sym (append_assoc (header_text first) (newline ∷ []) whole.0) ∙ whole.1 ∙ whole_is in
-    let both = same_line (header_text first) (rows_words ++ take len rest) _ _ (header_one first) (one_append rows_words (take len rest) rows_one line.line.one) e in
-    let is = rows_header first version (take len rest) [] (sym both.0 ∙ sym (append-nil (header_text first))) in
-    lacks is.0 is.1 (append_cancel_left rows_words (take len rest) (decimal is.0) (sym both.0 ∙ is.2)),
+        let e : header_text first ++ newline ∷ whole.0 ≡ (rows_words ++ take len rest) ++ newline ∷ drop (len + 1) rest = sym (append_assoc (header_text first) (newline ∷ []) whole.0) ∙ whole.1 ∙ whole_is in
+        let both = same_line (header_text first) (rows_words ++ take len rest) _ _ (header_one first) (one_append rows_words (take len rest) rows_one line.line.one) e in
+        let is = rows_header first version (take len rest) [] (sym both.0 ∙ sym (append-nil (header_text first))) in
+        lacks is.0 is.1 (append_cancel_left rows_words (take len rest) (decimal is.0) (sym both.0 ∙ is.2)),
     λ part. not_one (rows_words ++ take len rest) (drop (len + 1) rest ++ part.2.0)
-    (subst (λ (t : List ℕ). IsOneLine t) (sym part.2.1 ∙ ap (λ (t : List ℕ). t ++ part.2.0) whole_is ∙ append_assoc (rows_words ++ take len rest) (newline ∷ drop (len + 1) rest) part.2.0) (header_one part.0)),
+        (subst (λ (t : List ℕ). IsOneLine t) (sym part.2.1 ∙ ap (λ (t : List ℕ). t ++ part.2.0) whole_is ∙ append_assoc (rows_words ++ take len rest) (newline ∷ drop (len + 1) rest) part.2.0) (header_one part.0)),
   )
 
 pub rows_missing : (rest : List ℕ) (rows : ℕ) → rows ≤ 2 ^ 34 → rest ≡ decimal rows → IsHeaderPart (rows_words ++ rest)
@@ -127,7 +127,7 @@ pub rows_unlike : (rest : List ℕ) → rest ≢ [] → IsOneLine rest → ((row
 rows_unlike rest some one lacks = (
   λ first version whole. not_one (header_text first) whole.0 (subst (λ (t : List ℕ). IsOneLine t) (sym whole.1 ∙ append_assoc (header_text first) (newline ∷ []) whole.0) (one_append rows_words rest rows_one one)),
   λ part.
-  let e : rows_words ++ (rest ++ part.2.0) ≡ header_text part.0 ++ [] = sym (append_assoc rows_words rest part.2.0) ∙ part.2.1 ∙ sym (append-nil (header_text part.0)) in
-  let is = rows_header part.0 part.1 (rest ++ part.2.0) [] e in
-  no_rows rest some lacks part.2.0 is.0 is.1 (append_cancel_left rows_words (rest ++ part.2.0) (decimal is.0) (e ∙ append-nil (header_text part.0) ∙ is.2)),
+      let e : rows_words ++ (rest ++ part.2.0) ≡ header_text part.0 ++ [] = sym (append_assoc rows_words rest part.2.0) ∙ part.2.1 ∙ sym (append-nil (header_text part.0)) in
+      let is = rows_header part.0 part.1 (rest ++ part.2.0) [] e in
+      no_rows rest some lacks part.2.0 is.0 is.1 (append_cancel_left rows_words (rest ++ part.2.0) (decimal is.0) (e ∙ append-nil (header_text part.0) ∙ is.2)),
 )

@@ -1,6 +1,7 @@
 -- What a reader stands for after a piece more, and after a line more.
 use Rattle.std.proofs.Common.{◌≡◌, inl, inr, ℕ, zero, suc, ◌+◌, ◌<◌, true, Option, None, Some, List, [], ◌∷◌, ◌++◌, length, take, drop, refl, sym, ap, subst, ◌∙◌, arith}
 use Rattle.std.specs.Option.{is_some}
+use Rattle.std.specs.Prelude.{Result, Ok, Err, OnOk}
 use Rattle.std.proofs.lemmas.List.{append-nil, append_assoc, length-append, length_push, take_at, drop_at}
 use Rattle.std.proofs.lemmas.List.Elements.{All-nil, All-push}
 use Rattle.scut_base.specs.Bytes.{newline}
@@ -10,6 +11,7 @@ use Rattle.proof_laws.specs.declared.line.Line.{Line}
 use Rattle.proof_lines.specs.Ids.{after_line}
 use Rattle.proof_lines.specs.LineText.{line_text, printed, SpellsLine}
 use Rattle.proof_lines.specs.declared.spelling.Spelling.{Spelling}
+use Rattle.proof_lines.specs.declared.spelling.Spelling.TheVariants.{Plain}
 use Rattle.proof_text.specs.Versions.{IsFirst, after_lines, header_line, header_text, lines_text, log_text}
 use Rattle.proof_text.specs.LogText.{BeginsWith, IsHeaderPart, HasWrongHeader, IsOneLine, IsWholeLine, IsWholeLines, IsSyntaxAt, IsWhole, newlines, IsUnfinishedAt}
 use Rattle.proof_text.specs.Cutting.{IsLineOf}
@@ -82,8 +84,7 @@ header_cut first bytes len starts long =
     let whole : bytes ≡ header_text first ++ newline ∷ starts.0 = sym starts.1 ∙ append_assoc (header_text first) (newline ∷ []) starts.0 in
     let line : length (header_line first) ≡ len + 1 = omega (arith, long, length-append (header_text first) (newline ∷ [])) in
     let after : drop (len + 1) bytes ≡ starts.0 = ap (drop (len + 1)) (sym starts.1) ∙ drop_at (header_line first) starts.0 (len + 1) line in
-    let text : take len bytes ≡ header_text first = ap (take len) whole ∙ take_at (header_text first) (newline ∷ starts.0) len (sym long) in
-    (
+    let text : take len bytes ≡ header_text first = ap (take len) whole ∙ take_at (header_text first) (newline ∷ starts.0) len (sym long) in (
       sym starts.1 ∙ ap (λ (t : List ℕ). header_line first ++ t) (sym after),
       record {
         short = omega (arith, long, ap length whole, length-append (header_text first) (newline ∷ starts.0));
@@ -127,6 +128,28 @@ module _ (old : ReaderValue) (sound : old.wrong ≡ None) (unbegun : old.begun �
     read = subst (λ (o : Option ℕ). HasReadUpTo o new (bytes ++ piece) lines) (sym wrong) (subst (λ (t : List ℕ). HasWrongHeader t) (sym fed_bytes) other, omega arith, inl unread.0);
   }
 
+-- nothing is left of bytes that are no header
+pub no_part : (begun : Option Spelling) → begun ≡ None → (rest : List ℕ) → rest ≡ [] → KeepsHeader begun rest
+no_part begun unbegun rest none =
+    subst (λ (b : Option Spelling). KeepsHeader b rest) (sym unbegun) (Plain, tt, (header_text Plain, ap (λ (t : List ℕ). t ++ header_text Plain) none))
+
+pub begun_some : (begun : Option Spelling) → is_some begun ≡ true → (spelling : Spelling) × (begun ≡ Some spelling)
+begun_some (Some spelling) e = (spelling, refl)
+begun_some None e = cc
+
+-- a piece more, after the header
+pub fed_more : (old new : ReaderValue) (piece : List ℕ) → old.wrong ≡ None → is_some old.begun ≡ true → new.given ≡ old.given → new.begun ≡ old.begun → new.rest ≡ old.rest ++ piece → new.wrong ≡ old.wrong → (bytes : List ℕ) (lines : List Line) → StandsFor old bytes lines → StandsFor new (bytes ++ piece) lines
+unfolding begins_more
+fed_more old new piece sound some count still rest right bytes lines stands =
+    let begun = begun_some old.begun some in
+    let read : HasRead (Some begun.0) old.rest bytes lines = read_of old sound (Some begun.0) begun.1 bytes lines stands in
+    let more : HasRead (Some begun.0) (old.rest ++ piece) (bytes ++ piece) lines = (begins_more bytes old.rest piece lines read.0, read.1) in
+    stands_by new (right ∙ sound) (Some begun.0) (still ∙ begun.1) (bytes ++ piece) lines (stands.given ∙ sym count) (subst (λ (t : List ℕ). HasRead (Some begun.0) t (bytes ++ piece) lines) (sym rest) more)
+
+pub ok_then : {A E : Type 0} (r : Result A E) (P Q : Type 0) → OnOk r P → (P → Q) → OnOk r Q
+ok_then (Ok x) P Q h f = f h
+ok_then (Err e) P Q h f = tt
+
 -- ---- a line more
 
 begins_next : (bytes rest text after : List ℕ) (lines : List Line) (line : Line) → (begins : BeginsWith bytes lines rest) → IsWholeLine rest text after → SpellsLine (after_lines begins.first lines) text line → BeginsWith bytes (lines ++ line ∷ []) after
@@ -168,17 +191,15 @@ module _ (old : ReaderValue) (sound : old.wrong ≡ None) (spelling : Spelling) 
         after = drop (len + 1) old.rest;
         line = first.line;
         wrong = λ line spells. lacks line (subst (λ (s : Spelling). SpellsLine s (take len old.rest) line) (sym read.1) spells);
-      }) in
-      (syntax, record {
-        given = stands.given ∙ sym count;
-        read = subst (λ (o : Option ℕ). HasReadUpTo o new bytes lines) (sym wrong) (syntax, omega (arith, number, stands.given), inr (old.rest, read.0));
-      })
+      }) in (
+        syntax,
+        record {
+          given = stands.given ∙ sym count;
+          read = subst (λ (o : Option ℕ). HasReadUpTo o new bytes lines) (sym wrong) (syntax, omega (arith, number, stands.given), inr (old.rest, read.0));
+        },
+      )
 
 -- ---- the end
-
-pub begun_some : (begun : Option Spelling) → is_some begun ≡ true → (spelling : Spelling) × (begun ≡ Some spelling)
-begun_some (Some spelling) e = (spelling, refl)
-begun_some None e = cc
 
 pub unbegun_part : (r : ReaderValue) → r.begun ≡ None → KeepsHeader r.begun r.rest → IsHeaderPart r.rest
 unbegun_part r unbegun keeps = subst (λ (b : Option Spelling). KeepsHeader b r.rest) unbegun keeps

@@ -154,7 +154,12 @@ impl<'a, H: Shelf> FileRecorder<'a, H> {
     {
         let started = start(alloc, problem);
         match started {
-            Ok((problem, state)) => match begin_log(alloc, shelf, name, first_of(version, &problem)) {
+            Ok((problem, state)) => match begin_log(
+                alloc,
+                shelf,
+                name,
+                first_of(version, &problem),
+            ) {
                 Ok(()) => Ok(FileRecorder {
                     alloc,
                     shelf,

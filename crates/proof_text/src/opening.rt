@@ -21,6 +21,7 @@ pub enum Opening {
 
 // The header of version 1, and that of version 2 before its number.
 const HEADER_ONE: &[u8] = b"scuttle proof version 1\n";
+
 const HEADER_TWO: &[u8] = b"scuttle proof version 2 rows ";
 
 // A problem has at most so many rows.

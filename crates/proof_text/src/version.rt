@@ -37,11 +37,7 @@ pub fn first_of(version: LogVersion, problem: &PbProblem) -> Spelling
 }
 
 /// How the line after a state of such a log spells its ids.
-pub(crate) fn spelling_at(
-    version: LogVersion,
-    problem: &PbProblem,
-    state: &ProofState,
-) -> Spelling
+pub(crate) fn spelling_at(version: LogVersion, problem: &PbProblem, state: &ProofState) -> Spelling
     ensures { result ≡ spelling_at version problem.now state.now }
 {
     match version {
