@@ -1,13 +1,14 @@
 -- Where lines end in a log.
-use Rattle.std.proofs.Common.{◌≡◌, ℕ, List, [], ◌∷◌, ◌++◌, refl, sym, subst, ap, ◌∙◌, arith}
+use Rattle.std.proofs.Common.{◌≡◌, inl, ℕ, List, [], ◌∷◌, ◌++◌, refl, sym, subst, ap, ◌∙◌, arith}
 use Rattle.scut_base.specs.Bytes.{newline}
 use Rattle.proof_laws.specs.declared.line.Line.{Line}
 use Rattle.proof_lines.specs.Ids.{FitsNext, IsSpelling}
 use Rattle.proof_lines.specs.LineText.{line_text, printed, SpellsLine}
 use Rattle.proof_lines.specs.declared.spelling.Spelling.{Spelling}
+use Rattle.proof_lines.specs.declared.spelling.Spelling.TheVariants.{Plain}
 use Rattle.proof_lines.proofs.OneLine.{one_line_of}
 use Rattle.proof_text.specs.Versions.{after_lines, header_text, lines_text, log_text}
-use Rattle.proof_text.specs.LogText.{BeginsWith, IsOneLine, IsWholeLine, IsUnfinishedAt, newlines}
+use Rattle.proof_text.specs.LogText.{BeginsWith, HoldsNoFurtherLine, IsOneLine, IsWholeLine, IsUnfinishedAt, newlines}
 use Rattle.proof_text.proofs.OneLines.{newlines-append, newlines-one, not_one, same_line}
 use Rattle.proof_text.proofs.Words.{line_text-one}
 use Rattle.proof_text.proofs.Logs.{body, fine_after, first_fine, fit_last, headed, log_text_more, one_first, printed_is}
@@ -63,3 +64,7 @@ newlines_before bytes before text is one = omega (arith, ap newlines is, newline
 -- a text ends in the midst of one line alone
 pub unfinished_once : (bytes : List ℕ) (j k : ℕ) → IsUnfinishedAt bytes j → IsUnfinishedAt bytes k → j ≡ k
 unfinished_once bytes j k a b = omega (arith, a.number, b.number, newlines_before bytes a.before a.text a.is a.one, newlines_before bytes b.before b.text b.is b.one)
+
+-- no bytes hold no further line
+pub nothing_held : HoldsNoFurtherLine [] []
+nothing_held = inl (Plain, tt, (header_text Plain, refl))
