@@ -21,9 +21,9 @@ impl TakesLog for Checker {
     ghost use Rattle.std.proofs.Common.{inl, refl};
     ghost use Rattle.std.proofs.lemmas.List.Elements.{All-nil};
     ghost use Rattle.proof_laws.specs.State.{start};
-    ghost use Rattle.proof_text.specs.LogText.{header_text};
+    ghost use Rattle.proof_lines.specs.declared.spelling.Spelling.TheVariants.{Plain};
+    ghost use Rattle.proof_text.specs.Versions.{header_text};
     ghost use Rattle.log_checker.proofs.Faults.{no_whole_fault, whole_fault_more};
-    ghost use Rattle.log_checker.proofs.TextLaws.{line_texts};
     ghost use Rattle.log_checker.specs.Accepted.{IsCovered, IsEndedProof};
     ghost use Rattle.log_checker.specs.Checking.{StandsFor};
     ghost use Rattle.log_checker.specs.LogFaults.{IsLogFault, IsWholeFault};
@@ -43,11 +43,11 @@ impl TakesLog for Checker {
 
     ghost unfinished = { λ c. c.finished ≡ false };
 
-    ghost none = { λ s. no_whole_fault line_texts s.problem s.vectors [] [] (start s.problem) refl
-        (All-nil (IsCovered s.vectors)) (inl (header_text, refl)) };
+    ghost none = { λ s. no_whole_fault s.problem s.vectors [] [] (start s.problem) refl
+        (All-nil (IsCovered s.vectors)) (inl (Plain, tt, (header_text Plain, refl))) };
 
     ghost further = { λ s bytes more k why fault.
-        whole_fault_more line_texts s.problem s.vectors bytes more k why fault };
+        whole_fault_more s.problem s.vectors bytes more k why fault };
 
     fn feed(&mut self, piece: &[u8]) -> Result<(), LineFault> {
         line_answer(Checker::feed(self, piece))

@@ -24,7 +24,9 @@ use Rattle.proof_laws.proofs.Replays.{replay_lines}
 use Rattle.proof_rules.specs.declared.recorder.RecordFault.{RecordFault}
 use Rattle.proof_rules.specs.declared.recorder.RecordFault.TheVariants.{Failed, Full, NoMemory}
 use Rattle.proof_text.specs.LogFile.{Held, IsLogFile, IsNotBegun, IsPartOfNext}
-use Rattle.proof_text.specs.LogText.{SpellsLog, header_line, log_text}
+use Rattle.proof_text.specs.Versions.{first_of, header_line, log_text}
+use Rattle.proof_text.specs.declared.version.LogVersion.{LogVersion}
+use Rattle.proof_text.specs.LogText.{BeginsWith, SpellsLog}
 use Rattle.proof_text.specs.Recorders.{IsKept, file_seen, without_file}
 use Rattle.proof_text.proofs.LogFiles.{others_same}
 use Rattle.certified_front.specs.Certified.{CoversLogged, IsEnding}
@@ -64,46 +66,49 @@ module _ (name header bytes : List ℕ) where
 
 -- ---- the log
 
-touched_part : (old new : Option Files) (name : List ℕ) (p : ProblemValue) → IsNotBegun old new name → IsTouched old new name (IsPartOfLog p)
-touched_part old new name p (inl same) = inl same
-touched_part old new name p (inr put) = inr (put.0, inl put.1, put.2)
+touched_part : (old new : Option Files) (name : List ℕ) (p : ProblemValue) (version : LogVersion) → IsNotBegun old new name (first_of version p) → IsTouched old new name (IsPartOfLog p)
+touched_part old new name p version (inl same) = inl same
+touched_part old new name p version (inr put) = inr (put.0, inl (version, put.1), put.2)
 
 -- no line is legal after 2^61
-none_follows : (p : ProblemValue) (lines : List Line) (part : List ℕ) → length lines ≡ 2 ^ 61 → IsPartOfNext p lines part → ⊥
-none_follows p lines part full next =
+none_follows : (p : ProblemValue) (version : LogVersion) (lines : List Line) (part : List ℕ) → length lines ≡ 2 ^ 61 → IsPartOfNext p (first_of version p) lines part → ⊥
+none_follows p version lines part full next =
     let parts = legal_parts p next.state next.line next.legal in
     let short : next.state.lines < 2 ^ 61 = ltb-true next.state.lines (2 ^ 61) (unless_none (nat_lt next.state.lines (2 ^ 61)) LogLong parts.short) in
     let count = replay_lines p lines next.state next.replay in
     omega (arith, full, short, count)
 
 -- a log that was begun anew, over other files that stayed
-module _ (old begun new : Option Files) (name : List ℕ) (p : ProblemValue) (lines : List Line) (s : StateValue) (broken : Bool)
-    (is : begun ≡ with_file old name header_line) (others : without_file new name ≡ without_file begun name) (log : IsLogFile new name p lines broken) (kept : IsKept p lines s) where
-  written : new ≡ with_file old name (log_text lines ++ log.part)
-  written = only_this name header_line (log_text lines ++ log.part) old new (others ∙ ap (λ (f : Option Files). without_file f name) is) log.file
+module _ (old begun new : Option Files) (name header : List ℕ) (p : ProblemValue) (version : LogVersion) (lines : List Line) (s : StateValue) (broken : Bool)
+    (is : begun ≡ with_file old name header) (others : without_file new name ≡ without_file begun name) (log : IsLogFile new name p version lines broken) (kept : IsKept p lines s) where
+  abbrev text : List ℕ
+  text = log_text (first_of version p) lines
 
-  whole : log.part ≡ [] → new ≡ with_file old name (log_text lines)
-  whole none = written ∙ ap (λ (part : List ℕ). with_file old name (log_text lines ++ part)) none ∙ ap (with_file old name) (append-nil (log_text lines))
+  written : new ≡ with_file old name (text ++ log.part)
+  written = only_this name header (text ++ log.part) old new (others ∙ ap (λ (f : Option Files). without_file f name) is) log.file
+
+  whole : log.part ≡ [] → new ≡ with_file old name text
+  whole none = written ∙ ap (λ (part : List ℕ). with_file old name (text ++ part)) none ∙ ap (with_file old name) (append-nil text)
 
   part_left : IsTouched old new name (IsPartOfLog p)
   part_left = inr (
-    log_text lines ++ log.part,
-    inr (record { lines = lines; part = log.part; begins = record { formed = kept.formed; is = refl }; replay = (s, kept.replay); next = log.next }),
+    text ++ log.part,
+    inr (record { lines = lines; part = log.part; begins = record { first = first_of version p; version = log.first; formed = kept.formed; fit = log.fit; is = refl }; replay = (s, kept.replay); next = log.next }),
     written,
   )
 
-  spelled : SpellsLog (log_text lines) lines
-  spelled = record { formed = kept.formed; is = sym (append-nil (log_text lines)) }
+  spelled : SpellsLog text lines
+  spelled = record { first = first_of version p; version = log.first; formed = kept.formed; fit = log.fit; is = sym (append-nil text) }
 
   none_left : length lines ≡ 2 ^ 61 → log.part ≡ []
-  none_left full = ⊎_elim (λ none. none) (λ next. absurd (none_follows p lines log.part full next)) log.next
+  none_left full = ⊎_elim (λ none. none) (λ next. absurd (none_follows p version lines log.part full next)) log.next
 
   full_left : length lines ≡ 2 ^ 61 → IsFull old new p name
-  full_left full = record { proof = log_text lines; lines = lines; spelled = spelled; full = full; replay = (s, kept.replay); files = whole (none_left full) }
+  full_left full = record { proof = text; lines = lines; spelled = spelled; full = full; replay = (s, kept.replay); files = whole (none_left full) }
 
   logged : (i : InstanceValue) (limit : Option ℕ) (found : Found) → broken ≡ false → CoversLogged i p lines found.entries.items → IsEnding limit p lines found.ending → IsLogged old new i p name limit found
   logged i limit found unbroken covers ending = record {
-    proof = log_text lines;
+    proof = text;
     lines = lines;
     spelled = spelled;
     covers = covers;
@@ -125,12 +130,12 @@ module _ (old begun new : Option Files) (name : List ℕ) (p : ProblemValue) (li
 
 -- ---- the recorder, as it was begun and as it was handed back
 
-module _ {H : Type 0} (world : H → World) (old : Option Files) (name : List ℕ) (p : ProblemValue) (first last : Held H) (end : H)
+module _ {H : Type 0} (world : H → World) (old : Option Files) (name header : List ℕ) (p : ProblemValue) (first last : Held H) (end : H)
     (i : InstanceValue) (limit : Option ℕ) (r : Result Found RecordFault)
     (named : first.name ≡ name) (of_problem : first.problem ≡ p)
-    (begun : (world first.shelf.now).files ≡ with_file old name header_line)
+    (begun : (world first.shelf.now).files ≡ with_file old name header)
     (same : end ≡ last.shelf.now)
-    (log : IsLogFile (world end).files last.name last.problem last.lines last.broken) (kept : IsKept last.problem last.lines last.state)
+    (log : IsLogFile (world end).files last.name last.problem last.version last.lines last.broken) (kept : IsKept last.problem last.lines last.state)
     (searched : IsSearched i p limit (file_seen world first) (file_seen world last) r) where
   names : last.name ≡ name
   names = searched.around.name ∙ named
@@ -138,9 +143,9 @@ module _ {H : Type 0} (world : H → World) (old : Option Files) (name : List �
   problems : last.problem ≡ p
   problems = searched.problem ∙ of_problem
 
-  log_here : IsLogFile (world end).files name p last.lines last.broken
-  log_here = subst (λ (n : List ℕ). IsLogFile (world end).files n p last.lines last.broken) names
-      (subst (λ (q : ProblemValue). IsLogFile (world end).files last.name q last.lines last.broken) problems log)
+  log_here : IsLogFile (world end).files name p last.version last.lines last.broken
+  log_here = subst (λ (n : List ℕ). IsLogFile (world end).files n p last.version last.lines last.broken) names
+      (subst (λ (q : ProblemValue). IsLogFile (world end).files last.name q last.version last.lines last.broken) problems log)
 
   kept_here : IsKept p last.lines last.state
   kept_here = subst (λ (q : ProblemValue). IsKept q last.lines last.state) problems kept
@@ -152,7 +157,7 @@ module _ {H : Type 0} (world : H → World) (old : Option Files) (name : List �
       ∙ ap (without_file (world first.shelf.now).files) named
 
   pub found_left : IfOk r (IsLogged old (world end).files i p name limit)
-  found_left = logged_by old (world first.shelf.now).files (world end).files name p last.lines last.state last.broken begun others_here log_here kept_here i limit r searched.whole searched.covers searched.ending
+  found_left = logged_by old (world first.shelf.now).files (world end).files name header p last.version last.lines last.state last.broken begun others_here log_here kept_here i limit r searched.whole searched.covers searched.ending
 
   rose_here : (began : Faults) → NoneFell began (world first.shelf.now).faults → Rose (count (world first.shelf.now).faults Append first.name) (count (world last.shelf.now).faults Append last.name) → WritingFailed began (world end).faults name
   rose_here began later rose = inr (rose_at_last _ _ _ (later Append name)
@@ -161,11 +166,11 @@ module _ {H : Type 0} (world : H → World) (old : Option Files) (name : List �
       (subst (λ (n : List ℕ). Rose (count (world first.shelf.now).faults Append n) (count (world last.shelf.now).faults Append last.name)) named rose))))
 
   pub stopped_left : (began : Faults) → NoneFell began (world first.shelf.now).faults → IfErr r (λ fault. IsLogStopped fault old (world end).files p name began (world end).faults)
-  stopped_left began later = stopped_by old (world first.shelf.now).files (world end).files name p last.lines last.state last.broken begun others_here log_here kept_here began (world end).faults r
+  stopped_left began later = stopped_by old (world first.shelf.now).files (world end).files name header p last.version last.lines last.state last.broken begun others_here log_here kept_here began (world end).faults r
       (λ e. rose_here began later (searched.failed e)) searched.full
 
 -- the log wasn't begun
-pub not_begun : (old new : Option Files) (name : List ℕ) (p : ProblemValue) (before after : Faults) (fault : RecordFault) → IsNotBegun old new name → (fault ≡ Failed → WritingFailed before after name) → fault ≢ Full → IsLogStopped fault old new p name before after
-not_begun old new name p before after Failed touched rose other = (touched_part old new name p touched, rose refl)
-not_begun old new name p before after Full touched rose other = absurd (other refl)
-not_begun old new name p before after NoMemory touched rose other = touched_part old new name p touched
+pub not_begun : (old new : Option Files) (name : List ℕ) (p : ProblemValue) (version : LogVersion) (before after : Faults) (fault : RecordFault) → IsNotBegun old new name (first_of version p) → (fault ≡ Failed → WritingFailed before after name) → fault ≢ Full → IsLogStopped fault old new p name before after
+not_begun old new name p version before after Failed touched rose other = (touched_part old new name p version touched, rose refl)
+not_begun old new name p version before after Full touched rose other = absurd (other refl)
+not_begun old new name p version before after NoMemory touched rose other = touched_part old new name p version touched

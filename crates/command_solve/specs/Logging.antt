@@ -11,7 +11,9 @@ use Rattle.proof_rules.specs.Recording.{KeepsSurroundings, Snapshot}
 use Rattle.proof_rules.specs.declared.recorder.RecordFault.{RecordFault}
 use Rattle.proof_rules.specs.declared.recorder.RecordFault.TheVariants.{Failed, Full, NoMemory}
 use Rattle.proof_text.specs.LogFile.{IsPartOfNext}
-use Rattle.proof_text.specs.LogText.{BeginsWith, SpellsLog, header_line}
+use Rattle.proof_text.specs.Versions.{first_of, header_line}
+use Rattle.proof_text.specs.declared.version.LogVersion.{LogVersion}
+use Rattle.proof_text.specs.LogText.{BeginsWith, SpellsLog}
 use Rattle.certified_front.specs.Certified.{CoversLogged, IsEnding}
 use Rattle.certified_front.specs.declared.ending.Found.{Found}
 
@@ -23,11 +25,11 @@ pub record IsBrokenLog (p : ProblemValue) (bytes : List ℕ) : Type 0 where
   pub part : List ℕ
   pub begins : BeginsWith bytes lines part
   pub replay : (s : StateValue) × IsReplay p lines s
-  pub next : (part ≡ []) ⊎ IsPartOfNext p lines part
+  pub next : (part ≡ []) ⊎ IsPartOfNext p begins.first lines part
 
--- the bytes are a prefix of the header, or such a log
+-- the bytes are a prefix of a header, or such a log
 abbrev pub IsPartOfLog : ProblemValue → List ℕ → Type 0
-IsPartOfLog p bytes = IsPrefixOf bytes header_line ⊎ IsBrokenLog p bytes
+IsPartOfLog p bytes = ((version : LogVersion) × IsPrefixOf bytes (header_line (first_of version p))) ⊎ IsBrokenLog p bytes
 
 -- the log holds lines whose logged vectors the entries that were found cover
 pub record IsLogged (old new : Option Files) (i : InstanceValue) (p : ProblemValue) (log : List ℕ) (limit : Option ℕ) (found : Found) : Type 0 where

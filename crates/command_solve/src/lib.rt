@@ -34,6 +34,7 @@ use lower_bounding::LowerBounding;
 pub use options::SearchKind;
 use p_minimal::PMinimal;
 use pb_lin::PbProblem;
+use proof_text::LogVersion;
 use scut_base::{NoMemory, Shelf};
 use search_base::Search;
 use std::alloc::Global;
@@ -179,7 +180,16 @@ impl<'a> Solve<'a> {
             result (H.world shelf.old) (H.world shelf.new) }
         ensures warned { (H.world shelf.new).warned ≡ (H.world shelf.old).warned }
     {
-        match search_with_log(alloc, inst, problem, self.log, self.limit, search, shelf) {
+        match search_with_log(
+            alloc,
+            inst,
+            problem,
+            self.log,
+            LogVersion::One,
+            self.limit,
+            search,
+            shelf,
+        ) {
             Ok(found) => write_found(alloc, &found, self.list, shelf),
             Err(fault) => Status::from(fault),
         }

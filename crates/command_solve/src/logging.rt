@@ -9,19 +9,20 @@ use certified_front::{Found, certified_front_by};
 use instance::Instance;
 use pb_lin::PbProblem;
 use proof_rules::{RecordFault, Recorder};
-use proof_text::FileRecorder;
+use proof_text::{FileRecorder, LogVersion};
 use scut_base::Shelf;
 use search_base::Search;
 use std::alloc::Global;
 use watch_prop::WatchProp;
 
-// Searches for the front of an instance, of which this is the normal form, with a log in this file. After a fault the log
+// Searches for the front of an instance, of which this is the normal form, with a log of this version in this file. After a fault the log
 // is as before, or a part of one.
 pub(crate) fn search_with_log<'a, S: Search, H: Shelf>(
     alloc: Global,
     inst: &Instance,
     problem: &PbProblem,
     log: &'a str,
+    version: LogVersion,
     limit: Option<u64>,
     search: &mut S,
     shelf: &'a mut H,
@@ -37,7 +38,7 @@ pub(crate) fn search_with_log<'a, S: Search, H: Shelf>(
     ensures warned { (H.world shelf.new).warned ≡ (H.world shelf.old).warned }
     ensures later { NoneFell (H.world shelf.old).faults (H.world shelf.new).faults }
 {
-    let recorder = match FileRecorder::new(alloc, shelf, log, problem) {
+    let recorder = match FileRecorder::with_version(alloc, shelf, log, problem, version) {
         Ok(recorder) => recorder,
         Err(refused) => return Err(refused.fault),
     };

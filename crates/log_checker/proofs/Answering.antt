@@ -1,7 +1,6 @@
 -- What the parts of a checker answer, and what it stands for then.
-use Rattle.std.proofs.Common.{◌≡◌, ◌⊎◌, inl, inr, ℕ, ◌+◌, ◌<◌, ◌≤◌, Bool, true, false, List, [], ◌∷◌, ◌++◌, length, refl, sym, subst, ap, ◌∙◌, ⊎_elim, arith, append_assoc, append-nil, length-append, ℤ, Option, None, Some, Result, Ok, Err}
+use Rattle.std.proofs.Common.{◌≡◌, ◌⊎◌, inl, inr, ℕ, ◌+◌, ◌<◌, ◌≤◌, Bool, true, false, List, [], ◌∷◌, ◌++◌, length, refl, sym, subst, ap, ◌∙◌, ⊎_elim, arith, length-append, ℤ, Option, None, Some, Result, Ok, Err}
 use Rattle.std.specs.Prelude.{All, OnOk}
-use Rattle.std.specs.List.{flat_map}
 use Rattle.std.proofs.lemmas.List.Elements.{All-nil, All-cons, All-head, All-tail, Contains-push, All-contains}
 use Rattle.pb_lin.specs.Problem.{ProblemValue}
 use Rattle.proof_laws.specs.WellFormed.{IsWellFormed}
@@ -14,7 +13,9 @@ use Rattle.proof_laws.proofs.Replays.{leads_further, replay_lines}
 use Rattle.proof_rules.specs.declared.fault.StepFault.{StepFault}
 use Rattle.proof_rules.specs.declared.fault.StepFault.TheVariants.{Refused as Illegal}
 use Rattle.proof_lines.specs.LineText.{line_text, printed}
-use Rattle.proof_text.specs.LogText.{log_text, header_line, BeginsWith, IsSyntaxAt, IsUnfinishedAt, HoldsNoFurtherLine, IsWhole}
+use Rattle.proof_lines.specs.declared.spelling.Spelling.{Spelling}
+use Rattle.proof_text.specs.Versions.{after_lines, log_text}
+use Rattle.proof_text.specs.LogText.{BeginsWith, IsSyntaxAt, IsUnfinishedAt, HoldsNoFurtherLine, IsWhole}
 use Rattle.proof_text.specs.Reading.{ReaderValue, HasRead, HasReadUpTo, HasGiven, GivesNext, StandsFor as ReaderStandsFor}
 use Rattle.log_checker.specs.Accepted.{IsEndedProof}
 use Rattle.log_checker.specs.LogFaults.{IsLineFault, IsWholeFault, HasNoWholeFault, IsLogFault}
@@ -23,18 +24,18 @@ use Rattle.log_checker.specs.Judging.{IsUnderway, IsLineReason, IsLogReason, Has
 use Rattle.log_checker.specs.declared.fault.CheckFault.{CheckFault}
 use Rattle.log_checker.specs.declared.fault.CheckFault.TheVariants.{Refused, ListRefused, NoMemory}
 use Rattle.log_checker.proofs.Stepping.{AreCovered}
-use Rattle.log_checker.proofs.Texts.{LineTexts, spelled_whole}
+use Rattle.proof_text.proofs.Logs.{fit_front, log_text_more, spelled_whole}
+use Rattle.log_checker.proofs.Texts.{last_line}
 use Rattle.log_checker.proofs.Faults.{no_whole_fault, no_syntax, syntax_fault, line_refused, whole_fault_more}
-use Rattle.proof_lines.specs.declared.spelling.Spelling.TheVariants.{Plain}
 
 -- ---- the reader
 
 pub given : (r : ReaderValue) (bytes : List ℕ) (lines : List Line) → ReaderStandsFor r bytes lines → HasGiven bytes lines
 given r bytes lines stands = by r.wrong stands.read
   where
-    read : (begun : Bool) → HasRead begun r.rest bytes lines → HasGiven bytes lines
-    read true h = inr (r.rest, h)
-    read false h = inl h.0
+    read : (begun : Option Spelling) → HasRead begun r.rest bytes lines → HasGiven bytes lines
+    read (Some spelling) h = inr (r.rest, h.0)
+    read None h = inl h.0
 
     by : (wrong : Option ℕ) → HasReadUpTo wrong r bytes lines → HasGiven bytes lines
     by None h = read r.begun h
@@ -62,30 +63,23 @@ begins r bytes lines line stands = ⊎_elim
 pub line_formed : (r : ReaderValue) (bytes : List ℕ) (lines : List Line) (line : Line) → ReaderStandsFor r bytes (lines ++ line ∷ []) → IsWellFormed line
 line_formed r bytes lines line stands = All-contains IsWellFormed (lines ++ line ∷ []) line (begins r bytes lines line stands).1.formed (Contains-push lines line)
 
-flat_push : (lines : List Line) (line : Line) (rest : List ℕ) → flat_map (printed Plain) (lines ++ line ∷ []) ++ rest ≡ flat_map (printed Plain) lines ++ (printed Plain line ++ rest)
-flat_push [] line rest = ap (λ (t : List ℕ). t ++ rest) (append-nil (printed Plain line))
-flat_push (l ∷ lines) line rest =
-    append_assoc (printed Plain l) (flat_map (printed Plain) (lines ++ line ∷ [])) rest
-    ∙ ap (λ (t : List ℕ). printed Plain l ++ t) (flat_push lines line rest)
-    ∙ sym (append_assoc (printed Plain l) (flat_map (printed Plain) lines) (printed Plain line ++ rest))
-
 all_front : (lines : List Line) (line : Line) → All IsWellFormed (lines ++ line ∷ []) → All IsWellFormed lines
 all_front [] line all = All-nil IsWellFormed
 all_front (l ∷ lines) line all = All-cons IsWellFormed l lines (All-head IsWellFormed l (lines ++ line ∷ []) all) (all_front lines line (All-tail IsWellFormed l (lines ++ line ∷ []) all))
 
 -- the bytes before the last line that was given
-before_last : (bytes : List ℕ) (lines : List Line) (line : Line) (rest : List ℕ) → BeginsWith bytes (lines ++ line ∷ []) rest → BeginsWith bytes lines (printed Plain line ++ rest)
+before_last : (bytes : List ℕ) (lines : List Line) (line : Line) (rest : List ℕ) → (h : BeginsWith bytes (lines ++ line ∷ []) rest) → BeginsWith bytes lines (printed (after_lines h.first lines) line ++ rest)
 before_last bytes lines line rest h = record {
+  first = h.first;
+  version = h.version;
   formed = all_front lines line h.formed;
-  is = h.is ∙ append_assoc header_line (flat_map (printed Plain) (lines ++ line ∷ [])) rest ∙ ap (λ (t : List ℕ). header_line ++ t) (flat_push lines line rest) ∙ sym (append_assoc header_line (flat_map (printed Plain) lines) (printed Plain line ++ rest));
+  fit = fit_front h.first lines line h.fit;
+  is = h.is ∙ log_text_more h.first lines line rest;
 }
 
 pub not_wrong : (o : Option ℕ) → ((k : ℕ) → o ≡ Some k → ⊥) → o ≡ None
 not_wrong None h = refl
 not_wrong (Some k) h = absurd (h k refl)
-
-printed_long : (line : Line) → 0 < length (printed Plain line)
-printed_long line = omega (arith, length-append (line_text Plain line) (10 ∷ []))
 
 -- a line that is given leaves less
 pub smaller : (old new : ReaderValue) (bytes : List ℕ) (lines : List Line) (line : Line) → old.wrong ≡ None → ReaderStandsFor old bytes lines → ReaderStandsFor new bytes (lines ++ line ∷ []) → left new < left old
@@ -94,35 +88,36 @@ smaller old new bytes lines line right before after = by new.wrong after.read
     left_old : left old ≡ length old.rest + 1
     left_old = ap (λ (o : Option ℕ). left_by o (length old.rest)) right
 
-    long_before : (begun : Bool) → HasRead begun old.rest bytes lines → (rest : List ℕ) → BeginsWith bytes (lines ++ line ∷ []) rest → length rest < length old.rest
-    long_before true h rest b =
-        let e = ap length (sym h.is ∙ (before_last bytes lines line rest b).is) in
-        omega (arith, e, length-append (log_text lines) old.rest, length-append (log_text lines) (printed Plain line ++ rest), length-append (printed Plain line) rest, printed_long line)
-    long_before false h rest b =
-        let e = ap length (sym h.1 ∙ (before_last bytes lines line rest b).is) in
-        omega (arith, e, length-append (log_text lines) (printed Plain line ++ rest), length-append (printed Plain line) rest, printed_long line)
+    long_before : (begun : Option Spelling) → HasRead begun old.rest bytes lines → (rest : List ℕ) → BeginsWith bytes (lines ++ line ∷ []) rest → length rest < length old.rest
+    long_before (Some spelling) h rest b =
+        let starts = last_line bytes lines line old.rest rest h.0 b in
+        omega (arith, ap length starts.whole.is, length-append (line_text (after_lines h.0.first lines) line) (10 ∷ rest))
+    long_before None h rest b =
+        let spelling : Spelling = after_lines b.first lines in
+        let is : old.rest ≡ log_text b.first lines ++ (printed spelling line ++ rest) = sym h.1 ∙ b.is ∙ log_text_more b.first lines line rest in
+        omega (arith, ap length is, length-append (log_text b.first lines) (printed spelling line ++ rest), length-append (printed spelling line) rest, length-append (line_text spelling line) (10 ∷ []))
 
     shorter : (rest : List ℕ) → BeginsWith bytes (lines ++ line ∷ []) rest → length rest < length old.rest
     shorter rest b = long_before old.begun (subst (λ (o : Option ℕ). HasReadUpTo o old bytes lines) right before.read) rest b
 
-    less : (begun : Bool) → HasRead begun new.rest bytes (lines ++ line ∷ []) → length new.rest < length old.rest
-    less true h = shorter new.rest h
-    less false h = absurd (no_push lines line h.0)
+    less : (begun : Option Spelling) → HasRead begun new.rest bytes (lines ++ line ∷ []) → length new.rest < length old.rest
+    less (Some spelling) h = shorter new.rest h.0
+    less None h = absurd (no_push lines line h.0)
 
     by : (wrong : Option ℕ) → HasReadUpTo wrong new bytes (lines ++ line ∷ []) → left_by wrong (length new.rest) < left old
     by None h = omega (arith, left_old, less new.begun h)
     by (Some k) h = omega (arith, left_old)
 
-module _ (texts : LineTexts) (p : ProblemValue) (vectors : List (List ℤ)) where
+module _ (p : ProblemValue) (vectors : List (List ℤ)) where
   -- ---- one line
 
   pub syntax_refused : (old new : ReaderValue) (s : StateValue) (bytes : List ℕ) (lines : List Line) (k : ℕ) → IsUnderway p vectors old s bytes lines → IsSyntaxAt bytes k → ReaderStandsFor new bytes lines → new.wrong ≡ Some k → IsWholeFault p vectors bytes k Syntax
-  syntax_refused old new s bytes lines k underway wrong after is = syntax_fault texts p vectors bytes lines s k underway.replay underway.covered (given old bytes lines underway.read) wrong (right_upto new bytes lines k after is)
+  syntax_refused old new s bytes lines k underway wrong after is = syntax_fault p vectors bytes lines s k underway.replay underway.covered (given old bytes lines underway.read) wrong (right_upto new bytes lines k after is)
 
   pub line_is_refused : (old new : ReaderValue) (s : StateValue) (bytes : List ℕ) (lines : List Line) (line : Line) (k : ℕ) (why : Why) → IsUnderway p vectors old s bytes lines → ReaderStandsFor new bytes (lines ++ line ∷ []) → IsLineFault p vectors s line why → k ≡ s.lines + 2 → IsWholeFault p vectors bytes k why
   line_is_refused old new s bytes lines line k why underway after fault number =
       let b = begins new bytes lines line after in
-      line_refused texts p vectors bytes lines line (printed Plain line ++ b.0) b.0 s k why (before_last bytes lines line b.0 b.1) b.1 underway.replay underway.covered fault (omega (arith, number, replay_lines p lines s underway.replay))
+      line_refused p vectors bytes lines line (printed (after_lines b.1.first lines) line ++ b.0) b.0 s k why (before_last bytes lines line b.0 b.1) b.1 underway.replay underway.covered fault (omega (arith, number, replay_lines p lines s underway.replay))
 
   pub line_taken : (old new : ReaderValue) (s t : StateValue) (bytes : List ℕ) (lines : List Line) (line : Line) → IsUnderway p vectors old s bytes lines → ReaderStandsFor new bytes (lines ++ line ∷ []) → IsNext p s line t → (AreCovered vectors s → AreCovered vectors t) → IsUnderway p vectors new t bytes (lines ++ line ∷ [])
   line_taken old new s t bytes lines line underway after next covered = record { read = after; replay = leads_further p lines (start p) s t line underway.replay next; covered = covered underway.covered }
@@ -131,8 +126,8 @@ module _ (texts : LineTexts) (p : ProblemValue) (vectors : List (List ℤ)) wher
 
   pub end_syntax : (r : ReaderValue) (s : StateValue) (bytes : List ℕ) (lines : List Line) (k : ℕ) → IsUnderway p vectors r s bytes lines → HoldsNoFurtherLine bytes lines → IsSyntaxAt bytes k ⊎ IsUnfinishedAt bytes k → IsLogFault p vectors bytes k Syntax
   end_syntax r s bytes lines k underway held wrong = ⊎_elim
-      (λ (h : IsSyntaxAt bytes k). absurd (no_syntax texts p vectors bytes lines k held h))
-      (λ (h : IsUnfinishedAt bytes k). inr (no_whole_fault texts p vectors bytes lines s underway.replay underway.covered held, h))
+      (λ (h : IsSyntaxAt bytes k). absurd (no_syntax p vectors bytes lines k held h))
+      (λ (h : IsUnfinishedAt bytes k). inr (no_whole_fault p vectors bytes lines s underway.replay underway.covered held, h))
       wrong
 
   pub end_missing : (r : ReaderValue) (s : StateValue) (bytes : List ℕ) (lines : List Line) (k : ℕ) → IsUnderway p vectors r s bytes lines → HoldsNoFurtherLine bytes lines → IsWhole bytes → s.ended ≡ false → k ≡ s.lines + 2 → IsLogFault p vectors bytes k NoEnd
@@ -179,12 +174,12 @@ noted_stands c new answer bytes is none open' kept judged = subst (λ (d : Check
     by (Err (ListRefused entry why)) k h = absurd h
     by (Err NoMemory) k h = absurd (k refl)
 
-pub again_stands : (o : Option (ℕ × Why)) (failed : Bool) (c : CheckerValue) (bytes more : List ℕ) (e : CheckFault) → LineTexts → earlier o failed ≡ Err e → (e ≡ NoMemory → ⊥) → c.finished ≡ false → HasJudged o c bytes → HasJudged o c (bytes ++ more)
-again_stands None true c bytes more e texts is kept open' stands = absurd (kept (cc))
-again_stands None false c bytes more e texts is kept open' stands = cc
-again_stands (Some fault) failed c bytes more e texts is kept open' stands =
+pub again_stands : (o : Option (ℕ × Why)) (failed : Bool) (c : CheckerValue) (bytes more : List ℕ) (e : CheckFault) → earlier o failed ≡ Err e → (e ≡ NoMemory → ⊥) → c.finished ≡ false → HasJudged o c bytes → HasJudged o c (bytes ++ more)
+again_stands None true c bytes more e is kept open' stands = absurd (kept (cc))
+again_stands None false c bytes more e is kept open' stands = cc
+again_stands (Some fault) failed c bytes more e is kept open' stands =
     subst (λ (b : Bool). IsFaultBy b c.problem c.vectors (bytes ++ more) fault.0 fault.1) (sym open')
-    (whole_fault_more texts c.problem c.vectors bytes more fault.0 fault.1 (subst (λ (b : Bool). IsFaultBy b c.problem c.vectors bytes fault.0 fault.1) open' stands))
+    (whole_fault_more c.problem c.vectors bytes more fault.0 fault.1 (subst (λ (b : Bool). IsFaultBy b c.problem c.vectors bytes fault.0 fault.1) open' stands))
 
 pub again_whole : (o : Option (ℕ × Why)) (failed : Bool) (c : CheckerValue) (bytes : List ℕ) (k : ℕ) (why : Why) → earlier o failed ≡ Err (Refused k why) → c.finished ≡ false → HasJudged o c bytes → IsWholeFault c.problem c.vectors bytes k why
 again_whole None true c bytes k why is open' stands = cc
@@ -223,10 +218,10 @@ earlier_judged (Some fault) failed c bytes e is stands =
     subst (λ (x : CheckFault). IsLogReason c.problem c.vectors bytes x) same (fault_of_log c.finished c.problem c.vectors bytes fault.0 fault.1 stands)
 
 -- a finished log that has ended is an ended proof
-pub settled_judged : (c : CheckerValue) (bytes : List ℕ) → LineTexts → c.refused ≡ None → HasEnded c.reader c.state → StandsFor c bytes → IsEndedProof c.problem c.vectors bytes
-settled_judged c bytes texts none settled stands =
+pub settled_judged : (c : CheckerValue) (bytes : List ℕ) → c.refused ≡ None → HasEnded c.reader c.state → StandsFor c bytes → IsEndedProof c.problem c.vectors bytes
+settled_judged c bytes none settled stands =
     let t = stands_taken c bytes none stands in
-    end_reached texts c.problem c.vectors c.reader c.state bytes t.0 (taken_underway c bytes t.0 t.1) t.1.all (settled.whole bytes t.0 t.1.read) settled.ended
+    end_reached c.problem c.vectors c.reader c.state bytes t.0 (taken_underway c bytes t.0 t.1) t.1.all (settled.whole bytes t.0 t.1.read) settled.ended
 
 -- what the parts answer, where the checker has refused nothing
 pub judged_fed : (c : CheckerValue) (vectors : List (List ℤ)) (r : ReaderValue) (s : StateValue) (bytes fed : List ℕ) (answer : Result (Unit {0}) CheckFault) → vectors ≡ c.vectors → c.refused ≡ None →
@@ -239,5 +234,5 @@ pub judged_ended : (c : CheckerValue) (bytes : List ℕ) (answer : Result (Unit 
     ((lines : List Line) → IsUnderway c.problem c.vectors c.reader c.state bytes lines → HoldsNoFurtherLine bytes lines → JudgesEnd c.problem c.vectors bytes answer) → StandsFor c bytes → JudgesEnd c.problem c.vectors bytes answer
 judged_ended c bytes answer none judges stands = let t = stands_taken c bytes none stands in judges t.0 (taken_underway c bytes t.0 t.1) t.1.all
 
-pub lines_have_no_fault : (texts : LineTexts) (p : ProblemValue) (vectors : List (List ℤ)) (r : ReaderValue) (s : StateValue) (bytes : List ℕ) → JudgesLines p vectors r s bytes (Ok tt) → HasNoWholeFault p vectors bytes
-lines_have_no_fault texts p vectors r s bytes h = no_whole_fault texts p vectors bytes h.0 s h.1.replay h.1.covered h.2
+pub lines_have_no_fault : (p : ProblemValue) (vectors : List (List ℤ)) (r : ReaderValue) (s : StateValue) (bytes : List ℕ) → JudgesLines p vectors r s bytes (Ok tt) → HasNoWholeFault p vectors bytes
+lines_have_no_fault p vectors r s bytes h = no_whole_fault p vectors bytes h.0 s h.1.replay h.1.covered h.2

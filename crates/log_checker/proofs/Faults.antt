@@ -1,12 +1,7 @@
 -- Where a log goes wrong: at one place alone, for one reason, and nowhere where it is an ended proof.
-use Rattle.std.proofs.Common.{◌≡◌, ◌⊎◌, inl, inr, ℕ, zero, suc, ◌+◌, ◌≤◌, List, [], ◌∷◌, ◌++◌, length, refl, sym, subst, ap, ◌∙◌, ⊎_elim, arith, append_assoc, length-append, ℤ}
-use Rattle.std.proofs.lemmas.List.{append_cancel_left}
-use Rattle.std.specs.List.{flat_map}
+use Rattle.std.proofs.Common.{◌≡◌, ◌⊎◌, inl, inr, ℕ, zero, suc, ◌+◌, ◌≤◌, List, [], ◌∷◌, ◌++◌, length, refl, sym, subst, ap, ◌∙◌, ⊎_elim, arith, length-append, ℤ}
 use Rattle.std.proofs.lemmas.Bool.{false≢true}
-use Rattle.std.proofs.lemmas.List.Elements.{All-contains, Contains-push}
-use Rattle.scut_base.specs.Files.{IsPrefixOf}
 use Rattle.pb_lin.specs.Problem.{ProblemValue}
-use Rattle.proof_laws.specs.WellFormed.{IsWellFormed}
 use Rattle.proof_laws.specs.State.{StateValue, start}
 use Rattle.proof_laws.specs.Legal.{IsNext, IsRefused}
 use Rattle.proof_laws.specs.Replay.{IsReplay}
@@ -15,81 +10,81 @@ use Rattle.proof_laws.specs.declared.why.Why.{Why}
 use Rattle.proof_laws.specs.declared.why.Why.TheVariants.{Syntax, NoEnd, Uncovered}
 use Rattle.proof_laws.proofs.Unique.{judged_once_law}
 use Rattle.proof_laws.proofs.Replays.{leads_split, replay_once}
-use Rattle.proof_lines.specs.LineText.{line_text, printed, SpellsNoLine}
-use Rattle.proof_text.specs.LogText.{header_text, log_text, BeginsWith, IsOneLine, IsWholeLine, HasWrongHeader, GoesWrongAfter, IsSyntaxAt, IsUnfinishedAt, HoldsNoFurtherLine}
-use Rattle.proof_text.proofs.Logs.{header_part_one, not_headless, log_text_push}
+use Rattle.proof_lines.specs.LineText.{line_text, SpellsNoLine}
+use Rattle.proof_lines.specs.declared.spelling.Spelling.{Spelling}
+use Rattle.proof_text.specs.Versions.{after_lines}
+use Rattle.proof_text.specs.LogText.{BeginsWith, IsHeaderPart, IsOneLine, IsWholeLine, HasWrongHeader, GoesWrongAfter, IsSyntaxAt, IsUnfinishedAt, HoldsNoFurtherLine}
+use Rattle.proof_text.proofs.OneLines.{one_nil, same_line}
+use Rattle.proof_text.proofs.Logs.{GoesOn, begins_align, header_part_one, never_unfinished, not_headless, one_first, wrong_here}
 use Rattle.proof_text.proofs.Readings.{begins_more, wrong_more}
 use Rattle.log_checker.specs.Accepted.{IsEndedProof}
 use Rattle.log_checker.specs.LogFaults.{Reaches, LogsUncovered, HasRefusedLine, IsLineFault, IsNextFault, IsRefusedAfter, IsWholeFault, HasNoWholeFault, HasNoEnd, IsEndFault, IsLogFault}
 use Rattle.log_checker.proofs.Reasons.{not_syntax}
 use Rattle.log_checker.proofs.Stepping.{AreCovered, leads_covered}
-use Rattle.log_checker.proofs.Texts.{LineTexts, GoesOn, whole_once, whole_has_newline, printed_is, printed_has_newline, printed_once, begins_has_newline, begins_align, one_empty, spelled_finished, unfinished_once}
-use Rattle.proof_lines.specs.declared.spelling.Spelling.TheVariants.{Plain}
+use Rattle.log_checker.proofs.Texts.{Starts, starts_once, last_line, whole_has_newline, begins_has_newline, unfinished_once}
 
--- the rest begins with a whole line that is the text of none
-record HasNoLine (rest : List ℕ) : Type 0 where
+-- the rest begins with a whole line that is the text of none, whose ids would be spelled so
+record HasNoLine (spelling : Spelling) (rest : List ℕ) : Type 0 where
   text : List ℕ
   after : List ℕ
   whole : IsWholeLine rest text after
-  wrong : SpellsNoLine Plain text
+  wrong : SpellsNoLine spelling text
 
--- the rest after the lines before the last
-last_text : (bytes : List ℕ) (lines : List Line) (line : Line) (rest after : List ℕ) → BeginsWith bytes lines rest → BeginsWith bytes (lines ++ line ∷ []) after → rest ≡ printed Plain line ++ after
-last_text bytes lines line rest after begins further =
-    append_cancel_left (log_text lines) rest (printed Plain line ++ after)
-    (sym begins.is ∙ further.is ∙ ap (λ (t : List ℕ). t ++ after) (log_text_push lines line) ∙ append_assoc (log_text lines) (printed Plain line) after)
+-- how ids are spelled after the lines, by each of two readings
+one_spelling : (bytes : List ℕ) (ls ms : List Line) (r q : List ℕ) → (a : BeginsWith bytes ls r) → (b : BeginsWith bytes ms q) → ls ≡ ms → after_lines a.first ls ≡ after_lines b.first ms
+one_spelling bytes ls ms r q a b same = ap (λ (x : Spelling). after_lines x ls) (one_first bytes ls ms r q a b) ∙ ap (after_lines b.first) same
 
-last_formed : (bytes : List ℕ) (lines : List Line) (line : Line) (after : List ℕ) → BeginsWith bytes (lines ++ line ∷ []) after → IsWellFormed line
-last_formed bytes lines line after begins = All-contains IsWellFormed (lines ++ line ∷ []) line begins.formed (Contains-push lines line)
+starts_next : (spelling : Spelling) (lines others : List Line) (rest : List ℕ) → (on : GoesOn spelling lines others rest) → Starts spelling rest on.next on.behind
+starts_next spelling lines others rest on = record { fine = on.fine; spells = on.spells; whole = on.line }
 
 two_more : (bytes : List ℕ) (n : ℕ) → IsSyntaxAt bytes (n + 2) → GoesWrongAfter bytes n
 two_more bytes n h = (let e : n + 2 ≡ suc (suc n) = omega arith in let g : IsSyntaxAt bytes (suc (suc n)) = subst (IsSyntaxAt bytes) e h in g)
 
-module _ (texts : LineTexts) (p : ProblemValue) (vectors : List (List ℤ)) where
+module _ (p : ProblemValue) (vectors : List (List ℤ)) where
   -- the bytes begin with these lines, which lead to this state, and the rest follows
   record Reads (bytes : List ℕ) (lines : List Line) (s : StateValue) (rest : List ℕ) : Type 0 where
     begins : BeginsWith bytes lines rest
     reached : Reaches p vectors lines s
 
   -- the line that the rest begins with, and why it is refused
-  record Refusal (s : StateValue) (rest : List ℕ) (why : Why) : Type 0 where
+  record Refusal (spelling : Spelling) (s : StateValue) (rest : List ℕ) (why : Why) : Type 0 where
     line : Line
     after : List ℕ
-    formed : IsWellFormed line
-    is : rest ≡ printed Plain line ++ after
+    starts : Starts spelling rest line after
     reason : IsRefused p s line why ⊎ ((n : ℕ) × (why ≡ Uncovered n) × LogsUncovered p vectors s line n)
 
-  abbrev Seen : StateValue → List ℕ → Why → Type 0
-  Seen s rest why = ((why ≡ Syntax) × HasNoLine rest) ⊎ Refusal s rest why
+  abbrev Seen : Spelling → StateValue → List ℕ → Why → Type 0
+  Seen spelling s rest why = ((why ≡ Syntax) × HasNoLine spelling rest) ⊎ Refusal spelling s rest why
 
   -- where a text goes wrong after as many lines as these, the rest after these is that of no line
-  no_line : (bytes : List ℕ) (lines : List Line) (rest : List ℕ) → BeginsWith bytes lines rest → GoesWrongAfter bytes (length lines) → HasNoLine rest
+  no_line : (bytes : List ℕ) (lines : List Line) (rest : List ℕ) → (begins : BeginsWith bytes lines rest) → GoesWrongAfter bytes (length lines) → HasNoLine (after_lines begins.first lines) rest
   no_line bytes lines rest begins g = ⊎_elim
-      (λ (same : (lines ≡ g.lines) × (rest ≡ g.rest)). subst HasNoLine (sym same.1) (record { text = g.text; after = g.after; whole = g.line; wrong = g.wrong }))
-      (λ (other : GoesOn lines g.lines rest g.rest ⊎ GoesOn g.lines lines g.rest rest). absurd (⊎_elim
-      (λ (on : GoesOn lines g.lines rest g.rest). omega (arith, g.right, ap length on.is, length-append g.lines (on.next ∷ on.more)))
-      (λ (on : GoesOn g.lines lines g.rest rest). omega (arith, g.right, ap length on.is, length-append lines (on.next ∷ on.more)))
+      (λ (same : (lines ≡ g.lines) × (rest ≡ g.rest)).
+      let here : HasNoLine (after_lines g.begins.first g.lines) g.rest = record { text = g.text; after = g.after; whole = g.line; wrong = g.wrong } in
+      let spelled : HasNoLine (after_lines begins.first lines) g.rest = subst (λ (x : Spelling). HasNoLine x g.rest) (sym (one_spelling bytes lines g.lines rest g.rest begins g.begins same.0)) here in
+      subst (λ (t : List ℕ). HasNoLine (after_lines begins.first lines) t) (sym same.1) spelled)
+      (λ (other : GoesOn (after_lines g.begins.first g.lines) lines g.lines g.rest ⊎ GoesOn (after_lines begins.first lines) g.lines lines rest). absurd (⊎_elim
+      (λ (on : GoesOn (after_lines g.begins.first g.lines) lines g.lines g.rest). omega (arith, g.right, ap length on.is, length-append g.lines (on.next ∷ on.more)))
+      (λ (on : GoesOn (after_lines begins.first lines) g.lines lines rest). omega (arith, g.right, ap length on.is, length-append lines (on.next ∷ on.more)))
       other))
-      (begins_align texts bytes lines g.lines rest g.rest begins g.begins)
+      (begins_align bytes lines g.lines rest g.rest begins g.begins)
 
-  seen : (bytes : List ℕ) (lines : List Line) (rest : List ℕ) (s : StateValue) (why : Why) → BeginsWith bytes lines rest → IsNextFault p vectors bytes lines s why → Seen s rest why
+  seen : (bytes : List ℕ) (lines : List Line) (rest : List ℕ) (s : StateValue) (why : Why) → (begins : BeginsWith bytes lines rest) → IsNextFault p vectors bytes lines s why → Seen (after_lines begins.first lines) s rest why
   seen bytes lines rest s Syntax begins h = inl (refl, no_line bytes lines rest begins (two_more bytes (length lines) h))
-  seen bytes lines rest s (Uncovered n) begins h = inr (record { line = h.line; after = h.after; formed = last_formed bytes lines h.line h.after h.begins; is = last_text bytes lines h.line rest h.after begins h.begins; reason = inr (n, refl, h.refused) })
-  seen bytes lines rest s why begins h = inr (record { line = h.line; after = h.after; formed = last_formed bytes lines h.line h.after h.begins; is = last_text bytes lines h.line rest h.after begins h.begins; reason = inl h.refused })
-
-  same_line : (l m : Line) (a b rest : List ℕ) → IsWellFormed l → IsWellFormed m → rest ≡ printed Plain l ++ a → rest ≡ printed Plain m ++ b → l ≡ m
-  same_line l m a b rest p q x y = (printed_once texts l m a b p q (sym x ∙ y)).0
+  seen bytes lines rest s (Uncovered n) begins h = inr (record { line = h.line; after = h.after; starts = last_line bytes lines h.line rest h.after begins h.begins; reason = inr (n, refl, h.refused) })
+  seen bytes lines rest s why begins h = inr (record { line = h.line; after = h.after; starts = last_line bytes lines h.line rest h.after begins h.begins; reason = inl h.refused })
 
   -- the text of a line isn't that of none
-  not_no_line : (l : Line) (a rest : List ℕ) → IsWellFormed l → rest ≡ printed Plain l ++ a → HasNoLine rest → ⊥
-  not_no_line l a rest formed is none = none.wrong l (record { formed = formed; fits = tt; is = (whole_once none.text (line_text Plain l) none.after a none.whole.one (texts.one l formed) (sym none.whole.is ∙ is ∙ printed_is l a)).0 })
+  not_no_line : (spelling : Spelling) (l : Line) (a rest : List ℕ) → Starts spelling rest l a → HasNoLine spelling rest → ⊥
+  not_no_line spelling l a rest starts none =
+      none.wrong l (record { formed = starts.spells.formed; fits = starts.spells.fits; is = (same_line none.text (line_text spelling l) none.after a none.whole.one starts.whole.one (sym none.whole.is ∙ starts.whole.is)).0 })
 
   -- a fault is no legal line whose vectors are covered
-  stops : (s : StateValue) (rest : List ℕ) (why : Why) (l : Line) (a : List ℕ) (t : StateValue) → Seen s rest why → IsWellFormed l → rest ≡ printed Plain l ++ a → IsNext p s l t → AreCovered vectors t → ⊥
-  stops s rest why l a t fault formed is next covered = ⊎_elim
-      (λ (h : (why ≡ Syntax) × HasNoLine rest). not_no_line l a rest formed is h.1)
-      (λ (h : Refusal s rest why).
-      let same : h.line ≡ l = same_line h.line l h.after a rest h.formed formed h.is is in
+  stops : (spelling : Spelling) (s : StateValue) (rest : List ℕ) (why : Why) (l : Line) (a : List ℕ) (t : StateValue) → Seen spelling s rest why → Starts spelling rest l a → IsNext p s l t → AreCovered vectors t → ⊥
+  stops spelling s rest why l a t fault starts next covered = ⊎_elim
+      (λ (h : (why ≡ Syntax) × HasNoLine spelling rest). not_no_line spelling l a rest starts h.1)
+      (λ (h : Refusal spelling s rest why).
+      let same : h.line ≡ l = starts_once spelling rest h.line l h.after a h.starts starts in
       let here : IsNext p s h.line t = subst (λ (m : Line). IsNext p s m t) (sym same) next in
       ⊎_elim
       (λ (r : IsRefused p s h.line why). (judged_once_law p s h.line).not_both why t r here)
@@ -97,16 +92,16 @@ module _ (texts : LineTexts) (p : ProblemValue) (vectors : List (List ℤ)) wher
       h.reason)
       fault
 
-  one_reason : (s : StateValue) (rest : List ℕ) (why other : Why) → Seen s rest why → Seen s rest other → why ≡ other
-  one_reason s rest why other a b = ⊎_elim
-      (λ (h : (why ≡ Syntax) × HasNoLine rest). ⊎_elim
-      (λ (g : (other ≡ Syntax) × HasNoLine rest). h.0 ∙ sym g.0)
-      (λ (g : Refusal s rest other). absurd (not_no_line g.line g.after rest g.formed g.is h.1))
+  one_reason : (spelling : Spelling) (s : StateValue) (rest : List ℕ) (why other : Why) → Seen spelling s rest why → Seen spelling s rest other → why ≡ other
+  one_reason spelling s rest why other a b = ⊎_elim
+      (λ (h : (why ≡ Syntax) × HasNoLine spelling rest). ⊎_elim
+      (λ (g : (other ≡ Syntax) × HasNoLine spelling rest). h.0 ∙ sym g.0)
+      (λ (g : Refusal spelling s rest other). absurd (not_no_line spelling g.line g.after rest g.starts h.1))
       b)
-      (λ (h : Refusal s rest why). ⊎_elim
-      (λ (g : (other ≡ Syntax) × HasNoLine rest). absurd (not_no_line h.line h.after rest h.formed h.is g.1))
-      (λ (g : Refusal s rest other).
-      let same : g.line ≡ h.line = same_line g.line h.line g.after h.after rest g.formed h.formed g.is h.is in
+      (λ (h : Refusal spelling s rest why). ⊎_elim
+      (λ (g : (other ≡ Syntax) × HasNoLine spelling rest). absurd (not_no_line spelling h.line h.after rest h.starts g.1))
+      (λ (g : Refusal spelling s rest other).
+      let same : g.line ≡ h.line = starts_once spelling rest g.line h.line g.after h.after g.starts h.starts in
       reasons h.line h.reason (subst (λ (l : Line). IsRefused p s l other ⊎ ((n : ℕ) × (other ≡ Uncovered n) × LogsUncovered p vectors s l n)) same g.reason))
       b)
       a
@@ -120,65 +115,68 @@ module _ (texts : LineTexts) (p : ProblemValue) (vectors : List (List ℤ)) wher
           let number : x.0 ≡ y.0 = sym x.2.number ∙ ap (λ (t : StateValue). length t.sols) next ∙ y.2.number in
           x.1 ∙ ap Uncovered number ∙ sym y.1
 
-  fault_has_newline : (s : StateValue) (rest : List ℕ) (why : Why) → Seen s rest why → IsOneLine rest → ⊥
-  fault_has_newline s rest why fault one = ⊎_elim
-      (λ (h : (why ≡ Syntax) × HasNoLine rest). whole_has_newline rest h.1.text h.1.after h.1.whole one)
-      (λ (h : Refusal s rest why). printed_has_newline h.line h.after rest h.is one)
+  fault_has_newline : (spelling : Spelling) (s : StateValue) (rest : List ℕ) (why : Why) → Seen spelling s rest why → IsOneLine rest → ⊥
+  fault_has_newline spelling s rest why fault one = ⊎_elim
+      (λ (h : (why ≡ Syntax) × HasNoLine spelling rest). whole_has_newline rest h.1.text h.1.after h.1.whole one)
+      (λ (h : Refusal spelling s rest why). whole_has_newline rest _ h.after h.starts.whole one)
       fault
 
   -- ---- two readings
 
   module _ (bytes : List ℕ) (ls ms : List Line) (s t : StateValue) (r q : List ℕ) (one : Reads bytes ls s r) (two : Reads bytes ms t q) where
     -- no reading goes on after a fault
-    no_further : (why : Why) → Seen t q why → GoesOn ls ms r q → ⊥
+    no_further : (why : Why) → Seen (after_lines two.begins.first ms) t q why → GoesOn (after_lines two.begins.first ms) ls ms q → ⊥
     no_further why fault on =
         let split = leads_split p ms (on.next ∷ on.more) (start p) s (subst (λ (xs : List Line). IsReplay p xs s) on.is one.reached.replay) in
         let same : split.0 ≡ t = replay_once p ms split.0 t split.1 two.reached.replay in
         let next : IsNext p t on.next split.2.0 = subst (λ (u : StateValue). IsNext p u on.next split.2.0) same split.2.1 in
-        stops t q why on.next (flat_map (printed Plain) on.more ++ r) split.2.0 fault on.formed on.text next (leads_covered vectors p split.2.0 on.more s split.2.2 one.reached.covered)
+        stops (after_lines two.begins.first ms) t q why on.next on.behind split.2.0 fault (starts_next (after_lines two.begins.first ms) ls ms q on) next (leads_covered vectors p split.2.0 on.more s split.2.2 one.reached.covered)
 
     states_same : ls ≡ ms → s ≡ t
     states_same same = replay_once p ms s t (subst (λ (xs : List Line). IsReplay p xs s) same one.reached.replay) two.reached.replay
 
-    fault_excluded : (why : Why) → IsOneLine r → Seen t q why → ⊥
+    fault_excluded : (why : Why) → IsOneLine r → Seen (after_lines two.begins.first ms) t q why → ⊥
     fault_excluded why last fault = ⊎_elim
-        (λ (same : (ls ≡ ms) × (r ≡ q)). fault_has_newline t q why fault (subst IsOneLine same.1 last))
-        (λ (other : GoesOn ls ms r q ⊎ GoesOn ms ls q r). ⊎_elim
-        (λ (on : GoesOn ls ms r q). no_further why fault on)
-        (λ (on : GoesOn ms ls q r). printed_has_newline on.next (flat_map (printed Plain) on.more ++ q) r on.text last)
+        (λ (same : (ls ≡ ms) × (r ≡ q)). fault_has_newline (after_lines two.begins.first ms) t q why fault (subst IsOneLine same.1 last))
+        (λ (other : GoesOn (after_lines two.begins.first ms) ls ms q ⊎ GoesOn (after_lines one.begins.first ls) ms ls r). ⊎_elim
+        (λ (on : GoesOn (after_lines two.begins.first ms) ls ms q). no_further why fault on)
+        (λ (on : GoesOn (after_lines one.begins.first ls) ms ls r). whole_has_newline r _ on.behind on.line last)
         other)
-        (begins_align texts bytes ls ms r q one.begins two.begins)
+        (begins_align bytes ls ms r q one.begins two.begins)
 
     -- two readings that leave no whole line are one
     both_end : IsOneLine r → IsOneLine q → ls ≡ ms
     both_end last end = ⊎_elim
         (λ (same : (ls ≡ ms) × (r ≡ q)). same.0)
-        (λ (other : GoesOn ls ms r q ⊎ GoesOn ms ls q r). absurd (⊎_elim
-        (λ (on : GoesOn ls ms r q). printed_has_newline on.next (flat_map (printed Plain) on.more ++ r) q on.text end)
-        (λ (on : GoesOn ms ls q r). printed_has_newline on.next (flat_map (printed Plain) on.more ++ q) r on.text last)
+        (λ (other : GoesOn (after_lines two.begins.first ms) ls ms q ⊎ GoesOn (after_lines one.begins.first ls) ms ls r). absurd (⊎_elim
+        (λ (on : GoesOn (after_lines two.begins.first ms) ls ms q). whole_has_newline q _ on.behind on.line end)
+        (λ (on : GoesOn (after_lines one.begins.first ls) ms ls r). whole_has_newline r _ on.behind on.line last)
         other))
-        (begins_align texts bytes ls ms r q one.begins two.begins)
+        (begins_align bytes ls ms r q one.begins two.begins)
 
-  faults_same : (bytes : List ℕ) (ls ms : List Line) (s t : StateValue) (r q : List ℕ) (why other : Why) → Reads bytes ls s r → Reads bytes ms t q → Seen s r why → Seen t q other → (ls ≡ ms) × (why ≡ other)
+  faults_same : (bytes : List ℕ) (ls ms : List Line) (s t : StateValue) (r q : List ℕ) (why other : Why) → (one : Reads bytes ls s r) → (two : Reads bytes ms t q) → Seen (after_lines one.begins.first ls) s r why → Seen (after_lines two.begins.first ms) t q other → (ls ≡ ms) × (why ≡ other)
   faults_same bytes ls ms s t r q why other one two a b = ⊎_elim
-      (λ (same : (ls ≡ ms) × (r ≡ q)). (same.0, one_reason t q why other (subst (λ (x : List ℕ). Seen t x why) same.1 (subst (λ (u : StateValue). Seen u r why) (states_same bytes ls ms s t r q one two same.0) a)) b))
-      (λ (on : GoesOn ls ms r q ⊎ GoesOn ms ls q r). absurd (⊎_elim
-      (λ (h : GoesOn ls ms r q). no_further bytes ls ms s t r q one two other b h)
-      (λ (h : GoesOn ms ls q r). no_further bytes ms ls t s q r two one why a h)
+      (λ (same : (ls ≡ ms) × (r ≡ q)).
+      let spelled : Seen (after_lines two.begins.first ms) s r why = subst (λ (x : Spelling). Seen x s r why) (one_spelling bytes ls ms r q one.begins two.begins same.0) a in
+      let here : Seen (after_lines two.begins.first ms) t r why = subst (λ (u : StateValue). Seen (after_lines two.begins.first ms) u r why) (states_same bytes ls ms s t r q one two same.0) spelled in
+      (same.0, one_reason (after_lines two.begins.first ms) t q why other (subst (λ (x : List ℕ). Seen (after_lines two.begins.first ms) t x why) same.1 here) b))
+      (λ (on : GoesOn (after_lines two.begins.first ms) ls ms q ⊎ GoesOn (after_lines one.begins.first ls) ms ls r). absurd (⊎_elim
+      (λ (h : GoesOn (after_lines two.begins.first ms) ls ms q). no_further bytes ls ms s t r q one two other b h)
+      (λ (h : GoesOn (after_lines one.begins.first ls) ms ls r). no_further bytes ms ls t s q r two one why a h)
       on))
-      (begins_align texts bytes ls ms r q one.begins two.begins)
+      (begins_align bytes ls ms r q one.begins two.begins)
 
   -- ---- whole lines
 
-  before_fault : (bytes : List ℕ) (k : ℕ) (why : Why) → (h : IsRefusedAfter p vectors bytes k why) → Reads bytes h.lines h.state h.rest
+  abbrev before_fault : (bytes : List ℕ) (k : ℕ) (why : Why) → (h : IsRefusedAfter p vectors bytes k why) → Reads bytes h.lines h.state h.rest
   before_fault bytes k why h = record { begins = h.begins; reached = h.reached }
 
-  fault_seen : (bytes : List ℕ) (k : ℕ) (why : Why) → (h : IsRefusedAfter p vectors bytes k why) → Seen h.state h.rest why
+  fault_seen : (bytes : List ℕ) (k : ℕ) (why : Why) → (h : IsRefusedAfter p vectors bytes k why) → Seen (after_lines h.begins.first h.lines) h.state h.rest why
   fault_seen bytes k why h = seen bytes h.lines h.rest h.state why h.begins h.fault
 
   pub no_whole_fault : (bytes : List ℕ) (lines : List Line) (s : StateValue) → IsReplay p lines s → AreCovered vectors s → HoldsNoFurtherLine bytes lines → HasNoWholeFault p vectors bytes
   no_whole_fault bytes lines s replay covered held k why fault = ⊎_elim
-      (λ (part : IsPrefixOf bytes header_text). ⊎_elim
+      (λ (part : IsHeaderPart bytes). ⊎_elim
       (λ (h : (k ≡ 1) × (why ≡ Syntax) × HasWrongHeader bytes). h.2.1 part)
       (λ (h : IsRefusedAfter p vectors bytes k why). begins_has_newline bytes h.lines h.rest h.begins (header_part_one bytes part))
       fault)
@@ -200,7 +198,7 @@ module _ (texts : LineTexts) (p : ProblemValue) (vectors : List (List ℤ)) wher
 
   whole_not_end : (bytes : List ℕ) (lines : List Line) (s : StateValue) (k : ℕ) (why : Why) → Reads bytes lines s [] → IsWholeFault p vectors bytes k why → ⊥
   whole_not_end bytes lines s k why reads (inl a) = not_headless bytes lines [] reads.begins a.2
-  whole_not_end bytes lines s k why reads (inr a) = fault_excluded bytes lines a.lines s a.state [] a.rest reads (before_fault bytes k why a) why one_empty (fault_seen bytes k why a)
+  whole_not_end bytes lines s k why reads (inr a) = fault_excluded bytes lines a.lines s a.state [] a.rest reads (before_fault bytes k why a) why one_nil (fault_seen bytes k why a)
 
   at_end : (bytes : List ℕ) (k : ℕ) → (h : HasNoEnd p vectors bytes k) → Reads bytes h.lines h.state []
   at_end bytes k h = record { begins = h.spelled; reached = h.reached }
@@ -216,10 +214,10 @@ module _ (texts : LineTexts) (p : ProblemValue) (vectors : List (List ℤ)) wher
 
   end_faults_same : (bytes : List ℕ) (k j : ℕ) (why other : Why) → EndsWrong bytes k why → EndsWrong bytes j other → (k ≡ j) × (why ≡ other)
   end_faults_same bytes k j why other (inl a) (inl b) = (unfinished_once bytes k j a.2 b.2, a.0 ∙ sym b.0)
-  end_faults_same bytes k j why other (inl a) (inr b) = absurd (spelled_finished bytes b.1.lines k b.1.spelled a.2)
-  end_faults_same bytes k j why other (inr a) (inl b) = absurd (spelled_finished bytes a.1.lines j a.1.spelled b.2)
+  end_faults_same bytes k j why other (inl a) (inr b) = absurd (never_unfinished bytes b.1.lines b.1.spelled k a.2)
+  end_faults_same bytes k j why other (inr a) (inl b) = absurd (never_unfinished bytes a.1.lines a.1.spelled j b.2)
   end_faults_same bytes k j why other (inr a) (inr b) =
-      let same = both_end bytes a.1.lines b.1.lines a.1.state b.1.state [] [] (at_end bytes k a.1) (at_end bytes j b.1) one_empty one_empty in
+      let same = both_end bytes a.1.lines b.1.lines a.1.state b.1.state [] [] (at_end bytes k a.1) (at_end bytes j b.1) one_nil one_nil in
       (omega (arith, a.1.number, b.1.number, ap length same), a.0 ∙ sym b.0)
 
   whole_and_end : (bytes : List ℕ) (k j : ℕ) (why other : Why) → IsWholeFault p vectors bytes k why → EndsWrong bytes j other → ⊥
@@ -239,9 +237,9 @@ module _ (texts : LineTexts) (p : ProblemValue) (vectors : List (List ℤ)) wher
       reads = record { begins = proof.spelled; reached = record { replay = proof.replay; covered = proof.covered } }
 
       ends : EndsWrong bytes k why → ⊥
-      ends (inl a) = spelled_finished bytes proof.lines k proof.spelled a.2
+      ends (inl a) = never_unfinished bytes proof.lines proof.spelled k a.2
       ends (inr a) =
-          let same = both_end bytes proof.lines a.1.lines proof.state a.1.state [] [] reads (at_end bytes k a.1) one_empty one_empty in
+          let same = both_end bytes proof.lines a.1.lines proof.state a.1.state [] [] reads (at_end bytes k a.1) one_nil one_nil in
           let state : proof.state ≡ a.1.state = states_same bytes proof.lines a.1.lines proof.state a.1.state [] [] reads (at_end bytes k a.1) same in
           false≢true (sym a.1.unended ∙ sym (ap (λ (s : StateValue). s.ended) state) ∙ proof.ended)
 
@@ -256,8 +254,8 @@ module _ (texts : LineTexts) (p : ProblemValue) (vectors : List (List ℤ)) wher
   refused_next bytes lines s line after why begins fault = record { line = line; after = after; begins = begins; refused = fault }
 
   -- a whole line that is wrong is that after the lines that it goes wrong after
-  wrong_follows : (bytes : List ℕ) (lines : List Line) (rest : List ℕ) (n : ℕ) → BeginsWith bytes lines rest → (g : GoesWrongAfter bytes n) → GoesOn lines g.lines rest g.rest → ⊥
-  wrong_follows bytes lines rest n begins g on = not_no_line on.next (flat_map (printed Plain) on.more ++ rest) g.rest on.formed on.text (record { text = g.text; after = g.after; whole = g.line; wrong = g.wrong })
+  wrong_follows : (bytes : List ℕ) (lines : List Line) (n : ℕ) → (g : GoesWrongAfter bytes n) → GoesOn (after_lines g.begins.first g.lines) lines g.lines g.rest → ⊥
+  wrong_follows bytes lines n g on = wrong_here (after_lines g.begins.first g.lines) lines g.lines g.rest g.text g.after g.line g.wrong on
 
   pub no_syntax : (bytes : List ℕ) (lines : List Line) (k : ℕ) → HoldsNoFurtherLine bytes lines → IsSyntaxAt bytes k → ⊥
   no_syntax bytes lines zero held h = h
@@ -266,11 +264,11 @@ module _ (texts : LineTexts) (p : ProblemValue) (vectors : List (List ℤ)) wher
   no_syntax bytes lines (suc (suc n)) (inl part) g = begins_has_newline bytes g.lines g.rest g.begins (header_part_one bytes part)
   no_syntax bytes lines (suc (suc n)) (inr rest) g = ⊎_elim
       (λ (same : (lines ≡ g.lines) × (rest.0 ≡ g.rest)). whole_has_newline g.rest g.text g.after g.line (subst IsOneLine same.1 rest.2))
-      (λ (other : GoesOn lines g.lines rest.0 g.rest ⊎ GoesOn g.lines lines g.rest rest.0). ⊎_elim
-      (λ (on : GoesOn lines g.lines rest.0 g.rest). wrong_follows bytes lines rest.0 n rest.1 g on)
-      (λ (on : GoesOn g.lines lines g.rest rest.0). printed_has_newline on.next (flat_map (printed Plain) on.more ++ g.rest) rest.0 on.text rest.2)
+      (λ (other : GoesOn (after_lines g.begins.first g.lines) lines g.lines g.rest ⊎ GoesOn (after_lines rest.1.first lines) g.lines lines rest.0). ⊎_elim
+      (λ (on : GoesOn (after_lines g.begins.first g.lines) lines g.lines g.rest). wrong_follows bytes lines n g on)
+      (λ (on : GoesOn (after_lines rest.1.first lines) g.lines lines rest.0). whole_has_newline rest.0 _ on.behind on.line rest.2)
       other)
-      (begins_align texts bytes lines g.lines rest.0 g.rest rest.1 g.begins)
+      (begins_align bytes lines g.lines rest.0 g.rest rest.1 g.begins)
 
   -- it goes wrong after as many lines as those, and these are those
   wrong_after : (bytes : List ℕ) (lines : List Line) (n : ℕ) → (lines ≡ []) ⊎ ((rest : List ℕ) × BeginsWith bytes lines rest) → (g : GoesWrongAfter bytes n) → n ≤ length lines → g.lines ≡ lines
@@ -281,11 +279,11 @@ module _ (texts : LineTexts) (p : ProblemValue) (vectors : List (List ℤ)) wher
       empty (x ∷ xs) low = absurd (omega arith)
   wrong_after bytes lines n (inr rest) g few = ⊎_elim
       (λ (same : (lines ≡ g.lines) × (rest.0 ≡ g.rest)). sym same.0)
-      (λ (other : GoesOn lines g.lines rest.0 g.rest ⊎ GoesOn g.lines lines g.rest rest.0). absurd (⊎_elim
-      (λ (on : GoesOn lines g.lines rest.0 g.rest). wrong_follows bytes lines rest.0 n rest.1 g on)
-      (λ (on : GoesOn g.lines lines g.rest rest.0). omega (arith, g.right, ap length on.is, length-append lines (on.next ∷ on.more)))
+      (λ (other : GoesOn (after_lines g.begins.first g.lines) lines g.lines g.rest ⊎ GoesOn (after_lines rest.1.first lines) g.lines lines rest.0). absurd (⊎_elim
+      (λ (on : GoesOn (after_lines g.begins.first g.lines) lines g.lines g.rest). wrong_follows bytes lines n g on)
+      (λ (on : GoesOn (after_lines rest.1.first lines) g.lines lines rest.0). omega (arith, g.right, ap length on.is, length-append lines (on.next ∷ on.more)))
       other))
-      (begins_align texts bytes lines g.lines rest.0 g.rest rest.1 g.begins)
+      (begins_align bytes lines g.lines rest.0 g.rest rest.1 g.begins)
 
   pub syntax_fault : (bytes : List ℕ) (lines : List Line) (s : StateValue) (k : ℕ) → IsReplay p lines s → AreCovered vectors s → (lines ≡ []) ⊎ ((rest : List ℕ) × BeginsWith bytes lines rest) → IsSyntaxAt bytes k → k ≤ length lines + 2 → IsWholeFault p vectors bytes k Syntax
   syntax_fault bytes lines s zero replay covered given h low = absurd h

@@ -4,7 +4,6 @@ pub mod Reasons
 pub mod Stepping
 pub mod Texts
 pub mod Faults
-pub mod TextLaws
 pub mod Answering
 pub mod ListLaws
 pub mod Unrefused

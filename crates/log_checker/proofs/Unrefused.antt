@@ -9,7 +9,6 @@ use Rattle.log_checker.specs.Accepted.{IsAccepted, IsEndedProof, problem_vectors
 use Rattle.log_checker.specs.NoRefusal.{IsRefusedNowhere}
 use Rattle.log_checker.proofs.Faults.{ended_has_no_fault}
 use Rattle.log_checker.proofs.ListLaws.{right_has_no_fault}
-use Rattle.log_checker.proofs.TextLaws.{line_texts}
 
 pub accepted_unrefused : (i : InstanceValue) (list log : List ℕ) → length list < 2 ^ 64 → IsAccepted i list log → IsRefusedNowhere i list log
 accepted_unrefused i list log short accepted = record {
@@ -19,5 +18,5 @@ accepted_unrefused i list log short accepted = record {
       let form : accepted.problem ≡ p = one_form i accepted.problem p accepted.normal normal in
       let proof : IsEndedProof p (problem_vectors i entries) log = subst (λ (es : List Entry). IsEndedProof p (problem_vectors i es) log) same
       (subst (λ (q : ProblemValue). IsEndedProof q (problem_vectors i accepted.entries) log) form accepted.proof) in
-      ended_has_no_fault line_texts p (problem_vectors i entries) log k why proof;
+      ended_has_no_fault p (problem_vectors i entries) log k why proof;
 }

@@ -85,7 +85,7 @@ impl Checker {
     }
 
     /// Judges the lines that the next piece makes whole. `Refused` with the first line of all bytes that
-    /// is refused, and the same again after it; a first line that isn't the header is as soon as its bytes
+    /// is refused, and the same again after it; a first line that isn't a header is as soon as its bytes
     /// differ. `NoMemory` where memory was refused, and again after it.
     ///
     /// A line costs its step, and what it logs the objectives of each vector.

@@ -28,6 +28,7 @@ mod words;
 
 pub use laws::one_line;
 pub use next_id::made;
+pub use number::plain_id;
 pub use print::append_line;
 pub use reader::{LineFault, read_line};
 pub use spelling::Spelling;

@@ -31,7 +31,7 @@ pub(crate) fn number_of(word: &[u8]) -> Option<u128>
 }
 
 /// The id below 2^63 whose digits a word are. One pass.
-pub(crate) fn plain_id(word: &[u8]) -> Option<u64>
+pub fn plain_id(word: &[u8]) -> Option<u64>
     ensures { IsValueOf decimal IsId word.now result }
 {
     if word.len() > NARROW_DIGITS || !is_plain(word) {

@@ -10,17 +10,19 @@ use Rattle.scut_base.specs.Files.{Files, content, with_file, with_appended, byte
 use Rattle.scut_base.proofs.FileLaws.{content-same, told_before, tied_other}
 use Rattle.pb_lin.specs.Problem.{ProblemValue}
 use Rattle.proof_laws.specs.WellFormed.{IsWellFormed}
-use Rattle.proof_laws.specs.State.{StateValue, Fits, start}
+use Rattle.proof_laws.specs.State.{StateValue, IsState, Fits, start}
 use Rattle.proof_laws.specs.Replay.{IsReplay}
 use Rattle.proof_laws.specs.Legal.{IsLegal, IsNext}
 use Rattle.proof_laws.specs.declared.line.Line.{Line}
+use Rattle.proof_lines.specs.Ids.{FitsNext}
 use Rattle.proof_lines.specs.LineText.{printed}
-use Rattle.proof_text.specs.LogText.{header_line, log_text}
+use Rattle.proof_lines.specs.declared.spelling.Spelling.{Spelling}
+use Rattle.proof_text.specs.Versions.{IsFirst, after_lines, first_of, header_line, log_text, spelling_at}
+use Rattle.proof_text.specs.declared.version.LogVersion.{LogVersion}
 use Rattle.proof_text.specs.LogFile.{IsLogFile}
 use Rattle.proof_text.specs.Recorders.{IsHeld, IsPutPartly, without_file}
-use Rattle.proof_text.proofs.Logs.{log_text_push}
-use Rattle.proof_text.proofs.Replaying.{kept_none, kept_more}
-use Rattle.proof_lines.specs.declared.spelling.Spelling.TheVariants.{Plain}
+use Rattle.proof_text.proofs.Logs.{fit_push, log_text_push}
+use Rattle.proof_text.proofs.Replaying.{fits_here, kept_none, kept_more, spelled_here}
 
 -- ---- the other files
 
@@ -54,60 +56,79 @@ others_of_part f g n piece (inr part) = ap (λ (h : Option Files). without_file 
 
 -- ---- this file
 
--- the bytes behind the whole log
-grown : (old new : Option Files) (name more : List ℕ) (p : ProblemValue) (lines : List Line) → IsLogFile old name p lines false → new ≡ with_appended old name more → IsTold new → content new name ≡ Some (log_text lines ++ more)
-grown old new name more p lines log is told =
-    let told_old : IsTold old = told_before old name _ (subst (λ (f : Option Files). IsTold f) is told) in
-    let there : content old name ≡ Some (log_text lines) = log.file told_old ∙ ap (λ (t : List ℕ). Some (log_text lines ++ t)) (log.whole refl) ∙ ap Some (append-nil (log_text lines)) in
-    ap (λ (f : Option Files). content f name) is ∙ content-same old name _ told_old ∙ ap (λ (o : Option (List ℕ)). Some (bytes_or_none o ++ more)) there
+module _ (p : ProblemValue) (version : LogVersion) where
+  abbrev text : List Line → List ℕ
+  text lines = log_text (first_of version p) lines
 
-log_more : (old new : Option Files) (name : List ℕ) (p : ProblemValue) (lines : List Line) (line : Line) → IsLogFile old name p lines false → new ≡ with_appended old name (printed Plain line) → IsLogFile new name p (lines ++ line ∷ []) false
-log_more old new name p lines line log is = record {
-  part = [];
-  file = λ told. grown old new name (printed Plain line) p lines log is told ∙ ap Some (sym (log_text_push lines line) ∙ sym (append-nil (log_text (lines ++ line ∷ []))));
-  whole = λ _. refl;
-  next = inl refl;
-}
+  abbrev here : List Line → Spelling
+  here lines = after_lines (first_of version p) lines
 
-log_partly : (old new : Option Files) (name : List ℕ) (p : ProblemValue) (lines : List Line) (line : Line) → IsLogFile old name p lines false → IsWellFormed line → (s : StateValue) → IsReplay p lines s → IsLegal p s line → IsPutPartly old new name (printed Plain line) → IsLogFile new name p lines true
-log_partly old new name p lines line log formed s replay legal (inl same) = subst (λ (f : Option Files). IsLogFile f name p lines true) (sym same) (record {
-  part = log.part;
-  file = log.file;
-  whole = λ bad. cc;
-  next = log.next;
-})
-log_partly old new name p lines line log formed s replay legal (inr put) = record {
-  part = put.0;
-  file = λ told. grown old new name put.0 p lines log put.2 told;
-  whole = λ bad. cc;
-  next = inr (record { line = line; formed = formed; state = s; replay = replay; legal = legal; prefix = put.1 });
-}
+  -- the bytes behind the whole log
+  grown : (old new : Option Files) (name more : List ℕ) (lines : List Line) → IsLogFile old name p version lines false → new ≡ with_appended old name more → IsTold new → content new name ≡ Some (text lines ++ more)
+  grown old new name more lines log is told =
+      let told_old : IsTold old = told_before old name _ (subst (λ (f : Option Files). IsTold f) is told) in
+      let there : content old name ≡ Some (text lines) = log.file told_old ∙ ap (λ (t : List ℕ). Some (text lines ++ t)) (log.whole refl) ∙ ap Some (append-nil (text lines)) in
+      ap (λ (f : Option Files). content f name) is ∙ content-same old name _ told_old ∙ ap (λ (o : Option (List ℕ)). Some (bytes_or_none o ++ more)) there
 
--- a log that was just begun
-pub held_none : (old new : Option Files) (name : List ℕ) (p : ProblemValue) (s : StateValue) → s ≡ start p → Fits p s → new ≡ with_file old name header_line → IsHeld new name p [] s false
-held_none old new name p s first fits is = record {
-  kept = kept_none p s first fits;
-  file = record {
+  log_more : (old new : Option Files) (name : List ℕ) (lines : List Line) (line : Line) → IsLogFile old name p version lines false → FitsNext (here lines) line → new ≡ with_appended old name (printed (here lines) line) → IsLogFile new name p version (lines ++ line ∷ []) false
+  log_more old new name lines line log fits is = record {
+    first = log.first;
+    fit = fit_push (first_of version p) lines line log.fit fits;
     part = [];
-    file = λ told. ap (λ (f : Option Files). content f name) is ∙ content-same old name header_line (told_before old name header_line (subst (λ (f : Option Files). IsTold f) is told));
+    file = λ told. grown old new name (printed (here lines) line) lines log is told ∙ ap Some (sym (log_text_push (first_of version p) lines line) ∙ sym (append-nil (text (lines ++ line ∷ []))));
     whole = λ _. refl;
     next = inl refl;
-  };
-}
+  }
 
--- a line more
-pub held_more : (old new : Option Files) (name : List ℕ) (p : ProblemValue) (lines : List Line) (s : StateValue) (line : Line) (t : StateValue) → IsHeld old name p lines s false → IsWellFormed line → new ≡ with_appended old name (printed Plain line) → IsNext p s line t → Fits p t → IsHeld new name p (lines ++ line ∷ []) t false
-held_more old new name p lines s line t held formed is next fits = record {
-  kept = kept_more p lines s line t held.kept formed next fits;
-  file = log_more old new name p lines line held.file is;
-}
+  log_partly : (old new : Option Files) (name : List ℕ) (lines : List Line) (line : Line) → IsLogFile old name p version lines false → IsWellFormed line → (s : StateValue) → IsReplay p lines s → IsLegal p s line → IsPutPartly old new name (printed (here lines) line) → IsLogFile new name p version lines true
+  log_partly old new name lines line log formed s replay legal (inl same) = subst (λ (f : Option Files). IsLogFile f name p version lines true) (sym same) (record {
+    first = log.first;
+    fit = log.fit;
+    part = log.part;
+    file = log.file;
+    whole = λ bad. cc;
+    next = log.next;
+  })
+  log_partly old new name lines line log formed s replay legal (inr put) = record {
+    first = log.first;
+    fit = log.fit;
+    part = put.0;
+    file = λ told. grown old new name put.0 lines log put.2 told;
+    whole = λ bad. cc;
+    next = inr (record { line = line; formed = formed; state = s; replay = replay; legal = legal; prefix = put.1 });
+  }
 
--- a part of a line more
-pub held_partly : (old new : Option Files) (name : List ℕ) (p : ProblemValue) (lines : List Line) (s : StateValue) (line : Line) → IsHeld old name p lines s false → IsWellFormed line → IsLegal p s line → IsPutPartly old new name (printed Plain line) → IsHeld new name p lines s true
-held_partly old new name p lines s line held formed legal put = record {
-  kept = held.kept;
-  file = log_partly old new name p lines line held.file formed s held.kept.replay legal put;
-}
+  -- a log that was just begun
+  pub held_none : (old new : Option Files) (name : List ℕ) (s : StateValue) → IsFirst (first_of version p) → s ≡ start p → Fits p s → new ≡ with_file old name (header_line (first_of version p)) → IsHeld new name p version [] s false
+  held_none old new name s begins first fits is = record {
+    kept = kept_none p s first fits;
+    file = record {
+      first = begins;
+      fit = tt;
+      part = [];
+      file = λ told. ap (λ (f : Option Files). content f name) is ∙ content-same old name _ (told_before old name _ (subst (λ (f : Option Files). IsTold f) is told)) ∙ ap Some (sym (append-nil (text []) ∙ append-nil (header_line (first_of version p))));
+      whole = λ _. refl;
+      next = inl refl;
+    };
+  }
+
+  -- a line more, which the state before it spells
+  pub held_more : (old new : Option Files) (name : List ℕ) (lines : List Line) (s : StateValue) (line : Line) (t : StateValue) → IsHeld old name p version lines s false → IsState s → IsWellFormed line → new ≡ with_appended old name (printed (spelling_at version p s) line) → IsNext p s line t → Fits p t → IsHeld new name p version (lines ++ line ∷ []) t false
+  held_more old new name lines s line t held state formed is next fits =
+      let same : spelling_at version p s ≡ here lines = sym (spelled_here version p lines s held.kept.replay) in
+      record {
+        kept = kept_more p lines s line t held.kept formed next fits;
+        file = log_more old new name lines line held.file (subst (λ (x : Spelling). FitsNext x line) same (fits_here version p s line state))
+            (subst (λ (x : Spelling). new ≡ with_appended old name (printed x line)) same is);
+      }
+
+  -- a part of a line more
+  pub held_partly : (old new : Option Files) (name : List ℕ) (lines : List Line) (s : StateValue) (line : Line) → IsHeld old name p version lines s false → IsWellFormed line → IsLegal p s line → IsPutPartly old new name (printed (spelling_at version p s) line) → IsHeld new name p version lines s true
+  held_partly old new name lines s line held formed legal put = record {
+    kept = held.kept;
+    file = log_partly old new name lines line held.file formed s held.kept.replay legal
+        (subst (λ (x : Spelling). IsPutPartly old new name (printed x line)) (sym (spelled_here version p lines s held.kept.replay)) put);
+  }
 
 -- ---- the last line
 

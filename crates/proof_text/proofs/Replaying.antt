@@ -1,5 +1,7 @@
 -- Proofs that grow by a line.
-use Rattle.std.proofs.Common.{◌≡◌, ◌≢◌, ◌⊎◌, ⊎_elim, ℕ, ◌+◌, ◌^◌, ◌<◌, ◌≤◌, List, [], ◌∷◌, ◌++◌, length, sym, ap, ◌∙◌, arith}
+use Rattle.std.proofs.Common.{◌≡◌, ◌≢◌, ◌⊎◌, ⊎_elim, ℕ, ◌+◌, ◌^◌, ◌<◌, ◌≤◌, List, [], ◌∷◌, ◌++◌, length, refl, sym, ap, ◌∙◌, arith}
+use Rattle.std.specs.List.{sum_by}
+use Rattle.std.proofs.lemmas.List.Sums.{sum_by-cons}
 use Rattle.std.proofs.lemmas.Bool.{lt-ltb, cases_order}
 use Rattle.std.proofs.lemmas.List.Elements.{All-nil, All-push}
 use Rattle.pb_lin.specs.Problem.{ProblemValue}
@@ -9,7 +11,15 @@ use Rattle.proof_laws.specs.Legal.{IsLegal, IsNext}
 use Rattle.proof_laws.specs.Replay.{IsReplay}
 use Rattle.proof_laws.specs.declared.line.Line.{Line}
 use Rattle.proof_laws.proofs.NeverLong.{never_long}
-use Rattle.proof_laws.proofs.Replays.{leads_further, replay_lines, replay_once}
+use Rattle.proof_laws.proofs.Replays.{leads_further, replay_ids, replay_lines, replay_once}
+use Rattle.proof_laws.specs.Steps.{made}
+use Rattle.proof_laws.specs.declared.line.Line.TheVariants.{Pol, Rup, Learn, Def, Red, Dom, Sol, Del, Reduce, End}
+use Rattle.proof_lines.specs.Ids.{FitsNext}
+use Rattle.proof_lines.specs.declared.spelling.Spelling.{Spelling}
+use Rattle.proof_lines.specs.declared.spelling.Spelling.TheVariants.{Plain, Relative}
+use Rattle.proof_text.specs.Versions.{after_lines, first_of, spelling_at}
+use Rattle.proof_text.specs.declared.version.LogVersion.{LogVersion}
+use Rattle.proof_text.specs.declared.version.LogVersion.TheVariants.{One, Two}
 use Rattle.proof_rules.specs.Recording.{MayBeAdded, IsNextId}
 use Rattle.proof_text.specs.Recorders.{IsKept}
 
@@ -39,3 +49,35 @@ kept_more p lines s line t kept formed next fits = record {
   replay = leads_further p lines (start p) s t line kept.replay next;
   fits = fits;
 }
+
+-- ---- ids
+
+few_made : (line : Line) → made line ≤ 2
+few_made (Pol tokens) = omega arith
+few_made (Rup goal hints) = omega arith
+few_made (Learn goal hints) = omega arith
+few_made (Def var sum) = omega arith
+few_made (Red goal w proofs) = omega arith
+few_made (Dom goal w proofs) = omega arith
+few_made (Sol model cut ids) = omega arith
+few_made (Del ids) = omega arith
+few_made (Reduce ids) = omega arith
+few_made (End id) = omega arith
+
+plain_after : (lines : List Line) → after_lines Plain lines ≡ Plain
+plain_after [] = refl
+plain_after (l ∷ lines) = plain_after lines
+
+counted_after : (rows next : ℕ) (lines : List Line) → after_lines (Relative rows next) lines ≡ Relative rows (next + sum_by made lines)
+counted_after rows next [] = ap (λ (n : ℕ). Relative rows n) (omega arith)
+counted_after rows next (l ∷ lines) = counted_after rows (next + made l) lines ∙ ap (λ (n : ℕ). Relative rows n) (omega (arith, sum_by-cons made l lines))
+
+-- the state after some lines tells how the next one spells its ids
+pub spelled_here : (version : LogVersion) (p : ProblemValue) (lines : List Line) (s : StateValue) → IsReplay p lines s → after_lines (first_of version p) lines ≡ spelling_at version p s
+spelled_here One p lines s replay = plain_after lines
+spelled_here Two p lines s replay = counted_after (length p.rows) (length p.rows + 1) lines ∙ ap (λ (n : ℕ). Relative (length p.rows) n) (sym (replay_ids p lines s replay))
+
+-- no state comes to ids that are too large
+pub fits_here : (version : LogVersion) (p : ProblemValue) (s : StateValue) (line : Line) → IsState s → FitsNext (spelling_at version p s) line
+fits_here One p s line state = tt
+fits_here Two p s line state = omega (arith, state.next_id, state.lines, few_made line)

@@ -38,7 +38,7 @@ both : (a b : Bool) → a ≡ true → b ≡ true → (a && b) ≡ true
 both true b p q = q
 both false b p q = p
 
-plain_append : (a b : List ℕ) → plain a ≡ true → plain b ≡ true → plain (a ++ b) ≡ true
+pub plain_append : (a b : List ℕ) → plain a ≡ true → plain b ≡ true → plain (a ++ b) ≡ true
 plain_append a b p q = list_all-append (λ c. not (c == newline)) a b ∙ both (plain a) (plain b) p q
 
 pair : (a b : List ℕ) → plain a ≡ true → plain b ≡ true → all_plain (a ∷ b ∷ []) ≡ true
@@ -77,7 +77,7 @@ digits_plain (suc k) n acc p =
     let more : plain last ≡ true = both (not (digit_glyph false (n % 10) == newline)) (plain acc) (glyph_plain (n % 10)) p in
     cond_both (n / 10 == 0) last (digits_onto k 10 false (n / 10) last) (λ (ds : List ℕ). plain ds ≡ true) (λ _. more) (λ _. digits_plain k (n / 10) last more)
 
-decimal_plain : (n : ℕ) → plain (decimal n) ≡ true
+pub decimal_plain : (n : ℕ) → plain (decimal n) ≡ true
 unfolding digits
 decimal_plain n = digits_plain 64 n [] refl
 

@@ -1,7 +1,8 @@
 -- Bytes that are taken off the front, line by line; nothing of it has to be believed.
-use Rattle.std.specs.Prelude.{ℕ, ◌+◌, ◌<◌, ◌≤◌, List, length, take, drop}
+use Rattle.std.specs.Prelude.{◌≡◌, ℕ, ◌+◌, ◌<◌, ◌≤◌, List, length, take, drop, codes}
 use Rattle.scut_base.specs.Files.{IsPrefixOf}
-use Rattle.proof_text.specs.LogText.{header_text, header_line, IsOneLine, IsWholeLine, HasWrongHeader}
+use Rattle.proof_text.specs.Versions.{IsFirst, header_line, header_text}
+use Rattle.proof_text.specs.LogText.{IsHeaderPart, IsOneLine, IsWholeLine, HasWrongHeader}
 use Rattle.proof_text.specs.declared.opening.Opening.{Opening}
 use Rattle.proof_text.specs.declared.opening.Opening.TheVariants.{Missing, There, Wrong}
 
@@ -15,8 +16,12 @@ pub record IsSearched (bytes : List ℕ) (at n : ℕ) : Type 0 where
   pub within : at + n ≤ length bytes
   pub one : IsOneLine (take n (drop at bytes))
 
+-- the header of version 2, up to its number
+abbrev pub rows_words : List ℕ
+rows_words = codes "scuttle proof version 2 rows "
+
 -- what the bytes begin with
 abbrev pub IsOpening : Opening → List ℕ → Type 0
-IsOpening Missing bytes = IsPrefixOf bytes header_text
-IsOpening There bytes = IsPrefixOf header_line bytes
+IsOpening Missing bytes = IsHeaderPart bytes
+IsOpening (There first len) bytes = IsFirst first × IsPrefixOf (header_line first) bytes × (len ≡ length (header_text first))
 IsOpening Wrong bytes = HasWrongHeader bytes

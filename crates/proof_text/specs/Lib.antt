@@ -1,4 +1,5 @@
 pub use Rattle.proof_lines.specs.LineText
+pub mod Versions
 pub mod LogText
 pub mod Reading
 pub mod Cutting

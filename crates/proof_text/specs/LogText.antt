@@ -1,28 +1,21 @@
 -- Which bytes are the text of which lines, and where other bytes go wrong.
-use Rattle.std.specs.Prelude.{◌≡◌, ◌≢◌, ℕ, zero, suc, ◌+◌, ◌==◌, ◌⊎◌, List, [], ◌∷◌, ◌++◌, length, All, Contains, codes}
-use Rattle.std.specs.List.{flat_map, count_by}
+use Rattle.std.specs.Prelude.{◌≡◌, ◌≢◌, ℕ, zero, suc, ◌+◌, ◌==◌, ◌⊎◌, List, [], ◌∷◌, ◌++◌, length, All, Contains}
+use Rattle.std.specs.List.{count_by}
 use Rattle.scut_base.specs.Bytes.{newline}
 use Rattle.scut_base.specs.Files.{IsPrefixOf}
 use Rattle.proof_laws.specs.WellFormed.{IsWellFormed}
 use Rattle.proof_laws.specs.declared.line.Line.{Line}
-use Rattle.proof_lines.specs.LineText.{printed, SpellsNoLine}
-use Rattle.proof_lines.specs.declared.spelling.Spelling.TheVariants.{Plain}
+use Rattle.proof_lines.specs.LineText.{SpellsNoLine}
+use Rattle.proof_lines.specs.declared.spelling.Spelling.{Spelling}
+use Rattle.proof_text.specs.Versions.{IsFirst, AllFit, after_lines, header_line, header_text, log_text}
 
--- the first line of each log
-abbrev pub header_text : List ℕ
-header_text = codes "scuttle proof version 1"
-
-abbrev pub header_line : List ℕ
-header_line = header_text ++ newline ∷ []
-
--- the header, and each line with its line feed
-abbrev pub log_text : List Line → List ℕ
-log_text lines = header_line ++ flat_map (printed Plain) lines
-
--- The bytes begin with the text of a log of these lines, and the rest follows.
+-- The bytes begin with the text of a log of these lines, in either version, and the rest follows.
 pub record BeginsWith (bytes : List ℕ) (lines : List Line) (rest : List ℕ) : Type 0 where
+  pub first : Spelling
+  pub version : IsFirst first
   pub formed : All IsWellFormed lines
-  pub is : bytes ≡ log_text lines ++ rest
+  pub fit : AllFit first lines
+  pub is : bytes ≡ log_text first lines ++ rest
 
 -- the bytes are the text of a log of these lines
 abbrev pub SpellsLog : List ℕ → List Line → Type 0
@@ -37,9 +30,13 @@ pub record IsWholeLine (rest text after : List ℕ) : Type 0 where
   pub one : IsOneLine text
   pub is : rest ≡ text ++ newline ∷ after
 
--- The bytes neither begin with the header line nor are a beginning of the header: wherever they go on, it isn't the first line.
+-- the bytes are a beginning of a header, without its line feed
+abbrev pub IsHeaderPart : List ℕ → Type 0
+IsHeaderPart bytes = (first : Spelling) × IsFirst first × IsPrefixOf bytes (header_text first)
+
+-- The bytes neither begin with a header line nor are a beginning of a header: wherever they go on, it isn't the first line.
 abbrev pub HasWrongHeader : List ℕ → Type 0
-HasWrongHeader bytes = (IsPrefixOf header_line bytes → ⊥) × (IsPrefixOf bytes header_text → ⊥)
+HasWrongHeader bytes = ((first : Spelling) → IsFirst first → IsPrefixOf (header_line first) bytes → ⊥) × (IsHeaderPart bytes → ⊥)
 
 -- After n lines comes a whole line that is the text of none.
 pub record GoesWrongAfter (bytes : List ℕ) (n : ℕ) : Type 0 where
@@ -50,7 +47,7 @@ pub record GoesWrongAfter (bytes : List ℕ) (n : ℕ) : Type 0 where
   pub text : List ℕ
   pub after : List ℕ
   pub line : IsWholeLine rest text after
-  pub wrong : SpellsNoLine Plain text
+  pub wrong : SpellsNoLine (after_lines begins.first lines) text
 
 -- The first line that is wrong, by its number from 1 and by bytes that are there, whatever follows: the first is another than the
 -- header, or a later one is whole and the text of none.
@@ -63,9 +60,13 @@ IsSyntaxAt bytes (suc (suc n)) = GoesWrongAfter bytes n
 abbrev pub IsWholeLines : List ℕ → Type 0
 IsWholeLines text = (text ≡ []) ⊎ ((before : List ℕ) × (text ≡ before ++ newline ∷ []))
 
--- the header is there, and no bytes without a line feed are left
-abbrev pub IsWhole : List ℕ → Type 0
-IsWhole bytes = (after : List ℕ) × (bytes ≡ header_line ++ after) × IsWholeLines after
+-- a header is there, and no bytes without a line feed are left
+pub record IsWhole (bytes : List ℕ) : Type 0 where
+  pub first : Spelling
+  pub version : IsFirst first
+  pub after : List ℕ
+  pub is : bytes ≡ header_line first ++ after
+  pub whole : IsWholeLines after
 
 abbrev pub newlines : List ℕ → ℕ
 newlines text = count_by (λ b. b == newline) text
@@ -82,4 +83,4 @@ pub record IsUnfinishedAt (bytes : List ℕ) (k : ℕ) : Type 0 where
 
 -- The header isn't whole yet; or no whole line follows these lines.
 abbrev pub HoldsNoFurtherLine : List ℕ → List Line → Type 0
-HoldsNoFurtherLine bytes lines = IsPrefixOf bytes header_text ⊎ ((rest : List ℕ) × BeginsWith bytes lines rest × IsOneLine rest)
+HoldsNoFurtherLine bytes lines = IsHeaderPart bytes ⊎ ((rest : List ℕ) × BeginsWith bytes lines rest × IsOneLine rest)

@@ -16,6 +16,7 @@ use Rattle.proof_rules.specs.Recording.{Surroundings, Snapshot}
 use Rattle.proof_rules.specs.declared.recorder.RecordFault.{RecordFault}
 use Rattle.proof_rules.specs.declared.recorder.RecordFault.TheVariants.{Failed, Full, NoMemory}
 use Rattle.proof_text.specs.LogFile.{IsLogFile, Held}
+use Rattle.proof_text.specs.declared.version.LogVersion.{LogVersion}
 
 -- lines that a log can spell, each legal where it stands, and the state that they reach
 pub record IsKept (p : ProblemValue) (lines : List Line) (s : StateValue) : Type 0 where
@@ -61,9 +62,9 @@ Counts old (Err NoMemory) new = (IsPlanned old → ⊥) × (new.calls ≡ one_mo
 -- ---- in a file
 
 -- what is kept, and the file holds it
-pub record IsHeld (files : Option Files) (name : List ℕ) (p : ProblemValue) (lines : List Line) (s : StateValue) (broken : Bool) : Type 0 where
+pub record IsHeld (files : Option Files) (name : List ℕ) (p : ProblemValue) (version : LogVersion) (lines : List Line) (s : StateValue) (broken : Bool) : Type 0 where
   pub kept : IsKept p lines s
-  pub file : IsLogFile files name p lines broken
+  pub file : IsLogFile files name p version lines broken
 
 -- the files but this one
 unfoldable pub without_file : Option Files → List ℕ → Option Files

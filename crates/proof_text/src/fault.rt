@@ -5,8 +5,8 @@ use thiserror::Error;
 /// Why a log was not read to its end.
 #[derive(Clone, Copy, Debug, PartialEq, Eq, Error)]
 pub enum TextFault {
-    /// This line, counted from 1, is wrong: it isn't the header, where it is the first, or it is the
-    /// text of no line, or the bytes end in its midst.
+    /// This line, counted from 1, is wrong: it isn't a header, where it is the first, or it is the
+    /// text of no line in the log's version, or the bytes end in its midst.
     #[error("a line of the log is wrong")]
     Syntax { line: u64 },
     /// Memory was refused.

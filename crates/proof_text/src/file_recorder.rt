@@ -1,6 +1,6 @@
 // A proof in a file of a shelf that is lent for the recorder's life.
 ghost use Rattle.std.specs.Prelude.{◌≡◌, ◌≢◌, ◌↔◌, ◌^◌, ◌++◌, ◌∷◌, [], true, false, length, IfOk, IfErr, OnOk, OnErr, IsErrOf, IsSome};
-ghost use Rattle.scut_base.specs.Files.{content, with_file, with_appended, IsTold};
+ghost use Rattle.scut_base.specs.Files.{content, with_file, with_appended, IsPrefixOf, IsTold, IsTouched};
 ghost use Rattle.scut_base.specs.Faults.{NoneFell, Rose, WritingFailed};
 ghost use Rattle.proof_laws.specs.WellFormed.{IsWellFormed};
 ghost use Rattle.proof_laws.specs.State.{Fits};
@@ -8,11 +8,13 @@ ghost use Rattle.proof_laws.specs.Legal.{IsLegal, IsNext};
 ghost use Rattle.proof_rules.specs.Recording.{KeepsRecorder, MayBeAdded, IsNextId};
 ghost use Rattle.proof_lines.specs.declared.spelling.Spelling.TheVariants.{Plain};
 ghost use Rattle.proof_lines.specs.LineText.{printed};
-ghost use Rattle.proof_text.specs.LogText.{header_line};
+ghost use Rattle.proof_text.specs.Versions.{after_lines, first_of, header_line};
 ghost use Rattle.proof_text.specs.LogFile.{IsLogFile, IsNotBegun};
 ghost use Rattle.proof_text.specs.Recorders.{fault_of, without_file, file_seen, IsKept, IsPutPartly, IsWrite};
 
 use crate::keeping::{advance, is_full, pop_last, push_copy, start};
+use crate::printing::print_header;
+use crate::version::{LogVersion, first_of, spelling_at};
 use pb_lin::PbProblem;
 use proof_laws::Line;
 use proof_lines::{Spelling, append_line};
@@ -29,6 +31,7 @@ pub struct FileRecorder<'a, H: Shelf> {
     shelf: &'a mut H,
     name: &'a str,
     problem: PbProblem,
+    version: LogVersion,
     lines: Items<Line>,
     state: ProofState,
     // The text of the line that was written last. Its room is kept.
@@ -50,13 +53,14 @@ impl<'a, H: Shelf> Model for FileRecorder<'a, H> {
       shelf = r.shelf;
       name = r.name.now;
       problem = r.problem;
+      version = r.version;
       lines = r.lines;
       state = r.state;
       broken = r.broken;
     } };
 
     ghost invariant = { λ r. IsHeld (H.world r.shelf.now).files r.name.now
-        r.problem r.lines r.state r.broken };
+        r.problem r.version r.lines r.state r.broken };
 }
 
 /// A log that was not begun.
@@ -69,9 +73,9 @@ pub struct NotBegun<'a, H: Shelf> {
 }
 
 impl<'a, H: Shelf> FileRecorder<'a, H> {
-    /// Begins the file anew with the header, and no lines. After a fault it is as before or holds a
-    /// part of the header: `Failed` where the shelf failed to begin or to append, `NoMemory` where
-    /// memory was refused. Copies the problem.
+    /// Begins the file anew with the header of version 1, and no lines. After a fault it is as before or
+    /// holds a part of the header: `Failed` where the shelf failed to begin or to append, `NoMemory`
+    /// where memory was refused. Copies the problem.
     pub fn new(
         alloc: Global,
         shelf: &'a mut H,
@@ -80,7 +84,7 @@ impl<'a, H: Shelf> FileRecorder<'a, H> {
     ) -> Result<FileRecorder<'a, H>, NotBegun<'a, H>>
         ensures same_reference { IfOk result (λ r. r.shelf.ghost_name ≡ shelf.entry.ghost_name) }
         ensures begun { IfOk result (λ r. (H.world r.shelf.now).files
-            ≡ with_file (H.world shelf.old).files name.entry.now header_line) }
+            ≡ with_file (H.world shelf.old).files name.entry.now (header_line Plain)) }
         ensures said { IfOk result (λ r. (H.world r.shelf.now).said ≡ (H.world shelf.old).said) }
         ensures warned { IfOk result (λ r. (H.world r.shelf.now).warned
             ≡ (H.world shelf.old).warned) }
@@ -88,12 +92,55 @@ impl<'a, H: Shelf> FileRecorder<'a, H> {
             (H.world r.shelf.now).faults) }
         ensures name { IfOk result (λ r. r.name ≡ name.entry.now) }
         ensures problem { IfOk result (λ r. r.problem ≡ problem.now) }
+        ensures version { IfOk result (λ r. r.version ≡ LogVersion.One) }
         ensures empty { IfOk result (λ r. r.lines ≡ []) }
         ensures whole { IfOk result (λ r. r.broken ≡ false) }
         ensures same_reference_after { IfErr result
             (λ e. e.shelf.ghost_name ≡ shelf.entry.ghost_name) }
         ensures refused { IfErr result
-            (λ e. IsNotBegun (H.world shelf.old).files (H.world e.shelf.now).files name.entry.now) }
+            (λ e. IsNotBegun (H.world shelf.old).files (H.world e.shelf.now).files name.entry.now Plain) }
+        ensures said_after { IfErr result (λ e. (H.world e.shelf.now).said
+            ≡ (H.world shelf.old).said) }
+        ensures warned_after { IfErr result (λ e. (H.world e.shelf.now).warned
+            ≡ (H.world shelf.old).warned) }
+        ensures later_after { IfErr result
+            (λ e. NoneFell (H.world shelf.old).faults (H.world e.shelf.now).faults) }
+        ensures cause { IfErr result (λ e. e.fault ≡ RecordFault.Failed
+            → WritingFailed (H.world shelf.old).faults
+            (H.world e.shelf.now).faults name.entry.now) }
+        ensures never_full { IfErr result (λ e. e.fault ≢ RecordFault.Full) }
+    {
+        FileRecorder::with_version(alloc, shelf, name, problem, LogVersion::One)
+    }
+
+    /// The same with the header of a version. A line is written by `print` in version 1, and in version
+    /// 2 by `print_relative` over the problem's rows and the next id before the line.
+    pub fn with_version(
+        alloc: Global,
+        shelf: &'a mut H,
+        name: &'a str,
+        problem: &PbProblem,
+        version: LogVersion,
+    ) -> Result<FileRecorder<'a, H>, NotBegun<'a, H>>
+        ensures same_reference { IfOk result (λ r. r.shelf.ghost_name ≡ shelf.entry.ghost_name) }
+        ensures begun { IfOk result (λ r. (H.world r.shelf.now).files
+            ≡ with_file (H.world shelf.old).files name.entry.now
+            (header_line (first_of version problem.now))) }
+        ensures said { IfOk result (λ r. (H.world r.shelf.now).said ≡ (H.world shelf.old).said) }
+        ensures warned { IfOk result (λ r. (H.world r.shelf.now).warned
+            ≡ (H.world shelf.old).warned) }
+        ensures later { IfOk result (λ r. NoneFell (H.world shelf.old).faults
+            (H.world r.shelf.now).faults) }
+        ensures name { IfOk result (λ r. r.name ≡ name.entry.now) }
+        ensures problem { IfOk result (λ r. r.problem ≡ problem.now) }
+        ensures version { IfOk result (λ r. r.version ≡ version) }
+        ensures empty { IfOk result (λ r. r.lines ≡ []) }
+        ensures whole { IfOk result (λ r. r.broken ≡ false) }
+        ensures same_reference_after { IfErr result
+            (λ e. e.shelf.ghost_name ≡ shelf.entry.ghost_name) }
+        ensures refused { IfErr result
+            (λ e. IsNotBegun (H.world shelf.old).files (H.world e.shelf.now).files name.entry.now
+            (first_of version problem.now)) }
         ensures said_after { IfErr result (λ e. (H.world e.shelf.now).said
             ≡ (H.world shelf.old).said) }
         ensures warned_after { IfErr result (λ e. (H.world e.shelf.now).warned
@@ -107,12 +154,18 @@ impl<'a, H: Shelf> FileRecorder<'a, H> {
     {
         let started = start(alloc, problem);
         match started {
-            Ok((problem, state)) => match begin_log(shelf, name) {
+            Ok((problem, state)) => match begin_log(
+                alloc,
+                shelf,
+                name,
+                first_of(version, &problem),
+            ) {
                 Ok(()) => Ok(FileRecorder {
                     alloc,
                     shelf,
                     name,
                     problem,
+                    version,
                     lines: Items::new(alloc),
                     state,
                     text: Vec::new(alloc),
@@ -139,7 +192,7 @@ impl<'a, H: Shelf> FileRecorder<'a, H> {
         ensures same_reference { result.ghost_name ≡ self.entry.shelf.ghost_name }
         ensures same { result.now ≡ self.entry.shelf.now }
         ensures log { IsLogFile (H.world result.now).files self.entry.name self.entry.problem
-            self.entry.lines self.entry.broken }
+            self.entry.version self.entry.lines self.entry.broken }
         ensures kept { IsKept self.entry.problem self.entry.lines self.entry.state }
     {
         let FileRecorder {
@@ -147,6 +200,7 @@ impl<'a, H: Shelf> FileRecorder<'a, H> {
             shelf,
             name: _,
             problem: _,
+            version: _,
             lines: _,
             state: _,
             text: _,
@@ -179,9 +233,12 @@ impl<'a, H: Shelf> Recorder for FileRecorder<'a, H> {
         ensures short_broken { IsErrOf result RecordFault.NoMemory → self.new.broken ≡ true }
         ensures keeps { KeepsRecorder (file_seen H.world self.old) (file_seen H.world self.new) }
         ensures written { OnOk result ((H.world self.new.shelf.now).files
-            ≡ with_appended (H.world self.old.shelf.now).files self.old.name (printed Plain line.now)) }
+            ≡ with_appended (H.world self.old.shelf.now).files self.old.name
+            (printed (after_lines (first_of self.old.version self.old.problem) self.old.lines) line.now)) }
         ensures partly { OnErr result (IsPutPartly (H.world self.old.shelf.now).files
-            (H.world self.new.shelf.now).files self.old.name (printed Plain line.now)) }
+            (H.world self.new.shelf.now).files self.old.name
+            (printed (after_lines (first_of self.old.version self.old.problem) self.old.lines) line.now)) }
+        ensures version { self.new.version ≡ self.old.version }
     {
         if is_full(&self.lines, &self.state) {
             return Err(RecordFault::Full);
@@ -190,10 +247,12 @@ impl<'a, H: Shelf> Recorder for FileRecorder<'a, H> {
             self.broken = true;
             return Err(RecordFault::NoMemory);
         }
+        let spelling = spelling_at(self.version, &self.problem, &self.state);
         let written = commit(
             self.shelf,
             self.name,
             &mut self.text,
+            spelling,
             &self.problem,
             &mut self.state,
             line,
@@ -214,11 +273,35 @@ impl<'a, H: Shelf> Recorder for FileRecorder<'a, H> {
 }
 
 // Begins the file with the header.
-fn begin_log<H: Shelf>(shelf: &mut H, name: &str) -> Result<(), RecordFault>
-    ensures ok { OnOk result
-        ((H.world shelf.new).files ≡ with_file (H.world shelf.old).files name.now header_line) }
+fn begin_log<H: Shelf>(
+    alloc: Global,
+    shelf: &mut H,
+    name: &str,
+    first: Spelling,
+) -> Result<(), RecordFault>
+    ensures ok { OnOk result ((H.world shelf.new).files
+        ≡ with_file (H.world shelf.old).files name.now (header_line first)) }
     ensures err { OnErr result (IsNotBegun (H.world shelf.old).files
-        (H.world shelf.new).files name.now) }
+        (H.world shelf.new).files name.now first) }
+    ensures said { (H.world shelf.new).said ≡ (H.world shelf.old).said }
+    ensures warned { (H.world shelf.new).warned ≡ (H.world shelf.old).warned }
+    ensures later { NoneFell (H.world shelf.old).faults (H.world shelf.new).faults }
+    ensures cause { IsErrOf result RecordFault.Failed
+        → WritingFailed (H.world shelf.old).faults (H.world shelf.new).faults name.now }
+    ensures never_full { IsErrOf result RecordFault.Full → ⊥ }
+{
+    match print_header(alloc, first) {
+        Ok(header) => begin_with(shelf, name, header.as_slice()),
+        Err(NoMemory) => Err(RecordFault::NoMemory),
+    }
+}
+
+// Begins the file with these bytes.
+fn begin_with<H: Shelf>(shelf: &mut H, name: &str, header: &[u8]) -> Result<(), RecordFault>
+    ensures ok { OnOk result ((H.world shelf.new).files
+        ≡ with_file (H.world shelf.old).files name.now header.now) }
+    ensures err { OnErr result (IsTouched (H.world shelf.old).files (H.world shelf.new).files
+        name.now (λ bytes. IsPrefixOf bytes header.now)) }
     ensures said { (H.world shelf.new).said ≡ (H.world shelf.old).said }
     ensures warned { (H.world shelf.new).warned ≡ (H.world shelf.old).warned }
     ensures later { NoneFell (H.world shelf.old).faults (H.world shelf.new).faults }
@@ -229,7 +312,7 @@ fn begin_log<H: Shelf>(shelf: &mut H, name: &str) -> Result<(), RecordFault>
     if let Err(fault) = shelf.begin(name) {
         return Err(fault_of(fault));
     }
-    match shelf.append(name, b"scuttle proof version 1\n") {
+    match shelf.append(name, header) {
         Ok(()) => Ok(()),
         Err(fault) => Err(fault_of(fault)),
     }
@@ -250,6 +333,7 @@ fn commit<H: Shelf>(
     shelf: &mut H,
     name: &str,
     text: &mut Vec<u8>,
+    spelling: Spelling,
     problem: &PbProblem,
     state: &mut ProofState,
     line: &Line,
@@ -261,10 +345,10 @@ fn commit<H: Shelf>(
     requires legal { IsLegal problem.now state.old line.now }
     ensures written { OnOk result
         ((H.world shelf.new).files ≡ with_appended (H.world shelf.old).files name.now
-        (printed Plain line.now)) }
+        (printed spelling line.now)) }
     ensures partly { OnErr result
         (IsPutPartly (H.world shelf.old).files (H.world shelf.new).files name.now
-        (printed Plain line.now)) }
+        (printed spelling line.now)) }
     ensures id { IfOk result (λ id. id ≡ state.old.next_id) }
     ensures next { OnOk result (IsNext problem.now state.old line.now state.new) }
     ensures fits { OnOk result (Fits problem.now state.new) }
@@ -275,7 +359,7 @@ fn commit<H: Shelf>(
     ensures warned { (H.world shelf.new).warned ≡ (H.world shelf.old).warned }
     ensures cause { IsWrite name.now (H.world shelf.old).faults (H.world shelf.new).faults result }
 {
-    write_line(shelf, name, text, line)?;
+    write_line(shelf, name, text, spelling, line)?;
     match advance(problem, state, line) {
         Ok(id) => Ok(id),
         Err(NoMemory) => Err(RecordFault::NoMemory),
@@ -287,16 +371,17 @@ fn write_line<H: Shelf>(
     shelf: &mut H,
     name: &str,
     text: &mut Vec<u8>,
+    spelling: Spelling,
     line: &Line,
 ) -> Result<(), RecordFault>
     requires there { IsTold (H.world shelf.old).files
         → IsSome (content (H.world shelf.old).files name.now) }
     ensures written { OnOk result
         ((H.world shelf.new).files ≡ with_appended (H.world shelf.old).files name.now
-        (printed Plain line.now)) }
+        (printed spelling line.now)) }
     ensures partly { OnErr result
         (IsPutPartly (H.world shelf.old).files (H.world shelf.new).files name.now
-        (printed Plain line.now)) }
+        (printed spelling line.now)) }
     ensures others { without_file (H.world shelf.new).files name.now
         ≡ without_file (H.world shelf.old).files name.now }
     ensures said { (H.world shelf.new).said ≡ (H.world shelf.old).said }
@@ -304,7 +389,7 @@ fn write_line<H: Shelf>(
     ensures cause { IsWrite name.now (H.world shelf.old).faults (H.world shelf.new).faults result }
 {
     text.clear();
-    if append_line(text, Spelling::Plain, line).is_err() {
+    if append_line(text, spelling, line).is_err() {
         return Err(RecordFault::NoMemory);
     }
     match shelf.append(name, text.as_slice()) {

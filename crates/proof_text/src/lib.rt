@@ -1,9 +1,9 @@
 //! The text of a log, both ways, and what keeps a log while a search runs.
 //!
-//! Its public contract: a `LineReader` gives the lines that the bytes fed to it spell, however they
-//! were cut, and names the first line that is wrong; a `FileRecorder` keeps a file that always holds
-//! the header and the text of its lines, a `MemRecorder` keeps the lines alone. No line is judged
-//! here.
+//! Its public contract: a `LineReader` gives the lines that the bytes fed to it spell, in either
+//! version and however they were cut, and names the first line that is wrong; a `FileRecorder` keeps a
+//! file that always holds the header and the text of its lines, in the version that is asked; a
+//! `MemRecorder` keeps the lines alone. No line is judged here.
 #![tactic(auto)]
 
 mod fault;
@@ -16,11 +16,13 @@ mod mem_recorder;
 mod opening;
 mod pending;
 mod printing;
+mod version;
 
 pub use fault::TextFault;
 pub use file_recorder::{FileRecorder, NotBegun};
 pub use laws::{no_fault_where_spelled, one_fault, one_log, printed_back};
 pub use line_reader::LineReader;
 pub use mem_recorder::MemRecorder;
-pub use printing::{print, print_relative};
-pub use proof_lines::made;
+pub use printing::{print, print_header, print_relative};
+pub use proof_lines::{Spelling, made};
+pub use version::{LogVersion, after_line, first_of};

@@ -1,5 +1,5 @@
 // The reader of a log, piece by piece.
-ghost use Rattle.std.specs.Prelude.{◌≡◌, ◌++◌, ◌+◌, ◌⊎◌, [], ℕ, List, true, false, None, Some, IsOk, IfOk, OnOk, OnErr, IfSome, Ok, Err};
+ghost use Rattle.std.specs.Prelude.{◌≡◌, ◌++◌, ◌+◌, ◌⊎◌, [], ℕ, List, None, Some, IsOk, IfOk, OnOk, OnErr, IfSome, Ok, Err};
 ghost use Rattle.proof_laws.specs.declared.line.Line.{Line};
 ghost use Rattle.proof_text.specs.LogText.{IsSyntaxAt, IsUnfinishedAt, IsWhole, newlines};
 ghost use Rattle.proof_text.specs.Reading.{StandsFor, GivesNext};
@@ -7,15 +7,16 @@ ghost use Rattle.proof_text.specs.Cutting.{IsLineOf};
 
 use crate::TextFault;
 use crate::line_feeds::{count_line_feeds, ends_whole};
-use crate::opening::{HEADER_LEN, Opening, opening_of};
+use crate::opening::{Opening, opening_of};
 use crate::pending::Pending;
+use crate::version::after_line;
 use proof_laws::Line;
 use proof_lines::{LineFault, Spelling, read_line};
 use scut_base::NoMemory;
 use std::alloc::Global;
 use std::marker::Model;
 
-/// Reads a log that comes in pieces. It keeps the bytes of lines that aren't given yet, before the
+/// Reads a log of either version that comes in pieces. It keeps the bytes of lines that aren't given yet, before the
 /// header is whole those of the header alone. How the bytes were cut changes no answer.
 #[derive(Debug, Drop)]
 pub struct LineReader {
@@ -23,17 +24,15 @@ pub struct LineReader {
     pending: Pending,
     // How many lines were given.
     given: u64,
-    // Whether the header was there. Before that no more than a part of it is pending.
-    begun: bool,
+    // How the next line spells its ids, where the header was there. Before that no more than a part of
+    // one is pending.
+    begun: Option<Spelling>,
     // The line that was wrong. Nothing is pending then.
     wrong: Option<u64>,
 }
 
 impl Model for LineReader {
-    ghost use Rattle.std.specs.Prelude.{◌≡◌, false};
-    ghost use Rattle.scut_base.specs.Files.{IsPrefixOf};
-    ghost use Rattle.proof_text.specs.LogText.{header_text};
-    ghost use Rattle.proof_text.specs.Reading.{ReaderValue};
+    ghost use Rattle.proof_text.specs.Reading.{KeepsHeader, ReaderValue};
 
     ghost Value = { ReaderValue };
 
@@ -44,7 +43,7 @@ impl Model for LineReader {
       wrong = r.wrong;
     } };
 
-    ghost invariant = { λ r. r.begun ≡ false → IsPrefixOf r.pending header_text };
+    ghost invariant = { λ r. KeepsHeader r.begun r.pending };
 }
 
 impl LineReader {
@@ -56,7 +55,7 @@ impl LineReader {
             alloc,
             pending: Pending::new(alloc),
             given: 0,
-            begun: false,
+            begun: None,
             wrong: None,
         }
     }
@@ -71,7 +70,7 @@ impl LineReader {
         if self.wrong.is_some() {
             return Ok(());
         }
-        if self.begun {
+        if self.begun.is_some() {
             return self.pending.extend(piece);
         }
         self.feed_opening(piece)
@@ -80,29 +79,28 @@ impl LineReader {
     // The same where the header wasn't there.
     fn feed_opening(&mut self, piece: &[u8]) -> Result<(), NoMemory>
         requires sound { self.old.wrong ≡ None }
-        requires begun { self.old.begun ≡ false }
+        requires begun { self.old.begun ≡ None }
         ensures fed { OnOk result ((bytes : List ℕ) (lines : List Line)
             → StandsFor self.old bytes lines → StandsFor self.new (bytes ++ piece.now) lines) }
         ensures same { OnErr result (self.new ≡ self.old) }
     {
-        match opening_of(self.pending.as_slice(), piece) {
-            Opening::Missing => self.pending.extend(piece),
-            Opening::There => {
-                self.pending.extend(piece)?;
-                self.pending.skip_line(HEADER_LEN);
-                self.begun = true;
-                Ok(())
+        self.pending.extend(piece)?;
+        match opening_of(self.pending.as_slice()) {
+            Opening::Missing => {}
+            Opening::There { first, len } => {
+                self.pending.skip_line(len);
+                self.begun = Some(first);
             }
             Opening::Wrong => {
                 self.pending.forget();
                 self.wrong = Some(1);
-                Ok(())
             }
         }
+        Ok(())
     }
 
     /// The next line, or none where no further whole line was fed. `Syntax` where the next whole line
-    /// is wrong, or the bytes go on otherwise than the header does, and the same again after it;
+    /// is wrong, or the bytes go on otherwise than a header does, and the same again after it;
     /// `NoMemory` where memory was refused, or the number of the line passes 2^64 - 1, and then nothing
     /// has changed. Costs the line.
     pub fn next_line(&mut self) -> Result<Option<Line>, TextFault>
@@ -118,19 +116,19 @@ impl LineReader {
         if let Some(line) = self.wrong {
             return Err(TextFault::Syntax { line });
         }
-        if !self.begun {
+        let Some(spelling) = self.begun else {
             return Ok(None);
-        }
+        };
         match self.pending.line_len() {
-            Some(len) => self.take_line(len),
+            Some(len) => self.take_line(spelling, len),
             None => Ok(None),
         }
     }
 
-    // The next line, of so many bytes.
-    fn take_line(&mut self, len: usize) -> Result<Option<Line>, TextFault>
+    // The next line, of so many bytes, which spells its ids so.
+    fn take_line(&mut self, spelling: Spelling, len: usize) -> Result<Option<Line>, TextFault>
         requires sound { self.old.wrong ≡ None }
-        requires begun { self.old.begun ≡ true }
+        requires begun { self.old.begun ≡ Some spelling }
         requires line { IsLineOf self.old.rest len }
         ensures next { IfOk result (λ line. (bytes : List ℕ) (lines : List Line)
             → StandsFor self.old bytes lines → GivesNext self.new bytes lines line) }
@@ -144,10 +142,11 @@ impl LineReader {
             Some(number) => number,
             None => return Err(TextFault::NoMemory),
         };
-        match read_line(self.alloc, Spelling::Plain, &self.pending.as_slice()[..len]) {
+        match read_line(self.alloc, spelling, &self.pending.as_slice()[..len]) {
             Ok(line) => {
                 self.pending.skip_line(len);
                 self.given += 1;
+                self.begun = Some(after_line(spelling, &line));
                 Ok(Some(line))
             }
             Err(LineFault::Syntax) => {
@@ -159,7 +158,7 @@ impl LineReader {
         }
     }
 
-    /// Whether the bytes that were fed end where a log may end. `Syntax` where the header isn't whole,
+    /// Whether the bytes that were fed end where a log may end. `Syntax` where no header is whole,
     /// or bytes without a line feed are left, with the number of their line; and the same again where
     /// a line was wrong; `NoMemory` where that number passes 2^64 - 1. It reads no whole line that
     /// isn't given yet, and costs one pass over the bytes that aren't.
@@ -174,7 +173,7 @@ impl LineReader {
         if let Some(line) = self.wrong {
             return Err(TextFault::Syntax { line });
         }
-        if !self.begun {
+        if self.begun.is_none() {
             return Err(TextFault::Syntax { line: 1 });
         }
         if ends_whole(self.pending.as_slice()) {

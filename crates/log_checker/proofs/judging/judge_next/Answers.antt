@@ -1,7 +1,6 @@
 use Rattle.std.proofs.Common.{◌≡◌, Err, None, ap, sym, subst}
 use Rattle.log_checker.specs.Judging.{IsWholeReason}
 use Rattle.log_checker.specs.declared.fault.CheckFault.{CheckFault}
-use Rattle.log_checker.proofs.TextLaws.{line_texts}
 use Rattle.log_checker.proofs.Answering.{not_wrong, gives_line, reason_is, smaller, line_formed, syntax_refused, line_is_refused, line_taken}
 use Rattle.log_checker.proofs.judging.judge_next.Goals as goal
 
@@ -15,7 +14,7 @@ returns-in-Err-Syntax-clause-judged c = λ bytes lines underway.
     let is = ap (λ f. Err f) c.in-Err-Syntax.field-0-is in
     let wrong = c.in-Err-Syntax.ensures.syntax c.in-Err-Syntax.line is bytes lines underway.read in
     subst (λ (e : CheckFault). IsWholeReason c.args.problem.now c.args.vectors.now bytes e) (sym c.refusal.ensures)
-    (syntax_refused line_texts c.args.problem.now c.args.vectors.now c.args.reader.now c.next_line.new.self c.args.state.now bytes lines c.in-Err-Syntax.line underway wrong.0 wrong.1 (c.in-Err-Syntax.ensures.wrong c.in-Err-Syntax.line is))
+    (syntax_refused c.args.problem.now c.args.vectors.now c.args.reader.now c.next_line.new.self c.args.state.now bytes lines c.in-Err-Syntax.line underway wrong.0 wrong.1 (c.in-Err-Syntax.ensures.wrong c.in-Err-Syntax.line is))
 
 pub judge_line-requires-clause-formed : goal.judge_line-requires-clause-formed
 judge_line-requires-clause-formed c =
@@ -32,7 +31,7 @@ returns-in-Ok-clause-smaller c = λ taken.
 pub returns-in-Ok-clause-judged : goal.returns-in-Ok-clause-judged
 returns-in-Ok-clause-judged c = λ bytes lines underway. (
   c.in-Ok-Some.line,
-  line_taken line_texts c.args.problem.now c.args.vectors.now c.args.reader.now c.next_line.new.self c.args.state.now c.judge_line.new.state bytes lines c.in-Ok-Some.line underway
+  line_taken c.args.problem.now c.args.vectors.now c.args.reader.now c.next_line.new.self c.args.state.now c.judge_line.new.state bytes lines c.in-Ok-Some.line underway
       (gives_line c.next_line.new.self bytes lines c.in-Ok-Some.field-0 c.in-Ok-Some.line c.in-Ok-Some.field-0-is (c.in-Ok-Some.ensures.next bytes lines underway.read))
       c.in-Ok.ensures.next c.in-Ok.ensures.covered,
 )
@@ -40,7 +39,7 @@ returns-in-Ok-clause-judged c = λ bytes lines underway. (
 pub returns-in-Err-Refused-clause-judged : goal.returns-in-Err-Refused-clause-judged
 returns-in-Err-Refused-clause-judged c = λ bytes lines underway.
     subst (λ (e : CheckFault). IsWholeReason c.args.problem.now c.args.vectors.now bytes e) (sym c.refusal-in-Err-Refused.ensures)
-    (line_is_refused line_texts c.args.problem.now c.args.vectors.now c.args.reader.now c.next_line.new.self c.args.state.now bytes lines c.in-Ok-Some.line c.next_number-number.result c.in-Err-Refused.why underway
+    (line_is_refused c.args.problem.now c.args.vectors.now c.args.reader.now c.next_line.new.self c.args.state.now bytes lines c.in-Ok-Some.line c.next_number-number.result c.in-Err-Refused.why underway
     (gives_line c.next_line.new.self bytes lines c.in-Ok-Some.field-0 c.in-Ok-Some.line c.in-Ok-Some.field-0-is (c.in-Ok-Some.ensures.next bytes lines underway.read))
     (reason_is c.args.problem.now c.args.vectors.now c.args.state.now c.in-Ok-Some.line c.in-Err-Refused.field-0 c.in-Err-Refused.why c.in-Err-Refused.field-0-is c.in-Err-Refused.ensures.refused)
     c.next_number-number.ensures)

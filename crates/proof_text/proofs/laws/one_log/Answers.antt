@@ -1,6 +1,5 @@
-use Rattle.proof_lines.specs.declared.spelling.Spelling.TheVariants.{Plain}
 use Rattle.proof_text.proofs.Logs.{spelled_once}
 use Rattle.proof_text.proofs.laws.one_log.Goals as goal
 
 pub returns : goal.returns
-returns c = spelled_once (c.one_line.ensures Plain tt)
+returns c = spelled_once

@@ -2,7 +2,6 @@ use Rattle.std.proofs.Common.{◌≡◌, ◌∙◌, None, ap, sym, subst, rules}
 use Rattle.std.proofs.lemmas.Result.{err_from_is_err_and}
 use Rattle.log_checker.specs.Checking.{CheckerValue, StandsFor}
 use Rattle.log_checker.specs.Judging.{HasEnded, JudgesEnd}
-use Rattle.log_checker.proofs.TextLaws.{line_texts}
 use Rattle.log_checker.proofs.Answering.{nothing_earlier, earlier_judged, settled_judged, judged_ended}
 use Rattle.log_checker.proofs.checker.Checker.conclusion.Goals as goal
 
@@ -16,7 +15,7 @@ pub returns-then-self-clause-judged : goal.returns-then-self-clause-judged
 returns-then-self-clause-judged c = λ bytes stands.
     let now : CheckerValue = c.args.self.now in
     let settled : HasEnded c.args.self.now.reader c.args.self.now.state = search rules in
-    settled_judged now bytes line_texts (nothing_earlier now.refused now.failed (sym c.in_ok-earlier.ensures)).0 settled stands
+    settled_judged now bytes (nothing_earlier now.refused now.failed (sym c.in_ok-earlier.ensures)).0 settled stands
 
 pub returns-clause-judged : goal.returns-clause-judged
 returns-clause-judged c = λ bytes stands.

@@ -5,7 +5,6 @@ use Rattle.log_checker.specs.Judging.{JudgesLines, earlier}
 use Rattle.log_checker.specs.LogFaults.{HasNoWholeFault, IsWholeFault}
 use Rattle.log_checker.specs.declared.fault.CheckFault.{CheckFault}
 use Rattle.log_checker.specs.declared.fault.CheckFault.TheVariants.{Refused}
-use Rattle.log_checker.proofs.TextLaws.{line_texts}
 use Rattle.log_checker.proofs.Faults.{whole_fault_more}
 use Rattle.log_checker.proofs.Answering.{on_ok, nothing_earlier, again_stands, again_whole, noted_stands, judged_fed, lines_have_no_fault}
 use Rattle.log_checker.proofs.checker.Checker.feed.Goals as goal
@@ -14,7 +13,7 @@ pub returns-in_err-earlier-clause-fed : goal.returns-in_err-earlier-clause-fed
 returns-in_err-earlier-clause-fed c = λ kept bytes stands.
     let p = err_from_is_err_and c.from_residual.result c.from_residual.ensures.1 in
     let now : CheckerValue = c.args.self.now in
-    again_stands now.refused now.failed now bytes c.args.piece.now c.in_err-earlier.field-0.0 line_texts (sym c.in_err-earlier.ensures) (λ e. kept (cc (p.1, p.2, e))) c.requires.unfinished stands
+    again_stands now.refused now.failed now bytes c.args.piece.now c.in_err-earlier.field-0.0 (sym c.in_err-earlier.ensures) (λ e. kept (cc (p.1, p.2, e))) c.requires.unfinished stands
 
 pub returns-in_err-earlier-clause-refused : goal.returns-in_err-earlier-clause-refused
 returns-in_err-earlier-clause-refused c = λ k why is bytes stands.
@@ -22,7 +21,7 @@ returns-in_err-earlier-clause-refused c = λ k why is bytes stands.
     let now : CheckerValue = c.args.self.now in
     let same : c.in_err-earlier.field-0.0 ≡ Refused k why = cc (p.1, p.2, is) in
     let fault : earlier now.refused now.failed ≡ Err (Refused k why) = sym c.in_err-earlier.ensures ∙ ap (λ (e : CheckFault). Err e) same in
-    whole_fault_more line_texts now.problem now.vectors bytes c.args.piece.now k why (again_whole now.refused now.failed now bytes k why fault c.requires.unfinished stands)
+    whole_fault_more now.problem now.vectors bytes c.args.piece.now k why (again_whole now.refused now.failed now bytes k why fault c.requires.unfinished stands)
 
 -- the checker before the piece, field by field
 mine : goal.After-note → CheckerValue
@@ -47,7 +46,7 @@ returns-clause-passed c = on_ok c.judge_piece-answer.result ((bytes : List ℕ) 
     let reader = c.judge_piece-answer.new.reader in
     let state = c.judge_piece-answer.new.state in
     subst (λ (d : CheckerValue). HasNoWholeFault d.problem d.vectors fed) c.self.view_is
-    (lines_have_no_fault line_texts c.self.inside.problem c.self.inside.vectors reader state fed
+    (lines_have_no_fault c.self.inside.problem c.self.inside.vectors reader state fed
     (subst (λ (a : Result (Unit {0}) CheckFault). JudgesLines c.self.inside.problem c.self.inside.vectors reader state fed a) ok (judged c bytes stands))))
 
 pub returns-clause-refused : goal.returns-clause-refused
