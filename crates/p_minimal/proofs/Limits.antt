@@ -1,5 +1,5 @@
 -- Limits that are below an aim.
-use Rattle.std.proofs.Common.{◌≡◌, ◌∙◌, ℕ, zero, suc, Bool, true, false, not, Option, None, Some, List, [], ◌∷◌, refl, sym, ap, subst, ℤ, ◌≤ℤ◌, arith}
+use Rattle.std.proofs.Common.{◌≡◌, ◌∙◌, ℕ, zero, suc, true, false, not, Option, None, Some, List, [], ◌∷◌, refl, sym, ap, subst, ℤ, ◌≤ℤ◌, arith}
 use Rattle.std.specs.Prelude.{int_lt, slice_get, slice_set, IfSome}
 use Rattle.std.proofs.lemmas.Bool.{and_from, not_from_false}
 use Rattle.std.proofs.lemmas.Int.{ints}
@@ -7,7 +7,7 @@ use Rattle.front_set.specs.Vector.{is_below, IsBelow}
 use Rattle.front_set.proofs.FrontLaws.{IsBelow-refl, IsBelow-trans}
 use Rattle.pb_lin.specs.Problem.{problem_costs}
 use Rattle.proof_rules.specs.Recording.{Snapshot}
-use Rattle.search_questions.specs.Telling.{Tells, TellsAny}
+use Rattle.search_questions.specs.Telling.{Tells}
 use Rattle.search_questions.specs.declared.below.Below.{Below}
 use Rattle.search_questions.specs.declared.below.Below.TheVariants.{Model, End, Above}
 use Rattle.p_minimal.specs.Aiming.{is_closed}
@@ -39,11 +39,3 @@ told_of_aim b limits aim (Some (Model x)) other below told =
     (told.0, IsBelow-trans (problem_costs b.problem x) limits aim told.1 below)
 told_of_aim b limits aim (Some (End id)) other below told = told
 told_of_aim b limits aim (Some (Above stands)) other below told = cc
-
--- what is told of limits is told where there are none, but where they stand in the way
-pub told_any : (b : Snapshot) (limits : List ℤ) (found : Option Below) → is_closed found ≡ false
-    → IfSome found (Tells b limits) → IfSome found (TellsAny b)
-told_any b limits None other told = tt
-told_any b limits (Some (Model x)) other told = told.0
-told_any b limits (Some (End id)) other told = told
-told_any b limits (Some (Above stands)) other told = cc
