@@ -15,6 +15,7 @@ use oracle::Oracle;
 use p_minimal::PMinimal;
 use pb_lin::PbProblem;
 use proof_rules::RecordFault;
+use scut_base::NoMemory;
 use search_base::{Bounds, Search, no_lines_are_prepared, own_reforms};
 use std::alloc::Global;
 use sum_outputs::in_memory;
@@ -47,7 +48,10 @@ pub fn certified_front<O: Oracle>(
     ensures later { (O.seen oracle.old).faults ≤ (O.seen oracle.new).faults }
     ensures around { KeepsSurroundings (O.seen oracle.old).around (O.seen oracle.new).around }
 {
-    certified_front_by(alloc, oracle, problem, inst, &mut PMinimal::new(alloc))
+    match PMinimal::relaxed(alloc, problem) {
+        Ok(mut search) => certified_front_by(alloc, oracle, problem, inst, &mut search),
+        Err(NoMemory) => Err(RecordFault::NoMemory),
+    }
 }
 
 /// The same by any search that serves the problem. After a fault the search isn't used again.

@@ -94,7 +94,7 @@ impl Search for PMinimal {
         match seek(self.alloc, &self.aim, relaxed, oracle, bounds, board)? {
             Below::Model(model) => {
                 board.take(oracle, bounds, &model)?;
-                self.aim = copy_of_last(self.alloc, board)?;
+                self.aim = next_aim(self.alloc, &mut self.relaxed, board)?;
                 Ok(Turn::Found)
             }
             Below::End { id } => Ok(Turn::Finished { id }),
@@ -170,18 +170,26 @@ fn relaxations_tell<O: Oracle>(
     let Some(relaxed) = relaxed else {
         return Ok(None);
     };
-    let Some(aim) = aim else {
-        return Ok(None);
-    };
-    relaxed.seek_better(alloc, oracle, bounds, board.problem(), aim)
+    match aim {
+        Some(aim) => relaxed.seek_better(alloc, oracle, bounds, board.problem(), aim),
+        None if board.last().is_none() => Ok(None),
+        None => relaxed.seek_open(alloc, oracle, bounds, board.problem()),
+    }
 }
 
-// A copy of the vector that was logged last, where there is one.
-fn copy_of_last(alloc: Global, board: &Board<'_>) -> Result<Option<CostVec>, NoMemory>
+// A copy of the vector that was logged last, where there is one. The relaxations aren't asked for it again.
+fn next_aim(
+    alloc: Global,
+    relaxed: &mut Option<Relaxed>,
+    board: &Board<'_>,
+) -> Result<Option<CostVec>, NoMemory>
     ensures { IfOk result (λ copy. copy ≡ board.now.last) }
 {
-    match board.last() {
-        Some(last) => Ok(Some(last.copy(alloc)?)),
-        None => Ok(None),
+    let Some(last) = board.last() else {
+        return Ok(None);
+    };
+    if let Some(relaxed) = relaxed {
+        relaxed.exclude(last)?;
     }
+    Ok(Some(last.copy(alloc)?))
 }

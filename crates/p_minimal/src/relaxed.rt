@@ -1,11 +1,12 @@
 // Linear relaxations, asked before the oracle.
 ghost use Rattle.std.specs.Prelude.{◌≡◌, ◌<◌, length, IfOk, IfSome};
 ghost use Rattle.front_set.specs.Vector.{IsBelow};
-ghost use Rattle.search_questions.specs.Telling.{IsGoodWithSome, SeeksOn, Tells};
+ghost use Rattle.search_questions.specs.Telling.{IsGoodWithSome, SeeksOn, Tells, TellsAny};
 ghost use Rattle.p_minimal.specs.Aiming.{is_closed};
 
 use front_set::CostVec;
 use linear_search::LinearSearch;
+use open_boxes::OpenBoxes;
 use oracle::{Oracle, OracleFault};
 use pb_lin::PbProblem;
 use scut_base::{Items, NoMemory};
@@ -16,10 +17,14 @@ use std::alloc::Global;
 // What may be lost on questions that stay open: pivots times rows times columns, about a second of work.
 const PURSE: u64 = 1_000_000_000;
 
-// The relaxations of a problem.
+// Where there are more boxes, they are neither asked nor divided any more.
+const MOST_BOXES: usize = 500;
+
+// The relaxations of a problem, and the boxes in which models may be left.
 #[derive(Drop)]
 pub(crate) struct Relaxed {
     linear: LinearSearch,
+    boxes: OpenBoxes,
 }
 
 impl Relaxed {
@@ -27,7 +32,16 @@ impl Relaxed {
     pub(crate) fn new(alloc: Global, problem: &PbProblem) -> Result<Relaxed, NoMemory> {
         Ok(Relaxed {
             linear: LinearSearch::new(alloc, problem, PURSE)?,
+            boxes: OpenBoxes::new(alloc, problem.costs().len())?,
         })
+    }
+
+    // Takes the vectors that this one is below out of the boxes.
+    pub(crate) fn exclude(&mut self, costs: &CostVec) -> Result<(), NoMemory> {
+        if self.boxes.limits().len() > MOST_BOXES {
+            return Ok(());
+        }
+        self.boxes.exclude(costs)
     }
 
     // Whether a model is left whose costs are at most the aim and differ: objective by objective, whether one
@@ -58,6 +72,63 @@ impl Relaxed {
             }
         }
         Ok(None)
+    }
+
+    // Whether a model is left: box by box, from the last to the first, whether one is left there. `None` where
+    // no model was found, for which it may still not be known that none is left.
+    pub(crate) fn seek_open<O: Oracle>(
+        &mut self,
+        alloc: Global,
+        oracle: &mut O,
+        bounds: &mut Bounds,
+        problem: &PbProblem,
+    ) -> Result<Option<Below>, OracleFault>
+        requires good { IsGoodWithSome (O.seen oracle.old) bounds.old }
+        requires problem { (O.seen oracle.old).problem ≡ problem.now }
+        ensures tells { IfOk result (λ below. IfSome below (TellsAny (O.seen oracle.new))) }
+        ensures seeks { SeeksOn (O.seen oracle.old) (O.seen oracle.new) bounds.old bounds.new result }
+    {
+        let open = self.boxes.limits().len();
+        if open > MOST_BOXES {
+            return Ok(None);
+        }
+        for place in (0..open).rev() {
+            let found = self.seek_within(alloc, oracle, bounds, problem, place)?;
+            if found.is_some() {
+                return Ok(found);
+            }
+        }
+        Ok(None)
+    }
+
+    // Whether a model is left within the box at this place, which is closed where none is. `None` where none was
+    // found.
+    fn seek_within<O: Oracle>(
+        &mut self,
+        alloc: Global,
+        oracle: &mut O,
+        bounds: &mut Bounds,
+        problem: &PbProblem,
+        place: usize,
+    ) -> Result<Option<Below>, OracleFault>
+        requires good { IsGoodWithSome (O.seen oracle.old) bounds.old }
+        requires problem { (O.seen oracle.old).problem ≡ problem.now }
+        ensures tells { IfOk result (λ below. IfSome below (TellsAny (O.seen oracle.new))) }
+        ensures seeks { SeeksOn (O.seen oracle.old) (O.seen oracle.new) bounds.old bounds.new result }
+    {
+        let Some(limits) = self.boxes.limits().get(place) else {
+            return Ok(None);
+        };
+        if limits.len() != problem.costs().len() {
+            return Ok(None);
+        }
+        let linear = &mut self.linear;
+        let found = seek_relaxed(alloc, oracle, bounds, linear, problem, limits)?;
+        if is_closed(&found) {
+            self.boxes.close(place);
+            return Ok(None);
+        }
+        Ok(found)
     }
 }
 

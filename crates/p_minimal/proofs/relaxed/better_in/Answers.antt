@@ -1,5 +1,5 @@
 -- One number is less, and the others are those of the aim.
-use Rattle.std.proofs.Common.{◌∙◌, rules, arith}
+use Rattle.std.proofs.Common.{◌∙◌, arith}
 use Rattle.std.proofs.lemmas.Int.{ints}
 use Rattle.p_minimal.proofs.Limits.{lessened}
 use Rattle.p_minimal.proofs.relaxed.better_in.Goals as goal

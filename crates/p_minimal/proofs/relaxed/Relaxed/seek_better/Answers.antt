@@ -4,7 +4,7 @@ use Rattle.front_set.proofs.FrontLaws.{length-IsBelow}
 use Rattle.pb_lin.specs.Problem.{ProblemValue}
 use Rattle.search_base.proofs.Turning.{goes_again, goes_twice}
 use Rattle.search_questions.specs.declared.below.Below.{Below}
-use Rattle.search_questions.proofs.Calls.{seeks_after, seeks_by, seeks_handed, seeks_memory, seeks_ok, stays_good_twice}
+use Rattle.search_questions.proofs.Calls.{seeks_after, seeks_handed, seeks_memory, seeks_ok, stays_good_twice}
 use Rattle.p_minimal.proofs.Limits.{told_of_aim}
 use Rattle.p_minimal.proofs.relaxed.Relaxed.seek_better.Goals as goal
 
