@@ -148,9 +148,10 @@ impl<'a> Solve<'a> {
         ensures warned { (H.world shelf.new).warned ≡ (H.world shelf.old).warned }
     {
         match self.search {
-            SearchKind::PMinimal => {
-                self.search_by(alloc, inst, problem, &mut PMinimal::new(alloc), shelf)
-            }
+            SearchKind::PMinimal => match PMinimal::relaxed(alloc, problem) {
+                Ok(mut search) => self.search_by(alloc, inst, problem, &mut search, shelf),
+                Err(fault) => Status::from(fault),
+            },
             SearchKind::LowerBounding => match LowerBounding::new(alloc, problem) {
                 Ok(mut search) => self.search_by(alloc, inst, problem, &mut search, shelf),
                 Err(fault) => Status::from(fault),
