@@ -15,8 +15,8 @@ use search_base::Search;
 use std::alloc::Global;
 use watch_prop::WatchProp;
 
-// Searches for the front of an instance, of which this is the normal form, with a log of this version in this file. After a fault the log
-// is as before, or a part of one.
+// Searches for the front of an instance, of which this is the normal form, with a log of this version in this file. After
+// a fault the log is as before, or a part of one.
 pub(crate) fn search_with_log<'a, S: Search, H: Shelf>(
     alloc: Global,
     inst: &Instance,
