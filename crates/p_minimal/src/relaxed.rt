@@ -14,8 +14,8 @@ use search_base::Bounds;
 use search_questions::{Below, seek_relaxed};
 use std::alloc::Global;
 
-// What may be lost on questions that stay open: pivots times rows times columns, about a second of work.
-const PURSE: u64 = 1_000_000_000;
+// What may be lost on questions that stay open: pivots times rows times columns, a second or two of work.
+const PURSE: u64 = 200_000_000;
 
 // Where there are more boxes, they are neither asked nor divided any more.
 const MOST_BOXES: usize = 500;
