@@ -34,6 +34,7 @@ kept_twice a b c first second = record {
   around = record {
     shelf = second.around.shelf ∙ first.around.shelf;
     name = second.around.name ∙ first.around.name;
+    version = second.around.version ∙ first.around.version;
     others = second.around.others ∙ first.around.others;
     said = second.around.said ∙ first.around.said;
     warned = second.around.warned ∙ first.around.warned;
@@ -51,7 +52,7 @@ pub kept_none : (a : Snapshot) → KeepsRecorder a a
 kept_none a = record {
   problem = refl;
   limit = refl;
-  around = record { shelf = refl; name = refl; others = refl; said = refl; warned = refl; counts = counts_same a.around.counts };
+  around = record { shelf = refl; name = refl; version = refl; others = refl; said = refl; warned = refl; counts = counts_same a.around.counts };
   later = omega arith;
 }
 

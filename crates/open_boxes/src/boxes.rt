@@ -36,7 +36,7 @@ impl OpenBoxes {
         Ok(OpenBoxes { alloc, boxes })
     }
 
-    /// The limits of the boxes, none of which was found within another.
+    /// The limits of the boxes. No box that is within another is kept, though no clause says so.
     pub fn limits(&self) -> &[CostVec]
         ensures { result.now ≡ self.now }
     {

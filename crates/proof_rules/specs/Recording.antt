@@ -10,10 +10,12 @@ use Rattle.proof_laws.specs.Replay.{IsReplay}
 use Rattle.proof_laws.specs.declared.line.Line.{Line}
 use Rattle.proof_laws.specs.declared.why.Why.TheVariants.{LogLong}
 
--- What stands around a recorder: the shelf that it was lent, the name of the file that it writes, the other files, what was said and warned, and the shelf's counts of faults.
+-- What stands around a recorder: the shelf that it was lent, the name of the file that it writes and the version of the text in it,
+-- the other files, what was said and warned, and the shelf's counts of faults.
 pub record Surroundings : Type 0 where
   pub shelf : Option GName
   pub name : List ℕ
+  pub version : Option ℕ
   pub others : Option Files
   pub said : Option (List ℕ)
   pub warned : Option (List ℕ)
@@ -29,6 +31,7 @@ CountsLater (Some before) (Some now) = NoneFell before now
 pub record KeepsSurroundings (before now : Surroundings) : Type 0 where
   pub shelf : now.shelf ≡ before.shelf
   pub name : now.name ≡ before.name
+  pub version : now.version ≡ before.version
   pub others : now.others ≡ before.others
   pub said : now.said ≡ before.said
   pub warned : now.warned ≡ before.warned

@@ -16,6 +16,7 @@ use Rattle.proof_rules.specs.Recording.{Surroundings, Snapshot}
 use Rattle.proof_rules.specs.declared.recorder.RecordFault.{RecordFault}
 use Rattle.proof_rules.specs.declared.recorder.RecordFault.TheVariants.{Failed, Full, NoMemory}
 use Rattle.proof_text.specs.LogFile.{IsLogFile, Held}
+use Rattle.proof_text.specs.Versions.{version_number}
 use Rattle.proof_text.specs.declared.version.LogVersion.{LogVersion}
 
 -- lines that a log can spell, each legal where it stands, and the state that they reach
@@ -42,7 +43,7 @@ no_lines p fail_at = record { problem = p; lines = []; state = start p; calls = 
 
 -- nothing stands around it
 abbrev pub apart : Surroundings
-apart = record { shelf = None; name = []; others = None; said = None; warned = None; counts = None }
+apart = record { shelf = None; name = []; version = None; others = None; said = None; warned = None; counts = None }
 
 -- what can be seen of it
 abbrev pub memory_seen : MemoryLog → Snapshot
@@ -82,6 +83,7 @@ file_seen world r = record {
   around = record {
     shelf = Some r.shelf.ghost_name;
     name = r.name;
+    version = Some (version_number r.version);
     others = without_file (world r.shelf.now).files r.name;
     said = (world r.shelf.now).said;
     warned = (world r.shelf.now).warned;

@@ -12,6 +12,11 @@ use Rattle.proof_lines.specs.declared.spelling.Spelling.TheVariants.{Plain, Rela
 use Rattle.proof_text.specs.declared.version.LogVersion.{LogVersion}
 use Rattle.proof_text.specs.declared.version.LogVersion.TheVariants.{One, Two}
 
+-- the number of a version, as the first line of a log says it
+abbrev pub version_number : LogVersion → ℕ
+version_number One = 1
+version_number Two = 2
+
 -- Ids are spelled so in the first line after a header: in digits in version 1; in version 2 over so many rows, of which none is made yet.
 abbrev pub IsFirst : Spelling → Type 0
 IsFirst Plain = Unit {0}

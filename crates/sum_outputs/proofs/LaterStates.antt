@@ -233,12 +233,13 @@ counts_twice (Some f) (Some g) None one two = absurd two
 counts_twice (Some f) (Some g) (Some h) one two = λ call name. let x = one call name in let y = two call name in omega arith
 
 pub around_again : (a : Surroundings) → KeepsSurroundings a a
-around_again a = record { shelf = refl; name = refl; others = refl; said = refl; warned = refl; counts = counts_again a.counts }
+around_again a = record { shelf = refl; name = refl; version = refl; others = refl; said = refl; warned = refl; counts = counts_again a.counts }
 
 pub around_twice : (a b c : Surroundings) → KeepsSurroundings a b → KeepsSurroundings b c → KeepsSurroundings a c
 around_twice a b c one two = record {
   shelf = two.shelf ∙ one.shelf;
   name = two.name ∙ one.name;
+  version = two.version ∙ one.version;
   others = two.others ∙ one.others;
   said = two.said ∙ one.said;
   warned = two.warned ∙ one.warned;
