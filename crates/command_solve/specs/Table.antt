@@ -1,4 +1,5 @@
--- The answers of `solve IN LIST LOG [--search S] [--learn N]`, a record for each. None of them tells which search it was.
+-- The answers of `solve IN LIST LOG [--search S] [--learn N] [--log-version V]`, a record for each. None of them tells which
+-- search it was.
 use Rattle.std.specs.Prelude.{◌≡◌, ◌≢◌, ◌↔◌, ◌⊎◌, ℕ, ◌^◌, true, List, ◌∷◌, length, Option, Some}
 use Rattle.scut_base.specs.Files.{Files, content, with_file, IsTouched}
 use Rattle.scut_base.specs.World.{World}
@@ -10,6 +11,7 @@ use Rattle.instance_normal.specs.NormalForm.{IsNormalFormOf}
 use Rattle.pb_lin.specs.Problem.{ProblemValue}
 use Rattle.proof_laws.specs.declared.line.Line.{Line}
 use Rattle.proof_text.specs.LogText.{SpellsLog}
+use Rattle.proof_text.specs.Versions.{first_of}
 use Rattle.log_checker.specs.Accepted.{IsAccepted}
 use Rattle.certified_front.specs.Certified.{CoversLogged, IsEnding}
 use Rattle.certified_front.specs.declared.ending.Ending.{Ending}
@@ -43,12 +45,14 @@ pub record IsProblemOf (files : Option Files) (a : SolveAsked) (i : InstanceValu
   pub search : HasSearch a i
   pub normal : IsNormalFormOf i p
 
--- What a search has found: a list of models that cover what the lines of the log have logged, and how it has ended.
+-- What a search has found: a list of models that cover what the lines of the log have logged, and how it has ended. The log
+-- is one of the version that is asked for.
 pub record IsFound (files : Option Files) (a : SolveAsked) (i : InstanceValue) (entries : List Entry) (log : List ℕ) (how : Ending) : Type 0 where
   pub problem : ProblemValue
   pub of_file : IsProblemOf files a i problem
   pub lines : List Line
   pub spelled : SpellsLog log lines
+  pub first : spelled.first ≡ first_of a.version problem
   pub covers : CoversLogged i problem lines entries
   pub ending : IsEnding a.limit problem lines how
 
@@ -58,8 +62,8 @@ with_log v a proof = record { files = with_file v.files a.log proof; said = v.sa
 
 -- ---- the answers
 
--- Complete: LIST holds the list text of the front of IN's instance, and LOG a log that is accepted with it. The size is 0
--- exactly where the instance has no model.
+-- Complete: LIST holds the list text of the front of IN's instance, and LOG a log that is accepted with it, of the version
+-- that is asked for. The size is 0 exactly where the instance has no model.
 pub record IsCertified (before after : View) (a : SolveAsked) (size : ℕ) : Type 0 where
   pub instance : InstanceValue
   pub text : HasText before.files a.input (IsTextOf a.format instance)
@@ -70,6 +74,7 @@ pub record IsCertified (before after : View) (a : SolveAsked) (size : ℕ) : Typ
   pub empty : (size ≡ 0) ↔ HasNoModel instance
   pub proof : List ℕ
   pub accepted : IsAccepted instance (list_text true entries) proof
+  pub first : accepted.proof.spelled.first ≡ first_of a.version accepted.problem
   pub listed : IsListed a.list (list_text true entries) (Complete size) (with_log before a proof) after
 
 -- Incomplete: N was given, LOG has earned so many learned clauses, and one more could follow; LIST has models that cover
@@ -82,12 +87,12 @@ pub record IsUnfinished (before after : View) (a : SolveAsked) (size learned : �
   pub counted : length entries ≡ size
   pub listed : IsListed a.list (list_text (is_complete (EndingIncomplete learned)) entries) (Incomplete size learned) (with_log before a proof) after
 
--- LOG is as before, or holds a part of a log; nothing was said.
+-- LOG is as before, or holds a part of a log of the version that is asked for; nothing was said.
 pub record IsLogTouched (before after : View) (a : SolveAsked) : Type 0 where
   pub instance : InstanceValue
   pub problem : ProblemValue
   pub of_file : IsProblemOf before.files a instance problem
-  pub files : IsTouched before.files after.files a.log (IsPartOfLog problem)
+  pub files : IsTouched before.files after.files a.log (IsPartOfLog a.version problem)
   pub said : after.said ≡ before.said
 
 -- LOG holds what a search has found, and LIST is as before, or holds a prefix of its text; or it is whole, and a prefix of
@@ -105,12 +110,12 @@ pub record IsListTouched (before after : View) (a : SolveAsked) : Type 0 where
 abbrev pub IsSolvedPartly : View → View → SolveAsked → Type 0
 IsSolvedPartly before after a = (after ≡ before) ⊎ (IsLogTouched before after a ⊎ IsListTouched before after a)
 
--- LogFull: LOG holds the header and 2^61 lines that a log can spell, each legal where it stands; LIST is as before.
+-- LogFull: LOG holds the header of that version and 2^61 lines that a log can spell, each legal where it stands; LIST is as before.
 pub record IsLogFull (before after : View) (a : SolveAsked) : Type 0 where
   pub instance : InstanceValue
   pub problem : ProblemValue
   pub of_file : IsProblemOf before.files a instance problem
-  pub full : IsFull before.files after.files problem a.log
+  pub full : IsFull before.files after.files problem a.log a.version
   pub said : after.said ≡ before.said
 
 -- Usage: the search that is asked for doesn't take IN's instance.

@@ -1,5 +1,5 @@
-//! The command `solve IN LIST LOG [--search S] [--learn N]`: the front of the instance in the file IN by search, as a list in
-//! the file LIST, with a log in the file LOG.
+//! The command `solve IN LIST LOG [--search S] [--learn N] [--log-version V]`: the front of the instance in the file IN by
+//! search, as a list in the file LIST, with a log in the file LOG.
 //!
 //! Its public contract: what it answers goes by its table (`SolveTable`), and what its words ask for is `solve_asked`. The
 //! log is begun before the search, and the list after it.
@@ -21,7 +21,7 @@ mod options;
 
 use crate::listing::write_found;
 use crate::logging::search_with_log;
-use crate::options::{limit_of, search_of};
+use crate::options::{limit_of, search_of, version_of};
 use bioptsat::BiOpt;
 use clap::ArgMatches;
 use command_base::{
@@ -39,7 +39,8 @@ use scut_base::{NoMemory, Shelf};
 use search_base::Search;
 use std::alloc::Global;
 
-/// The command `solve`, with its files, its search, and how many clauses it may learn.
+/// The command `solve`, with its files, its search, how many clauses it may learn, and the version of
+/// its log.
 #[derive(Clone, Copy, Debug)]
 pub struct Solve<'a> {
     pub format: Format,
@@ -48,6 +49,7 @@ pub struct Solve<'a> {
     pub log: &'a str,
     pub search: SearchKind,
     pub limit: Option<u64>,
+    pub version: LogVersion,
 }
 
 // The words of the command, as clap reads them.
@@ -56,7 +58,8 @@ fn solve_words<'a>(alloc: Global) -> Result<clap::Command<'a>, NoMemory>
 {
     let command = file_words(alloc)?;
     let command = with_arg(command, option(alloc, "search"))?;
-    with_arg(command, option(alloc, "learn"))
+    let command = with_arg(command, option(alloc, "learn"))?;
+    with_arg(command, option(alloc, "log-version"))
 }
 
 // The command's files.
@@ -83,6 +86,7 @@ fn solve_of_matches<'a>(matches: &ArgMatches<'a>) -> Option<Solve<'a>>
         log,
         search: search_of(optional(matches, "search"))?,
         limit: limit_of(optional(matches, "learn"))?,
+        version: version_of(optional(matches, "log-version"))?,
     })
 }
 
@@ -186,7 +190,7 @@ impl<'a> Solve<'a> {
             inst,
             problem,
             self.log,
-            LogVersion::One,
+            self.version,
             self.limit,
             search,
             shelf,

@@ -1,7 +1,8 @@
 // The options of the command.
 ghost use Rattle.std.specs.Prelude.{◌≡◌, option_map};
-ghost use Rattle.command_solve.specs.Words.{limit_of, number_in, search_named, search_of};
+ghost use Rattle.command_solve.specs.Words.{limit_of, number_in, search_named, search_of, version_named, version_of};
 
+use proof_text::LogVersion;
 use scut_base::read_u64;
 
 /// A search for the front.
@@ -59,5 +60,26 @@ fn number_in(text: &str) -> Option<u64>
             None
         }
         Err(_) => None,
+    }
+}
+
+// V of `--log-version V`, where it is given; `None` where there is no such version.
+pub(crate) fn version_of(name: Option<&str>) -> Option<LogVersion>
+    ensures { result ≡ version_of (option_map (λ s. s.now) name.entry) }
+{
+    match name {
+        Some(name) => version_named(name),
+        None => Some(LogVersion::One),
+    }
+}
+
+// The version of this number.
+fn version_named(name: &str) -> Option<LogVersion>
+    ensures { result ≡ version_named name.now }
+{
+    match name {
+        "1" => Some(LogVersion::One),
+        "2" => Some(LogVersion::Two),
+        _ => None,
     }
 }
