@@ -1,6 +1,6 @@
--- The answers of `solve IN LIST LOG [--search S] [--learn N] [--log-version V]`, a record for each. None of them tells which
--- search it was.
-use Rattle.std.specs.Prelude.{◌≡◌, ◌≢◌, ◌↔◌, ◌⊎◌, ℕ, ◌^◌, true, List, ◌∷◌, length, Option, Some}
+-- The answers of `solve IN LIST LOG [--search S] [--turns T] [--learn N] [--log-version V]`, a record for each. None of them
+-- tells which search it was.
+use Rattle.std.specs.Prelude.{◌≡◌, ◌↔◌, ◌⊎◌, ℕ, ◌^◌, true, false, List, ◌∷◌, ◌==◌, if◌then◌else◌, length, Option, Some}
 use Rattle.scut_base.specs.Files.{Files, content, with_file, IsTouched}
 use Rattle.scut_base.specs.World.{World}
 use Rattle.front_set.specs.declared.entry.Entry.{Entry}
@@ -26,8 +26,8 @@ use Rattle.command_base.specs.declared.status.Status.{Status}
 use Rattle.command_base.specs.declared.status.Status.TheVariants.{Complete, Incomplete, Usage, LogFull, NoMemory, ShelfFailed}
 use Rattle.command_solve.specs.Listing.{IsListPartlySaid, IsListUnsaid, IsListed, is_complete, list_calls}
 use Rattle.command_solve.specs.Logging.{IsFull, IsPartOfLog}
+use Rattle.command_solve.specs.TurnDigits.{takes}
 use Rattle.command_solve.specs.Words.{SolveAsked}
-use Rattle.command_solve.specs.declared.options.SearchKind.TheVariants.{BiOptSat}
 
 -- it reads IN, begins and appends to LOG and LIST, and says something
 abbrev pub solve_calls : SolveAsked → List Call
@@ -35,9 +35,13 @@ solve_calls a = reading a.input ∷ beginning a.log ∷ appending a.log ∷ list
 
 -- ---- what is solved, and what is found
 
--- only the search for two objectives wants some number of them
+-- the search that is asked for takes the instance: only that for two objectives, alone or in turns, wants some number of them
 abbrev pub HasSearch : SolveAsked → InstanceValue → Type 0
-HasSearch a i = a.search ≡ BiOptSat → length i.objectives ≡ 2
+HasSearch a i = takes a.search a.turns (length i.objectives) ≡ true
+
+-- how many searches can take turns at the instance: the third wants two objectives
+abbrev pub searches_for : InstanceValue → ℕ
+searches_for i = if length i.objectives == 2 then 3 else 2
 
 -- IN spells the instance, which the search that is asked for takes, and the problem is its normal form
 pub record IsProblemOf (files : Option Files) (a : SolveAsked) (i : InstanceValue) (p : ProblemValue) : Type 0 where
@@ -120,7 +124,7 @@ pub record IsLogFull (before after : View) (a : SolveAsked) : Type 0 where
 
 -- Usage: the search that is asked for doesn't take IN's instance.
 abbrev pub HasOtherObjectives : SolveAsked → List ℕ → Type 0
-HasOtherObjectives a text = (a.search ≡ BiOptSat) × ((i : InstanceValue) × IsTextOf a.format i text × (length i.objectives ≢ 2))
+HasOtherObjectives a text = (i : InstanceValue) × IsTextOf a.format i text × (takes a.search a.turns (length i.objectives) ≡ false)
 
 -- The table.
 abbrev pub SolveTable : SolveAsked → Status → View → View → Type 0
