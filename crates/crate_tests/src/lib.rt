@@ -1,16 +1,8 @@
-//! Tests of the crates below the program, all in one crate: a crate that has tests of its own is proved a
-//! second time with them. They show what no clause says: that calls succeed where there is memory, what
+//! Tests of the lowest crates, all in one crate: a crate that has tests of its own is proved a second time with
+//! them. They show what no clause says: that calls succeed where there is memory, what the real files do, what
 //! prints, and values that were worked out by hand. It has nothing but tests.
 #![tactic(auto)]
 
-#[cfg(test)]
-mod clauses;
-#[cfg(test)]
-mod failing_appends;
-#[cfg(test)]
-mod instances_in_normal_form;
-#[cfg(test)]
-mod logs_in_pieces;
 #[cfg(test)]
 mod maximised_objectives;
 #[cfg(test)]
@@ -24,12 +16,4 @@ mod shelves_in_memory;
 #[cfg(test)]
 mod stacks_of_tokens;
 #[cfg(test)]
-mod statements;
-#[cfg(test)]
-mod states_after_lines;
-#[cfg(test)]
 mod sums;
-#[cfg(test)]
-mod texts_of_lines;
-#[cfg(test)]
-mod texts_of_lists;

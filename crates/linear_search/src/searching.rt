@@ -1,4 +1,6 @@
 // The search through the tree, depth first.
+ghost use Rattle.std.specs.Prelude.{◌<◌};
+
 use crate::nodes::Node;
 use crate::relaxation::{Limit, LinearSearch};
 use crate::tree::{Branch, Tree, Turn};
@@ -18,6 +20,12 @@ pub(crate) enum Found {
 }
 
 impl LinearSearch {
+    /// Whether no question can be answered any more: the purse has nothing left for a pivot, or the relaxation
+    /// is too large for its table.
+    pub fn is_spent(&self) -> bool {
+        !self.is_whole || self.pivots() == 0
+    }
+
     // Searches for values within the limits where the assumptions are true. A search spends at most a quarter
     // of the purse, and what it spent is lost only where it finds nothing.
     pub(crate) fn search(
@@ -26,23 +34,34 @@ impl LinearSearch {
         assumed: &[Lit],
         limits: &[Limit],
     ) -> Result<Found, NoMemory> {
-        let cells = (self.columns as u64)
-            .saturating_mul(self.program.rows() as u64)
-            .saturating_add(1);
-        let pivots = self.purse / 4 / cells;
-        if !self.is_whole {
+        if self.is_spent() {
             return Ok(Found::Unknown);
         }
+        let pivots = self.pivots();
         let mut tree = Tree::new(self.alloc, state.vars(), pivots)?;
         self.begin(assumed, limits);
         let found = self.explore(state, assumed, limits, &mut tree)?;
         if let Found::Unknown = found {
             let spent = pivots
                 .saturating_sub(tree.pivots_left)
-                .saturating_mul(cells);
+                .saturating_mul(self.cells());
             self.purse = self.purse.saturating_sub(spent);
         }
         Ok(found)
+    }
+
+    // The cells of its table.
+    fn cells(&self) -> u64
+        ensures { 0 < result }
+    {
+        (self.columns as u64)
+            .saturating_mul(self.program.rows() as u64)
+            .saturating_add(1)
+    }
+
+    // How many pivots a search may take: those of a quarter of the purse.
+    fn pivots(&self) -> u64 {
+        self.purse / 4 / self.cells()
     }
 
     // Sets the ranges for a question.

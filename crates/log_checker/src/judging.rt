@@ -1,5 +1,5 @@
 // Lines of a log, judged one by one.
-ghost use Rattle.std.specs.Prelude.{◌≡◌, ◌↔◌, ◌<◌, ◌+◌, ℕ, List, All, true, IsTrue, IfErr, OnOk, Ok, Err};
+ghost use Rattle.std.specs.Prelude.{◌≡◌, ◌↔◌, ◌<◌, ◌+◌, ◌⊎◌, ℕ, List, All, true, IsTrue, IfErr, OnOk, OnErr, Ok, Err};
 ghost use Rattle.front_set.specs.Vector.{is_below};
 ghost use Rattle.pb_lin.specs.Problem.{ProblemValue};
 ghost use Rattle.proof_laws.specs.Legal.{IsNext};
@@ -104,8 +104,10 @@ fn next_number(state: &ProofState) -> u64
     state.lines() + 2
 }
 
-// Takes up a line, where it is legal, and tests that what it logs is covered.
-fn judge_line(
+/// Judges one line after a state, and takes it up: `Refused` with the first condition of the rules that it fails,
+/// or where it logs a vector that none of these covers, which it has taken up by then; `NoMemory` where memory
+/// was refused. Costs the line's step, and the objectives of each vector where it logs one.
+pub fn judge_line(
     problem: &PbProblem,
     vectors: &[CostVec],
     state: &mut ProofState,
@@ -118,6 +120,8 @@ fn judge_line(
     ensures covered { OnOk result (All (IsCovered vectors.now) state.old.sols
         → All (IsCovered vectors.now) state.new.sols) }
     ensures refused { IfErr result (IsLineReason problem.now vectors.now state.old line.now) }
+    ensures after { OnErr result ((state.new ≡ state.old)
+        ⊎ IsNext problem.now state.old line.now state.new) }
 {
     let logged = state.sols().len();
     state.step(problem, line)?;

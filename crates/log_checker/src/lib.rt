@@ -16,6 +16,7 @@ mod list;
 
 pub use checker::Checker;
 pub use fault::{CheckFault, ListWhy};
+pub use judging::judge_line;
 pub use laws::{
     accepted_is_front, no_list_fault_where_right, no_log_fault_where_ended,
     no_refusal_where_accepted, one_list_fault, one_log_fault,

@@ -170,6 +170,9 @@ fn relaxations_tell<O: Oracle>(
     let Some(relaxed) = relaxed else {
         return Ok(None);
     };
+    if relaxed.is_spent() {
+        return Ok(None);
+    }
     match aim {
         Some(aim) => relaxed.seek_better(alloc, oracle, bounds, board.problem(), aim),
         None if board.last().is_none() => Ok(None),

@@ -36,9 +36,14 @@ impl Relaxed {
         })
     }
 
+    // Whether nothing can be told any more.
+    pub(crate) fn is_spent(&self) -> bool {
+        self.linear.is_spent()
+    }
+
     // Takes the vectors that this one is below out of the boxes.
     pub(crate) fn exclude(&mut self, costs: &CostVec) -> Result<(), NoMemory> {
-        if self.boxes.limits().len() > MOST_BOXES {
+        if self.is_spent() || self.boxes.limits().len() > MOST_BOXES {
             return Ok(());
         }
         self.boxes.exclude(costs)

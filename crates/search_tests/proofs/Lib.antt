@@ -2,3 +2,4 @@ pub mod StoredLines
 pub mod Asking
 pub mod Beginnings
 pub mod Rising
+pub mod OneState

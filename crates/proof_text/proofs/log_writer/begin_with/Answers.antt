@@ -1,6 +1,6 @@
 use Rattle.std.proofs.Common.{[], append-nil}
 use Rattle.scut_base.proofs.FileLaws.{there_by, appended_by, partly_by}
-use Rattle.proof_text.proofs.file_recorder.begin_with.Goals as goal
+use Rattle.proof_text.proofs.log_writer.begin_with.Goals as goal
 
 pub append-requires : goal.append-requires
 append-requires g c = there_by _ _ _ _ c.in_default.ensures.begun

@@ -5,8 +5,8 @@ use Rattle.proof_laws.specs.declared.line.Line.{Line}
 use Rattle.proof_rules.specs.Recording.{MayBeAdded}
 use Rattle.proof_text.specs.Recorders.{IsKept}
 use Rattle.proof_text.proofs.Replaying.{kept_more}
-use Rattle.crate_tests.proofs.OneState.{may_be_added}
-use Rattle.crate_tests.proofs.failing_appends.add.Goals as goal
+use Rattle.search_tests.proofs.OneState.{may_be_added}
+use Rattle.search_tests.proofs.failing_appends.add.Goals as goal
 
 pub add_line-requires-clause-legal : goal.add_line-requires-clause-legal
 add_line-requires-clause-legal g c =

@@ -1,6 +1,6 @@
 use Rattle.std.proofs.Common.{◌≡◌, false}
 use Rattle.proof_text.specs.Recorders.{IsKept}
-use Rattle.crate_tests.proofs.failing_appends.answers.Given as goal
+use Rattle.search_tests.proofs.failing_appends.answers.Given as goal
 
 abbrev pub invariant-loop-line : goal.invariant-loop-line
 invariant-loop-line g l = record {

@@ -2,7 +2,7 @@ use Rattle.std.proofs.Common.{inr, Option, ap, ◌∙◌}
 use Rattle.scut_base.specs.Files.{Files}
 use Rattle.proof_text.specs.Recorders.{without_file}
 use Rattle.proof_text.proofs.LogFiles.{without-with, others_of_part}
-use Rattle.proof_text.proofs.file_recorder.write_line.Goals as goal
+use Rattle.proof_text.proofs.log_writer.write_line.Goals as goal
 
 pub returns-in-Ok-clause-others : goal.returns-in-Ok-clause-others
 returns-in-Ok-clause-others g c = ap (λ (f : Option Files). without_file f c.args.name.now) c.in-Ok.ensures.appended ∙ without-with _ _ _

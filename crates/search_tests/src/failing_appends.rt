@@ -4,7 +4,7 @@ ghost use Rattle.std.specs.Prelude.{◌≡◌, [], false, OnOk};
 ghost use Rattle.proof_laws.specs.WellFormed.{IsWellFormed};
 ghost use Rattle.proof_text.specs.Recorders.{IsKept};
 
-use crate::states_after_lines::problem;
+use crate::problems::problem;
 use pb_lin::PbProblem;
 use proof_laws::Line;
 use proof_lines::{Spelling, read_line};
@@ -14,6 +14,9 @@ use scut_base::{MemShelf, PlannedFault, ShelfCall};
 use std::alloc::Global;
 use std::fmt::Write;
 use std::test::Fail;
+
+// The lines over which proofs stand: row 1 is x1 or x2, and each of the two costs 1.
+const PROBLEM: &str = "min: x1 ;\nmin: x2 ;\nx1 +x2 >= 1 ;\n";
 
 // The whole log.
 const LOG: &str =
@@ -117,7 +120,7 @@ fn keeps_in_memory(
 
 #[test]
 fn a_recorder_in_memory_keeps_the_lines_before_a_fault(rt: HostRuntime) -> Result<(), Fail> {
-    let problem = problem(rt.alloc())?;
+    let problem = problem(rt.alloc(), PROBLEM)?;
     for (number, expected, count) in &CALLS {
         assert!(rt;
             keeps_in_memory(rt.alloc(), &problem, *number, *expected, *count)?,
@@ -194,7 +197,7 @@ fn keeps_in_file(
 fn a_file_keeps_the_lines_before_a_fault_and_a_part_of_the_next(
     rt: HostRuntime,
 ) -> Result<(), Fail> {
-    let problem = problem(rt.alloc())?;
+    let problem = problem(rt.alloc(), PROBLEM)?;
     for (number, bytes, expected, length) in &APPENDS {
         let fault = PlannedFault {
             call: ShelfCall::Append,

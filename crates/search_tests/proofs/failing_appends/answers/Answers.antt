@@ -2,7 +2,7 @@ use Rattle.std.proofs.Common.{List, sym, subst, ◌∙◌}
 use Rattle.proof_laws.specs.declared.line.Line.{Line}
 use Rattle.proof_text.specs.Recorders.{IsKept}
 use Rattle.proof_text.proofs.Replaying.{kept_none}
-use Rattle.crate_tests.proofs.failing_appends.answers.Goals as goal
+use Rattle.search_tests.proofs.failing_appends.answers.Goals as goal
 
 pub loop-line-init : goal.loop-line-init
 loop-line-init g c = record {
