@@ -131,8 +131,11 @@ fn begin_with<H: Shelf>(shelf: &mut H, name: &str, header: &[u8]) -> Result<(), 
     ensures cause { IsErrOf result ShelfFault.Failed
         → WritingFailed (H.world shelf.old).faults (H.world shelf.new).faults name.now }
 {
-    match shelf.begin(name) {
-        Ok(()) => shelf.append(name, header),
+    if let Err(fault) = shelf.begin(name) {
+        return Err(fault);
+    }
+    match shelf.append(name, header) {
+        Ok(()) => Ok(()),
         Err(fault) => Err(fault),
     }
 }
