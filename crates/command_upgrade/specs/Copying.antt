@@ -98,8 +98,9 @@ pub record IsCopied (files : Option Files) (log : List ℕ) (r : ReaderValue) (w
   pub read : AreOf files log lines
 
 -- the same, and these are all bytes of the file
-pub record IsCopiedWhole (files : Option Files) (log : List ℕ) (r : ReaderValue) (w : WriterValue) (n : ℕ) : Type 0 where
-  pub so_far : IsCopied files log r w n
+pub record IsCopiedWhole (files : Option Files) (log : List ℕ) (r : ReaderValue) (w : WriterValue) : Type 0 where
+  pub count : ℕ
+  pub so_far : IsCopied files log r w count
   pub all : IsWhole files log so_far.bytes
 
 -- the log's text has P with some lines, and the writer's file holds the header and these

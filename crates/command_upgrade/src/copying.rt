@@ -62,19 +62,26 @@ fn copy_log<H: Shelf>(
         writer.new (H.world shelf.old).faults (H.world shelf.new).faults) }
     ensures beside { WritesOnly writer.old writer.new (H.world shelf.old) (H.world shelf.new) }
 {
-    let mut buffer = zeros(alloc, PIECE)?;
+    let mut buffer = match zeros(alloc, PIECE) {
+        Ok(buffer) => buffer,
+        Err(fault) => return Err(LogStop::from(fault)),
+    };
     let mut at = 0;
     while at < MOST_BYTES {
-        let n = copy_piece(log, at, &mut buffer, reader, writer, shelf)?;
+        let n = match copy_piece(log, at, &mut buffer, reader, writer, shelf) {
+            Ok(n) => n,
+            Err(stop) => return Err(stop),
+        };
         if n == 0 {
             return end_of(reader);
         }
         at += n;
     }
-    if has_more(log, at, &mut buffer, shelf)? {
-        return Err(LogStop::Large);
+    match has_more(log, at, &mut buffer, shelf) {
+        Ok(true) => Err(LogStop::Large),
+        Ok(false) => end_of(reader),
+        Err(fault) => Err(LogStop::from(fault)),
     }
-    end_of(reader)
 }
 
 // Reads the piece at this place and writes the lines that it makes whole; 0 at the file's end.
@@ -93,7 +100,7 @@ fn copy_piece<H: Shelf>(
     ensures more { IfOk result (λ n. IsCopied (H.world shelf.new).files log.now reader.new
         writer.new (at + n)) }
     ensures whole { IfOk result (λ n. n ≡ 0 → IsCopiedWhole (H.world shelf.new).files log.now
-        reader.new writer.new at) }
+        reader.new writer.new) }
     ensures within { IfOk result (λ n. at + n < 2 ^ 62) }
     ensures stop { IfErr result (λ stop. IsCopyStop stop (H.world shelf.new).files log.now
         writer.new (H.world shelf.old).faults (H.world shelf.new).faults) }
@@ -102,12 +109,18 @@ fn copy_piece<H: Shelf>(
 {
     let room = (PIECE as u64).min(MOST_BYTES - at) as usize;
     let piece = &mut buffer.as_mut_slice()[..room];
-    let n = shelf.read_at(log, at, piece)?;
-    if reader.feed(&piece[..n]).is_err() {
-        return Err(LogStop::NoMemory);
+    let n = match shelf.read_at(log, at, piece) {
+        Ok(n) => n,
+        Err(fault) => return Err(LogStop::from(fault)),
+    };
+    match reader.feed(&piece[..n]) {
+        Ok(()) => {}
+        Err(_) => return Err(LogStop::NoMemory),
     }
-    copy_lines(reader, writer, shelf)?;
-    Ok(n as u64)
+    match copy_lines(reader, writer, shelf) {
+        Ok(()) => Ok(n as u64),
+        Err(stop) => Err(stop),
+    }
 }
 
 // Writes the whole lines that the reader holds, up to the first that is wrong.
