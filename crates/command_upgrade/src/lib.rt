@@ -70,13 +70,15 @@ fn upgrade_of_matches<'a>(matches: &ArgMatches<'a>) -> Option<Upgrade<'a>>
     let input = value(matches, "IN");
     let log = value(matches, "LOG");
     let output = value(matches, "NEW");
-    let format = format_of_three(input, log, output)?;
-    Some(Upgrade {
-        format,
-        input,
-        log,
-        output,
-    })
+    match format_of_three(input, log, output) {
+        Some(format) => Some(Upgrade {
+            format,
+            input,
+            log,
+            output,
+        }),
+        None => None,
+    }
 }
 
 /// The command that the words ask for, of which the first is `upgrade`; `None` exactly where clap or the names refuse them.
