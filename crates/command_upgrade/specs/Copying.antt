@@ -1,21 +1,29 @@
 -- How the lines of a log come into another file; nothing of it has to be believed.
 use Rattle.std.specs.Prelude.{◌≡◌, ℕ, ◌<◌, ◌^◌, ◌⊎◌, Bool, true, false, List, [], ◌∷◌, ◌++◌, length, take, Option, Some, Result, Ok, Err}
-use Rattle.scut_base.specs.Files.{Files, content, IsPrefixOf}
-use Rattle.scut_base.specs.Faults.{Faults, NoneFell, ReadingFailed, Rose, count}
+use Rattle.scut_base.specs.Files.{Files, content, with_file, IsPrefixOf, IsTouched}
+use Rattle.scut_base.specs.Faults.{Faults, NoneFell, ReadingFailed, Rose, WritingFailed, count}
 use Rattle.scut_base.specs.World.{World}
 use Rattle.scut_base.specs.declared.shelf.ShelfCall.TheVariants.{Append}
 use Rattle.proof_laws.specs.declared.line.Line.{Line}
 use Rattle.proof_laws.specs.declared.why.Why.TheVariants.{Syntax}
-use Rattle.proof_text.specs.LogText.{BeginsWith, HoldsNoFurtherLine, IsSyntaxAt, SpellsLog}
+use Rattle.proof_lines.specs.declared.spelling.Spelling.{Spelling}
+use Rattle.proof_text.specs.LogText.{BeginsWith, HoldsNoFurtherLine, IsSyntaxAt, IsUnfinishedAt, SpellsLog}
 use Rattle.proof_text.specs.Reading.{HasGiven, ReaderValue, StandsFor}
 use Rattle.proof_text.specs.Recorders.{without_file}
 use Rattle.proof_text.specs.Versions.{IsFirst, after_lines, log_text}
 use Rattle.proof_text.specs.Writing.{WriterValue}
+use Rattle.proof_text.specs.declared.fault.TextFault.{TextFault}
+use Rattle.proof_text.specs.declared.fault.TextFault.TheVariants.{Syntax as SyntaxAt, NoMemory as TextMemory}
 use Rattle.command_base.specs.Causes.{HasText}
 use Rattle.command_base.specs.WholeFile.{IsWhole}
 use Rattle.command_base.specs.declared.stops.LogStop.{LogStop}
 use Rattle.command_base.specs.declared.stops.LogStop.TheVariants.{Refused, Large, NoMemory, ShelfFailed}
-use Rattle.command_upgrade.specs.Table.{AreBefore, IsLargeAfter, IsLogOf, IsWrongAfter}
+use Rattle.command_upgrade.specs.Table.{AreBefore, HasNoWrongLine, IsLargeAfter, IsLogOf, IsWrongAfter}
+
+-- why a text isn't read, as a stop
+abbrev pub stop_of : TextFault → LogStop
+stop_of (SyntaxAt k) = Refused k Syntax
+stop_of TextMemory = NoMemory
 
 -- ---- the lines of bytes that were fed
 
@@ -66,7 +74,18 @@ pub record WritesOnly (w new : WriterValue) (before after : World) : Type 0 wher
   pub warned : after.warned ≡ before.warned
   pub later : NoneFell before.faults after.faults
 
+-- what is so at the end of the bytes: they spell the lines, or end in the midst of the next one
+abbrev pub EndsAt : List ℕ → List Line → Result (Unit {0}) LogStop → Type 0
+EndsAt bytes lines (Ok done) = SpellsLog bytes lines
+EndsAt bytes lines (Err (Refused k why)) = (why ≡ Syntax) × HasNoWrongLine bytes × IsUnfinishedAt bytes k × AreBefore bytes k lines
+EndsAt bytes lines (Err NoMemory) = Unit {0}
+EndsAt bytes lines (Err stop) = ⊥
+
 -- ---- a log file
+
+-- lines that the log begins with, or none
+abbrev pub AreOf : Option Files → List ℕ → List Line → Type 0
+AreOf files log lines = (lines ≡ []) ⊎ HasText files log (λ bytes. (rest : List ℕ) × BeginsWith bytes lines rest)
 
 -- It was fed so many bytes, the first of the file, and all their whole lines were copied.
 pub record IsCopied (files : Option Files) (log : List ℕ) (r : ReaderValue) (w : WriterValue) (n : ℕ) : Type 0 where
@@ -76,10 +95,12 @@ pub record IsCopied (files : Option Files) (log : List ℕ) (r : ReaderValue) (w
   pub lines : List Line
   pub underway : IsUnderway files r w bytes lines
   pub held : HoldsNoFurtherLine bytes lines
+  pub read : AreOf files log lines
 
 -- the same, and these are all bytes of the file
-pub record IsCopiedWhole (files : Option Files) (log : List ℕ) (r : ReaderValue) (w : WriterValue) (n : ℕ) : Type 0 where
-  pub so_far : IsCopied files log r w n
+pub record IsCopiedWhole (files : Option Files) (log : List ℕ) (r : ReaderValue) (w : WriterValue) : Type 0 where
+  pub count : ℕ
+  pub so_far : IsCopied files log r w count
   pub all : IsWhole files log so_far.bytes
 
 -- the log's text has P with some lines, and the writer's file holds the header and these
@@ -92,7 +113,7 @@ pub record IsWith (files : Option Files) (log : List ℕ) (w : WriterValue) (P :
 -- the writer's file holds a prefix of the header and of lines that the log begins with
 pub record IsLeftOf (files : Option Files) (log : List ℕ) (w : WriterValue) : Type 0 where
   pub lines : List Line
-  pub read : (lines ≡ []) ⊎ HasText files log (λ bytes. (rest : List ℕ) × BeginsWith bytes lines rest)
+  pub read : AreOf files log lines
   pub text : List ℕ
   pub prefix : IsPrefixOf text (log_text w.first lines)
   pub file : IsWhole files w.name text
@@ -103,3 +124,25 @@ IsCopyStop (Refused k why) files log w before after = (why ≡ Syntax) × IsWith
 IsCopyStop Large files log w before after = IsWith files log w IsLargeAfter
 IsCopyStop NoMemory files log w before after = IsLeftOf files log w
 IsCopyStop ShelfFailed files log w before after = IsLeftOf files log w × (ReadingFailed before after log ⊎ Rose (count before Append w.name) (count after Append w.name))
+
+-- ---- the new file
+
+-- the log's text has P with some lines, and the new file was written, of the header and these
+pub record IsNew (before after : Option Files) (log output : List ℕ) (first : Spelling) (P : List Line → List ℕ → Type 0) : Type 0 where
+  pub lines : List Line
+  pub text : HasText before log (P lines)
+  pub files : after ≡ with_file before output (log_text first lines)
+  pub spelled : SpellsLog (log_text first lines) lines
+
+-- the new file is as before, or holds a prefix of the header and of lines that the log begins with
+pub record IsNewPart (before after : Option Files) (log output : List ℕ) (first : Spelling) : Type 0 where
+  pub lines : List Line
+  pub read : AreOf before log lines
+  pub files : IsTouched before after output (λ bytes. IsPrefixOf bytes (log_text first lines))
+
+-- why the new file isn't written
+abbrev pub IsNewStop : LogStop → World → World → List ℕ → List ℕ → Spelling → Type 0
+IsNewStop (Refused k why) before after log output first = (why ≡ Syntax) × IsNew before.files after.files log output first (λ lines. IsWrongAfter lines k)
+IsNewStop Large before after log output first = IsNew before.files after.files log output first IsLargeAfter
+IsNewStop NoMemory before after log output first = IsNewPart before.files after.files log output first
+IsNewStop ShelfFailed before after log output first = IsNewPart before.files after.files log output first × (ReadingFailed before.faults after.faults log ⊎ WritingFailed before.faults after.faults output)
