@@ -1,4 +1,4 @@
-use Rattle.std.proofs.Common.{rules, ◌+◌, ◌<◌, ◌^◌, ◌++◌, List, ℕ, take, Err, ap, arith, subst, sym, ◌∙◌}
+use Rattle.std.proofs.Common.{rules, ◌+◌, ◌<◌, ◌≤◌, ◌^◌, ◌++◌, List, ℕ, length, take, Err, ap, arith, subst, sym, ◌∙◌}
 use Rattle.std.specs.Prelude.{Option}
 use Rattle.scut_base.specs.Faults.{Rose, count}
 use Rattle.scut_base.specs.Files.{Files}
@@ -34,7 +34,7 @@ returns-in-Ok-copy_lines-clause-more g c =
     let w = c.args.writer.now in
     let into = c.read_at.new.into in
     let read = c.in-Ok.ensures.bytes in
-    let short = omega (arith, c.in-Ok.ensures.bound) in
+    let short : c.in-Ok.n ≤ length into = omega (arith, c.in-Ok.ensures.bound) in
     let within : c.args.at + c.in-Ok.n < 2 ^ 62 = search rules in
     let underway : IsUnderway mid c.feed.new.self w (copied.bytes ++ take c.in-Ok.n into) copied.lines
     = subst (λ (f : Option Files). IsUnderway f c.feed.new.self w (copied.bytes ++ take c.in-Ok.n into) copied.lines) (sym c.in-Ok.ensures.files)
@@ -55,7 +55,7 @@ returns-in-Ok-copy_lines-clause-whole g c = λ none.
     let w = c.args.writer.now in
     let into = c.read_at.new.into in
     let read = c.in-Ok.ensures.bytes in
-    let short = omega (arith, c.in-Ok.ensures.bound) in
+    let short : c.in-Ok.n ≤ length into = omega (arith, c.in-Ok.ensures.bound) in
     let within : c.args.at + c.in-Ok.n < 2 ^ 62 = search rules in
     let underway : IsUnderway mid c.feed.new.self w (copied.bytes ++ take c.in-Ok.n into) copied.lines
     = subst (λ (f : Option Files). IsUnderway f c.feed.new.self w (copied.bytes ++ take c.in-Ok.n into) copied.lines) (sym c.in-Ok.ensures.files)
@@ -76,7 +76,7 @@ returns-in-Err-copy_lines-clause-stop g c =
     let w = c.args.writer.now in
     let into = c.read_at.new.into in
     let read = c.in-Ok.ensures.bytes in
-    let short = omega (arith, c.in-Ok.ensures.bound) in
+    let short : c.in-Ok.n ≤ length into = omega (arith, c.in-Ok.ensures.bound) in
     let within : c.args.at + c.in-Ok.n < 2 ^ 62 = search rules in
     let underway : IsUnderway mid c.feed.new.self w (copied.bytes ++ take c.in-Ok.n into) copied.lines
     = subst (λ (f : Option Files). IsUnderway f c.feed.new.self w (copied.bytes ++ take c.in-Ok.n into) copied.lines) (sym c.in-Ok.ensures.files)
