@@ -90,7 +90,7 @@ none_wrong bytes lines held k wrong = no_syntax no_problem [] bytes lines k held
 feeds_before : (bytes : List ℕ) (k : ℕ) → IsUnfinishedAt bytes k → newlines bytes + 1 ≡ k
 feeds_before bytes k end = omega (arith, end.number, ap newlines end.is, newlines-append end.before end.text, newlines-one end.text end.one)
 
-part_empty : (bytes : List ℕ) (lines : List Line) → HasGiven bytes lines → IsHeaderPart bytes → lines ≡ []
+pub part_empty : (bytes : List ℕ) (lines : List Line) → HasGiven bytes lines → IsHeaderPart bytes → lines ≡ []
 part_empty bytes lines (inl none) part = none
 part_empty bytes lines (inr begins) part = absurd (begins_has_newline bytes lines begins.0 begins.1 (header_part_one bytes part))
 

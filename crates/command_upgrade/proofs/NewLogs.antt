@@ -35,6 +35,10 @@ use Rattle.command_upgrade.specs.Copying.{AreOf, EndsAt, IsCopied, IsCopiedWhole
 use Rattle.command_upgrade.specs.Table.{AreAllWhole, AreBefore, HasNoWrongLine, IsLargeAfter, IsLogOf, IsWrongAfter}
 use Rattle.command_upgrade.proofs.Copies.{none_wrong, part_empty, spells_anew}
 
+pub err_then : {T E : Type 0} (r : Result T E) (P Q : E → Type 0) → IfErr r P → ((e : E) → P e → Q e) → IfErr r Q
+err_then (Ok x) P Q h f = tt
+err_then (Err e) P Q h f = f e h
+
 -- ---- one file alone is written
 
 pub read_beside : (w : WriterValue) (a b : World) → b.files ≡ a.files → b.said ≡ a.said → b.warned ≡ a.warned → NoneFell a.faults b.faults → WritesOnly w w a b
