@@ -27,7 +27,10 @@ use Rattle.command_solve.specs.Logging.{IsFull}
 use Rattle.command_solve.specs.Table.{IsCertified, IsLogFull, SolveTable, solve_calls}
 use Rattle.command_check.specs.Table.{CheckTable, check_calls}
 use Rattle.command_trial.specs.Table.{IsTriedFull, IsTriedPartly, IsTriedTooLarge, IsTried, TrialTable, goes_on, said_in_turn, trial_calls, with_instance}
-use Rattle.command_trial.specs.Words.{TrialAsked, check_part, gen_part, instance_name, list_name, log_name, solve_part}
+use Rattle.command_gen.specs.Words.{GenAsked}
+use Rattle.command_solve.specs.Words.{SolveAsked}
+use Rattle.command_check.specs.Words.{CheckAsked}
+use Rattle.command_trial.specs.Words.{AreNames, TrialAsked, check_in, check_part, gen_in, gen_part, instance_name, list_name, log_name, solve_in, solve_part}
 use Rattle.command_trial.proofs.OwnCalls.{check_rose, gen_rose, solve_rose}
 use Rattle.command_trial.proofs.ReadBack.{large_file, no_entry_refused, no_line_refused, same_instance, solved, text_there, there_then, told_then}
 
@@ -149,3 +152,49 @@ module _ (a : TrialAsked) where
         cause = λ failed. own_rose_at_last (trial_calls a) before.faults last.faults after.faults (λ call name. omega (arith, first.later call name, second.later call name)) (check_rose a last.faults after.faults (third.cause failed));
         later = λ call name. omega (arith, first.later call name, second.later call name, third.later call name);
       }
+
+  -- ---- the same of parts that are given by the names of their files
+
+  module _ (input list log : List ℕ) (names : AreNames a input list log) where
+    gen_is : gen_in a.origin input ≡ gen_part a
+    gen_is = ap (gen_in a.origin) names.input
+
+    solve_is : solve_in input list log ≡ solve_part a
+    solve_is =
+        ap (λ (name : List ℕ). solve_in name list log) names.input
+        ∙ ap (λ (name : List ℕ). solve_in (instance_name a) name log) names.list
+        ∙ ap (λ (name : List ℕ). solve_in (instance_name a) (list_name a) name) names.log
+
+    check_is : check_in input list log ≡ check_part a
+    check_is =
+        ap (λ (name : List ℕ). check_in name list log) names.input
+        ∙ ap (λ (name : List ℕ). check_in (instance_name a) name log) names.list
+        ∙ ap (λ (name : List ℕ). check_in (instance_name a) (list_name a) name) names.log
+
+    abbrev OfGen : GenAsked → Status → World → World → Type 0
+    OfGen part status before after = Answered (GenTable part) (gen_calls part) status before after
+
+    abbrev OfSolve : SolveAsked → Status → World → World → Type 0
+    OfSolve part status before after = Answered (SolveTable part) (solve_calls part) status before after
+
+    abbrev OfCheck : CheckAsked → Status → World → World → Type 0
+    OfCheck part status before after = Answered (CheckTable part) (check_calls part) status before after
+
+    abbrev OfTrial : Status → World → World → Type 0
+    OfTrial status before after = Answered (TrialTable a) (trial_calls a) status before after
+
+    pub first_ended : (part : GenAsked) (made : Status) (before after : World) → part ≡ gen_in a.origin input → goes_on made ≡ false → OfGen part made before after → OfTrial made before after
+    first_ended part made before after is off was = gen_ended made before after off (subst (λ (p : GenAsked). OfGen p made before after) (is ∙ gen_is) was)
+
+    pub second_ended : (part : GenAsked) (next : SolveAsked) (made found : Status) (before mid after : World) → part ≡ gen_in a.origin input → goes_on made ≡ true → OfGen part made before mid
+        → next ≡ solve_in input list log → goes_on found ≡ false → OfSolve next found mid after → OfTrial found before after
+    second_ended part next made found before mid after is on first is' off second =
+        solve_ended made found before mid after on (subst (λ (p : GenAsked). OfGen p made before mid) (is ∙ gen_is) first) off
+        (subst (λ (p : SolveAsked). OfSolve p found mid after) (is' ∙ solve_is) second)
+
+    pub third_ended : (part : GenAsked) (next : SolveAsked) (end : CheckAsked) (made found checked : Status) (before mid last after : World) → part ≡ gen_in a.origin input → goes_on made ≡ true → OfGen part made before mid
+        → next ≡ solve_in input list log → goes_on found ≡ true → OfSolve next found mid last → end ≡ check_in input list log → OfCheck end checked last after → OfTrial checked before after
+    third_ended part next end made found checked before mid last after is on first is' on' second is'' third =
+        check_ended made found checked before mid last after on (subst (λ (p : GenAsked). OfGen p made before mid) (is ∙ gen_is) first) on'
+        (subst (λ (p : SolveAsked). OfSolve p found mid last) (is' ∙ solve_is) second)
+        (subst (λ (p : CheckAsked). OfCheck p checked last after) (is'' ∙ check_is) third)
