@@ -17,7 +17,7 @@ rose_of_more some more before now all (k, call, short, is, rose) =
     own_rose more call before now (All-contains (Contains more) some call all (k, short, is)) rose
 
 module _ (a : TrialAsked) where
-  has : Call → Type 0
+  abbrev has : Call → Type 0
   has = Contains (trial_calls a)
 
   begins_instance : has (beginning (instance_name a))
@@ -52,20 +52,12 @@ module _ (a : TrialAsked) where
 
   pub gen_rose : (before now : Faults) → OwnRose (gen_calls (gen_part a)) before now → OwnRose (trial_calls a) before now
   gen_rose before now = rose_of_more (gen_calls (gen_part a)) (trial_calls a) before now
-      (All-cons has (beginning (instance_name a)) _ begins_instance (All-cons has (appending (instance_name a)) _ appends_instance (All-cons has saying [] says (All-nil has))))
+      (All-cons has (beginning (instance_name a)) (appending (instance_name a) ∷ saying ∷ []) begins_instance (All-cons has (appending (instance_name a)) (saying ∷ []) appends_instance (All-cons has saying [] says (All-nil has))))
 
   pub solve_rose : (before now : Faults) → OwnRose (solve_calls (solve_part a)) before now → OwnRose (trial_calls a) before now
   solve_rose before now = rose_of_more (solve_calls (solve_part a)) (trial_calls a) before now
-      (All-cons has (reading (instance_name a)) _ reads_instance
-      (All-cons has (beginning (log_name a)) _ begins_log
-      (All-cons has (appending (log_name a)) _ appends_log
-      (All-cons has (beginning (list_name a)) _ begins_list
-      (All-cons has (appending (list_name a)) _ appends_list
-      (All-cons has saying [] says (All-nil has)))))))
+      (All-cons has (reading (instance_name a)) (beginning (log_name a) ∷ appending (log_name a) ∷ beginning (list_name a) ∷ appending (list_name a) ∷ saying ∷ []) reads_instance (All-cons has (beginning (log_name a)) (appending (log_name a) ∷ beginning (list_name a) ∷ appending (list_name a) ∷ saying ∷ []) begins_log (All-cons has (appending (log_name a)) (beginning (list_name a) ∷ appending (list_name a) ∷ saying ∷ []) appends_log (All-cons has (beginning (list_name a)) (appending (list_name a) ∷ saying ∷ []) begins_list (All-cons has (appending (list_name a)) (saying ∷ []) appends_list (All-cons has saying [] says (All-nil has)))))))
 
   pub check_rose : (before now : Faults) → OwnRose (check_calls (check_part a)) before now → OwnRose (trial_calls a) before now
   check_rose before now = rose_of_more (check_calls (check_part a)) (trial_calls a) before now
-      (All-cons has (reading (instance_name a)) _ reads_instance
-      (All-cons has (reading (list_name a)) _ reads_list
-      (All-cons has (reading (log_name a)) _ reads_log
-      (All-cons has saying [] says (All-nil has)))))
+      (All-cons has (reading (instance_name a)) (reading (list_name a) ∷ reading (log_name a) ∷ saying ∷ []) reads_instance (All-cons has (reading (list_name a)) (reading (log_name a) ∷ saying ∷ []) reads_list (All-cons has (reading (log_name a)) (saying ∷ []) reads_log (All-cons has saying [] says (All-nil has)))))

@@ -61,13 +61,13 @@ module _ (a : TrialAsked) (before mid : View) (told : IsTold before.files) (made
     abbrev proof : List ℕ
     proof = certified.proof
 
-    is_instance : certified.instance ≡ instance
+    pub is_instance : certified.instance ≡ instance
     is_instance = same_instance certified.instance certified.text
 
-    accepted : IsAccepted instance listed proof
+    pub accepted : IsAccepted instance listed proof
     accepted = subst (λ (i : InstanceValue). IsAccepted i listed proof) is_instance certified.accepted
 
-    files_then : last.files ≡ with_three before.files a listed proof
+    pub files_then : last.files ≡ with_three before.files a listed proof
     files_then = certified.listed.files ∙ ap (λ (files : Option Files). with_file (with_file files (log_name a) proof) (list_name a) listed) made.files
 
     -- with these bytes in place of what the log held
@@ -97,7 +97,7 @@ module _ (a : TrialAsked) (before mid : View) (told : IsTold before.files) (made
         ∙ content-same mid.files (log_name a) proof told_then
 
     -- the three files, whatever else was done that changed none
-    pub solved : (after : Option Files) → after ≡ last.files → IsSolved before.files after a size
+    abbrev pub solved : (after : Option Files) → after ≡ last.files → IsSolved before.files after a size
     solved after same = record {
       spelled = made.spelled;
       entries = certified.entries;

@@ -157,19 +157,19 @@ module _ (a : TrialAsked) where
 
   module _ (input list log : List ℕ) (names : AreNames a input list log) where
     gen_is : gen_in a.origin input ≡ gen_part a
-    gen_is = ap (gen_in a.origin) names.input
+    gen_is = ap (gen_in a.origin) names.is_input
 
     solve_is : solve_in input list log ≡ solve_part a
     solve_is =
-        ap (λ (name : List ℕ). solve_in name list log) names.input
-        ∙ ap (λ (name : List ℕ). solve_in (instance_name a) name log) names.list
-        ∙ ap (λ (name : List ℕ). solve_in (instance_name a) (list_name a) name) names.log
+        ap (λ (name : List ℕ). solve_in name list log) names.is_input
+        ∙ ap (λ (name : List ℕ). solve_in (instance_name a) name log) names.is_list
+        ∙ ap (λ (name : List ℕ). solve_in (instance_name a) (list_name a) name) names.is_log
 
     check_is : check_in input list log ≡ check_part a
     check_is =
-        ap (λ (name : List ℕ). check_in name list log) names.input
-        ∙ ap (λ (name : List ℕ). check_in (instance_name a) name log) names.list
-        ∙ ap (λ (name : List ℕ). check_in (instance_name a) (list_name a) name) names.log
+        ap (λ (name : List ℕ). check_in name list log) names.is_input
+        ∙ ap (λ (name : List ℕ). check_in (instance_name a) name log) names.is_list
+        ∙ ap (λ (name : List ℕ). check_in (instance_name a) (list_name a) name) names.is_log
 
     abbrev OfGen : GenAsked → Status → World → World → Type 0
     OfGen part status before after = Answered (GenTable part) (gen_calls part) status before after

@@ -32,9 +32,9 @@ log_name a = a.base ++ codes ".log"
 
 -- these are their names
 pub record AreNames (a : TrialAsked) (input list log : List ℕ) : Type 0 where
-  pub input : input ≡ instance_name a
-  pub list : list ≡ list_name a
-  pub log : log ≡ log_name a
+  pub is_input : input ≡ instance_name a
+  pub is_list : list ≡ list_name a
+  pub is_log : log ≡ log_name a
 
 -- ---- its parts
 
