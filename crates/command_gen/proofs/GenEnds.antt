@@ -1,5 +1,5 @@
 -- How each end of the command `gen` is answered.
-use Rattle.std.proofs.Common.{◌≡◌, ℕ, ◌<◌, ◌^◌, List, [], ◌∷◌, length, refl, sym, ap, subst, ◌∙◌, inl, inr, arith}
+use Rattle.std.proofs.Common.{◌≡◌, ℕ, ◌<◌, ◌^◌, List, length, refl, sym, ap, subst, ◌∙◌, inl, inr, arith}
 use Rattle.std.specs.Prelude.{Option}
 use Rattle.scut_base.specs.Files.{with_file, followed, IsTouched, IsPrefixOf, IsPartlyFollowed}
 use Rattle.scut_base.specs.Faults.{NoneFell, WritingFailed, SayingFailed}
@@ -15,7 +15,7 @@ use Rattle.command_base.specs.Messages.{said_of}
 use Rattle.command_base.specs.Statuses.{status_of_shelf}
 use Rattle.command_base.specs.Views.{View, view}
 use Rattle.command_base.specs.declared.instance_file.Format.TheVariants.{Mcnf}
-use Rattle.command_base.specs.declared.status.Status.TheVariants.{Done, NoMemory, ShelfFailed}
+use Rattle.command_base.specs.declared.status.Status.TheVariants.{Done, NoMemory}
 use Rattle.command_base.proofs.Answered.{ended, own_rose, own_rose_at_last, shelf_fault}
 use Rattle.command_gen.specs.Origin.{OriginValue, instance_from, text_from}
 use Rattle.command_gen.specs.Table.{GenTable, IsCutShort, gen_calls}

@@ -1,6 +1,6 @@
 -- The answers of `gen NUMBER VARS OBJECTIVES OUT`, a record for each.
-use Rattle.std.specs.Prelude.{◌≡◌, ◌⊎◌, ℕ, List, [], ◌∷◌, Option}
-use Rattle.scut_base.specs.Files.{Files, with_file, followed, IsPartlyFollowed, IsPrefixOf, IsTouched}
+use Rattle.std.specs.Prelude.{◌≡◌, ◌⊎◌, List, [], ◌∷◌}
+use Rattle.scut_base.specs.Files.{with_file, followed, IsPartlyFollowed, IsPrefixOf, IsTouched}
 use Rattle.scut_base.specs.World.{World}
 use Rattle.command_base.specs.Answering.{Call, Completes, appending, beginning, saying}
 use Rattle.command_base.specs.InstanceFile.{IsTextOf}

@@ -12,7 +12,9 @@ use std::marker::Model;
 
 // How many items and objectives an instance may have that is made.
 const LEAST_VARS: u64 = 3;
+
 const MOST_VARS: u64 = 4096;
+
 const MOST_OBJECTIVES: u64 = 64;
 
 /// What an instance is made from: a number, from 3 to 4096 items, and from 1 to 64 objectives.
@@ -32,7 +34,8 @@ impl Model for Origin {
 
     ghost invariant = { λ o. IsOrigin (record { number = o.number; vars = o.vars; objectives = o.objectives }) };
 
-    ghost inverse = { λ o. record { number = o.number; vars = o.vars; objectives = o.objectives } };}
+    ghost inverse = { λ o. record { number = o.number; vars = o.vars; objectives = o.objectives } };
+}
 
 impl Origin {
     /// That of these words; `None` exactly where one of them isn't its number. Leading zeros are taken, signs aren't.

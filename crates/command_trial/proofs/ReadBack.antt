@@ -1,10 +1,9 @@
 -- What is read back of the files that the parts before have written, where the files are told.
-use Rattle.std.proofs.Common.{◌≡◌, ℕ, ◌-◌, ◌<◌, ◌≤◌, ◌^◌, ◌⊎◌, true, List, ◌++◌, length, take, drop, ℤ, sym, ap, ◌∙◌, subst, inl, inr, arith}
+use Rattle.std.proofs.Common.{◌≡◌, ℕ, ◌-◌, ◌<◌, ◌≤◌, ◌^◌, ◌⊎◌, true, List, length, take, drop, ℤ, sym, ap, ◌∙◌, subst, inl, inr, arith}
 use Rattle.std.specs.Prelude.{Option, Some}
 use Rattle.std.proofs.lemmas.List.{take-append-drop}
 use Rattle.scut_base.specs.Files.{Files, IsTold, content, with_file}
 use Rattle.scut_base.proofs.FileLaws.{content-other, content-same, told-with_file}
-use Rattle.front_set.specs.declared.entry.Entry.{Entry}
 use Rattle.front_set.specs.ListText.{list_text}
 use Rattle.instance.specs.ParetoFront.{IsFront}
 use Rattle.instance.specs.Shape.{InstanceValue}
@@ -14,8 +13,6 @@ use Rattle.log_checker.specs.Accepted.{IsAccepted, problem_vectors}
 use Rattle.log_checker.specs.ListFaults.{IsListFault}
 use Rattle.log_checker.specs.LogFaults.{IsLogFault, IsWholeFault}
 use Rattle.log_checker.specs.NoRefusal.{IsRefusedNowhere}
-use Rattle.log_checker.specs.declared.fault.CheckFault.{CheckFault}
-use Rattle.log_checker.specs.declared.fault.CheckFault.TheVariants.{Refused as LineRefused, ListRefused, NoMemory as CheckNoMemory}
 use Rattle.log_checker.specs.declared.fault.ListWhy.{ListWhy}
 use Rattle.log_checker.proofs.Faults.{whole_fault_more}
 use Rattle.log_checker.proofs.Unrefused.{accepted_unrefused}

@@ -1,16 +1,12 @@
 -- How each end of the command `trial` is answered, by the tables of its parts.
-use Rattle.std.proofs.Common.{◌≡◌, ℕ, zero, ◌^◌, Bool, true, false, List, refl, sym, ap, ap₂, ◌∙◌, subst, inl, inr, arith}
-use Rattle.std.specs.Prelude.{Option, Some, None}
+use Rattle.std.proofs.Common.{◌≡◌, ℕ, zero, true, false, List, refl, ap, ◌∙◌, subst, inl, inr, arith}
+use Rattle.std.specs.Prelude.{Option}
 use Rattle.std.proofs.lemmas.Option.{none-some}
-use Rattle.scut_base.specs.Files.{Files, IsTold, followed, with_file}
-use Rattle.scut_base.specs.Faults.{NoneFell}
+use Rattle.scut_base.specs.Files.{Files, IsTold, followed}
 use Rattle.scut_base.specs.World.{World}
-use Rattle.instance.specs.declared.fault.BadKind.{BadKind}
-use Rattle.instance.specs.declared.fault.InstanceLimit.{InstanceLimit}
-use Rattle.instance.specs.declared.fault.InstanceLimit.TheVariants.{Bytes, Vars, Weights, Row, Objectives}
+use Rattle.instance.specs.declared.fault.InstanceLimit.TheVariants.{Bytes}
 use Rattle.instance.specs.Shape.{InstanceValue}
 use Rattle.instance_normal.specs.NormalForm.{IsNormalFormOf}
-use Rattle.log_checker.specs.declared.fault.CheckFault.{CheckFault}
 use Rattle.log_checker.specs.declared.fault.CheckFault.TheVariants.{Refused as LineRefused, ListRefused, NoMemory as CheckNoMemory}
 use Rattle.command_base.specs.Answering.{Answered}
 use Rattle.command_base.specs.InputTable.{InputTable}
@@ -18,7 +14,7 @@ use Rattle.command_base.specs.Messages.{said_of}
 use Rattle.command_base.specs.Views.{View, view}
 use Rattle.command_base.specs.declared.instance_file.Format.TheVariants.{Mcnf}
 use Rattle.command_base.specs.declared.status.Status.{Status}
-use Rattle.command_base.specs.declared.status.Status.TheVariants.{Done, Complete, Incomplete, Trimmed, Models, LogFull, Accepted, Refused, Usage, BadInput, TooLarge, NoMemory, ShelfFailed}
+use Rattle.command_base.specs.declared.status.Status.TheVariants.{Done, Complete, Incomplete, LogFull, Accepted, Refused, Usage, BadInput, TooLarge, NoMemory, ShelfFailed}
 use Rattle.command_base.proofs.Answered.{ended, own_rose_at_last}
 use Rattle.command_base.proofs.Readable.{readable}
 use Rattle.command_gen.specs.Table.{GenTable, IsGenerated, gen_calls}
@@ -26,7 +22,7 @@ use Rattle.command_gen.proofs.GenEnds.{nothing_done as gen_not_done}
 use Rattle.command_solve.specs.Logging.{IsFull}
 use Rattle.command_solve.specs.Table.{IsCertified, IsLogFull, SolveTable, solve_calls}
 use Rattle.command_check.specs.Table.{CheckTable, check_calls}
-use Rattle.command_trial.specs.Table.{IsTriedFull, IsTriedPartly, IsTriedTooLarge, IsTried, TrialTable, goes_on, said_in_turn, trial_calls, with_instance}
+use Rattle.command_trial.specs.Table.{IsTriedFull, IsTriedPartly, TrialTable, goes_on, trial_calls}
 use Rattle.command_gen.specs.Words.{GenAsked}
 use Rattle.command_solve.specs.Words.{SolveAsked}
 use Rattle.command_check.specs.Words.{CheckAsked}

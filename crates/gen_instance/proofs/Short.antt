@@ -5,12 +5,10 @@ use Rattle.std.specs.Fmt.{decimal}
 use Rattle.std.specs.List.{flat_map, range_with_len}
 use Rattle.std.proofs.lemmas.Fmt.{length-decimal-le_succ}
 use Rattle.std.proofs.lemmas.List.{length-append}
-use Rattle.std.proofs.lemmas.List.Concat.{flat_map-cons}
 use Rattle.scut_base.specs.Literal.{Literal}
 use Rattle.instance.specs.declared.objective.Soft.{Soft}
-use Rattle.instance.specs.declared.objective.Objective.{Objective}
 use Rattle.gen_instance.specs.Draws.{beginning, draw, state_after}
-use Rattle.gen_instance.specs.Generated.{drawn_clause, drawn_item, drawn_objective, drawn_soft, generated, nth_clause, nth_objective, soft_of}
+use Rattle.gen_instance.specs.Generated.{drawn_clause, drawn_item, drawn_objective, drawn_soft, generated, nth_clause, nth_objective}
 use Rattle.gen_instance.specs.Printed.{clause_text, hard_line, literal_text, mcnf_text, sign_text, soft_line, soft_lines, weight_text}
 use Rattle.gen_instance.proofs.Within.{draw_below}
 
