@@ -1,29 +1,26 @@
 -- The trimmed lines of a proof are one.
-use Rattle.std.specs.Prelude.{◌≡◌, ◌≢◌, ◌⊎◌, ℕ, ◌+◌, ◌*◌, ◌^◌, ◌<◌, ◌≤◌, Bool, true, false, cond, ◌||◌, nat_eq, nat_le, Option, Some, None, if◌then◌else◌, List, [], ◌∷◌, ◌++◌, length, fold, All, Contains, refl}
+use Rattle.std.specs.Prelude.{◌≡◌, ℕ, ◌+◌, ◌^◌, ◌≤◌, Bool, true, false, cond, nat_eq, nat_le, Some, None, if◌then◌else◌, List, [], ◌∷◌, ◌++◌, length, fold, All, Contains, refl}
 use Rattle.std.proofs.Common.{sym, ◌∙◌, ap, subst, get_or, inl, inr, arith}
-use Rattle.std.specs.List.{list_any}
-use Rattle.std.specs.FinMap.{get, insert, remove, get-empty}
-use Rattle.std.specs.Ordering.{nat_cmp}
-use Rattle.std.proofs.lemmas.Bool.{cond-true, cond-false, eq-eqb, le-leb, leb-true}
-use Rattle.std.proofs.lemmas.List.Elements.{All-nil, All-cons, All-head, All-tail, All-weaker, All-contains}
+use Rattle.std.specs.FinMap.{get, insert, remove}
+use Rattle.std.proofs.lemmas.Bool.{cond-true, eq-eqb, le-leb, leb-true}
+use Rattle.std.proofs.lemmas.List.Elements.{All-nil, All-cons, All-head, All-tail, All-weaker}
 use Rattle.std.proofs.lemmas.List.Folds.{list_any_at}
 use Rattle.pb_lin.specs.Constraint.{ConstraintValue}
 use Rattle.pb_lin.specs.LineMap.{LineMap}
-use Rattle.pb_lin.specs.Problem.{ProblemValue, IsProblem, problem_costs}
+use Rattle.pb_lin.specs.Problem.{ProblemValue, IsProblem}
 use Rattle.proof_laws.specs.State.{StateValue, IsState, Fits, start}
-use Rattle.proof_laws.specs.Steps.{with_line, reached_if, reached_only_if, clause}
-use Rattle.proof_laws.specs.Refusal.{assignment_of}
+use Rattle.proof_laws.specs.Steps.{reached_if, reached_only_if, clause}
 use Rattle.proof_laws.specs.WellFormed.{IsWellFormed}
 use Rattle.proof_laws.specs.Legal.{IsNext, Makes}
-use Rattle.proof_laws.specs.Replay.{Leads, IsReplay}
+use Rattle.proof_laws.specs.Replay.{Leads}
 use Rattle.proof_laws.specs.declared.line.Line.{Line}
 use Rattle.proof_laws.specs.declared.line.Line.TheVariants.{Pol, Rup, Learn, Def, Red, Dom, Sol, Del, Reduce, End}
 use Rattle.proof_laws.proofs.NextCovers.{fewer_left}
 use Rattle.proof_laws.proofs.NextFits.{inserted_cases, start_is_state, start_fits_problem}
 use Rattle.proof_laws.proofs.NextKept.{next_fits_law}
-use Rattle.log_trim.specs.Trimmed.{Renaming, new_id, new_line, is_in, is_needed, needed_ids, needed, stays, kept_lines, renamed_after, no_renaming, trimmed, ids_named}
+use Rattle.log_trim.specs.Trimmed.{Renaming, new_id, new_line, is_in, is_needed, needed_ids, needed, stays, kept_lines, renamed_after, no_renaming, ids_named}
 use Rattle.proof_laws.specs.Steps.{made}
-use Rattle.log_trim.specs.Simulation.{IsRenaming, Carries, Simulates, IsCarried, AreCarried, IsTrimmedReplay, TrimmedReplays}
+use Rattle.log_trim.specs.Simulation.{IsRenaming, Simulates, IsCarried, AreCarried, TrimmedReplays}
 use Rattle.log_trim.proofs.Live.{with_id, here_id, old_id, longer_renaming}
 use Rattle.log_trim.proofs.Next.{kept_next, dropped_next}
 use Rattle.log_trim.proofs.Formed.{line_formed}

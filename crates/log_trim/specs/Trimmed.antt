@@ -1,5 +1,5 @@
 -- Trimmed proofs: the lines that the end needs, with new ids.
-use Rattle.std.specs.Prelude.{ℕ, ◌+◌, ◌==◌, Bool, true, false, ◌&&◌, ◌||◌, nat_le, nat_eq, if◌then◌else◌, List, [], ◌∷◌, ◌++◌, length, map, Option, None, Some, unwrap_or}
+use Rattle.std.specs.Prelude.{ℕ, ◌+◌, Bool, true, false, ◌&&◌, ◌||◌, nat_le, nat_eq, if◌then◌else◌, List, [], ◌∷◌, ◌++◌, length, map, Option, None, Some, unwrap_or}
 use Rattle.std.specs.List.{filter, flat_map, list_any, list_all}
 use Rattle.std.specs.Map.{lookup}
 use Rattle.pb_lin.specs.Problem.{ProblemValue}

@@ -1,4 +1,4 @@
-use Rattle.std.proofs.Common.{◌≡◌, ◌+◌, ◌-◌, ◌<◌, ◌++◌, ℕ, List, Bool, true, length, fold, sym, ap, subst, ◌∙◌, arith, rules}
+use Rattle.std.proofs.Common.{◌≡◌, ◌+◌, ◌-◌, ◌++◌, List, Bool, true, length, fold, sym, ap, subst, ◌∙◌, arith, rules}
 use Rattle.log_trim.specs.Marks.{AreMarked, marked, named_if}
 use Rattle.log_trim.specs.Trimmed.{ids_named, is_needed}
 use Rattle.log_trim.proofs.Marking.{all_length, mark_these}

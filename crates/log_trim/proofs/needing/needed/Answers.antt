@@ -1,4 +1,4 @@
-use Rattle.std.proofs.Common.{◌≡◌, ◌+◌, ◌-◌, ◌<◌, ◌≤◌, ◌++◌, ◌∷◌, [], ℕ, suc, List, Bool, false, length, take, drop, get_or, replicate, sym, ap, subst, ◌∙◌, arith, rules}
+use Rattle.std.proofs.Common.{◌≡◌, ◌+◌, ◌-◌, ◌<◌, ◌++◌, ◌∷◌, [], suc, List, Bool, false, length, take, drop, get_or, replicate, sym, ap, subst, ◌∙◌, arith, rules}
 use Rattle.std.proofs.lemmas.List.{drop-set, get_or_read, length-replicate, length-set, take_all}
 use Rattle.proof_laws.specs.Steps.{made}
 use Rattle.proof_laws.specs.declared.line.Line.{Line}

@@ -1,4 +1,4 @@
-use Rattle.std.proofs.Common.{◌≡◌, ◌+◌, ◌<◌, ◌≤◌, ◌++◌, ◌∷◌, [], ℕ, suc, List, Bool, true, false, length, take, drop, get_or, sym, ap, subst, ◌∙◌, arith, rules}
+use Rattle.std.proofs.Common.{◌≡◌, ◌+◌, ◌<◌, ◌≤◌, ◌++◌, ◌∷◌, [], suc, List, true, false, length, take, drop, get_or, sym, ap, ◌∙◌, arith, rules}
 use Rattle.std.proofs.lemmas.List.{append_assoc, append-nil, get_or_read}
 use Rattle.std.proofs.Math.Seq.{drop-cons}
 use Rattle.proof_laws.specs.Steps.{made}
@@ -48,11 +48,11 @@ loop-at-preserved c =
     let item : line ≡ get_or lines i no_line = get_or_read lines _ _ short c.index-lines-at.is no_line in
     let at : suc i ≡ i + 1 = omega arith in
     let more : made_by (take (i + 1) lines) ≡ made_by (take i lines) + made line =
-        sym (ap (λ j. made_by (take j lines)) at) ∙ made_by_more lines i short ∙ ap (λ l. made_by (take i lines) + made l) (sym item) in
+    sym (ap (λ j. made_by (take j lines)) at) ∙ made_by_more lines i short ∙ ap (λ l. made_by (take i lines) + made l) (sym item) in
     let lines_split : drop i lines ≡ line ∷ drop (i + 1) lines = drop-cons lines i no_line short ∙ ap (λ l. l ∷ drop (suc i) lines) (sym item) ∙ ap (λ j. line ∷ drop j lines) at in
     let needs_split : drop i needs ≡ need ∷ drop (i + 1) needs = drop-cons needs i false within ∙ ap (λ j. need ∷ drop j needs) at in
     let both : kept_lines (renaming v) (next_one v) k (drop i needs) (drop i lines) ≡ kept_lines (renaming v) (next_one v) k (need ∷ drop (i + 1) needs) (line ∷ drop (i + 1) lines) =
-        ap (λ bs. kept_lines (renaming v) (next_one v) k bs (drop i lines)) needs_split ∙ ap (λ ls. kept_lines (renaming v) (next_one v) k (need ∷ drop (i + 1) needs) ls) lines_split in
+    ap (λ bs. kept_lines (renaming v) (next_one v) k bs (drop i lines)) needs_split ∙ ap (λ ls. kept_lines (renaming v) (next_one v) k (need ∷ drop (i + 1) needs) ls) lines_split in
     let place = inv.place in
     let low = inv.low in
     let positive = inv.positive in

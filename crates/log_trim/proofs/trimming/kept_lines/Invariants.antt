@@ -1,4 +1,4 @@
-use Rattle.std.proofs.Common.{◌≡◌, ◌<◌, ◌≤◌, ◌+◌, ◌++◌, [], length, take, drop}
+use Rattle.std.proofs.Common.{◌≡◌, ◌<◌, ◌≤◌, ◌+◌, ◌++◌, [], take, drop}
 use Rattle.log_trim.specs.Marks.{made_by}
 use Rattle.log_trim.specs.Renames.{next_one, renaming}
 use Rattle.log_trim.specs.Trimmed.{kept_lines}
