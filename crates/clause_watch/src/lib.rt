@@ -6,6 +6,7 @@
 #![tactic(auto)]
 
 mod row;
+mod short_lit;
 mod watch_lists;
 mod watches;
 

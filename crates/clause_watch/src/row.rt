@@ -1,5 +1,5 @@
 // A list that contracts see as its elements, whatever room it keeps.
-ghost use Rattle.std.specs.Prelude.{◌≡◌, ◌≢◌, ℕ, ◌<◌, ◌+◌, ◌-◌, ◌++◌, [], ◌∷◌, length, OnOk, OnErr, IfOk, slice_index_or, slice_set, swap, Contains};
+ghost use Rattle.std.specs.Prelude.{◌≡◌, ◌≢◌, ℕ, ◌<◌, ◌+◌, ◌-◌, ◌++◌, [], ◌∷◌, length, OnOk, OnErr, slice_index_or, slice_set, swap, Contains};
 
 use scut_base::NoMemory;
 use std::alloc::Global;
@@ -71,15 +71,6 @@ impl<T> Row<T> {
 }
 
 impl<T: Copy> Row<T> {
-    /// The list of a slice's elements.
-    pub fn from_slice(alloc: Global, items: &[T]) -> Result<Row<T>, NoMemory>
-        ensures { IfOk result (λ made. made ≡ items.now) }
-    {
-        Ok(Row {
-            items: Vec::from_slice(alloc, items)?,
-        })
-    }
-
     /// The element at a place.
     pub fn at(&self, at: usize) -> T
         requires { at < length self.now }

@@ -14,9 +14,11 @@ ghost use Rattle.clause_watch.specs.Watches.{AreWatches, Hold, IsAllLooked, IsAt
 ghost use Rattle.clause_prop.specs.declared.step.Step.{Step};
 
 use crate::row::Row;
+use crate::short_lit::ShortLit;
 use crate::watch_lists::{
     Entry, Slot, add_entry, cover, cut_ends, drop_entry, falsified, free_place, latest_first,
-    put_at_second, put_second, set_blocker, skip_true, truth,
+    put_at_second, put_second, set_entry, short_lits, short_number,
+    skip_true, truth,
 };
 use clause_prop::{ClauseStore, Trail, literal_code, push_forced};
 use pb_lin::Constraint;
@@ -196,18 +198,18 @@ impl Watches {
     }
 
     // A literal of a slot.
-    fn literal(&self, slot: usize, place: usize) -> Lit
+    fn literal(&self, slot: u32, place: usize) -> ShortLit
         requires slot { slot < length self.now.slots.items }
         requires place { place < length (clause_at self.now.slots.items slot) }
         ensures value { result
             ≡ slice_index_or (clause_at self.now.slots.items slot) place no_literal }
         ensures among { Contains (clause_at self.now.slots.items slot) result }
     {
-        self.slots[slot].lits.at(place)
+        self.slots[slot as usize].lits.at(place)
     }
 
     // A place from 2 on whose literal isn't false.
-    fn free_place(&self, trail: &Trail, slot: usize) -> Option<usize>
+    fn free_place(&self, trail: &Trail, slot: u32) -> Option<usize>
         requires slot { slot < length self.now.slots.items }
         requires vars { (l : Literal) → Contains (clause_at self.now.slots.items slot) l
             → l.var ≤ trail.now.vars }
@@ -216,7 +218,7 @@ impl Watches {
         ensures none { IfNone result
             (AreFalse (clause_at self.now.slots.items slot) (lits_of trail.now.steps) 2) }
     {
-        free_place(&self.slots[slot].lits, trail)
+        free_place(&self.slots[slot as usize].lits, trail)
     }
 
     // The first place from one on whose blocker isn't true, or the end of the list. Most visits end
@@ -258,7 +260,7 @@ impl Watches {
         trail: &mut Trail,
         lit: Lit,
         at: usize,
-        slot: usize,
+        slot: u32,
     ) -> Result<Visit, NoMemory>
         requires looking { IsAt self.old trail.old lit at }
         requires within { at < entries_of self.old lit }
@@ -273,7 +275,11 @@ impl Watches {
     {
         let first = self.literal(slot, 0);
         if let Some(true) = truth(trail, first) {
-            set_blocker(&mut self.lists, literal_code(lit), at, slot, first);
+            let entry = Entry {
+                slot,
+                blocker: first,
+            };
+            set_entry(&mut self.lists, literal_code(lit), at, entry);
             return Ok(Visit::Next);
         }
         match self.free_place(trail, slot) {
@@ -288,7 +294,7 @@ impl Watches {
         trail: &Trail,
         lit: Lit,
         at: usize,
-        slot: usize,
+        slot: u32,
         place: usize,
     ) -> Result<Visit, NoMemory>
         requires looking { IsAt self.old trail.now lit at }
@@ -305,14 +311,18 @@ impl Watches {
     {
         let free = self.literal(slot, place);
         let first = self.literal(slot, 0);
-        add_entry(&mut self.lists, literal_code(free), slot, first)?;
+        let entry = Entry {
+            slot,
+            blocker: first,
+        };
+        add_entry(&mut self.lists, free.code(), entry)?;
         put_at_second(&mut self.slots, slot, place);
         drop_entry(&mut self.lists, literal_code(lit), at);
         Ok(Visit::Gone)
     }
 
     // Makes the first literal true, where it isn't false; all others are.
-    fn force(&self, trail: &mut Trail, lit: Lit, at: usize, slot: usize) -> Visit
+    fn force(&self, trail: &mut Trail, lit: Lit, at: usize, slot: u32) -> Visit
         requires looking { IsAt self.now trail.old lit at }
         requires entry { (slice_index_or
             (list_of self.now.lists.items lit) at no_entry).slot ≡ slot }
@@ -324,12 +334,12 @@ impl Watches {
         ensures { IsVisited self.now self.now trail.old trail.new lit at result }
     {
         let first = self.literal(slot, 0);
-        let id = self.slots[slot].id;
+        let id = self.slots[slot as usize].id;
         match truth(trail, first) {
             Some(true) => Visit::Next,
             Some(false) => Visit::Conflict(id),
             None => {
-                push_forced(first, id, trail);
+                push_forced(first.lit(), id, trail);
                 Visit::Next
             }
         }
@@ -346,14 +356,14 @@ impl Watches {
         ensures err { OnErr result ((lines : LineMap)
             → Hold self.old (remove lines id) → Hold self.new (remove lines id)) }
     {
-        let mut lits = Row::from_slice(self.alloc, line.literals())?;
+        let mut lits = short_lits(self.alloc, line.literals())?;
         cover(self.alloc, &mut self.lists, &lits)?;
         latest_first(&mut lits, &mut self.ends, trail);
         self.watch(lits, id)
     }
 
     // Watches the first two literals of a clause.
-    fn watch(&mut self, lits: Row<Lit>, id: u64) -> Result<(), NoMemory>
+    fn watch(&mut self, lits: Row<ShortLit>, id: u64) -> Result<(), NoMemory>
         requires long { 2 ≤ length lits }
         requires distinct { IsDistinct lits }
         requires covered { (l : Literal) → Contains lits l
@@ -368,14 +378,22 @@ impl Watches {
         let slot = self.open_slot(id)?;
         let first = lits.at(0);
         let second = lits.at(1);
-        add_entry(&mut self.lists, literal_code(first), slot, second)?;
-        add_entry(&mut self.lists, literal_code(second), slot, first)?;
-        self.slots[slot].lits = lits;
+        let beside_first = Entry {
+            slot,
+            blocker: second,
+        };
+        let beside_second = Entry {
+            slot,
+            blocker: first,
+        };
+        add_entry(&mut self.lists, first.code(), beside_first)?;
+        add_entry(&mut self.lists, second.code(), beside_second)?;
+        self.slots[slot as usize].lits = lits;
         Ok(())
     }
 
     // A slot without literals, to which the id leads.
-    fn open_slot(&mut self, id: u64) -> Result<usize, NoMemory>
+    fn open_slot(&mut self, id: u64) -> Result<u32, NoMemory>
         ensures ready { (t : TrailValue) → IsReady self.old t → IsReady self.new t }
         ensures hold { (lines : LineMap) → get lines id ≡ None
             → Hold self.old lines → Hold self.new lines }
@@ -383,12 +401,12 @@ impl Watches {
         ensures ends { self.new.ends.items ≡ self.old.ends.items }
         ensures opened { IfOk result (IsOpened self.old self.new id) }
     {
-        let slot = self.slots.len();
+        let slot = short_number(self.slots.len())?;
         self.slots.push(Slot {
             id,
             lits: Row::new(self.alloc),
         })?;
-        self.index.insert(id, slot)?;
+        self.index.insert(id, slot as usize)?;
         Ok(slot)
     }
 }

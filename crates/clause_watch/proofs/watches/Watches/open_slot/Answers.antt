@@ -25,4 +25,4 @@ returns-clause-ready c = λ t ready.
 pub returns-clause-hold : goal.returns-clause-hold
 returns-clause-hold c = λ lines fresh hold.
     let w = c.args.self.now in
-    subst (λ o. AreSlots o c.insert.new.self.entries lines) (sym c.in_ok-push.ensures.items) (hold_slot w.slots.items w.index.entries c.insert.new.self.entries lines _ hold fresh c.new.ensures (finds_others w.index.entries c.insert.new.self.entries c.args.id (Some c.len-slot.result) c.in_ok-insert.ensures.updates.0))
+    subst (λ o. AreSlots o c.insert.new.self.entries lines) (sym c.in_ok-push.ensures.items) (hold_slot w.slots.items w.index.entries c.insert.new.self.entries lines _ hold fresh c.new.ensures (finds_others w.index.entries c.insert.new.self.entries c.args.id (Some c.in_ok-slot.slot) c.in_ok-insert.ensures.updates.0))

@@ -20,8 +20,8 @@ returns-in_err-add_entry-2-clause-ready c = λ t ready watchable.
     let none : Slot = record { id = c.args.id; lits = [] } in
     let e : Entry = record { slot = c.in_ok-slot.slot; blocker = c.at-second.result } in
     let valid : IsEntry o.slots.items t.vars e = subst (λ x. IsEntry x t.vars e) (sym c.in_ok-slot.ensures.opened.slots) (entry_fresh w.slots.items t.vars none e refl c.in_ok-slot.ensures.opened.is (watchable.upto c.at-second.result c.at-second.ensures.among)) in
-    kept_as o.slots.items o.slots.items (with_entry o.lists.items c.literal_code.result e) c.add_entry-2.new.lists.items o.ends.items o.ends.items t.vars (lits_of t.steps) refl (c.in_err-add_entry-2.ensures.err ∙ c.in_ok-add_entry.ensures.ok) refl
-    (kept_entry o.slots.items o.lists.items o.ends.items t.vars (lits_of t.steps) c.literal_code.result e (c.in_ok-slot.ensures.ready t ready) valid)
+    kept_as o.slots.items o.slots.items (with_entry o.lists.items c.code.result e) c.add_entry-2.new.lists.items o.ends.items o.ends.items t.vars (lits_of t.steps) refl (c.in_err-add_entry-2.ensures.err ∙ c.in_ok-add_entry.ensures.ok) refl
+    (kept_entry o.slots.items o.lists.items o.ends.items t.vars (lits_of t.steps) c.code.result e (c.in_ok-slot.ensures.ready t ready) valid)
 
 pub returns-clause-ready : goal.returns-clause-ready
 returns-clause-ready c = λ t ready watchable.
@@ -37,8 +37,8 @@ returns-clause-ready c = λ t ready watchable.
     let e : Entry = record { slot = slot; blocker = second } in
     let f : Entry = record { slot = slot; blocker = first } in
     let own : set o.slots.items slot s ≡ set (w.slots.items ++ none ∷ []) (length w.slots.items) s = ap (λ (x : List Slot). set x slot s) opened.slots ∙ ap (λ (i : ℕ). set (w.slots.items ++ none ∷ []) i s) opened.is in
-    let two : c.add_entry.new.lists.items ≡ with_entry w.lists.items (code_of first) e = c.in_ok-add_entry.ensures.ok ∙ ap (λ (i : ℕ). with_entry o.lists.items i e) c.literal_code.ensures ∙ ap (λ (ls : List (List Entry)). with_entry ls (code_of first) e) c.in_ok-slot.ensures.lists in
-    let three : c.add_entry-2.new.lists.items ≡ with_entry (with_entry w.lists.items (code_of first) e) (code_of second) f = c.in_ok-add_entry-2.ensures.ok ∙ ap (λ (i : ℕ). with_entry c.add_entry.new.lists.items i f) c.literal_code-2.ensures ∙ ap (λ (ls : List (List Entry)). with_entry ls (code_of second) f) two in
+    let two : c.add_entry.new.lists.items ≡ with_entry w.lists.items (code_of first) e = c.in_ok-add_entry.ensures.ok ∙ ap (λ (i : ℕ). with_entry o.lists.items i e) c.code.ensures ∙ ap (λ (ls : List (List Entry)). with_entry ls (code_of first) e) c.in_ok-slot.ensures.lists in
+    let three : c.add_entry-2.new.lists.items ≡ with_entry (with_entry w.lists.items (code_of first) e) (code_of second) f = c.in_ok-add_entry-2.ensures.ok ∙ ap (λ (i : ℕ). with_entry c.add_entry.new.lists.items i f) c.code-2.ensures ∙ ap (λ (ls : List (List Entry)). with_entry ls (code_of second) f) two in
     kept_as _ _ _ _ _ _ t.vars (lits_of t.steps) own three c.in_ok-slot.ensures.ends
     (kept_watched w.slots.items none s w.lists.items w.ends.items t.vars (lits_of t.steps) first second e f ready refl c.requires.long c.requires.distinct (λ l h. (watchable.upto l h, c.requires.covered l h)) (c.at-first.ensures.value no_literal) (c.at-second.ensures.value no_literal)
     (ap (λ (i : ℕ). record { slot = i; blocker = second }) opened.is) (ap (λ (i : ℕ). record { slot = i; blocker = first }) opened.is) watchable.clear)
