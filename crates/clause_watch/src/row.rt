@@ -36,6 +36,13 @@ impl<T> Row<T> {
         self.items.len()
     }
 
+    /// The elements.
+    pub fn as_slice(&self) -> &[T]
+        ensures { result.now ≡ self.now }
+    {
+        self.items.as_slice()
+    }
+
     /// Puts an element at the end, in constant time on average.
     pub fn push(&mut self, item: T) -> Result<(), NoMemory>
     where

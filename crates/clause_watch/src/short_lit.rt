@@ -58,3 +58,13 @@ impl ShortLit {
         self.code as usize
     }
 }
+
+/// The number in half the room; nothing that memory holds has more slots.
+pub fn short_number(number: usize) -> Result<u32, NoMemory>
+    ensures { IfOk result (λ short. short ≡ number) }
+{
+    if number > u32::MAX as usize {
+        return Err(NoMemory);
+    }
+    Ok(number as u32)
+}

@@ -9,6 +9,7 @@ ghost use Rattle.clause_watch.specs.Watching.{AreFalse, IsDistinct, IsFree, IsRe
 
 use crate::row::Row;
 use crate::short_lit::ShortLit;
+use crate::slots::Slots;
 use clause_prop::Trail;
 use scut_base::{Lit, NoMemory};
 use std::alloc::Global;
@@ -22,24 +23,6 @@ pub struct Entry {
 }
 
 const _: () = prove!(std::mem::size_of::<Entry>() == 8);
-
-/// A clause's literals in an order of their own, with the two that are watched in front; none after
-/// its line was dropped.
-#[derive(Debug, Drop)]
-pub struct Slot {
-    pub id: u64,
-    pub lits: Row<ShortLit>,
-}
-
-/// The number in half the room; nothing that memory holds has more slots.
-pub fn short_number(number: usize) -> Result<u32, NoMemory>
-    ensures { IfOk result (λ short. short ≡ number) }
-{
-    if number > u32::MAX as usize {
-        return Err(NoMemory);
-    }
-    Ok(number as u32)
-}
 
 /// Literals in half the room.
 pub fn short_lits(alloc: Global, lits: &[Lit]) -> Result<Row<ShortLit>, NoMemory>
@@ -84,14 +67,23 @@ pub fn is_true(trail: &Trail, lit: ShortLit) -> bool
     }
 }
 
+// A literal of a clause.
+fn literal_at(clause: &[ShortLit], place: usize) -> ShortLit
+    requires { place < length clause.now }
+    ensures value { (d : Literal) → slice_index_or clause.now place d ≡ result }
+    ensures among { Contains clause.now result }
+{
+    clause[place]
+}
+
 /// Whether a literal of a clause is false.
-pub fn is_false(clause: &Row<ShortLit>, trail: &Trail, place: usize) -> bool
+pub fn is_false(clause: &[ShortLit], trail: &Trail, place: usize) -> bool
     requires within { place < length clause.now }
     requires vars { (l : Literal) → Contains clause.now l → l.var ≤ trail.now.vars }
     ensures { IsTrue result ↔ Contains (lits_of trail.now.steps)
         (opposite (slice_index_or clause.now place no_literal)) }
 {
-    match truth(trail, clause.at(place)) {
+    match truth(trail, literal_at(clause, place)) {
         Some(value) => !value,
         None => false,
     }
@@ -116,7 +108,7 @@ pub fn skip_true(list: &Row<Entry>, trail: &Trail, from: usize) -> usize
 }
 
 /// A place from 2 on whose literal isn't false.
-pub fn free_place(clause: &Row<ShortLit>, trail: &Trail) -> Option<usize>
+pub fn free_place(clause: &[ShortLit], trail: &Trail) -> Option<usize>
     requires { (l : Literal) → Contains clause.now l → l.var ≤ trail.now.vars }
     ensures free { IfSome result (λ k. IsFree clause.now (lits_of trail.now.steps) k) }
     ensures none { IfNone result (AreFalse clause.now (lits_of trail.now.steps) 2) }
@@ -130,45 +122,31 @@ pub fn free_place(clause: &Row<ShortLit>, trail: &Trail) -> Option<usize>
 }
 
 /// Puts the literal at place 1, where it is one of the first two; whether it is.
-pub fn put_second(slots: &mut Vec<Slot>, slot: u32, lit: Lit) -> bool
-    requires { slot < length slots.old.items }
-    ensures slots { (slots.new.items ≡ slots.old.items)
-        ⊎ ((2 ≤ length (clause_at slots.old.items slot))
-        × (slots.new.items ≡ slice_set slots.old.items slot
+pub fn put_second(slots: &mut Slots, slot: u32, lit: Lit) -> bool
+    requires { slot < length slots.old }
+    ensures slots { (slots.new ≡ slots.old)
+        ⊎ ((2 ≤ length (clause_at slots.old slot))
+        × (slots.new ≡ slice_set slots.old slot
         (record {
-          id = (slice_index_or slots.old.items slot no_slot).id;
-          lits = swap (clause_at slots.old.items slot) 0 1;
+          id = (slice_index_or slots.old slot no_slot).id;
+          lits = swap (clause_at slots.old slot) 0 1;
         }))) }
-    ensures long { IsTrue result → 2 ≤ length (clause_at slots.new.items slot) }
+    ensures long { IsTrue result → 2 ≤ length (clause_at slots.new slot) }
     ensures found { IsTrue result
-        → slice_index_or (clause_at slots.new.items slot) 1 no_literal ≡ lit }
+        → slice_index_or (clause_at slots.new slot) 1 no_literal ≡ lit }
     ensures lost { result ≡ false
-        → (l : Literal) → IsWatch (clause_at slots.new.items slot) l → l ≢ lit }
+        → (l : Literal) → IsWatch (clause_at slots.new slot) l → l ≢ lit }
 {
-    let clause = &mut slots[slot as usize].lits;
-    if clause.len() < 2 {
+    let count = slots.lits(slot).len();
+    if count < 2 {
         return false;
     }
-    if clause.at(0).lit() == lit {
-        clause.swap(0, 1);
+    let first = slots.at(slot, 0).lit();
+    if first == lit {
+        slots.swap(slot, 0, 1);
         return true;
     }
-    clause.at(1).lit() == lit
-}
-
-/// Exchanges the literal at place 1 with another.
-pub fn put_at_second(slots: &mut Vec<Slot>, slot: u32, place: usize)
-    requires slot { slot < length slots.old.items }
-    requires from { 2 ≤ place }
-    requires to { place < length (clause_at slots.old.items slot) }
-    ensures { slots.new.items ≡ slice_set slots.old.items slot
-        (record {
-          id = (slice_index_or slots.old.items slot no_slot).id;
-          lits = swap (clause_at slots.old.items slot) 1 place;
-        }) }
-{
-    let clause = &mut slots[slot as usize].lits;
-    clause.swap(1, place);
+    slots.at(slot, 1).lit() == lit
 }
 
 /// Takes an entry out of a list.

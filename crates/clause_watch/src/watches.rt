@@ -9,16 +9,16 @@ ghost use Rattle.pb_lin.specs.LineMap.{LineMap, LinesUpTo};
 ghost use Rattle.clause_prop.specs.Steps.{TrailValue, partial, with_step, cut};
 ghost use Rattle.clause_prop.specs.Propagating.{Extends, IsConflict};
 ghost use Rattle.clause_prop.specs.LineKinds.{is_watched, IsClosedForWatched};
-ghost use Rattle.clause_watch.specs.Watching.{AreFalse, IsFree, clause_at, list_of, lits_of, no_entry, no_literal, IsDistinct};
+ghost use Rattle.clause_watch.specs.Watching.{AreFalse, IsFree, clause_at, list_of, lits_of, no_entry, no_literal, no_slot, IsDistinct};
 ghost use Rattle.clause_watch.specs.Watches.{AreWatches, Hold, IsAllLooked, IsAt, IsConflictOf, IsFollowed, IsReady, IsVisited, IsCopy, IsOpened, IsWatchable, AreSameWatched, entries_of};
 ghost use Rattle.clause_prop.specs.declared.step.Step.{Step};
 
 use crate::row::Row;
-use crate::short_lit::ShortLit;
+use crate::short_lit::{ShortLit, short_number};
+use crate::slots::Slots;
 use crate::watch_lists::{
-    Entry, Slot, add_entry, cover, cut_ends, drop_entry, falsified, free_place, latest_first,
-    put_at_second, put_second, set_entry, short_lits, short_number,
-    skip_true, truth,
+    Entry, add_entry, cover, cut_ends, drop_entry, falsified, free_place, latest_first, put_second,
+    set_entry, short_lits, skip_true, truth,
 };
 use clause_prop::{ClauseStore, Trail, literal_code, push_forced};
 use pb_lin::Constraint;
@@ -51,9 +51,9 @@ pub fn is_watched(line: &Constraint) -> bool
 #[derive(Debug, Drop)]
 pub struct Watches {
     alloc: Global,
-    slots: Vec<Slot>,
+    slots: Slots,
     // By id the slot of its clause.
-    index: HashMap<u64, usize>,
+    index: HashMap<u64, u32>,
     lists: Vec<Row<Entry>>,
     ends: Vec<usize>,
 }
@@ -66,7 +66,7 @@ impl Watches {
     {
         Watches {
             alloc,
-            slots: Vec::new(alloc),
+            slots: Slots::new(alloc),
             index: HashMap::new(alloc),
             lists: Vec::new(alloc),
             ends: Vec::new(alloc),
@@ -117,10 +117,23 @@ impl Watches {
             → AreWatches self.new (remove lines id) t }
     {
         if let Some(slot) = self.index.remove(&id) {
-            if slot < self.slots.len() && self.slots[slot].id == id {
-                self.slots[slot].lits = Row::new(self.alloc);
+            if self.has_slot(slot, id) {
+                self.slots.empty(slot);
             }
         }
+    }
+
+    // Whether a slot is of this id; one that isn't there is of none.
+    fn has_slot(&self, slot: u32, id: u64) -> bool
+        ensures yes { IsTrue result → (slot < length self.now.slots)
+            × ((slice_index_or self.now.slots slot no_slot).id ≡ id) }
+        ensures no { result ≡ false → 2 ≤ length (clause_at self.now.slots slot)
+            → (slice_index_or self.now.slots slot no_slot).id ≢ id }
+    {
+        if slot as usize >= self.slots.len() {
+            return false;
+        }
+        self.slots.id(slot) == id
     }
 
     /// Makes ready for a cut of the trail to its first steps. Takes no memory, and costs the
@@ -199,26 +212,26 @@ impl Watches {
 
     // A literal of a slot.
     fn literal(&self, slot: u32, place: usize) -> ShortLit
-        requires slot { slot < length self.now.slots.items }
-        requires place { place < length (clause_at self.now.slots.items slot) }
+        requires slot { slot < length self.now.slots }
+        requires place { place < length (clause_at self.now.slots slot) }
         ensures value { result
-            ≡ slice_index_or (clause_at self.now.slots.items slot) place no_literal }
-        ensures among { Contains (clause_at self.now.slots.items slot) result }
+            ≡ slice_index_or (clause_at self.now.slots slot) place no_literal }
+        ensures among { Contains (clause_at self.now.slots slot) result }
     {
-        self.slots[slot as usize].lits.at(place)
+        self.slots.at(slot, place)
     }
 
     // A place from 2 on whose literal isn't false.
     fn free_place(&self, trail: &Trail, slot: u32) -> Option<usize>
-        requires slot { slot < length self.now.slots.items }
-        requires vars { (l : Literal) → Contains (clause_at self.now.slots.items slot) l
+        requires slot { slot < length self.now.slots }
+        requires vars { (l : Literal) → Contains (clause_at self.now.slots slot) l
             → l.var ≤ trail.now.vars }
         ensures free { IfSome result
-            (λ k. IsFree (clause_at self.now.slots.items slot) (lits_of trail.now.steps) k) }
+            (λ k. IsFree (clause_at self.now.slots slot) (lits_of trail.now.steps) k) }
         ensures none { IfNone result
-            (AreFalse (clause_at self.now.slots.items slot) (lits_of trail.now.steps) 2) }
+            (AreFalse (clause_at self.now.slots slot) (lits_of trail.now.steps) 2) }
     {
-        free_place(&self.slots[slot as usize].lits, trail)
+        free_place(self.slots.lits(slot), trail)
     }
 
     // The first place from one on whose blocker isn't true, or the end of the list. Most visits end
@@ -266,9 +279,9 @@ impl Watches {
         requires within { at < entries_of self.old lit }
         requires entry { (slice_index_or
             (list_of self.old.lists.items lit) at no_entry).slot ≡ slot }
-        requires slot { slot < length self.old.slots.items }
-        requires long { 2 ≤ length (clause_at self.old.slots.items slot) }
-        requires second { slice_index_or (clause_at self.old.slots.items slot) 1 no_literal ≡ lit }
+        requires slot { slot < length self.old.slots }
+        requires long { 2 ≤ length (clause_at self.old.slots slot) }
+        requires second { slice_index_or (clause_at self.old.slots slot) 1 no_literal ≡ lit }
         ensures ok { IfOk result (IsVisited self.old self.new trail.old trail.new lit at) }
         ensures err { OnErr result (IsReady self.new trail.new
             × IsFollowed self.old self.new trail.old trail.new) }
@@ -301,9 +314,9 @@ impl Watches {
         requires within { at < entries_of self.old lit }
         requires entry { (slice_index_or
             (list_of self.old.lists.items lit) at no_entry).slot ≡ slot }
-        requires slot { slot < length self.old.slots.items }
-        requires second { slice_index_or (clause_at self.old.slots.items slot) 1 no_literal ≡ lit }
-        requires free { IsFree (clause_at self.old.slots.items slot)
+        requires slot { slot < length self.old.slots }
+        requires second { slice_index_or (clause_at self.old.slots slot) 1 no_literal ≡ lit }
+        requires free { IsFree (clause_at self.old.slots slot)
             (lits_of trail.now.steps) place }
         ensures ok { IfOk result (IsVisited self.old self.new trail.now trail.now lit at) }
         ensures err { OnErr result (IsReady self.new trail.now
@@ -316,7 +329,7 @@ impl Watches {
             blocker: first,
         };
         add_entry(&mut self.lists, free.code(), entry)?;
-        put_at_second(&mut self.slots, slot, place);
+        self.slots.swap(slot, 1, place);
         drop_entry(&mut self.lists, literal_code(lit), at);
         Ok(Visit::Gone)
     }
@@ -326,15 +339,15 @@ impl Watches {
         requires looking { IsAt self.now trail.old lit at }
         requires entry { (slice_index_or
             (list_of self.now.lists.items lit) at no_entry).slot ≡ slot }
-        requires slot { slot < length self.now.slots.items }
-        requires long { 2 ≤ length (clause_at self.now.slots.items slot) }
-        requires second { slice_index_or (clause_at self.now.slots.items slot) 1 no_literal ≡ lit }
-        requires others { AreFalse (clause_at self.now.slots.items slot)
+        requires slot { slot < length self.now.slots }
+        requires long { 2 ≤ length (clause_at self.now.slots slot) }
+        requires second { slice_index_or (clause_at self.now.slots slot) 1 no_literal ≡ lit }
+        requires others { AreFalse (clause_at self.now.slots slot)
             (lits_of trail.old.steps) 2 }
         ensures { IsVisited self.now self.now trail.old trail.new lit at result }
     {
         let first = self.literal(slot, 0);
-        let id = self.slots[slot as usize].id;
+        let id = self.slots.id(slot);
         match truth(trail, first) {
             Some(true) => Visit::Next,
             Some(false) => Visit::Conflict(id),
@@ -359,19 +372,20 @@ impl Watches {
         let mut lits = short_lits(self.alloc, line.literals())?;
         cover(self.alloc, &mut self.lists, &lits)?;
         latest_first(&mut lits, &mut self.ends, trail);
-        self.watch(lits, id)
+        self.watch(&lits, id)
     }
 
     // Watches the first two literals of a clause.
-    fn watch(&mut self, lits: Row<ShortLit>, id: u64) -> Result<(), NoMemory>
-        requires long { 2 ≤ length lits }
-        requires distinct { IsDistinct lits }
-        requires covered { (l : Literal) → Contains lits l
+    fn watch(&mut self, lits: &Row<ShortLit>, id: u64) -> Result<(), NoMemory>
+        requires long { 2 ≤ length lits.now }
+        requires distinct { IsDistinct lits.now }
+        requires covered { (l : Literal) → Contains lits.now l
             → code_of l < length self.old.lists.items }
-        ensures ready { (t : TrailValue) → IsReady self.old t → IsWatchable self.old t lits
+        ensures ready { (t : TrailValue) → IsReady self.old t → IsWatchable self.old t lits.now
             → IsReady self.new t }
         ensures ok { OnOk result ((lines : LineMap) (line : ConstraintValue)
-            → IsCopy lines id line lits → Hold self.old (remove lines id) → Hold self.new lines) }
+            → IsCopy lines id line lits.now → Hold self.old (remove lines id)
+            → Hold self.new lines) }
         ensures err { OnErr result ((lines : LineMap) → get lines id ≡ None
             → Hold self.old lines → Hold self.new lines) }
     {
@@ -388,7 +402,7 @@ impl Watches {
         };
         add_entry(&mut self.lists, first.code(), beside_first)?;
         add_entry(&mut self.lists, second.code(), beside_second)?;
-        self.slots[slot as usize].lits = lits;
+        self.slots.fill(slot, lits.as_slice())?;
         Ok(())
     }
 
@@ -402,11 +416,8 @@ impl Watches {
         ensures opened { IfOk result (IsOpened self.old self.new id) }
     {
         let slot = short_number(self.slots.len())?;
-        self.slots.push(Slot {
-            id,
-            lits: Row::new(self.alloc),
-        })?;
-        self.index.insert(id, slot as usize)?;
+        self.slots.push(id)?;
+        self.index.insert(id, slot)?;
         Ok(slot)
     }
 }
