@@ -1,13 +1,13 @@
 -- What the edits of the list of literals do to each clause.
 use Rattle.std.proofs.Common.{◌≡◌, ◌≢◌, ◌⊎◌, ℕ, ◌+◌, ◌<◌, ◌≤◌, inl, inr, List, [], ◌∷◌, ◌++◌, length, map, get_or, set, take, drop, refl, sym, ◌∙◌, ap, subst, arith, length-append, length-set, get_or-set_same, get_or-set_other}
-use Rattle.std.specs.List.{Contains, swap}
+use Rattle.std.specs.List.{swap}
 use Rattle.std.proofs.lemmas.List.{ext_get_or, get_or-take, get_or-drop, get_or-map, get_or_append_left, get_or_push, length_push, length-take-le, length-drop, length-map, map-append, get_or-append-add}
 use Rattle.std.proofs.lemmas.List.Edits.{swapped_from_swap, length-swap}
 use Rattle.std.proofs.lemmas.Bool.{cases_eq, cases_lt}
 use Rattle.scut_base.specs.Literal.{Literal}
 use Rattle.clause_watch.specs.Slot.{Slot}
 use Rattle.clause_watch.specs.Blocks.{AreBlocks, block, end_of, no_head}
-use Rattle.clause_watch.specs.Watching.{clause_at, no_literal, no_slot}
+use Rattle.clause_watch.specs.Watching.{no_literal, no_slot}
 use Rattle.clause_watch.specs.declared.slots.Head.{Head}
 
 -- Ranges of a list.
@@ -23,8 +23,8 @@ range_same xs ys s n in_x in_y same =
     let long_x = range_length xs s n in_x in
     let long_y = range_length ys s n in_y in
     ext_get_or no_literal (take n (drop s ys)) (take n (drop s xs)) (long_y ∙ sym long_x) (λ k below.
-        let h : k < n = omega (arith, below, long_y) in
-        range_at ys s n k h ∙ same k h ∙ sym (range_at xs s n k h))
+    let h : k < n = omega (arith, below, long_y) in
+    range_at ys s n k h ∙ same k h ∙ sym (range_at xs s n k h))
 
 range_swapped : (xs : List Literal) (s n a b : ℕ) → s + n ≤ length xs → a < n → b < n → take n (drop s (swap xs (s + a) (s + b))) ≡ swap (take n (drop s xs)) a b
 range_swapped xs s n a b within at_a at_b =
@@ -36,14 +36,14 @@ range_swapped xs s n a b within at_a at_b =
     let small = swapped_from_swap c (swap c a b) a b no_literal (omega (arith, long, at_a)) (omega (arith, long, at_b)) refl in
     let long_y : length (take n (drop s ys)) ≡ n = range_length ys s n (omega (arith, within, len_y)) in
     ext_get_or no_literal (take n (drop s ys)) (swap c a b) (long_y ∙ sym (length-swap c a b ∙ long)) (λ k below.
-        let h : k < n = omega (arith, below, long_y) in
-        range_at ys s n k h ∙ elim (cases_eq k a) [
-          | inl e ↦ ap (λ (i : ℕ). get_or ys (s + i) no_literal) e ∙ big.0 ∙ sym (range_at xs s n b at_b) ∙ sym small.0 ∙ ap (λ (i : ℕ). get_or (swap c a b) i no_literal) (sym e)
-          | inr na ↦ elim (cases_eq k b) [
-            | inl e ↦ ap (λ (i : ℕ). get_or ys (s + i) no_literal) e ∙ big.1 ∙ sym (range_at xs s n a at_a) ∙ sym small.1 ∙ ap (λ (i : ℕ). get_or (swap c a b) i no_literal) (sym e)
-            | inr nb ↦ big.2 (s + k) (λ f. na (omega (arith, f))) (λ f. nb (omega (arith, f))) ∙ sym (range_at xs s n k h) ∙ sym (small.2 k na nb)
-          ]
-        ])
+    let h : k < n = omega (arith, below, long_y) in
+    range_at ys s n k h ∙ elim (cases_eq k a) [
+      | inl e ↦ ap (λ (i : ℕ). get_or ys (s + i) no_literal) e ∙ big.0 ∙ sym (range_at xs s n b at_b) ∙ sym small.0 ∙ ap (λ (i : ℕ). get_or (swap c a b) i no_literal) (sym e)
+      | inr na ↦ elim (cases_eq k b) [
+        | inl e ↦ ap (λ (i : ℕ). get_or ys (s + i) no_literal) e ∙ big.1 ∙ sym (range_at xs s n a at_a) ∙ sym small.1 ∙ ap (λ (i : ℕ). get_or (swap c a b) i no_literal) (sym e)
+        | inr nb ↦ big.2 (s + k) (λ f. na (omega (arith, f))) (λ f. nb (omega (arith, f))) ∙ sym (range_at xs s n k h) ∙ sym (small.2 k na nb)
+      ]
+    ])
 
 -- Slots.
 
@@ -65,11 +65,11 @@ slots_changed xs ys heads news j s inside len here same =
     let old_len : length old ≡ length heads = length_slots xs heads in
     let new_len : length (slots_of ys news) ≡ length heads = length_slots ys news ∙ len in
     ext_get_or no_slot (slots_of ys news) (set old j s) (new_len ∙ sym (length-set old j s ∙ old_len)) (λ i below.
-        let i_in : i < length heads = omega (arith, below, new_len) in
-        slot_at ys news i (omega (arith, i_in, len)) ∙ elim (cases_eq i j) [
-          | inl e ↦ ap (λ (k : ℕ). block ys (get_or news k no_head)) e ∙ here ∙ sym (get_or-set_same old j s no_slot (omega (arith, inside, old_len))) ∙ ap (λ (k : ℕ). get_or (set old j s) k no_slot) (sym e)
-          | inr n ↦ same i n i_in ∙ sym (slot_at xs heads i i_in) ∙ sym (get_or-set_other old j i s no_slot n)
-        ])
+    let i_in : i < length heads = omega (arith, below, new_len) in
+    slot_at ys news i (omega (arith, i_in, len)) ∙ elim (cases_eq i j) [
+      | inl e ↦ ap (λ (k : ℕ). block ys (get_or news k no_head)) e ∙ here ∙ sym (get_or-set_same old j s no_slot (omega (arith, inside, old_len))) ∙ ap (λ (k : ℕ). get_or (set old j s) k no_slot) (sym e)
+      | inr n ↦ same i n i_in ∙ sym (slot_at xs heads i i_in) ∙ sym (get_or-set_other old j i s no_slot n)
+    ])
 
 sides : (a b : ℕ) → a ≢ b → (a < b) ⊎ (b < a)
 sides a b n = grind arith
@@ -89,13 +89,13 @@ slots_swapped words heads j a b are inside at_a at_b =
     let len : length ys ≡ length words = length-swap words (h.start + a) (h.start + b) in
     let big = swapped_from_swap words ys (h.start + a) (h.start + b) no_literal (omega (arith, within, at_a)) (omega (arith, within, at_b)) refl in
     slots_changed words ys heads heads j s inside refl (ap (λ (ls : List Literal). record { id = h.id; lits = ls }) (range_swapped words h.start h.len a b within at_a at_b)) (λ i n i_in.
-        let g : Head = get_or heads i no_head in
-        let own : g.start + g.len ≤ length words = are.within i i_in in
-        let apart : (k : ℕ) → k < g.len → (g.start + k ≢ h.start + a) × (g.start + k ≢ h.start + b) = λ k below. elim (sides i j n) [
-          | inl up ↦ (let e = are.apart i j up inside in ((λ f. absurd (omega (arith, e, f, below))), (λ f. absurd (omega (arith, e, f, below)))))
-          | inr down ↦ (let e = are.apart j i down i_in in ((λ f. absurd (omega (arith, e, f, at_a))), (λ f. absurd (omega (arith, e, f, at_b)))))
-        ] in
-        block_same words ys g (range_same words ys g.start g.len own (omega (arith, own, len)) (λ k below. let m = apart k below in big.2 (g.start + k) m.0 m.1)))
+    let g : Head = get_or heads i no_head in
+    let own : g.start + g.len ≤ length words = are.within i i_in in
+    let apart : (k : ℕ) → k < g.len → (g.start + k ≢ h.start + a) × (g.start + k ≢ h.start + b) = λ k below. elim (sides i j n) [
+      | inl up ↦ (let e = are.apart i j up inside in ((λ f. absurd (omega (arith, e, f, below))), (λ f. absurd (omega (arith, e, f, below)))))
+      | inr down ↦ (let e = are.apart j i down i_in in ((λ f. absurd (omega (arith, e, f, at_a))), (λ f. absurd (omega (arith, e, f, at_b)))))
+    ] in
+    block_same words ys g (range_same words ys g.start g.len own (omega (arith, own, len)) (λ k below. let m = apart k below in big.2 (g.start + k) m.0 m.1)))
 
 -- the literals of the last one are put at the end
 pub slots_filled : (words lits : List Literal) (heads : List Head) (j : ℕ) (h : Head) → AreBlocks heads words → j < length heads → h.start ≡ length words → h.len ≡ length lits → slots_of (words ++ lits) (set heads j h) ≡ set (slots_of words heads) j (record { id = h.id; lits = lits })
@@ -106,11 +106,11 @@ slots_filled words lits heads j h are inside at_end all =
     let within : h.start + h.len ≤ length ys = omega (arith, at_end, all, len) in
     let long : length (take h.len (drop h.start ys)) ≡ h.len = range_length ys h.start h.len within in
     let own : take h.len (drop h.start ys) ≡ lits = ext_get_or no_literal (take h.len (drop h.start ys)) lits (long ∙ all) (λ k below.
-        range_at ys h.start h.len k (omega (arith, below, long)) ∙ ap (λ (i : ℕ). get_or ys (i + k) no_literal) at_end ∙ get_or-append-add words lits k no_literal) in
+    range_at ys h.start h.len k (omega (arith, below, long)) ∙ ap (λ (i : ℕ). get_or ys (i + k) no_literal) at_end ∙ get_or-append-add words lits k no_literal) in
     slots_changed words ys heads news j (record { id = h.id; lits = lits }) inside (length-set heads j h) (ap (block ys) (get_or-set_same heads j h no_head inside) ∙ ap (λ (ls : List Literal). record { id = h.id; lits = ls }) own) (λ i n i_in.
-        let g : Head = get_or heads i no_head in
-        let in_old : g.start + g.len ≤ length words = are.within i i_in in
-        ap (block ys) (get_or-set_other heads j i h no_head n) ∙ block_same words ys g (range_same words ys g.start g.len in_old (omega (arith, in_old, len)) (λ k below. get_or_append_left words lits no_literal (g.start + k) (omega (arith, in_old, below)))))
+    let g : Head = get_or heads i no_head in
+    let in_old : g.start + g.len ≤ length words = are.within i i_in in
+    ap (block ys) (get_or-set_other heads j i h no_head n) ∙ block_same words ys g (range_same words ys g.start g.len in_old (omega (arith, in_old, len)) (λ k below. get_or_append_left words lits no_literal (g.start + k) (omega (arith, in_old, below)))))
 
 -- one loses its literals
 pub slots_emptied : (words : List Literal) (heads : List Head) (j : ℕ) (h : Head) → j < length heads → h.len ≡ 0 → slots_of words (set heads j h) ≡ set (slots_of words heads) j (record { id = h.id; lits = [] })

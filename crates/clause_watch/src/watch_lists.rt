@@ -173,11 +173,7 @@ pub fn set_entry(lists: &mut Vec<Row<Entry>>, code: usize, at: usize, entry: Ent
 }
 
 /// Puts an entry at the end of a list.
-pub fn add_entry(
-    lists: &mut Vec<Row<Entry>>,
-    code: usize,
-    entry: Entry,
-) -> Result<(), NoMemory>
+pub fn add_entry(lists: &mut Vec<Row<Entry>>, code: usize, entry: Entry) -> Result<(), NoMemory>
     requires { code < length lists.old.items }
     ensures ok { OnOk result (lists.new.items ≡ slice_set lists.old.items code
         (slice_index_or lists.old.items code [] ++ entry ∷ [])) }
@@ -188,7 +184,11 @@ pub fn add_entry(
 }
 
 /// Makes the lists reach the literals of a clause.
-pub fn cover(alloc: Global, lists: &mut Vec<Row<Entry>>, clause: &Row<ShortLit>) -> Result<(), NoMemory>
+pub fn cover(
+    alloc: Global,
+    lists: &mut Vec<Row<Entry>>,
+    clause: &Row<ShortLit>,
+) -> Result<(), NoMemory>
     ensures same { (c : ℕ)
         → slice_index_or lists.new.items c [] ≡ slice_index_or lists.old.items c [] }
     ensures longer { length lists.old.items ≤ length lists.new.items }

@@ -268,13 +268,7 @@ impl Watches {
     }
 
     // Visits an entry whose clause has the false literal second.
-    fn read(
-        &mut self,
-        trail: &mut Trail,
-        lit: Lit,
-        at: usize,
-        slot: u32,
-    ) -> Result<Visit, NoMemory>
+    fn read(&mut self, trail: &mut Trail, lit: Lit, at: usize, slot: u32) -> Result<Visit, NoMemory>
         requires looking { IsAt self.old trail.old lit at }
         requires within { at < entries_of self.old lit }
         requires entry { (slice_index_or

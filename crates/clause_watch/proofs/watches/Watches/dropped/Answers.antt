@@ -1,4 +1,4 @@
-use Rattle.std.proofs.Common.{◌≡◌, ◌≢◌, ◌≤◌, ℕ, Some, None, [], length, get_or, refl, ap, sym, subst, ◌∙◌}
+use Rattle.std.proofs.Common.{◌≡◌, ◌≢◌, ◌≤◌, ℕ, Some, None, [], length, get_or, refl, sym, subst, ◌∙◌}
 use Rattle.clause_watch.specs.Slot.{Slot}
 use Rattle.clause_watch.specs.Watching.{IsKept, clause_at, lits_of, no_slot}
 use Rattle.clause_watch.specs.Watches.{AreSlots, AreWatches}

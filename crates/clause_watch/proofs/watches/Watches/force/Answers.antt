@@ -4,7 +4,6 @@ use Rattle.std.proofs.lemmas.List.Elements.{Contains-push}
 use Rattle.scut_base.specs.Literal.{Literal}
 use Rattle.scut_base.specs.Assignment.{partial_truth}
 use Rattle.pb_lin.specs.Constraint.{opposite}
-use Rattle.clause_watch.specs.Slot.{Slot}
 use Rattle.clause_prop.specs.Steps.{assigned, last_level, partial}
 use Rattle.clause_prop.specs.Propagating.{IsConflict, IsForcedStep}
 use Rattle.clause_watch.specs.Watching.{AreFalse, IsLooking, IsValue, clause_at, lits_of, no_literal, no_slot}
