@@ -1,7 +1,7 @@
 -- What the edits of the list of literals do to each clause.
 use Rattle.std.proofs.Common.{◌≡◌, ◌≢◌, ◌⊎◌, ℕ, ◌+◌, ◌<◌, ◌≤◌, inl, inr, List, [], ◌∷◌, ◌++◌, length, map, get_or, set, take, drop, refl, sym, ◌∙◌, ap, subst, arith, length-append, length-set, get_or-set_same, get_or-set_other}
 use Rattle.std.specs.List.{swap}
-use Rattle.std.proofs.lemmas.List.{ext_get_or, get_or-take, get_or-drop, get_or-map, get_or_append_left, get_or_push, length_push, length-take-le, length-drop, length-map, map-append, get_or-append-add}
+use Rattle.std.proofs.lemmas.List.{ext_get_or, set_at, get_or-take, get_or-drop, get_or-map, get_or_append_left, get_or_push, length_push, length-take-le, length-drop, length-map, map-append, get_or-append-add}
 use Rattle.std.proofs.lemmas.List.Edits.{swapped_from_swap, length-swap}
 use Rattle.std.proofs.lemmas.Bool.{cases_eq, cases_lt}
 use Rattle.scut_base.specs.Literal.{Literal}
@@ -120,6 +120,13 @@ slots_emptied words heads j h inside none =
 -- one more
 pub slots_pushed : (words : List Literal) (heads : List Head) (h : Head) → h.len ≡ 0 → slots_of words (heads ++ h ∷ []) ≡ slots_of words heads ++ record { id = h.id; lits = [] } ∷ []
 slots_pushed words heads h none = map-append (block words) heads (h ∷ []) ∙ ap (λ (n : ℕ). slots_of words heads ++ record { id = h.id; lits = take n (drop h.start words) } ∷ []) none
+
+-- the last one gets its literals
+pub filled_last : (own : List Slot) (j id : ℕ) (lits : List Literal) → length own ≡ j → set (own ++ record { id = id; lits = [] } ∷ []) j (record { id = (get_or (own ++ record { id = id; lits = [] } ∷ []) j no_slot).id; lits = lits }) ≡ own ++ record { id = id; lits = lits } ∷ []
+filled_last own j id lits e =
+    let none : Slot = record { id = id; lits = [] } in
+    let here : (get_or (own ++ none ∷ []) j no_slot).id ≡ id = ap (λ (k : ℕ). (get_or (own ++ none ∷ []) k no_slot).id) (sym e) ∙ ap (λ (s : Slot). s.id) (get_or_push own none no_slot (length own) refl) in
+    set_at own none [] (record { id = (get_or (own ++ none ∷ []) j no_slot).id; lits = lits }) j e ∙ ap (λ (i : ℕ). own ++ record { id = i; lits = lits } ∷ []) here
 
 -- What stays right.
 

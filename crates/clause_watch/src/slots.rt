@@ -1,5 +1,5 @@
 // The watched clauses, one behind another in one list of literals.
-ghost use Rattle.std.specs.Prelude.{◌≡◌, ◌+◌, ◌<◌, ◌++◌, [], ◌∷◌, length, OnOk, OnErr, slice_set, slice_index_or, swap, Contains};
+ghost use Rattle.std.specs.Prelude.{◌≡◌, ◌+◌, ◌<◌, ◌++◌, [], ◌∷◌, length, IfOk, OnOk, OnErr, slice_set, slice_index_or, swap, Contains};
 ghost use Rattle.clause_watch.specs.Watching.{clause_at, no_literal, no_slot};
 
 use crate::short_lit::{ShortLit, short_number};
@@ -22,8 +22,11 @@ const _: () = prove!(std::mem::size_of::<Head>() == 16);
 /// waits for memory once and not for a list of each clause.
 #[derive(Debug, Drop)]
 pub struct Slots {
+    alloc: Global,
     heads: Vec<Head>,
     words: Vec<ShortLit>,
+    // How many literals were taken away and not packed since.
+    lost: usize,
 }
 
 impl Model for Slots {
@@ -45,8 +48,10 @@ impl Slots {
         ensures { result ≡ [] }
     {
         Slots {
+            alloc,
             heads: Vec::new(alloc),
             words: Vec::new(alloc),
+            lost: 0,
         }
     }
 
@@ -102,8 +107,43 @@ impl Slots {
         words.swap(start + first, start + second);
     }
 
-    /// Puts a slot without literals at the end.
+    /// Puts a slot without literals at the end. Where half of the literals are of no slot any more it
+    /// packs the others, which costs as much as they are; else it takes constant time on average.
     pub fn push(&mut self, id: u64) -> Result<(), NoMemory>
+        ensures ok { OnOk result
+            (self.new ≡ self.old ++ record { id = id; lits = [] } ∷ []) }
+        ensures err { OnErr result (self.new ≡ self.old) }
+    {
+        if self.lost > self.words.len() / 2 {
+            self.pack();
+        }
+        self.put(id)
+    }
+
+    // Packs the literals, unless memory is wanting.
+    fn pack(&mut self)
+        ensures { self.new ≡ self.old }
+    {
+        if let Ok(packed) = self.packed() {
+            *self = packed;
+        }
+    }
+
+    // The same slots, with no room between their literals.
+    fn packed(&self) -> Result<Slots, NoMemory>
+        ensures { IfOk result (λ packed. packed ≡ self.now) }
+    {
+        let mut packed = Slots::new(self.alloc);
+        let count = short_number(self.len())?;
+        for slot in 0..count {
+            packed.put(self.id(slot))?;
+            packed.fill(slot, self.lits(slot))?;
+        }
+        Ok(packed)
+    }
+
+    // Puts a slot without literals at the end.
+    fn put(&mut self, id: u64) -> Result<(), NoMemory>
         ensures ok { OnOk result
             (self.new ≡ self.old ++ record { id = id; lits = [] } ∷ []) }
         ensures err { OnErr result (self.new ≡ self.old) }
@@ -138,6 +178,7 @@ impl Slots {
             (record { id = (slice_index_or self.old slot no_slot).id; lits = [] }) }
     {
         let head = self.heads[slot as usize];
+        self.lost = self.lost.saturating_add(head.len as usize);
         self.heads[slot as usize] = Head {
             id: head.id,
             start: head.start,
