@@ -137,16 +137,17 @@ pub fn put_second(slots: &mut Slots, slot: u32, lit: Lit) -> bool
     ensures lost { result ≡ false
         → (l : Literal) → IsWatch (clause_at slots.new slot) l → l ≢ lit }
 {
-    let count = slots.lits(slot).len();
-    if count < 2 {
+    let clause = slots.lits(slot);
+    if clause.len() < 2 {
         return false;
     }
-    let first = slots.at(slot, 0).lit();
-    if first == lit {
+    let first = literal_at(clause, 0);
+    let second = literal_at(clause, 1);
+    if first.lit() == lit {
         slots.swap(slot, 0, 1);
         return true;
     }
-    slots.at(slot, 1).lit() == lit
+    second.lit() == lit
 }
 
 /// Takes an entry out of a list.
