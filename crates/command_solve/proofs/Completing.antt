@@ -30,7 +30,7 @@ refused a files spelled other =
     let has = of_text files a.input spelled.text (HasOtherObjectives a) spelled.there other in
     let is = one_in a.format spelled.text has.0 spelled.instance has.1.spelled spelled.spelled.spelled in
     let not_taken : takes a.search a.turns (length spelled.instance.objectives) ≡ false =
-        subst (λ (i : InstanceValue). takes a.search a.turns (length i.objectives) ≡ false) is has.2 in
+    subst (λ (i : InstanceValue). takes a.search a.turns (length i.objectives) ≡ false) is has.2 in
     record {
       searched = λ taken. cc;
       usage = λ wrong. refl;
