@@ -1,6 +1,6 @@
 -- Where the command `upgrade` completes.
-use Rattle.std.proofs.Common.{◌≡◌, ℕ, zero, ◌-◌, ◌<◌, ◌≤◌, ◌^◌, List, length, refl, inl, inr, subst, arith}
-use Rattle.std.specs.Prelude.{Option, take}
+use Rattle.std.proofs.Common.{ℕ, zero, ◌-◌, ◌^◌, List, refl, inl, inr, subst, arith}
+use Rattle.std.specs.Prelude.{Option}
 use Rattle.std.proofs.lemmas.List.{take_all}
 use Rattle.scut_base.specs.Files.{Files}
 use Rattle.scut_base.specs.World.{World}

@@ -1,22 +1,21 @@
 -- How the lines of a log come into another file.
-use Rattle.std.proofs.Common.{◌≡◌, ◌≢◌, ◌⊎◌, inl, inr, ⊎_elim, ℕ, zero, suc, ◌+◌, ◌<◌, ◌≤◌, ◌^◌, ◌-◌, Option, None, Some, Bool, true, false, List, [], ◌∷◌, ◌++◌, length, take, drop, refl, sym, ap, subst, ◌∙◌, arith}
-use Rattle.std.specs.Prelude.{All, IsSome, Result, Ok, Err}
-use Rattle.std.proofs.lemmas.List.{append-nil, append_assoc, length-append, take-append-drop, take_all}
+use Rattle.std.proofs.Common.{◌≡◌, ◌⊎◌, inl, inr, ⊎_elim, ℕ, zero, suc, ◌+◌, ◌<◌, ◌≤◌, ◌^◌, Option, Some, List, [], ◌∷◌, ◌++◌, length, refl, sym, ap, subst, ◌∙◌, arith}
+use Rattle.std.specs.Prelude.{IsSome, Err}
+use Rattle.std.proofs.lemmas.List.{append-nil, append_assoc, length-append}
 use Rattle.std.proofs.lemmas.List.Elements.{All-nil}
-use Rattle.scut_base.specs.Files.{Files, bytes_or_none, content, with_appended, with_file, IsPrefixOf, IsTold}
+use Rattle.scut_base.specs.Files.{Files, bytes_or_none, content, with_appended, IsTold}
 use Rattle.scut_base.specs.declared.shelf.ShelfFault.{ShelfFault}
 use Rattle.scut_base.specs.declared.shelf.ShelfFault.TheVariants.{Failed, NoMemory as ShelfMemory}
 use Rattle.scut_base.proofs.FileLaws.{content-same, told_before}
 use Rattle.pb_lin.specs.Problem.{ProblemValue}
 use Rattle.proof_laws.specs.declared.line.Line.{Line}
-use Rattle.proof_laws.specs.declared.why.Why.TheVariants.{Syntax}
 use Rattle.proof_lines.specs.Ids.{FitsNext, after_line}
 use Rattle.proof_lines.specs.LineText.{printed}
 use Rattle.proof_lines.specs.declared.spelling.Spelling.{Spelling}
-use Rattle.proof_text.specs.LogText.{BeginsWith, GoesWrongAfter, HoldsNoFurtherLine, IsHeaderPart, IsOneLine, IsSyntaxAt, IsUnfinishedAt, IsWhole as IsWholeText, SpellsLog, newlines}
-use Rattle.proof_text.specs.Reading.{GivesNext, HasGiven, ReaderValue, StandsFor}
+use Rattle.proof_text.specs.LogText.{BeginsWith, GoesWrongAfter, HoldsNoFurtherLine, IsHeaderPart, IsSyntaxAt, IsUnfinishedAt, IsWhole as IsWholeText, SpellsLog, newlines}
+use Rattle.proof_text.specs.Reading.{HasGiven, ReaderValue, StandsFor}
 use Rattle.proof_text.specs.Recorders.{IsPutPartly}
-use Rattle.proof_text.specs.Versions.{AllFit, IsFirst, after_lines, log_text}
+use Rattle.proof_text.specs.Versions.{IsFirst, after_lines, log_text}
 use Rattle.proof_text.specs.Writing.{WriterValue, writer_after}
 use Rattle.proof_text.specs.declared.fault.TextFault.{TextFault}
 use Rattle.proof_text.specs.declared.fault.TextFault.TheVariants.{Syntax as SyntaxAt, NoMemory as TextMemory}
@@ -24,13 +23,12 @@ use Rattle.proof_text.proofs.Lengths.{fit_anew}
 use Rattle.proof_text.proofs.Logs.{GoesOn, after_push, begins_align, fit_last, header_part_one, log_text_push, not_headless, printed_spells, spelled_whole, wrong_here}
 use Rattle.proof_text.proofs.OneLines.{newlines-append, newlines-one}
 use Rattle.proof_text.proofs.Readings.{log_feeds}
-use Rattle.log_checker.proofs.Answering.{given, gives_line, right_upto}
+use Rattle.log_checker.proofs.Answering.{given, right_upto}
 use Rattle.log_checker.proofs.Faults.{no_syntax}
 use Rattle.log_checker.proofs.Texts.{begins_has_newline}
 use Rattle.command_base.specs.StopsFrom.{log_of_shelf}
 use Rattle.command_base.specs.WholeFile.{IsWhole}
-use Rattle.command_base.specs.declared.stops.LogStop.{LogStop}
-use Rattle.command_upgrade.specs.Copying.{CopiesNext, EndsAt, IsLeft, IsUnderway, StopsAt, stop_of}
+use Rattle.command_upgrade.specs.Copying.{EndsAt, IsLeft, IsUnderway, StopsAt, stop_of}
 use Rattle.command_upgrade.specs.Table.{AreBefore, HasNoWrongLine}
 
 -- ---- lines that bytes begin with

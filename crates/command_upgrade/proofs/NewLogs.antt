@@ -1,5 +1,5 @@
 -- A log file whose lines come into another file.
-use Rattle.std.proofs.Common.{◌≡◌, ◌≢◌, ◌⊎◌, inl, inr, ⊎_elim, ℕ, zero, suc, ◌+◌, ◌<◌, ◌≤◌, ◌^◌, ◌-◌, Option, None, Some, List, [], ◌∷◌, ◌++◌, length, take, drop, refl, sym, ap, subst, ◌∙◌, arith}
+use Rattle.std.proofs.Common.{◌≡◌, ◌≢◌, inl, inr, ⊎_elim, ℕ, zero, suc, ◌+◌, ◌<◌, ◌≤◌, ◌^◌, ◌-◌, Option, Some, List, [], ◌++◌, length, take, drop, refl, sym, ap, subst, ◌∙◌, arith}
 use Rattle.std.specs.Prelude.{IfErr, OnOk, Result, Ok, Err}
 use Rattle.std.proofs.lemmas.List.{append-nil, length-append, length-take, take-append-drop, take-take, take_all}
 use Rattle.scut_base.specs.Files.{Files, content, with_file, IsPrefixOf, IsReadAt, IsTold, IsTouched}
@@ -10,7 +10,6 @@ use Rattle.scut_base.specs.declared.shelf.ShelfFault.{ShelfFault}
 use Rattle.scut_base.specs.declared.shelf.ShelfFault.TheVariants.{Failed, NoMemory as ShelfMemory}
 use Rattle.scut_base.proofs.FileLaws.{content-same, told_before}
 use Rattle.proof_laws.specs.declared.line.Line.{Line}
-use Rattle.proof_laws.specs.declared.why.Why.{Why}
 use Rattle.proof_lines.specs.declared.spelling.Spelling.{Spelling}
 use Rattle.proof_lines.specs.declared.spelling.Spelling.TheVariants.{Plain}
 use Rattle.proof_text.specs.LogFile.{IsNotBegun}
@@ -266,10 +265,13 @@ pub stop_later : (stop : LogStop) (files : Option Files) (log : List ℕ) (w : W
 stop_later (Refused k why) files log w a b c later stops = stops
 stop_later Large files log w a b c later stops = stops
 stop_later NoMemory files log w a b c later stops = stops
-stop_later ShelfFailed files log w a b c later stops = (stops.0, ⊎_elim
-    (λ (rose : ReadingFailed b c log). inl (rose_at_last _ _ _ (later Read log) rose))
-    (λ (rose : Rose (count b Append w.name) (count c Append w.name)). inr (rose_at_last _ _ _ (later Append w.name) rose))
-    stops.1)
+stop_later ShelfFailed files log w a b c later stops = (
+  stops.0,
+  ⊎_elim
+      (λ (rose : ReadingFailed b c log). inl (rose_at_last _ _ _ (later Read log) rose))
+      (λ (rose : Rose (count b Append w.name) (count c Append w.name)). inr (rose_at_last _ _ _ (later Append w.name) rose))
+      stops.1,
+)
 
 -- ---- the new file
 
@@ -334,7 +336,10 @@ module _ (old mid new : World) (log output : List ℕ) (first : Spelling) (w v :
   writing_stops (Refused k why) stops = (stops.0, all_written (λ lines. IsWrongAfter lines k) stops.1)
   writing_stops Large stops = all_written IsLargeAfter stops
   writing_stops NoMemory stops = part_written stops
-  writing_stops ShelfFailed stops = (part_written stops.0, ⊎_elim
-      (λ (rose : ReadingFailed mid.faults new.faults log). inl (rose_at_last _ _ _ (later Read log) rose))
-      (λ (rose : Rose (count mid.faults Append v.name) (count new.faults Append v.name)). inr (inr (rose_at_last _ _ _ (later Append output) (subst (λ (n : List ℕ). Rose (count mid.faults Append n) (count new.faults Append n)) name_is rose))))
-      stops.1)
+  writing_stops ShelfFailed stops = (
+    part_written stops.0,
+    ⊎_elim
+        (λ (rose : ReadingFailed mid.faults new.faults log). inl (rose_at_last _ _ _ (later Read log) rose))
+        (λ (rose : Rose (count mid.faults Append v.name) (count new.faults Append v.name)). inr (inr (rose_at_last _ _ _ (later Append output) (subst (λ (n : List ℕ). Rose (count mid.faults Append n) (count new.faults Append n)) name_is rose))))
+        stops.1,
+  )

@@ -1,11 +1,11 @@
 -- How each end of the command `upgrade` is answered.
-use Rattle.std.proofs.Common.{◌≡◌, ◌≢◌, ◌⊎◌, inl, inr, ⊎_elim, ℕ, zero, ◌<◌, ◌^◌, List, [], ◌∷◌, length, refl, sym, ◌∙◌, ap, subst, arith}
+use Rattle.std.proofs.Common.{◌≡◌, ◌≢◌, inl, inr, ℕ, List, refl, sym, ◌∙◌, ap, subst, arith}
 use Rattle.std.specs.Prelude.{Contains, Option, Some, None, if◌then◌else◌, Bool, true, false}
 use Rattle.std.specs.Str.{bytes_eq}
 use Rattle.std.proofs.lemmas.Slice.Eq.{bytes_eq-Decides}
 use Rattle.std.proofs.lemmas.Option.{none-some}
 use Rattle.scut_base.specs.Files.{Files, followed, IsPartlyFollowed}
-use Rattle.scut_base.specs.Faults.{NoneFell, ReadingFailed, SayingFailed, WritingFailed}
+use Rattle.scut_base.specs.Faults.{NoneFell, SayingFailed}
 use Rattle.scut_base.specs.World.{World}
 use Rattle.scut_base.specs.declared.shelf.ShelfFault.{ShelfFault}
 use Rattle.scut_base.specs.declared.shelf.ShelfFault.TheVariants.{Failed}
@@ -17,8 +17,8 @@ use Rattle.proof_laws.specs.declared.why.Why.TheVariants.{Syntax}
 use Rattle.proof_text.specs.Versions.{first_of}
 use Rattle.proof_text.specs.declared.version.LogVersion.TheVariants.{Two}
 use Rattle.log_checker.specs.declared.fault.CheckFault.TheVariants.{Refused as LineRefused}
-use Rattle.command_base.specs.Answering.{Answered, OwnRose, appending, beginning, reading, saying}
-use Rattle.command_base.specs.InstanceFile.{format_of, format_of_three}
+use Rattle.command_base.specs.Answering.{Answered, appending, beginning, reading, saying}
+use Rattle.command_base.specs.InstanceFile.{format_of_three}
 use Rattle.command_base.specs.declared.instance_file.Format.{Format}
 use Rattle.command_base.specs.Messages.{said_of}
 use Rattle.command_base.specs.Statuses.{status_of_shelf}
@@ -26,9 +26,8 @@ use Rattle.command_base.specs.Stops.{status_of_log}
 use Rattle.command_base.specs.Views.{View, view}
 use Rattle.command_base.specs.declared.stops.LogStop.{LogStop}
 use Rattle.command_base.specs.declared.stops.LogStop.TheVariants.{Refused as LineWrong, Large, NoMemory as LogMemory, ShelfFailed as LogFailed}
-use Rattle.command_base.specs.declared.status.Status.{Status}
-use Rattle.command_base.specs.declared.status.Status.TheVariants.{Done, NoMemory, Refused, ShelfFailed, TooLarge}
-use Rattle.command_base.proofs.Answered.{TakesInput, ended, own_rose, own_rose_at_last, shelf_fault, view_is}
+use Rattle.command_base.specs.declared.status.Status.TheVariants.{Done, NoMemory, Refused}
+use Rattle.command_base.proofs.Answered.{TakesInput, ended, own_rose, own_rose_at_last, shelf_fault}
 use Rattle.command_upgrade.specs.Copying.{IsNew, IsNewPart, IsNewStop}
 use Rattle.command_upgrade.specs.Table.{IsLargeAfter, IsLogOf, IsNewTouched, IsProblemOf, IsUpgradedPartly, IsWritten, IsWrongAfter, UpgradeTable, upgrade_calls}
 use Rattle.command_upgrade.specs.Words.{UpgradeAsked}

@@ -18,7 +18,7 @@ use Rattle.command_base.specs.Causes.{HasText}
 use Rattle.command_base.specs.WholeFile.{IsWhole}
 use Rattle.command_base.specs.declared.stops.LogStop.{LogStop}
 use Rattle.command_base.specs.declared.stops.LogStop.TheVariants.{Refused, Large, NoMemory, ShelfFailed}
-use Rattle.command_upgrade.specs.Table.{AreBefore, HasNoWrongLine, IsLargeAfter, IsLogOf, IsWrongAfter}
+use Rattle.command_upgrade.specs.Table.{AreBefore, HasNoWrongLine, IsLargeAfter, IsWrongAfter}
 
 -- why a text isn't read, as a stop
 abbrev pub stop_of : TextFault → LogStop

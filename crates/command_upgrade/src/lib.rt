@@ -82,10 +82,7 @@ fn upgrade_of_matches<'a>(matches: &ArgMatches<'a>) -> Option<Upgrade<'a>>
 }
 
 /// The command that the words ask for, of which the first is `upgrade`; `None` exactly where clap or the names refuse them.
-pub fn read_upgrade<'a>(
-    alloc: Global,
-    words: &'a [String],
-) -> Result<Option<Upgrade<'a>>, NoMemory>
+pub fn read_upgrade<'a>(alloc: Global, words: &'a [String]) -> Result<Option<Upgrade<'a>>, NoMemory>
     ensures { IfOk result (λ found. found ≡ upgrade_asked (map string_bytes words.entry.now)) }
 {
     let command = upgrade_words(alloc)?;

@@ -38,7 +38,7 @@ returns-in-Ok-copy_lines-clause-more g c =
     let within : c.args.at + c.in-Ok.n < 2 ^ 62 = search rules in
     let underway : IsUnderway mid c.feed.new.self w (copied.bytes ++ take c.in-Ok.n into) copied.lines
     = subst (λ (f : Option Files). IsUnderway f c.feed.new.self w (copied.bytes ++ take c.in-Ok.n into) copied.lines) (sym c.in-Ok.ensures.files)
-        (fed_underway files log r w c.args.at c.in-Ok.n into copied read short within c.feed.new.self (c.in-Ok-feed.ensures.fed copied.bytes copied.lines copied.underway.read)) in
+    (fed_underway files log r w c.args.at c.in-Ok.n into copied read short within c.feed.new.self (c.in-Ok-feed.ensures.fed copied.bytes copied.lines copied.underway.read)) in
     let beside = c.in-Ok-copy_lines.ensures.beside in
     let others = beside.others ∙ ap (λ (f : Option Files). without_file f w.name) c.in-Ok.ensures.files in
     copied_more files log r w c.args.at c.in-Ok.n into copied read short within now c.copy_lines.new.reader c.copy_lines.new.writer beside.first others c.requires.other
@@ -59,7 +59,7 @@ returns-in-Ok-copy_lines-clause-whole g c = λ none.
     let within : c.args.at + c.in-Ok.n < 2 ^ 62 = search rules in
     let underway : IsUnderway mid c.feed.new.self w (copied.bytes ++ take c.in-Ok.n into) copied.lines
     = subst (λ (f : Option Files). IsUnderway f c.feed.new.self w (copied.bytes ++ take c.in-Ok.n into) copied.lines) (sym c.in-Ok.ensures.files)
-        (fed_underway files log r w c.args.at c.in-Ok.n into copied read short within c.feed.new.self (c.in-Ok-feed.ensures.fed copied.bytes copied.lines copied.underway.read)) in
+    (fed_underway files log r w c.args.at c.in-Ok.n into copied read short within c.feed.new.self (c.in-Ok-feed.ensures.fed copied.bytes copied.lines copied.underway.read)) in
     let beside = c.in-Ok-copy_lines.ensures.beside in
     let others = beside.others ∙ ap (λ (f : Option Files). without_file f w.name) c.in-Ok.ensures.files in
     copied_all files log r w c.args.at c.in-Ok.n into copied read short within now c.copy_lines.new.reader c.copy_lines.new.writer beside.first others c.requires.other
@@ -80,7 +80,7 @@ returns-in-Err-copy_lines-clause-stop g c =
     let within : c.args.at + c.in-Ok.n < 2 ^ 62 = search rules in
     let underway : IsUnderway mid c.feed.new.self w (copied.bytes ++ take c.in-Ok.n into) copied.lines
     = subst (λ (f : Option Files). IsUnderway f c.feed.new.self w (copied.bytes ++ take c.in-Ok.n into) copied.lines) (sym c.in-Ok.ensures.files)
-        (fed_underway files log r w c.args.at c.in-Ok.n into copied read short within c.feed.new.self (c.in-Ok-feed.ensures.fed copied.bytes copied.lines copied.underway.read)) in
+    (fed_underway files log r w c.args.at c.in-Ok.n into copied read short within c.feed.new.self (c.in-Ok-feed.ensures.fed copied.bytes copied.lines copied.underway.read)) in
     let beside = c.in-Err-copy_lines.ensures.beside in
     let others = beside.others ∙ ap (λ (f : Option Files). without_file f w.name) c.in-Ok.ensures.files in
     let before = (g.H.Shelf.world c.args.shelf.now).faults in
