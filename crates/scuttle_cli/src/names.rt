@@ -8,6 +8,7 @@ pub enum CommandName {
     Front,
     Solve,
     Check,
+    Gen,
 }
 
 /// The command that the first word names; `None` where there is none of that name.
@@ -28,6 +29,7 @@ fn command_named(word: &str) -> Option<CommandName>
         "front" => Some(CommandName::Front),
         "solve" => Some(CommandName::Solve),
         "check" => Some(CommandName::Check),
+        "gen" => Some(CommandName::Gen),
         _ => None,
     }
 }
