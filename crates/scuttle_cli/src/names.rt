@@ -9,6 +9,7 @@ pub enum CommandName {
     Solve,
     Check,
     Gen,
+    Trial,
 }
 
 /// The command that the first word names; `None` where there is none of that name.
@@ -30,6 +31,7 @@ fn command_named(word: &str) -> Option<CommandName>
         "solve" => Some(CommandName::Solve),
         "check" => Some(CommandName::Check),
         "gen" => Some(CommandName::Gen),
+        "trial" => Some(CommandName::Trial),
         _ => None,
     }
 }
