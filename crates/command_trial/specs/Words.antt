@@ -2,6 +2,7 @@
 use Rattle.std.specs.Prelude.{◌≡◌, ℕ, ◌++◌, List, codes, Option, None}
 use Rattle.std.specs.Option.{option_and_then, option_map}
 use Rattle.clap.specs.Words.{App, Row, new_app, with_rule}
+use Rattle.proof_text.specs.declared.version.LogVersion.TheVariants.{One}
 use Rattle.command_base.specs.CommandWords.{file_rule, rows_by, value_of}
 use Rattle.command_base.specs.declared.instance_file.Format.TheVariants.{Mcnf}
 use Rattle.command_gen.specs.Origin.{OriginValue, origin_of}
@@ -42,7 +43,8 @@ abbrev pub gen_in : OriginValue → List ℕ → GenAsked
 gen_in origin input = record { origin = origin; out = input }
 
 abbrev pub solve_in : (input list log : List ℕ) → SolveAsked
-solve_in input list log = record { format = Mcnf; input = input; list = list; log = log; search = PMinimal; limit = None }
+solve_in input list log =
+    record { format = Mcnf; input = input; list = list; log = log; search = PMinimal; turns = None; limit = None; version = One }
 
 abbrev pub check_in : (input list log : List ℕ) → CheckAsked
 check_in input list log = record { format = Mcnf; input = input; list = list; log = log }

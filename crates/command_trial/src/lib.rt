@@ -20,6 +20,7 @@ use command_base::{Command, Format, Status, file, read_by, value, with_arg};
 use command_check::Check;
 use command_gen::{Gen, Origin};
 use command_solve::{SearchKind, Solve};
+use proof_text::LogVersion;
 use scut_base::{NoMemory, Shelf};
 use std::alloc::Global;
 
@@ -181,7 +182,9 @@ fn solve_in<'a>(input: &'a str, list: &'a str, log: &'a str) -> Solve<'a>
         list,
         log,
         search: SearchKind::PMinimal,
+        turns: None,
         limit: None,
+        version: LogVersion::One,
     }
 }
 

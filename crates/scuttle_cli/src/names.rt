@@ -9,6 +9,8 @@ pub enum CommandName {
     Solve,
     Check,
     Upgrade,
+    Gen,
+    Trial,
 }
 
 /// The command that the first word names; `None` where there is none of that name.
@@ -30,6 +32,8 @@ fn command_named(word: &str) -> Option<CommandName>
         "solve" => Some(CommandName::Solve),
         "check" => Some(CommandName::Check),
         "upgrade" => Some(CommandName::Upgrade),
+        "gen" => Some(CommandName::Gen),
+        "trial" => Some(CommandName::Trial),
         _ => None,
     }
 }
