@@ -19,6 +19,7 @@ use Rattle.command_base.proofs.Answered.{ended, own_rose_at_last}
 use Rattle.command_base.proofs.Readable.{readable}
 use Rattle.command_gen.specs.Table.{GenTable, IsGenerated, gen_calls}
 use Rattle.command_gen.proofs.GenEnds.{nothing_done as gen_not_done}
+use Rattle.proof_text.specs.declared.version.LogVersion.TheVariants.{One}
 use Rattle.command_solve.specs.Logging.{IsFull}
 use Rattle.command_solve.specs.Table.{IsCertified, IsLogFull, SolveTable, solve_calls}
 use Rattle.command_check.specs.Table.{CheckTable, check_calls}
@@ -79,7 +80,7 @@ module _ (a : TrialAsked) where
       spelled = made.spelled;
       problem = was.problem;
       normal = subst (λ (i : InstanceValue). IsNormalFormOf i was.problem) (same_instance a before mid told made was.instance was.of_file.text) was.of_file.normal;
-      full = subst (λ (files : Option Files). IsFull files after.files was.problem (log_name a)) made.files was.full;
+      full = subst (λ (files : Option Files). IsFull files after.files was.problem (log_name a) One) made.files was.full;
       said = was.said ∙ made.said;
     }
 

@@ -19,6 +19,7 @@ use Rattle.command_base.specs.declared.status.Status.{Status}
 use Rattle.command_base.specs.declared.status.Status.TheVariants.{Done, Complete, Accepted, Refused, Usage, BadInput, TooLarge, LogFull, NoMemory, ShelfFailed}
 use Rattle.command_gen.specs.Origin.{instance_from, text_from}
 use Rattle.command_gen.specs.Table.{IsCutShort, IsGenerated}
+use Rattle.proof_text.specs.declared.version.LogVersion.TheVariants.{One}
 use Rattle.command_solve.specs.Logging.{IsFull}
 use Rattle.command_solve.specs.Table.{IsCertified, IsSolvedPartly}
 use Rattle.command_check.specs.Table.{IsCutOff}
@@ -84,7 +85,7 @@ pub record IsTriedFull (before after : View) (a : TrialAsked) : Type 0 where
   pub spelled : IsTextOf Mcnf (instance_from a.origin) (text_from a.origin)
   pub problem : ProblemValue
   pub normal : IsNormalFormOf (instance_from a.origin) problem
-  pub full : IsFull (with_instance before.files a) after.files problem (log_name a)
+  pub full : IsFull (with_instance before.files a) after.files problem (log_name a) One
   pub said : after.said ≡ said_in_turn before.said (Done ∷ [])
 
 -- the instance was generated, and P holds of what was so then
