@@ -27,7 +27,7 @@ use Rattle.proof_text.specs.LogFile.{Held, IsLogFile, IsNotBegun, IsPartOfNext}
 use Rattle.proof_text.specs.Versions.{first_of, log_text, version_number}
 use Rattle.proof_text.specs.declared.version.LogVersion.{LogVersion}
 use Rattle.proof_text.specs.declared.version.LogVersion.TheVariants.{One, Two}
-use Rattle.proof_text.specs.LogText.{BeginsWith, SpellsLog}
+use Rattle.proof_text.specs.LogText.{SpellsLog}
 use Rattle.proof_text.specs.Recorders.{IsKept, file_seen, without_file}
 use Rattle.proof_text.proofs.LogFiles.{others_same}
 use Rattle.certified_front.specs.Certified.{CoversLogged, IsEnding}
