@@ -1,5 +1,6 @@
 pub mod WatchedLines
 pub mod WatchLists
+pub mod WatchBlocks
 pub mod WatchSteps
 pub mod WatchKept
 pub mod WatchSlots

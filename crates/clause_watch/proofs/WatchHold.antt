@@ -11,7 +11,7 @@ use Rattle.std.proofs.lemmas.List.{get_or_past}
 use Rattle.std.proofs.lemmas.List.Sorted.{IsPermutation-trans, length_permutation}
 use Rattle.pb_lin.specs.Constraint.{ConstraintValue}
 use Rattle.pb_lin.specs.LineMap.{LineMap}
-use Rattle.clause_watch.specs.declared.watch_lists.Slot.{Slot}
+use Rattle.clause_watch.specs.Slot.{Slot}
 use Rattle.clause_prop.specs.LineKinds.{is_watched, IsClosedForWatched, IsClosedForCounted}
 use Rattle.pb_lin.specs.Propagation.{IsClosedUnder}
 use Rattle.clause_prop.specs.Steps.{TrailValue, partial}

@@ -10,7 +10,7 @@ use Rattle.scut_base.specs.Literal.{Literal}
 use Rattle.scut_base.specs.LiteralCode.{code_of}
 use Rattle.pb_lin.specs.Constraint.{opposite}
 use Rattle.clause_watch.specs.declared.watch_lists.Entry.{Entry}
-use Rattle.clause_watch.specs.declared.watch_lists.Slot.{Slot}
+use Rattle.clause_watch.specs.Slot.{Slot}
 use Rattle.clause_watch.specs.Watching.{IsKept, IsLooking, IsRemoved, IsFree, IsWatch, IsEntry, IsDistinct, HasTrue, Names, clause_at, list_of, no_entry, no_literal, no_slot}
 use Rattle.clause_watch.proofs.WatchLists.{at_set, at_others, opposite_same, code_same, contains_at, true_push, watch_swapped, watch_moved, distinct_swapped}
 

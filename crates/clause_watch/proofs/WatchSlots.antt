@@ -8,7 +8,7 @@ use Rattle.scut_base.specs.Literal.{Literal}
 use Rattle.scut_base.specs.LiteralCode.{code_of}
 use Rattle.pb_lin.specs.Constraint.{opposite}
 use Rattle.clause_watch.specs.declared.watch_lists.Entry.{Entry}
-use Rattle.clause_watch.specs.declared.watch_lists.Slot.{Slot}
+use Rattle.clause_watch.specs.Slot.{Slot}
 use Rattle.clause_watch.specs.Watching.{IsKept, IsWatch, IsEntry, IsDistinct, HasTrue, Names, clause_at, list_of, no_entry, no_literal, no_slot}
 use Rattle.clause_watch.proofs.WatchLists.{at_set}
 use Rattle.clause_watch.proofs.WatchKept.{kept_entry, named_here, pushed_names, with_entry}

@@ -14,7 +14,7 @@ use Rattle.pb_lin.specs.LineMap.{LineMap}
 use Rattle.pb_lin.specs.Propagation.{IsClosedUnder}
 use Rattle.clause_prop.specs.declared.step.Step.{Step}
 use Rattle.clause_watch.specs.declared.watch_lists.Entry.{Entry}
-use Rattle.clause_watch.specs.declared.watch_lists.Slot.{Slot}
+use Rattle.clause_watch.specs.Slot.{Slot}
 use Rattle.clause_prop.specs.LineKinds.{is_watched}
 use Rattle.clause_prop.specs.Steps.{AreSteps, IsPlaceOf, assigned, last_level}
 use Rattle.clause_prop.specs.Propagating.{IsConflict, IsForcedStep}

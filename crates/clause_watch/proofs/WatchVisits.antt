@@ -11,7 +11,7 @@ use Rattle.scut_base.specs.Literal.{Literal}
 use Rattle.pb_lin.specs.LineMap.{LineMap}
 use Rattle.clause_prop.specs.declared.step.Step.{Step}
 use Rattle.clause_watch.specs.declared.watch_lists.Entry.{Entry}
-use Rattle.clause_watch.specs.declared.watch_lists.Slot.{Slot}
+use Rattle.clause_watch.specs.Slot.{Slot}
 use Rattle.clause_watch.specs.declared.watches.Watches.{Watches}
 use Rattle.clause_watch.specs.declared.watches.Visit.{Visit}
 use Rattle.clause_prop.specs.Steps.{TrailValue, last_level, with_step}

@@ -9,7 +9,7 @@ use Rattle.clause_prop.specs.Steps.{TrailValue, AreSteps}
 use Rattle.clause_prop.specs.Propagating.{Extends, IsConflict}
 use Rattle.clause_prop.specs.LineKinds.{is_watched}
 use Rattle.clause_watch.specs.Watching.{IsKept, IsLooking, clause_at, lits_of, list_of, no_literal, no_slot}
-use Rattle.clause_watch.specs.declared.watch_lists.Slot.{Slot}
+use Rattle.clause_watch.specs.Slot.{Slot}
 use Rattle.clause_watch.specs.declared.watches.Watches.{Watches}
 use Rattle.clause_watch.specs.declared.watches.Visit.{Visit}
 use Rattle.clause_watch.specs.declared.watches.Visit.TheVariants.{Next, Gone, Conflict}

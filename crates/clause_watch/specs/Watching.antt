@@ -5,7 +5,7 @@ use Rattle.scut_base.specs.LiteralCode.{code_of}
 use Rattle.pb_lin.specs.Constraint.{opposite}
 use Rattle.clause_prop.specs.declared.step.Step.{Step}
 use Rattle.clause_watch.specs.declared.watch_lists.Entry.{Entry}
-use Rattle.clause_watch.specs.declared.watch_lists.Slot.{Slot}
+use Rattle.clause_watch.specs.Slot.{Slot}
 
 -- what stands past the end of a list of literals
 abbrev pub no_literal : Literal

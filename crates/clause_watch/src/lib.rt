@@ -6,6 +6,8 @@
 #![tactic(auto)]
 
 mod row;
+mod short_lit;
+mod slots;
 mod watch_lists;
 mod watches;
 

@@ -1,5 +1,5 @@
 // A list that contracts see as its elements, whatever room it keeps.
-ghost use Rattle.std.specs.Prelude.{◌≡◌, ◌≢◌, ℕ, ◌<◌, ◌+◌, ◌-◌, ◌++◌, [], ◌∷◌, length, OnOk, OnErr, IfOk, slice_index_or, slice_set, swap, Contains};
+ghost use Rattle.std.specs.Prelude.{◌≡◌, ◌≢◌, ℕ, ◌<◌, ◌+◌, ◌-◌, ◌++◌, [], ◌∷◌, length, OnOk, OnErr, slice_index_or, slice_set, swap, Contains};
 
 use scut_base::NoMemory;
 use std::alloc::Global;
@@ -34,6 +34,13 @@ impl<T> Row<T> {
         ensures { result ≡ length self.now }
     {
         self.items.len()
+    }
+
+    /// The elements.
+    pub fn as_slice(&self) -> &[T]
+        ensures { result.now ≡ self.now }
+    {
+        self.items.as_slice()
     }
 
     /// Puts an element at the end, in constant time on average.
@@ -71,15 +78,6 @@ impl<T> Row<T> {
 }
 
 impl<T: Copy> Row<T> {
-    /// The list of a slice's elements.
-    pub fn from_slice(alloc: Global, items: &[T]) -> Result<Row<T>, NoMemory>
-        ensures { IfOk result (λ made. made ≡ items.now) }
-    {
-        Ok(Row {
-            items: Vec::from_slice(alloc, items)?,
-        })
-    }
-
     /// The element at a place.
     pub fn at(&self, at: usize) -> T
         requires { at < length self.now }

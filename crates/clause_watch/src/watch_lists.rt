@@ -1,5 +1,5 @@
 // The parts of the watched clauses: slots, lists of entries, and literals in a trail.
-ghost use Rattle.std.specs.Prelude.{◌≡◌, ◌≢◌, ℕ, ◌+◌, ◌-◌, ◌<◌, ◌≤◌, ◌++◌, ◌⊎◌, ◌↔◌, [], ◌∷◌, true, false, None, length, take, OnOk, OnErr, IfSome, IfNone, IsTrue, Contains, IsPermutation, slice_index, slice_index_or, slice_set, swap};
+ghost use Rattle.std.specs.Prelude.{◌≡◌, ◌≢◌, ℕ, ◌+◌, ◌-◌, ◌<◌, ◌≤◌, ◌++◌, ◌⊎◌, ◌↔◌, [], ◌∷◌, true, false, None, length, take, IfOk, OnOk, OnErr, IfSome, IfNone, IsTrue, Contains, IsPermutation, slice_index, slice_index_or, slice_set, swap};
 ghost use Rattle.scut_base.specs.Assignment.{partial_truth};
 ghost use Rattle.scut_base.specs.Literal.{Literal};
 ghost use Rattle.scut_base.specs.LiteralCode.{code_of};
@@ -8,7 +8,9 @@ ghost use Rattle.clause_prop.specs.Steps.{AreSteps, partial};
 ghost use Rattle.clause_watch.specs.Watching.{AreFalse, IsDistinct, IsFree, IsRemoved, IsValue, IsWatch, clause_at, lits_of, no_entry, no_literal, no_slot};
 
 use crate::row::Row;
-use clause_prop::{Trail, literal_code};
+use crate::short_lit::ShortLit;
+use crate::slots::Slots;
+use clause_prop::Trail;
 use scut_base::{Lit, NoMemory};
 use std::alloc::Global;
 
@@ -16,27 +18,33 @@ use std::alloc::Global;
 /// true, the clause isn't read.
 #[derive(Clone, Copy, Debug)]
 pub struct Entry {
-    pub slot: usize,
-    pub blocker: Lit,
+    pub slot: u32,
+    pub blocker: ShortLit,
 }
 
-/// A clause's literals in an order of their own, with the two that are watched in front; none after
-/// its line was dropped.
-#[derive(Debug, Drop)]
-pub struct Slot {
-    pub id: u64,
-    pub lits: Row<Lit>,
+const _: () = prove!(std::mem::size_of::<Entry>() == 8);
+
+/// Literals in half the room.
+pub fn short_lits(alloc: Global, lits: &[Lit]) -> Result<Row<ShortLit>, NoMemory>
+    ensures { IfOk result (λ row. row ≡ lits.now) }
+{
+    let mut row = Row::new(alloc);
+    for lit in lits {
+        row.push(ShortLit::new(*lit)?)?;
+    }
+    Ok(row)
 }
 
 /// Whether the literal is true, or `None` where its variable is open.
-pub fn truth(trail: &Trail, lit: Lit) -> Option<bool>
-    requires { lit.var ≤ trail.now.vars }
-    ensures told { IsValue (lits_of trail.now.steps) lit result }
-    ensures value { result ≡ partial_truth (partial trail.now) lit }
+pub fn truth(trail: &Trail, short: ShortLit) -> Option<bool>
+    requires { short.var ≤ trail.now.vars }
+    ensures told { IsValue (lits_of trail.now.steps) short result }
+    ensures value { result ≡ partial_truth (partial trail.now) short }
     ensures steps { AreSteps trail.now.vars trail.now.steps }
 {
-    let _from_one = lit.var();
-    trail.value(lit)
+    let full = short.lit();
+    let _from_one = full.var();
+    trail.value(full)
 }
 
 /// The negation of the literal of a step.
@@ -48,7 +56,7 @@ pub fn falsified(trail: &Trail, place: usize) -> Lit
 }
 
 /// Whether a literal is true.
-pub fn is_true(trail: &Trail, lit: Lit) -> bool
+pub fn is_true(trail: &Trail, lit: ShortLit) -> bool
     requires { lit.var ≤ trail.now.vars }
     ensures value { IsTrue result ↔ Contains (lits_of trail.now.steps) lit }
     ensures steps { AreSteps trail.now.vars trail.now.steps }
@@ -59,14 +67,23 @@ pub fn is_true(trail: &Trail, lit: Lit) -> bool
     }
 }
 
+// A literal of a clause.
+fn literal_at(clause: &[ShortLit], place: usize) -> ShortLit
+    requires { place < length clause.now }
+    ensures value { (d : Literal) → slice_index_or clause.now place d ≡ result }
+    ensures among { Contains clause.now result }
+{
+    clause[place]
+}
+
 /// Whether a literal of a clause is false.
-pub fn is_false(clause: &Row<Lit>, trail: &Trail, place: usize) -> bool
+pub fn is_false(clause: &[ShortLit], trail: &Trail, place: usize) -> bool
     requires within { place < length clause.now }
     requires vars { (l : Literal) → Contains clause.now l → l.var ≤ trail.now.vars }
     ensures { IsTrue result ↔ Contains (lits_of trail.now.steps)
         (opposite (slice_index_or clause.now place no_literal)) }
 {
-    match truth(trail, clause.at(place)) {
+    match truth(trail, literal_at(clause, place)) {
         Some(value) => !value,
         None => false,
     }
@@ -91,7 +108,7 @@ pub fn skip_true(list: &Row<Entry>, trail: &Trail, from: usize) -> usize
 }
 
 /// A place from 2 on whose literal isn't false.
-pub fn free_place(clause: &Row<Lit>, trail: &Trail) -> Option<usize>
+pub fn free_place(clause: &[ShortLit], trail: &Trail) -> Option<usize>
     requires { (l : Literal) → Contains clause.now l → l.var ≤ trail.now.vars }
     ensures free { IfSome result (λ k. IsFree clause.now (lits_of trail.now.steps) k) }
     ensures none { IfNone result (AreFalse clause.now (lits_of trail.now.steps) 2) }
@@ -105,45 +122,32 @@ pub fn free_place(clause: &Row<Lit>, trail: &Trail) -> Option<usize>
 }
 
 /// Puts the literal at place 1, where it is one of the first two; whether it is.
-pub fn put_second(slots: &mut Vec<Slot>, slot: usize, lit: Lit) -> bool
-    requires { slot < length slots.old.items }
-    ensures slots { (slots.new.items ≡ slots.old.items)
-        ⊎ ((2 ≤ length (clause_at slots.old.items slot))
-        × (slots.new.items ≡ slice_set slots.old.items slot
+pub fn put_second(slots: &mut Slots, slot: u32, lit: Lit) -> bool
+    requires { slot < length slots.old }
+    ensures slots { (slots.new ≡ slots.old)
+        ⊎ ((2 ≤ length (clause_at slots.old slot))
+        × (slots.new ≡ slice_set slots.old slot
         (record {
-          id = (slice_index_or slots.old.items slot no_slot).id;
-          lits = swap (clause_at slots.old.items slot) 0 1;
+          id = (slice_index_or slots.old slot no_slot).id;
+          lits = swap (clause_at slots.old slot) 0 1;
         }))) }
-    ensures long { IsTrue result → 2 ≤ length (clause_at slots.new.items slot) }
+    ensures long { IsTrue result → 2 ≤ length (clause_at slots.new slot) }
     ensures found { IsTrue result
-        → slice_index_or (clause_at slots.new.items slot) 1 no_literal ≡ lit }
+        → slice_index_or (clause_at slots.new slot) 1 no_literal ≡ lit }
     ensures lost { result ≡ false
-        → (l : Literal) → IsWatch (clause_at slots.new.items slot) l → l ≢ lit }
+        → (l : Literal) → IsWatch (clause_at slots.new slot) l → l ≢ lit }
 {
-    let clause = &mut slots[slot].lits;
+    let clause = slots.lits(slot);
     if clause.len() < 2 {
         return false;
     }
-    if clause.at(0) == lit {
-        clause.swap(0, 1);
+    let first = literal_at(clause, 0);
+    let second = literal_at(clause, 1);
+    if first.lit() == lit {
+        slots.swap(slot, 0, 1);
         return true;
     }
-    clause.at(1) == lit
-}
-
-/// Exchanges the literal at place 1 with another.
-pub fn put_at_second(slots: &mut Vec<Slot>, slot: usize, place: usize)
-    requires slot { slot < length slots.old.items }
-    requires from { 2 ≤ place }
-    requires to { place < length (clause_at slots.old.items slot) }
-    ensures { slots.new.items ≡ slice_set slots.old.items slot
-        (record {
-          id = (slice_index_or slots.old.items slot no_slot).id;
-          lits = swap (clause_at slots.old.items slot) 1 place;
-        }) }
-{
-    let clause = &mut slots[slot].lits;
-    clause.swap(1, place);
+    second.lit() == lit
 }
 
 /// Takes an entry out of a list.
@@ -159,36 +163,33 @@ pub fn drop_entry(lists: &mut Vec<Row<Entry>>, code: usize, at: usize)
     list.swap_remove(at);
 }
 
-/// Gives an entry another blocker.
-pub fn set_blocker(lists: &mut Vec<Row<Entry>>, code: usize, at: usize, slot: usize, blocker: Lit)
+/// Writes an entry of a list.
+pub fn set_entry(lists: &mut Vec<Row<Entry>>, code: usize, at: usize, entry: Entry)
     requires within { at < length (slice_index_or lists.old.items code []) }
     ensures { lists.new.items ≡ slice_set lists.old.items code
-        (slice_set (slice_index_or lists.old.items code []) at
-        (record { slot = slot; blocker = blocker })) }
+        (slice_set (slice_index_or lists.old.items code []) at entry) }
 {
     let list = &mut lists[code];
-    list.set(at, Entry { slot, blocker });
+    list.set(at, entry);
 }
 
 /// Puts an entry at the end of a list.
-pub fn add_entry(
-    lists: &mut Vec<Row<Entry>>,
-    code: usize,
-    slot: usize,
-    blocker: Lit,
-) -> Result<(), NoMemory>
+pub fn add_entry(lists: &mut Vec<Row<Entry>>, code: usize, entry: Entry) -> Result<(), NoMemory>
     requires { code < length lists.old.items }
     ensures ok { OnOk result (lists.new.items ≡ slice_set lists.old.items code
-        (slice_index_or lists.old.items code []
-        ++ record { slot = slot; blocker = blocker } ∷ [])) }
+        (slice_index_or lists.old.items code [] ++ entry ∷ [])) }
     ensures err { OnErr result (lists.new.items ≡ lists.old.items) }
 {
     let list = &mut lists[code];
-    list.push(Entry { slot, blocker })
+    list.push(entry)
 }
 
 /// Makes the lists reach the literals of a clause.
-pub fn cover(alloc: Global, lists: &mut Vec<Row<Entry>>, clause: &Row<Lit>) -> Result<(), NoMemory>
+pub fn cover(
+    alloc: Global,
+    lists: &mut Vec<Row<Entry>>,
+    clause: &Row<ShortLit>,
+) -> Result<(), NoMemory>
     ensures same { (c : ℕ)
         → slice_index_or lists.new.items c [] ≡ slice_index_or lists.old.items c [] }
     ensures longer { length lists.old.items ≤ length lists.new.items }
@@ -197,7 +198,7 @@ pub fn cover(alloc: Global, lists: &mut Vec<Row<Entry>>, clause: &Row<Lit>) -> R
 {
     for place in 0..clause.len() {
         let lit = clause.at(place);
-        reach(alloc, lists, literal_code(lit))?;
+        reach(alloc, lists, lit.code())?;
     }
     Ok(())
 }
@@ -218,7 +219,7 @@ fn reach(alloc: Global, lists: &mut Vec<Row<Entry>>, code: usize) -> Result<(), 
 /// Puts two literals in front that no looked-at step makes false: those that aren't false, or else
 /// those that became false last, and then takes looked-at steps back. Costs two passes over the
 /// clause, and the steps that are taken back.
-pub fn latest_first(clause: &mut Row<Lit>, ends: &mut Vec<usize>, trail: &Trail)
+pub fn latest_first(clause: &mut Row<ShortLit>, ends: &mut Vec<usize>, trail: &Trail)
     requires long { 2 ≤ length clause.old }
     requires vars { (l : Literal) → Contains clause.old l → l.var ≤ trail.now.vars }
     ensures same { IsPermutation clause.old clause.new }
@@ -239,7 +240,7 @@ pub fn latest_first(clause: &mut Row<Lit>, ends: &mut Vec<usize>, trail: &Trail)
 
 // Puts the literal that became false last, or one that isn't false, at this place; those before it
 // stay.
-fn put_latest(clause: &mut Row<Lit>, trail: &Trail, front: usize)
+fn put_latest(clause: &mut Row<ShortLit>, trail: &Trail, front: usize)
     requires within { front < length clause.old }
     requires vars { (l : Literal) → Contains clause.old l → l.var ≤ trail.now.vars }
     ensures same { IsPermutation clause.old clause.new }
@@ -250,7 +251,7 @@ fn put_latest(clause: &mut Row<Lit>, trail: &Trail, front: usize)
 }
 
 // The place, from one on, of the literal that became false last, or of one that isn't false.
-fn latest(clause: &Row<Lit>, trail: &Trail, front: usize) -> usize
+fn latest(clause: &Row<ShortLit>, trail: &Trail, front: usize) -> usize
     requires within { front < length clause.now }
     requires vars { (l : Literal) → Contains clause.now l → l.var ≤ trail.now.vars }
     ensures from { front ≤ result }
@@ -270,7 +271,7 @@ fn latest(clause: &Row<Lit>, trail: &Trail, front: usize) -> usize
 
 // The number of steps that may be looked at while the literal is watched: those before it became
 // false, or all where it isn't false.
-fn looked_at(trail: &Trail, lit: Lit) -> usize
+fn looked_at(trail: &Trail, lit: ShortLit) -> usize
     requires { lit.var ≤ trail.now.vars }
     ensures { (p : ℕ) → p < result
         → slice_index_or (lits_of trail.now.steps) p no_literal ≢ opposite lit }
@@ -278,7 +279,7 @@ fn looked_at(trail: &Trail, lit: Lit) -> usize
     if is_true(trail, lit) {
         return trail.len() as usize;
     }
-    match trail.place_of(lit) {
+    match trail.place_of(lit.lit()) {
         Some(place) => place as usize,
         None => trail.len() as usize,
     }

@@ -9,14 +9,16 @@ ghost use Rattle.pb_lin.specs.LineMap.{LineMap, LinesUpTo};
 ghost use Rattle.clause_prop.specs.Steps.{TrailValue, partial, with_step, cut};
 ghost use Rattle.clause_prop.specs.Propagating.{Extends, IsConflict};
 ghost use Rattle.clause_prop.specs.LineKinds.{is_watched, IsClosedForWatched};
-ghost use Rattle.clause_watch.specs.Watching.{AreFalse, IsFree, clause_at, list_of, lits_of, no_entry, no_literal, IsDistinct};
+ghost use Rattle.clause_watch.specs.Watching.{AreFalse, IsFree, clause_at, list_of, lits_of, no_entry, no_literal, no_slot, IsDistinct};
 ghost use Rattle.clause_watch.specs.Watches.{AreWatches, Hold, IsAllLooked, IsAt, IsConflictOf, IsFollowed, IsReady, IsVisited, IsCopy, IsOpened, IsWatchable, AreSameWatched, entries_of};
 ghost use Rattle.clause_prop.specs.declared.step.Step.{Step};
 
 use crate::row::Row;
+use crate::short_lit::{ShortLit, short_number};
+use crate::slots::Slots;
 use crate::watch_lists::{
-    Entry, Slot, add_entry, cover, cut_ends, drop_entry, falsified, free_place, latest_first,
-    put_at_second, put_second, set_blocker, skip_true, truth,
+    Entry, add_entry, cover, cut_ends, drop_entry, falsified, free_place, latest_first, put_second,
+    set_entry, short_lits, skip_true, truth,
 };
 use clause_prop::{ClauseStore, Trail, literal_code, push_forced};
 use pb_lin::Constraint;
@@ -42,6 +44,12 @@ pub fn is_watched(line: &Constraint) -> bool
     line.is_clause() && line.len() >= 2
 }
 
+/// The clauses that are watched.
+#[derive(Debug, Drop)]
+pub struct Watched {
+    pub items: Slots,
+}
+
 /// The clauses of two literals or more, each in an order of its own with two watched literals in
 /// front; for each literal the clauses that watch it; and for each step that was looked at the trail's
 /// length when that was done. (Watched literals: Moskewicz and others 2001. Blockers, which stand beside
@@ -49,9 +57,9 @@ pub fn is_watched(line: &Constraint) -> bool
 #[derive(Debug, Drop)]
 pub struct Watches {
     alloc: Global,
-    slots: Vec<Slot>,
+    slots: Watched,
     // By id the slot of its clause.
-    index: HashMap<u64, usize>,
+    index: HashMap<u64, u32>,
     lists: Vec<Row<Entry>>,
     ends: Vec<usize>,
 }
@@ -64,7 +72,9 @@ impl Watches {
     {
         Watches {
             alloc,
-            slots: Vec::new(alloc),
+            slots: Watched {
+                items: Slots::new(alloc),
+            },
             index: HashMap::new(alloc),
             lists: Vec::new(alloc),
             ends: Vec::new(alloc),
@@ -115,10 +125,23 @@ impl Watches {
             → AreWatches self.new (remove lines id) t }
     {
         if let Some(slot) = self.index.remove(&id) {
-            if slot < self.slots.len() && self.slots[slot].id == id {
-                self.slots[slot].lits = Row::new(self.alloc);
+            if self.has_slot(slot, id) {
+                self.slots.items.empty(slot);
             }
         }
+    }
+
+    // Whether a slot is of this id; one that isn't there is of none.
+    fn has_slot(&self, slot: u32, id: u64) -> bool
+        ensures yes { IsTrue result → (slot < length self.now.slots.items)
+            × ((slice_index_or self.now.slots.items slot no_slot).id ≡ id) }
+        ensures no { result ≡ false → 2 ≤ length (clause_at self.now.slots.items slot)
+            → (slice_index_or self.now.slots.items slot no_slot).id ≢ id }
+    {
+        if slot as usize >= self.slots.items.len() {
+            return false;
+        }
+        self.slots.items.id(slot) == id
     }
 
     /// Makes ready for a cut of the trail to its first steps. Takes no memory, and costs the
@@ -196,18 +219,18 @@ impl Watches {
     }
 
     // A literal of a slot.
-    fn literal(&self, slot: usize, place: usize) -> Lit
+    fn literal(&self, slot: u32, place: usize) -> ShortLit
         requires slot { slot < length self.now.slots.items }
         requires place { place < length (clause_at self.now.slots.items slot) }
         ensures value { result
             ≡ slice_index_or (clause_at self.now.slots.items slot) place no_literal }
         ensures among { Contains (clause_at self.now.slots.items slot) result }
     {
-        self.slots[slot].lits.at(place)
+        self.slots.items.at(slot, place)
     }
 
     // A place from 2 on whose literal isn't false.
-    fn free_place(&self, trail: &Trail, slot: usize) -> Option<usize>
+    fn free_place(&self, trail: &Trail, slot: u32) -> Option<usize>
         requires slot { slot < length self.now.slots.items }
         requires vars { (l : Literal) → Contains (clause_at self.now.slots.items slot) l
             → l.var ≤ trail.now.vars }
@@ -216,7 +239,7 @@ impl Watches {
         ensures none { IfNone result
             (AreFalse (clause_at self.now.slots.items slot) (lits_of trail.now.steps) 2) }
     {
-        free_place(&self.slots[slot].lits, trail)
+        free_place(self.slots.items.lits(slot), trail)
     }
 
     // The first place from one on whose blocker isn't true, or the end of the list. Most visits end
@@ -244,7 +267,7 @@ impl Watches {
             (IsReady self.new trail.new × IsFollowed self.old self.new trail.old trail.new) }
     {
         let entry = self.entry(lit, at);
-        if put_second(&mut self.slots, entry.slot, lit) {
+        if put_second(&mut self.slots.items, entry.slot, lit) {
             self.read(trail, lit, at, entry.slot)
         } else {
             drop_entry(&mut self.lists, literal_code(lit), at);
@@ -253,13 +276,7 @@ impl Watches {
     }
 
     // Visits an entry whose clause has the false literal second.
-    fn read(
-        &mut self,
-        trail: &mut Trail,
-        lit: Lit,
-        at: usize,
-        slot: usize,
-    ) -> Result<Visit, NoMemory>
+    fn read(&mut self, trail: &mut Trail, lit: Lit, at: usize, slot: u32) -> Result<Visit, NoMemory>
         requires looking { IsAt self.old trail.old lit at }
         requires within { at < entries_of self.old lit }
         requires entry { (slice_index_or
@@ -273,7 +290,11 @@ impl Watches {
     {
         let first = self.literal(slot, 0);
         if let Some(true) = truth(trail, first) {
-            set_blocker(&mut self.lists, literal_code(lit), at, slot, first);
+            let entry = Entry {
+                slot,
+                blocker: first,
+            };
+            set_entry(&mut self.lists, literal_code(lit), at, entry);
             return Ok(Visit::Next);
         }
         match self.free_place(trail, slot) {
@@ -288,7 +309,7 @@ impl Watches {
         trail: &Trail,
         lit: Lit,
         at: usize,
-        slot: usize,
+        slot: u32,
         place: usize,
     ) -> Result<Visit, NoMemory>
         requires looking { IsAt self.old trail.now lit at }
@@ -305,14 +326,18 @@ impl Watches {
     {
         let free = self.literal(slot, place);
         let first = self.literal(slot, 0);
-        add_entry(&mut self.lists, literal_code(free), slot, first)?;
-        put_at_second(&mut self.slots, slot, place);
+        let entry = Entry {
+            slot,
+            blocker: first,
+        };
+        add_entry(&mut self.lists, free.code(), entry)?;
+        self.slots.items.swap(slot, 1, place);
         drop_entry(&mut self.lists, literal_code(lit), at);
         Ok(Visit::Gone)
     }
 
     // Makes the first literal true, where it isn't false; all others are.
-    fn force(&self, trail: &mut Trail, lit: Lit, at: usize, slot: usize) -> Visit
+    fn force(&self, trail: &mut Trail, lit: Lit, at: usize, slot: u32) -> Visit
         requires looking { IsAt self.now trail.old lit at }
         requires entry { (slice_index_or
             (list_of self.now.lists.items lit) at no_entry).slot ≡ slot }
@@ -324,12 +349,12 @@ impl Watches {
         ensures { IsVisited self.now self.now trail.old trail.new lit at result }
     {
         let first = self.literal(slot, 0);
-        let id = self.slots[slot].id;
+        let id = self.slots.items.id(slot);
         match truth(trail, first) {
             Some(true) => Visit::Next,
             Some(false) => Visit::Conflict(id),
             None => {
-                push_forced(first, id, trail);
+                push_forced(first.lit(), id, trail);
                 Visit::Next
             }
         }
@@ -346,36 +371,45 @@ impl Watches {
         ensures err { OnErr result ((lines : LineMap)
             → Hold self.old (remove lines id) → Hold self.new (remove lines id)) }
     {
-        let mut lits = Row::from_slice(self.alloc, line.literals())?;
+        let mut lits = short_lits(self.alloc, line.literals())?;
         cover(self.alloc, &mut self.lists, &lits)?;
         latest_first(&mut lits, &mut self.ends, trail);
-        self.watch(lits, id)
+        self.watch(&lits, id)
     }
 
     // Watches the first two literals of a clause.
-    fn watch(&mut self, lits: Row<Lit>, id: u64) -> Result<(), NoMemory>
-        requires long { 2 ≤ length lits }
-        requires distinct { IsDistinct lits }
-        requires covered { (l : Literal) → Contains lits l
+    fn watch(&mut self, lits: &Row<ShortLit>, id: u64) -> Result<(), NoMemory>
+        requires long { 2 ≤ length lits.now }
+        requires distinct { IsDistinct lits.now }
+        requires covered { (l : Literal) → Contains lits.now l
             → code_of l < length self.old.lists.items }
-        ensures ready { (t : TrailValue) → IsReady self.old t → IsWatchable self.old t lits
+        ensures ready { (t : TrailValue) → IsReady self.old t → IsWatchable self.old t lits.now
             → IsReady self.new t }
         ensures ok { OnOk result ((lines : LineMap) (line : ConstraintValue)
-            → IsCopy lines id line lits → Hold self.old (remove lines id) → Hold self.new lines) }
+            → IsCopy lines id line lits.now → Hold self.old (remove lines id)
+            → Hold self.new lines) }
         ensures err { OnErr result ((lines : LineMap) → get lines id ≡ None
             → Hold self.old lines → Hold self.new lines) }
     {
         let slot = self.open_slot(id)?;
         let first = lits.at(0);
         let second = lits.at(1);
-        add_entry(&mut self.lists, literal_code(first), slot, second)?;
-        add_entry(&mut self.lists, literal_code(second), slot, first)?;
-        self.slots[slot].lits = lits;
+        let beside_first = Entry {
+            slot,
+            blocker: second,
+        };
+        let beside_second = Entry {
+            slot,
+            blocker: first,
+        };
+        add_entry(&mut self.lists, first.code(), beside_first)?;
+        add_entry(&mut self.lists, second.code(), beside_second)?;
+        self.slots.items.fill(slot, lits.as_slice())?;
         Ok(())
     }
 
     // A slot without literals, to which the id leads.
-    fn open_slot(&mut self, id: u64) -> Result<usize, NoMemory>
+    fn open_slot(&mut self, id: u64) -> Result<u32, NoMemory>
         ensures ready { (t : TrailValue) → IsReady self.old t → IsReady self.new t }
         ensures hold { (lines : LineMap) → get lines id ≡ None
             → Hold self.old lines → Hold self.new lines }
@@ -383,11 +417,8 @@ impl Watches {
         ensures ends { self.new.ends.items ≡ self.old.ends.items }
         ensures opened { IfOk result (IsOpened self.old self.new id) }
     {
-        let slot = self.slots.len();
-        self.slots.push(Slot {
-            id,
-            lits: Row::new(self.alloc),
-        })?;
+        let slot = short_number(self.slots.items.len())?;
+        self.slots.items.push(id)?;
         self.index.insert(id, slot)?;
         Ok(slot)
     }

@@ -13,8 +13,8 @@ use proof_laws::Why;
 use scut_base::{Shelf, ShelfFault};
 use std::alloc::Global;
 
-// The most bytes that a log may have.
-const MOST_BYTES: u64 = (1 << 62) - 1;
+/// The most bytes that a log may have.
+pub const MOST_BYTES: u64 = (1 << 62) - 1;
 
 /// Why a line of a log isn't taken.
 #[derive(Clone, Copy, Debug, PartialEq, Eq)]
@@ -149,8 +149,8 @@ fn feed_piece<T: TakesLog, H: Shelf>(
     Ok(n as u64)
 }
 
-// Whether the file has more bytes than so many.
-fn has_more<H: Shelf>(
+/// Whether the file has more bytes than so many. It reads into a buffer that has room.
+pub fn has_more<H: Shelf>(
     log: &str,
     at: u64,
     buffer: &mut Vec<u8>,

@@ -1,5 +1,5 @@
 -- Where the command `solve` completes.
-use Rattle.std.proofs.Common.{◌≡◌, ◌≢◌, ℕ, ◌∙◌, ap, subst, length, refl}
+use Rattle.std.proofs.Common.{◌≡◌, ◌≢◌, ℕ, false, subst, length, refl}
 use Rattle.std.specs.Prelude.{Option, Some, None}
 use Rattle.scut_base.specs.Files.{Files}
 use Rattle.scut_base.specs.World.{World}
@@ -13,6 +13,7 @@ use Rattle.command_base.specs.declared.status.Status.TheVariants.{Done, Complete
 use Rattle.command_base.proofs.InstanceFiles.{one_in}
 use Rattle.command_base.proofs.Readable.{of_text, readable}
 use Rattle.command_solve.specs.Table.{HasOtherObjectives, HasSearch, IsSearchEnd, IsSolveEnd, IsSpelled, SolveCompletes, SolveTable, solve_calls}
+use Rattle.command_solve.specs.TurnDigits.{takes}
 use Rattle.command_solve.specs.Words.{SolveAsked}
 
 -- the search takes the instance of the text, where it takes one that the file spells
@@ -27,9 +28,11 @@ searched a i status search end = record { searched = λ taken. end; usage = λ r
 refused : (a : SolveAsked) (files : Option Files) (spelled : IsSpelled a files) → HasText files a.input (HasOtherObjectives a) → IsSolveEnd a spelled.instance Usage
 refused a files spelled other =
     let has = of_text files a.input spelled.text (HasOtherObjectives a) spelled.there other in
-    let is = one_in a.format spelled.text has.1.0 spelled.instance has.1.1.spelled spelled.spelled.spelled in
+    let is = one_in a.format spelled.text has.0 spelled.instance has.1.spelled spelled.spelled.spelled in
+    let not_taken : takes a.search a.turns (length spelled.instance.objectives) ≡ false =
+    subst (λ (i : InstanceValue). takes a.search a.turns (length i.objectives) ≡ false) is has.2 in
     record {
-      searched = λ taken. absurd (has.1.2 (ap (λ (i : InstanceValue). length i.objectives) is ∙ taken has.0));
+      searched = λ taken. cc;
       usage = λ wrong. refl;
     }
 

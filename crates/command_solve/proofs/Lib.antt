@@ -2,4 +2,5 @@ pub mod LearnLimits
 pub mod SearchedLogs
 pub mod ListEnds
 pub mod SolveEnds
+pub mod TurnNumbers
 pub mod Completing

@@ -24,9 +24,10 @@ use Rattle.proof_laws.proofs.Replays.{replay_lines}
 use Rattle.proof_rules.specs.declared.recorder.RecordFault.{RecordFault}
 use Rattle.proof_rules.specs.declared.recorder.RecordFault.TheVariants.{Failed, Full, NoMemory}
 use Rattle.proof_text.specs.LogFile.{Held, IsLogFile, IsNotBegun, IsPartOfNext}
-use Rattle.proof_text.specs.Versions.{first_of, header_line, log_text}
+use Rattle.proof_text.specs.Versions.{first_of, log_text, version_number}
 use Rattle.proof_text.specs.declared.version.LogVersion.{LogVersion}
-use Rattle.proof_text.specs.LogText.{BeginsWith, SpellsLog}
+use Rattle.proof_text.specs.declared.version.LogVersion.TheVariants.{One, Two}
+use Rattle.proof_text.specs.LogText.{SpellsLog}
 use Rattle.proof_text.specs.Recorders.{IsKept, file_seen, without_file}
 use Rattle.proof_text.proofs.LogFiles.{others_same}
 use Rattle.certified_front.specs.Certified.{CoversLogged, IsEnding}
@@ -66,9 +67,9 @@ module _ (name header bytes : List ℕ) where
 
 -- ---- the log
 
-touched_part : (old new : Option Files) (name : List ℕ) (p : ProblemValue) (version : LogVersion) → IsNotBegun old new name (first_of version p) → IsTouched old new name (IsPartOfLog p)
+touched_part : (old new : Option Files) (name : List ℕ) (p : ProblemValue) (version : LogVersion) → IsNotBegun old new name (first_of version p) → IsTouched old new name (IsPartOfLog version p)
 touched_part old new name p version (inl same) = inl same
-touched_part old new name p version (inr put) = inr (put.0, inl (version, put.1), put.2)
+touched_part old new name p version (inr put) = inr (put.0, inl put.1, put.2)
 
 -- no line is legal after 2^61
 none_follows : (p : ProblemValue) (version : LogVersion) (lines : List Line) (part : List ℕ) → length lines ≡ 2 ^ 61 → IsPartOfNext p (first_of version p) lines part → ⊥
@@ -90,39 +91,47 @@ module _ (old begun new : Option Files) (name header : List ℕ) (p : ProblemVal
   whole : log.part ≡ [] → new ≡ with_file old name text
   whole none = written ∙ ap (λ (part : List ℕ). with_file old name (text ++ part)) none ∙ ap (with_file old name) (append-nil text)
 
-  part_left : IsTouched old new name (IsPartOfLog p)
+  part_left : IsTouched old new name (IsPartOfLog version p)
   part_left = inr (
     text ++ log.part,
-    inr (record { lines = lines; part = log.part; begins = record { first = first_of version p; version = log.first; formed = kept.formed; fit = log.fit; is = refl }; replay = (s, kept.replay); next = log.next }),
+    inr (record {
+      lines = lines;
+      part = log.part;
+      begins = record { first = first_of version p; version = log.first; formed = kept.formed; fit = log.fit; is = refl };
+      first = refl;
+      replay = (s, kept.replay);
+      next = log.next;
+    }),
     written,
   )
 
-  spelled : SpellsLog text lines
+  abbrev spelled : SpellsLog text lines
   spelled = record { first = first_of version p; version = log.first; formed = kept.formed; fit = log.fit; is = sym (append-nil text) }
 
   none_left : length lines ≡ 2 ^ 61 → log.part ≡ []
   none_left full = ⊎_elim (λ none. none) (λ next. absurd (none_follows p version lines log.part full next)) log.next
 
-  full_left : length lines ≡ 2 ^ 61 → IsFull old new p name
-  full_left full = record { proof = text; lines = lines; spelled = spelled; full = full; replay = (s, kept.replay); files = whole (none_left full) }
+  full_left : length lines ≡ 2 ^ 61 → IsFull old new p name version
+  full_left full = record { proof = text; lines = lines; spelled = spelled; first = refl; full = full; replay = (s, kept.replay); files = whole (none_left full) }
 
-  logged : (i : InstanceValue) (limit : Option ℕ) (found : Found) → broken ≡ false → CoversLogged i p lines found.entries.items → IsEnding limit p lines found.ending → IsLogged old new i p name limit found
+  logged : (i : InstanceValue) (limit : Option ℕ) (found : Found) → broken ≡ false → CoversLogged i p lines found.entries.items → IsEnding limit p lines found.ending → IsLogged old new i p name version limit found
   logged i limit found unbroken covers ending = record {
     proof = text;
     lines = lines;
     spelled = spelled;
+    first = refl;
     covers = covers;
     ending = ending;
     files = whole (log.whole unbroken);
   }
 
   logged_by : (i : InstanceValue) (limit : Option ℕ) (r : Result Found RecordFault) → OnOk r (broken ≡ false) → IfOk r (λ found. CoversLogged i p lines found.entries.items) → IfOk r (λ found. IsEnding limit p lines found.ending)
-      → IfOk r (IsLogged old new i p name limit)
+      → IfOk r (IsLogged old new i p name version limit)
   logged_by i limit (Ok found) unbroken covers ending = logged i limit found unbroken covers ending
   logged_by i limit (Err fault) unbroken covers ending = tt
 
   stopped_by : (before after : Faults) (r : Result Found RecordFault) → (IsErrOf r Failed → WritingFailed before after name) → (IsErrOf r Full → length lines ≡ 2 ^ 61)
-      → IfErr r (λ fault. IsLogStopped fault old new p name before after)
+      → IfErr r (λ fault. IsLogStopped fault old new p name version before after)
   stopped_by before after (Ok found) failed full = tt
   stopped_by before after (Err Failed) failed full = (part_left, failed refl)
   stopped_by before after (Err Full) failed full = full_left (full refl)
@@ -130,9 +139,16 @@ module _ (old begun new : Option Files) (name header : List ℕ) (p : ProblemVal
 
 -- ---- the recorder, as it was begun and as it was handed back
 
-module _ {H : Type 0} (world : H → World) (old : Option Files) (name header : List ℕ) (p : ProblemValue) (first last : Held H) (end : H)
+-- a version by its number
+same_version : (v w : LogVersion) → Some (version_number v) ≡ Some (version_number w) → v ≡ w
+same_version One One is = refl
+same_version Two Two is = refl
+same_version One Two is = cc
+same_version Two One is = cc
+
+module _ {H : Type 0} (world : H → World) (old : Option Files) (name header : List ℕ) (p : ProblemValue) (version : LogVersion) (first last : Held H) (end : H)
     (i : InstanceValue) (limit : Option ℕ) (r : Result Found RecordFault)
-    (named : first.name ≡ name) (of_problem : first.problem ≡ p)
+    (named : first.name ≡ name) (of_problem : first.problem ≡ p) (of_version : first.version ≡ version)
     (begun : (world first.shelf.now).files ≡ with_file old name header)
     (same : end ≡ last.shelf.now)
     (log : IsLogFile (world end).files last.name last.problem last.version last.lines last.broken) (kept : IsKept last.problem last.lines last.state)
@@ -143,9 +159,13 @@ module _ {H : Type 0} (world : H → World) (old : Option Files) (name header : 
   problems : last.problem ≡ p
   problems = searched.problem ∙ of_problem
 
-  log_here : IsLogFile (world end).files name p last.version last.lines last.broken
-  log_here = subst (λ (n : List ℕ). IsLogFile (world end).files n p last.version last.lines last.broken) names
-      (subst (λ (q : ProblemValue). IsLogFile (world end).files last.name q last.version last.lines last.broken) problems log)
+  versions : last.version ≡ version
+  versions = same_version last.version first.version searched.around.version ∙ of_version
+
+  log_here : IsLogFile (world end).files name p version last.lines last.broken
+  log_here = subst (λ (n : List ℕ). IsLogFile (world end).files n p version last.lines last.broken) names
+      (subst (λ (q : ProblemValue). IsLogFile (world end).files last.name q version last.lines last.broken) problems
+      (subst (λ (v : LogVersion). IsLogFile (world end).files last.name last.problem v last.lines last.broken) versions log))
 
   kept_here : IsKept p last.lines last.state
   kept_here = subst (λ (q : ProblemValue). IsKept q last.lines last.state) problems kept
@@ -156,8 +176,8 @@ module _ {H : Type 0} (world : H → World) (old : Option Files) (name header : 
       ∙ searched.around.others
       ∙ ap (without_file (world first.shelf.now).files) named
 
-  pub found_left : IfOk r (IsLogged old (world end).files i p name limit)
-  found_left = logged_by old (world first.shelf.now).files (world end).files name header p last.version last.lines last.state last.broken begun others_here log_here kept_here i limit r searched.whole searched.covers searched.ending
+  pub found_left : IfOk r (IsLogged old (world end).files i p name version limit)
+  found_left = logged_by old (world first.shelf.now).files (world end).files name header p version last.lines last.state last.broken begun others_here log_here kept_here i limit r searched.whole searched.covers searched.ending
 
   rose_here : (began : Faults) → NoneFell began (world first.shelf.now).faults → Rose (count (world first.shelf.now).faults Append first.name) (count (world last.shelf.now).faults Append last.name) → WritingFailed began (world end).faults name
   rose_here began later rose = inr (rose_at_last _ _ _ (later Append name)
@@ -165,12 +185,12 @@ module _ {H : Type 0} (world : H → World) (old : Option Files) (name header : 
       (subst (λ (n : List ℕ). Rose (count (world first.shelf.now).faults Append name) (count (world last.shelf.now).faults Append n)) names
       (subst (λ (n : List ℕ). Rose (count (world first.shelf.now).faults Append n) (count (world last.shelf.now).faults Append last.name)) named rose))))
 
-  pub stopped_left : (began : Faults) → NoneFell began (world first.shelf.now).faults → IfErr r (λ fault. IsLogStopped fault old (world end).files p name began (world end).faults)
-  stopped_left began later = stopped_by old (world first.shelf.now).files (world end).files name header p last.version last.lines last.state last.broken begun others_here log_here kept_here began (world end).faults r
+  pub stopped_left : (began : Faults) → NoneFell began (world first.shelf.now).faults → IfErr r (λ fault. IsLogStopped fault old (world end).files p name version began (world end).faults)
+  stopped_left began later = stopped_by old (world first.shelf.now).files (world end).files name header p version last.lines last.state last.broken begun others_here log_here kept_here began (world end).faults r
       (λ e. rose_here began later (searched.failed e)) searched.full
 
 -- the log wasn't begun
-pub not_begun : (old new : Option Files) (name : List ℕ) (p : ProblemValue) (version : LogVersion) (before after : Faults) (fault : RecordFault) → IsNotBegun old new name (first_of version p) → (fault ≡ Failed → WritingFailed before after name) → fault ≢ Full → IsLogStopped fault old new p name before after
+pub not_begun : (old new : Option Files) (name : List ℕ) (p : ProblemValue) (version : LogVersion) (before after : Faults) (fault : RecordFault) → IsNotBegun old new name (first_of version p) → (fault ≡ Failed → WritingFailed before after name) → fault ≢ Full → IsLogStopped fault old new p name version before after
 not_begun old new name p version before after Failed touched rose other = (touched_part old new name p version touched, rose refl)
 not_begun old new name p version before after Full touched rose other = absurd (other refl)
 not_begun old new name p version before after NoMemory touched rose other = touched_part old new name p version touched

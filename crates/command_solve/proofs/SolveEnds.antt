@@ -65,7 +65,7 @@ module _ (a : SolveAsked) where
 
   module _ (i : InstanceValue) (p : ProblemValue) where
     -- the search didn't end
-    pub search_stopped : (before after : World) (fault : RecordFault) → IsProblemOf before.files a i p → IsLogStopped fault before.files after.files p a.log before.faults after.faults → after.said ≡ before.said → NoneFell before.faults after.faults
+    pub search_stopped : (before after : World) (fault : RecordFault) → IsProblemOf before.files a i p → IsLogStopped fault before.files after.files p a.log a.version before.faults after.faults → after.said ≡ before.said → NoneFell before.faults after.faults
         → Answered (SolveTable a) (solve_calls a) (status_of_recording fault) before after
     search_stopped before after Full of_file stop said later = ended (SolveTable a) (solve_calls a) (LogFull (2 ^ 61)) before after
         (refl, record { instance = i; problem = p; of_file = of_file; full = stop; said = said }) (λ is. cc) later
@@ -80,12 +80,12 @@ module _ (a : SolveAsked) where
       later = later;
     }
 
-    module _ (before mid : World) (of_file : IsProblemOf before.files a i p) (limits : IsWithinLimits i) (found : Found) (logged : IsLogged before.files mid.files i p a.log a.limit found) (quiet : mid.said ≡ before.said) where
+    module _ (before mid : World) (of_file : IsProblemOf before.files a i p) (limits : IsWithinLimits i) (found : Found) (logged : IsLogged before.files mid.files i p a.log a.version a.limit found) (quiet : mid.said ≡ before.said) where
       abbrev entries : List Entry
       entries = found.entries.items
 
       found_in : IsFound before.files a i entries logged.proof found.ending
-      found_in = record { problem = p; of_file = of_file; lines = logged.lines; spelled = logged.spelled; covers = logged.covers; ending = logged.ending }
+      found_in = record { problem = p; of_file = of_file; lines = logged.lines; spelled = logged.spelled; first = logged.first; covers = logged.covers; ending = logged.ending }
 
       mid_is : view mid ≡ with_log (view before) a logged.proof
       mid_is = let files = logged.files in cc
@@ -121,6 +121,7 @@ module _ (a : SolveAsked) where
             empty = size_zero i entries front;
             proof = logged.proof;
             accepted = accepted ended;
+            first = logged.first;
             listed = subst (λ (e : Ending). IsListed a.list (list_text (is_complete e) entries) (status_of (length entries) e) (with_log (view before) a logged.proof) after) is
                 (subst (λ (v : View). IsListed a.list (list_text (is_complete found.ending) entries) (status_of (length entries) found.ending) v after) mid_is listed);
           }

@@ -8,6 +8,7 @@ pub use Rattle.proof_text.specs.LogText
 pub use Rattle.command_base.specs.Answering
 pub use Rattle.command_base.specs.Messages
 pub use Rattle.command_base.specs.Views
+pub mod TurnDigits
 pub mod Words
 pub mod Listing
 pub mod Logging

@@ -19,41 +19,45 @@ use Rattle.certified_front.specs.declared.ending.Found.{Found}
 
 -- ---- the file
 
--- the header, lines that a log can spell and that are legal, each where it stands, and then a prefix of one more
-pub record IsBrokenLog (p : ProblemValue) (bytes : List ℕ) : Type 0 where
+-- the header of this version, lines that a log can spell and that are legal, each where it stands, and then a prefix of one more
+pub record IsBrokenLog (version : LogVersion) (p : ProblemValue) (bytes : List ℕ) : Type 0 where
   pub lines : List Line
   pub part : List ℕ
   pub begins : BeginsWith bytes lines part
+  pub first : begins.first ≡ first_of version p
   pub replay : (s : StateValue) × IsReplay p lines s
   pub next : (part ≡ []) ⊎ IsPartOfNext p begins.first lines part
 
--- the bytes are a prefix of a header, or such a log
-abbrev pub IsPartOfLog : ProblemValue → List ℕ → Type 0
-IsPartOfLog p bytes = ((version : LogVersion) × IsPrefixOf bytes (header_line (first_of version p))) ⊎ IsBrokenLog p bytes
+-- the bytes are a prefix of that header, or such a log
+abbrev pub IsPartOfLog : LogVersion → ProblemValue → List ℕ → Type 0
+IsPartOfLog version p bytes = IsPrefixOf bytes (header_line (first_of version p)) ⊎ IsBrokenLog version p bytes
 
--- the log holds lines whose logged vectors the entries that were found cover
-pub record IsLogged (old new : Option Files) (i : InstanceValue) (p : ProblemValue) (log : List ℕ) (limit : Option ℕ) (found : Found) : Type 0 where
+-- the log is one of this version, of lines whose logged vectors the entries that were found cover
+pub record IsLogged (old new : Option Files) (i : InstanceValue) (p : ProblemValue) (log : List ℕ) (version : LogVersion) (limit : Option ℕ)
+    (found : Found) : Type 0 where
   pub proof : List ℕ
   pub lines : List Line
   pub spelled : SpellsLog proof lines
+  pub first : spelled.first ≡ first_of version p
   pub covers : CoversLogged i p lines found.entries.items
   pub ending : IsEnding limit p lines found.ending
   pub files : new ≡ with_file old log proof
 
--- the log holds as many lines as it may, all of them legal
-pub record IsFull (old new : Option Files) (p : ProblemValue) (log : List ℕ) : Type 0 where
+-- the log is one of this version, of as many lines as it may hold, all of them legal
+pub record IsFull (old new : Option Files) (p : ProblemValue) (log : List ℕ) (version : LogVersion) : Type 0 where
   pub proof : List ℕ
   pub lines : List Line
   pub spelled : SpellsLog proof lines
+  pub first : spelled.first ≡ first_of version p
   pub full : length lines ≡ 2 ^ 61
   pub replay : (s : StateValue) × IsReplay p lines s
   pub files : new ≡ with_file old log proof
 
 -- why nothing was found
-abbrev pub IsLogStopped : RecordFault → Option Files → Option Files → ProblemValue → List ℕ → Faults → Faults → Type 0
-IsLogStopped Full old new p log before after = IsFull old new p log
-IsLogStopped NoMemory old new p log before after = IsTouched old new log (IsPartOfLog p)
-IsLogStopped Failed old new p log before after = IsTouched old new log (IsPartOfLog p) × WritingFailed before after log
+abbrev pub IsLogStopped : RecordFault → Option Files → Option Files → ProblemValue → List ℕ → LogVersion → Faults → Faults → Type 0
+IsLogStopped Full old new p log version before after = IsFull old new p log version
+IsLogStopped NoMemory old new p log version before after = IsTouched old new log (IsPartOfLog version p)
+IsLogStopped Failed old new p log version before after = IsTouched old new log (IsPartOfLog version p) × WritingFailed before after log
 
 -- ---- any recorder
 

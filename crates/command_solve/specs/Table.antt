@@ -1,5 +1,6 @@
--- The answers of `solve IN LIST LOG [--search S] [--learn N]`, a record for each. None of them tells which search it was.
-use Rattle.std.specs.Prelude.{◌≡◌, ◌≢◌, ◌↔◌, ◌⊎◌, ℕ, ◌^◌, true, List, ◌∷◌, length, Option, Some}
+-- The answers of `solve IN LIST LOG [--search S] [--turns T] [--learn N] [--log-version V]`, a record for each. None of them
+-- tells which search it was.
+use Rattle.std.specs.Prelude.{◌≡◌, ◌↔◌, ◌⊎◌, ℕ, ◌^◌, true, false, List, ◌∷◌, ◌==◌, if◌then◌else◌, length, Option, Some}
 use Rattle.scut_base.specs.Files.{Files, content, with_file, IsTouched}
 use Rattle.scut_base.specs.World.{World}
 use Rattle.front_set.specs.declared.entry.Entry.{Entry}
@@ -10,6 +11,7 @@ use Rattle.instance_normal.specs.NormalForm.{IsNormalFormOf}
 use Rattle.pb_lin.specs.Problem.{ProblemValue}
 use Rattle.proof_laws.specs.declared.line.Line.{Line}
 use Rattle.proof_text.specs.LogText.{SpellsLog}
+use Rattle.proof_text.specs.Versions.{first_of}
 use Rattle.log_checker.specs.Accepted.{IsAccepted}
 use Rattle.certified_front.specs.Certified.{CoversLogged, IsEnding}
 use Rattle.certified_front.specs.declared.ending.Ending.{Ending}
@@ -24,8 +26,8 @@ use Rattle.command_base.specs.declared.status.Status.{Status}
 use Rattle.command_base.specs.declared.status.Status.TheVariants.{Complete, Incomplete, Usage, LogFull, NoMemory, ShelfFailed}
 use Rattle.command_solve.specs.Listing.{IsListPartlySaid, IsListUnsaid, IsListed, is_complete, list_calls}
 use Rattle.command_solve.specs.Logging.{IsFull, IsPartOfLog}
+use Rattle.command_solve.specs.TurnDigits.{takes}
 use Rattle.command_solve.specs.Words.{SolveAsked}
-use Rattle.command_solve.specs.declared.options.SearchKind.TheVariants.{BiOptSat}
 
 -- it reads IN, begins and appends to LOG and LIST, and says something
 abbrev pub solve_calls : SolveAsked → List Call
@@ -33,9 +35,13 @@ solve_calls a = reading a.input ∷ beginning a.log ∷ appending a.log ∷ list
 
 -- ---- what is solved, and what is found
 
--- only the search for two objectives wants some number of them
+-- the search that is asked for takes the instance: only that for two objectives, alone or in turns, wants some number of them
 abbrev pub HasSearch : SolveAsked → InstanceValue → Type 0
-HasSearch a i = a.search ≡ BiOptSat → length i.objectives ≡ 2
+HasSearch a i = takes a.search a.turns (length i.objectives) ≡ true
+
+-- how many searches can take turns at the instance: the third wants two objectives
+abbrev pub searches_for : InstanceValue → ℕ
+searches_for i = if length i.objectives == 2 then 3 else 2
 
 -- IN spells the instance, which the search that is asked for takes, and the problem is its normal form
 pub record IsProblemOf (files : Option Files) (a : SolveAsked) (i : InstanceValue) (p : ProblemValue) : Type 0 where
@@ -43,12 +49,14 @@ pub record IsProblemOf (files : Option Files) (a : SolveAsked) (i : InstanceValu
   pub search : HasSearch a i
   pub normal : IsNormalFormOf i p
 
--- What a search has found: a list of models that cover what the lines of the log have logged, and how it has ended.
+-- What a search has found: a list of models that cover what the lines of the log have logged, and how it has ended. The log
+-- is one of the version that is asked for.
 pub record IsFound (files : Option Files) (a : SolveAsked) (i : InstanceValue) (entries : List Entry) (log : List ℕ) (how : Ending) : Type 0 where
   pub problem : ProblemValue
   pub of_file : IsProblemOf files a i problem
   pub lines : List Line
   pub spelled : SpellsLog log lines
+  pub first : spelled.first ≡ first_of a.version problem
   pub covers : CoversLogged i problem lines entries
   pub ending : IsEnding a.limit problem lines how
 
@@ -58,8 +66,8 @@ with_log v a proof = record { files = with_file v.files a.log proof; said = v.sa
 
 -- ---- the answers
 
--- Complete: LIST holds the list text of the front of IN's instance, and LOG a log that is accepted with it. The size is 0
--- exactly where the instance has no model.
+-- Complete: LIST holds the list text of the front of IN's instance, and LOG a log that is accepted with it, of the version
+-- that is asked for. The size is 0 exactly where the instance has no model.
 pub record IsCertified (before after : View) (a : SolveAsked) (size : ℕ) : Type 0 where
   pub instance : InstanceValue
   pub text : HasText before.files a.input (IsTextOf a.format instance)
@@ -70,6 +78,7 @@ pub record IsCertified (before after : View) (a : SolveAsked) (size : ℕ) : Typ
   pub empty : (size ≡ 0) ↔ HasNoModel instance
   pub proof : List ℕ
   pub accepted : IsAccepted instance (list_text true entries) proof
+  pub first : accepted.proof.spelled.first ≡ first_of a.version accepted.problem
   pub listed : IsListed a.list (list_text true entries) (Complete size) (with_log before a proof) after
 
 -- Incomplete: N was given, LOG has earned so many learned clauses, and one more could follow; LIST has models that cover
@@ -82,12 +91,12 @@ pub record IsUnfinished (before after : View) (a : SolveAsked) (size learned : �
   pub counted : length entries ≡ size
   pub listed : IsListed a.list (list_text (is_complete (EndingIncomplete learned)) entries) (Incomplete size learned) (with_log before a proof) after
 
--- LOG is as before, or holds a part of a log; nothing was said.
+-- LOG is as before, or holds a part of a log of the version that is asked for; nothing was said.
 pub record IsLogTouched (before after : View) (a : SolveAsked) : Type 0 where
   pub instance : InstanceValue
   pub problem : ProblemValue
   pub of_file : IsProblemOf before.files a instance problem
-  pub files : IsTouched before.files after.files a.log (IsPartOfLog problem)
+  pub files : IsTouched before.files after.files a.log (IsPartOfLog a.version problem)
   pub said : after.said ≡ before.said
 
 -- LOG holds what a search has found, and LIST is as before, or holds a prefix of its text; or it is whole, and a prefix of
@@ -105,17 +114,17 @@ pub record IsListTouched (before after : View) (a : SolveAsked) : Type 0 where
 abbrev pub IsSolvedPartly : View → View → SolveAsked → Type 0
 IsSolvedPartly before after a = (after ≡ before) ⊎ (IsLogTouched before after a ⊎ IsListTouched before after a)
 
--- LogFull: LOG holds the header and 2^61 lines that a log can spell, each legal where it stands; LIST is as before.
+-- LogFull: LOG holds the header of that version and 2^61 lines that a log can spell, each legal where it stands; LIST is as before.
 pub record IsLogFull (before after : View) (a : SolveAsked) : Type 0 where
   pub instance : InstanceValue
   pub problem : ProblemValue
   pub of_file : IsProblemOf before.files a instance problem
-  pub full : IsFull before.files after.files problem a.log
+  pub full : IsFull before.files after.files problem a.log a.version
   pub said : after.said ≡ before.said
 
 -- Usage: the search that is asked for doesn't take IN's instance.
 abbrev pub HasOtherObjectives : SolveAsked → List ℕ → Type 0
-HasOtherObjectives a text = (a.search ≡ BiOptSat) × ((i : InstanceValue) × IsTextOf a.format i text × (length i.objectives ≢ 2))
+HasOtherObjectives a text = (i : InstanceValue) × IsTextOf a.format i text × (takes a.search a.turns (length i.objectives) ≡ false)
 
 -- The table.
 abbrev pub SolveTable : SolveAsked → Status → View → View → Type 0

@@ -1,5 +1,5 @@
-//! The command `solve IN LIST LOG [--search S] [--learn N]`: the front of the instance in the file IN by search, as a list in
-//! the file LIST, with a log in the file LOG.
+//! The command `solve IN LIST LOG [--search S] [--turns T] [--learn N] [--log-version V]`: the front of the instance in the
+//! file IN by search, as a list in the file LIST, with a log in the file LOG.
 //!
 //! Its public contract: what it answers goes by its table (`SolveTable`), and what its words ask for is `solve_asked`. The
 //! log is begun before the search, and the list after it.
@@ -18,10 +18,11 @@ ghost use Rattle.command_solve.specs.Words.{asked, solve_app, solve_asked, solve
 mod listing;
 mod logging;
 mod options;
+mod turns;
 
 use crate::listing::write_found;
 use crate::logging::search_with_log;
-use crate::options::{limit_of, search_of};
+use crate::options::{limit_of, search_with, takes, version_of};
 use bioptsat::BiOpt;
 use clap::ArgMatches;
 use command_base::{
@@ -39,7 +40,8 @@ use scut_base::{NoMemory, Shelf};
 use search_base::Search;
 use std::alloc::Global;
 
-/// The command `solve`, with its files, its search, and how many clauses it may learn.
+/// The command `solve`, with its files, its search, how many clauses it may learn, and the version of
+/// its log.
 #[derive(Clone, Copy, Debug)]
 pub struct Solve<'a> {
     pub format: Format,
@@ -47,7 +49,10 @@ pub struct Solve<'a> {
     pub list: &'a str,
     pub log: &'a str,
     pub search: SearchKind,
+    /// The digits of a search in turns.
+    pub turns: Option<&'a str>,
     pub limit: Option<u64>,
+    pub version: LogVersion,
 }
 
 // The words of the command, as clap reads them.
@@ -56,7 +61,9 @@ fn solve_words<'a>(alloc: Global) -> Result<clap::Command<'a>, NoMemory>
 {
     let command = file_words(alloc)?;
     let command = with_arg(command, option(alloc, "search"))?;
-    with_arg(command, option(alloc, "learn"))
+    let command = with_arg(command, option(alloc, "turns"))?;
+    let command = with_arg(command, option(alloc, "learn"))?;
+    with_arg(command, option(alloc, "log-version"))
 }
 
 // The command's files.
@@ -76,13 +83,16 @@ fn solve_of_matches<'a>(matches: &ArgMatches<'a>) -> Option<Solve<'a>>
     let input = value(matches, "IN");
     let list = value(matches, "LIST");
     let log = value(matches, "LOG");
+    let turns = optional(matches, "turns");
     Some(Solve {
         format: format_of_three(input, list, log)?,
         input,
         list,
         log,
-        search: search_of(optional(matches, "search"))?,
+        search: search_with(optional(matches, "search"), turns)?,
+        turns,
         limit: limit_of(optional(matches, "learn"))?,
+        version: version_of(optional(matches, "log-version"))?,
     })
 }
 
@@ -131,7 +141,7 @@ impl<'a> Solve<'a> {
         }
     }
 
-    // Makes the search that is asked for, where it takes the instance.
+    // Searches, where the search that is asked for takes the instance.
     fn search<H: Shelf>(
         &self,
         alloc: Global,
@@ -147,6 +157,26 @@ impl<'a> Solve<'a> {
             result (H.world shelf.old) (H.world shelf.new) }
         ensures warned { (H.world shelf.new).warned ≡ (H.world shelf.old).warned }
     {
+        if !takes(self.search, self.turns, inst.objectives.len()) {
+            return Status::Usage;
+        }
+        self.search_for(alloc, inst, problem, shelf)
+    }
+
+    // Makes the search that is asked for.
+    fn search_for<H: Shelf>(
+        &self,
+        alloc: Global,
+        inst: &Instance,
+        problem: &PbProblem,
+        shelf: &mut H,
+    ) -> Status
+        requires problem { IsProblemOf (H.world shelf.old).files (asked self.now) inst.now problem.now }
+        requires limits { IsWithinLimits inst.now }
+        ensures answered { Answered (SolveTable (asked self.now)) (solve_calls (asked self.now))
+            result (H.world shelf.old) (H.world shelf.new) }
+        ensures warned { (H.world shelf.new).warned ≡ (H.world shelf.old).warned }
+    {
         match self.search {
             SearchKind::PMinimal => match PMinimal::relaxed(alloc, problem) {
                 Ok(mut search) => self.search_by(alloc, inst, problem, &mut search, shelf),
@@ -157,16 +187,14 @@ impl<'a> Solve<'a> {
                 Err(fault) => Status::from(fault),
             },
             SearchKind::BiOptSat => {
-                if inst.objectives.len() != 2 {
-                    return Status::Usage;
-                }
                 self.search_by(alloc, inst, problem, &mut BiOpt::new(alloc), shelf)
             }
+            SearchKind::Turns => self.search_in_turns(alloc, inst, problem, shelf),
         }
     }
 
     // Searches with a log, and writes what is found.
-    fn search_by<S: Search, H: Shelf>(
+    pub(crate) fn search_by<S: Search, H: Shelf>(
         &self,
         alloc: Global,
         inst: &Instance,
@@ -186,7 +214,7 @@ impl<'a> Solve<'a> {
             inst,
             problem,
             self.log,
-            LogVersion::One,
+            self.version,
             self.limit,
             search,
             shelf,

@@ -30,9 +30,9 @@ pub(crate) fn search_with_log<'a, S: Search, H: Shelf>(
     requires normal { IsNormalFormOf inst.now problem.now }
     requires serves { S.serves search.old problem.now }
     ensures found { IfOk result (IsLogged (H.world shelf.old).files (H.world shelf.new).files
-        inst.now problem.now log.now limit) }
+        inst.now problem.now log.now version limit) }
     ensures stopped { IfErr result (λ fault. IsLogStopped fault (H.world shelf.old).files
-        (H.world shelf.new).files problem.now log.now
+        (H.world shelf.new).files problem.now log.now version
         (H.world shelf.old).faults (H.world shelf.new).faults) }
     ensures said { (H.world shelf.new).said ≡ (H.world shelf.old).said }
     ensures warned { (H.world shelf.new).warned ≡ (H.world shelf.old).warned }

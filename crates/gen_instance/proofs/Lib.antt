@@ -7,3 +7,5 @@ pub mod Spelled
 pub mod Drawing
 pub mod Within
 pub mod Occurring
+pub mod Plain
+pub mod Short

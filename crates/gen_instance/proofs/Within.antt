@@ -21,7 +21,7 @@ all_drawn P f a (suc n) top fits each =
     (all_drawn P f (a + 1) n top (omega (arith, fits)) (λ k from below. each k (omega (arith, from)) below))
 
 -- a draw is below its bound
-draw_below : (n state k : ℕ) → 0 < n → draw n state k < n
+pub draw_below : (n state k : ℕ) → 0 < n → draw n state k < n
 draw_below n state k some = mod-lt (state_after k state / 65536) some
 
 -- weights are at most 4

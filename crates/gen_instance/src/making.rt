@@ -1,8 +1,8 @@
 // Making an instance.
-ghost use Rattle.std.specs.Prelude.{◌≡◌, ◌<◌, ◌≤◌, ◌*◌, ◌^◌, IfOk, OnOk};
+ghost use Rattle.std.specs.Prelude.{◌≡◌, ◌<◌, ◌≤◌, ◌*◌, ◌^◌, IfOk, OnOk, length};
 ghost use Rattle.gen_instance.specs.Draws.{below, next_state, state_after};
 ghost use Rattle.gen_instance.specs.Generated.{drawn_clause, drawn_clauses, drawn_objective, drawn_objectives, generated, soft_of};
-ghost use Rattle.gen_instance.specs.Printed.{AllOccur};
+ghost use Rattle.gen_instance.specs.Printed.{AllOccur, IsPlain, mcnf_text};
 
 use crate::draws::Draws;
 use instance::{Instance, Objective, Sense, Soft};
@@ -16,6 +16,8 @@ pub fn make(alloc: Global, number: u64, vars: u32, objectives: u32) -> Result<In
     requires objectives { (1 ≤ objectives) × (objectives ≤ 64) }
     ensures instance { IfOk result (λ i. i ≡ generated number vars objectives) }
     ensures occur { IfOk result AllOccur }
+    ensures plain { IfOk result IsPlain }
+    ensures short { IfOk result (λ i. length (mcnf_text i) < 2 ^ 32) }
 {
     let mut draws = Draws::new(number);
     let clauses = draw_clauses(alloc, &mut draws, vars)?;

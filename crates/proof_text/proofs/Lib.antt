@@ -6,3 +6,5 @@ pub mod Searched
 pub mod Readings
 pub mod Replaying
 pub mod LogFiles
+pub mod Lengths
+pub mod OneFile

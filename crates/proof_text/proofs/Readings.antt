@@ -239,7 +239,7 @@ printed_feeds spelling (l ∷ lines) =
     let rest : newlines more ≡ length lines = printed_feeds (after_line spelling l) lines in
     omega arith
 
-log_feeds : (first : Spelling) (lines : List Line) → newlines (log_text first lines) ≡ length lines + 1
+pub log_feeds : (first : Spelling) (lines : List Line) → newlines (log_text first lines) ≡ length lines + 1
 log_feeds first lines =
     let all : newlines (log_text first lines) ≡ newlines (header_line first) + newlines (lines_text first lines) = newlines-append (header_line first) (lines_text first lines) in
     let one : newlines (header_line first) ≡ newlines (header_text first) + 1 = newlines-append (header_text first) (newline ∷ []) in

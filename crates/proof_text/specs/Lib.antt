@@ -5,3 +5,4 @@ pub mod Reading
 pub mod Cutting
 pub mod LogFile
 pub mod Recorders
+pub mod Writing

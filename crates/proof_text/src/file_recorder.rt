@@ -13,11 +13,11 @@ ghost use Rattle.proof_text.specs.LogFile.{IsLogFile, IsNotBegun};
 ghost use Rattle.proof_text.specs.Recorders.{fault_of, without_file, file_seen, IsKept, IsPutPartly, IsWrite};
 
 use crate::keeping::{advance, is_full, pop_last, push_copy, start};
-use crate::printing::print_header;
+use crate::log_writer::{begin_log, write_line};
 use crate::version::{LogVersion, first_of, spelling_at};
 use pb_lin::PbProblem;
 use proof_laws::Line;
-use proof_lines::{Spelling, append_line};
+use proof_lines::Spelling;
 use proof_rules::{ProofState, RecordFault, Recorder};
 use scut_base::{Items, NoMemory, Shelf, ShelfFault};
 use std::alloc::Global;
@@ -171,7 +171,10 @@ impl<'a, H: Shelf> FileRecorder<'a, H> {
                     text: Vec::new(alloc),
                     broken: false,
                 }),
-                Err(fault) => Err(NotBegun { shelf, fault }),
+                Err(fault) => Err(NotBegun {
+                    shelf,
+                    fault: fault_of(fault),
+                }),
             },
             Err(NoMemory) => Err(NotBegun {
                 shelf,
@@ -272,52 +275,6 @@ impl<'a, H: Shelf> Recorder for FileRecorder<'a, H> {
     }
 }
 
-// Begins the file with the header.
-fn begin_log<H: Shelf>(
-    alloc: Global,
-    shelf: &mut H,
-    name: &str,
-    first: Spelling,
-) -> Result<(), RecordFault>
-    ensures ok { OnOk result ((H.world shelf.new).files
-        ≡ with_file (H.world shelf.old).files name.now (header_line first)) }
-    ensures err { OnErr result (IsNotBegun (H.world shelf.old).files
-        (H.world shelf.new).files name.now first) }
-    ensures said { (H.world shelf.new).said ≡ (H.world shelf.old).said }
-    ensures warned { (H.world shelf.new).warned ≡ (H.world shelf.old).warned }
-    ensures later { NoneFell (H.world shelf.old).faults (H.world shelf.new).faults }
-    ensures cause { IsErrOf result RecordFault.Failed
-        → WritingFailed (H.world shelf.old).faults (H.world shelf.new).faults name.now }
-    ensures never_full { IsErrOf result RecordFault.Full → ⊥ }
-{
-    match print_header(alloc, first) {
-        Ok(header) => begin_with(shelf, name, header.as_slice()),
-        Err(NoMemory) => Err(RecordFault::NoMemory),
-    }
-}
-
-// Begins the file with these bytes.
-fn begin_with<H: Shelf>(shelf: &mut H, name: &str, header: &[u8]) -> Result<(), RecordFault>
-    ensures ok { OnOk result ((H.world shelf.new).files
-        ≡ with_file (H.world shelf.old).files name.now header.now) }
-    ensures err { OnErr result (IsTouched (H.world shelf.old).files (H.world shelf.new).files
-        name.now (λ bytes. IsPrefixOf bytes header.now)) }
-    ensures said { (H.world shelf.new).said ≡ (H.world shelf.old).said }
-    ensures warned { (H.world shelf.new).warned ≡ (H.world shelf.old).warned }
-    ensures later { NoneFell (H.world shelf.old).faults (H.world shelf.new).faults }
-    ensures cause { IsErrOf result RecordFault.Failed
-        → WritingFailed (H.world shelf.old).faults (H.world shelf.new).faults name.now }
-    ensures never_full { IsErrOf result RecordFault.Full → ⊥ }
-{
-    if let Err(fault) = shelf.begin(name) {
-        return Err(fault_of(fault));
-    }
-    match shelf.append(name, header) {
-        Ok(()) => Ok(()),
-        Err(fault) => Err(fault_of(fault)),
-    }
-}
-
 // The same fault, of a recorder.
 fn fault_of(fault: ShelfFault) -> RecordFault
     ensures { result ≡ fault_of fault }
@@ -359,41 +316,11 @@ fn commit<H: Shelf>(
     ensures warned { (H.world shelf.new).warned ≡ (H.world shelf.old).warned }
     ensures cause { IsWrite name.now (H.world shelf.old).faults (H.world shelf.new).faults result }
 {
-    write_line(shelf, name, text, spelling, line)?;
+    if let Err(fault) = write_line(shelf, name, text, spelling, line) {
+        return Err(fault_of(fault));
+    }
     match advance(problem, state, line) {
         Ok(id) => Ok(id),
         Err(NoMemory) => Err(RecordFault::NoMemory),
-    }
-}
-
-// Puts the text of a line after the bytes of the file.
-fn write_line<H: Shelf>(
-    shelf: &mut H,
-    name: &str,
-    text: &mut Vec<u8>,
-    spelling: Spelling,
-    line: &Line,
-) -> Result<(), RecordFault>
-    requires there { IsTold (H.world shelf.old).files
-        → IsSome (content (H.world shelf.old).files name.now) }
-    ensures written { OnOk result
-        ((H.world shelf.new).files ≡ with_appended (H.world shelf.old).files name.now
-        (printed spelling line.now)) }
-    ensures partly { OnErr result
-        (IsPutPartly (H.world shelf.old).files (H.world shelf.new).files name.now
-        (printed spelling line.now)) }
-    ensures others { without_file (H.world shelf.new).files name.now
-        ≡ without_file (H.world shelf.old).files name.now }
-    ensures said { (H.world shelf.new).said ≡ (H.world shelf.old).said }
-    ensures warned { (H.world shelf.new).warned ≡ (H.world shelf.old).warned }
-    ensures cause { IsWrite name.now (H.world shelf.old).faults (H.world shelf.new).faults result }
-{
-    text.clear();
-    if append_line(text, spelling, line).is_err() {
-        return Err(RecordFault::NoMemory);
-    }
-    match shelf.append(name, text.as_slice()) {
-        Ok(()) => Ok(()),
-        Err(fault) => Err(fault_of(fault)),
     }
 }

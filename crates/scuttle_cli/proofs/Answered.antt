@@ -22,8 +22,15 @@ use Rattle.command_solve.proofs.Completing.{solve_completes}
 use Rattle.command_check.specs.Table.{CheckTable}
 use Rattle.command_check.proofs.Completing.{check_completes}
 use Rattle.command_check.proofs.CheckEnds.{nothing_done as check_not_done}
+use Rattle.command_upgrade.proofs.Completing.{upgrade_completes}
+use Rattle.command_gen.specs.Table.{GenTable}
+use Rattle.command_gen.proofs.Completing.{gen_completes}
+use Rattle.command_gen.proofs.GenEnds.{nothing_done as gen_not_done}
+use Rattle.command_trial.specs.Table.{TrialTable}
+use Rattle.command_trial.proofs.Completing.{trial_completes}
+use Rattle.command_trial.proofs.TrialEnds.{nothing_done as trial_not_done}
 use Rattle.scuttle_cli.specs.Answers.{CompletesOf, HasUsage, TableOf, own_calls}
-use Rattle.scuttle_cli.specs.Requests.{CheckOf, FrontOf, Request, SolveOf, command_in, request_by, request_of}
+use Rattle.scuttle_cli.specs.Requests.{CheckOf, FrontOf, GenOf, Request, SolveOf, TrialOf, UpgradeOf, command_in, request_by, request_of}
 use Rattle.scuttle_cli.specs.declared.names.CommandName.{CommandName}
 
 -- what is answered by what was asked for
@@ -43,6 +50,9 @@ no_memory_row None before after same = same
 no_memory_row (Some (FrontOf a)) before after same = front_not_done a (view before) (view after) same
 no_memory_row (Some (SolveOf a)) before after same = inl same
 no_memory_row (Some (CheckOf a)) before after same = check_not_done a (view before) (view after) same
+no_memory_row (Some (UpgradeOf a)) before after same = inl same
+no_memory_row (Some (GenOf a)) before after same = gen_not_done a (view before) (view after) same
+no_memory_row (Some (TrialOf a)) before after same = trial_not_done a (view before) (view after) same
 
 pub no_memory : (request : Option Request) (status : Status) (before after : World) → status ≡ NoMemory → view after ≡ view before → NoneFell before.faults after.faults → AnsweredFor request status before after
 no_memory request status before after is same later =
@@ -71,6 +81,9 @@ completes None status before after was = tt
 completes (Some (FrontOf a)) status before after was = front_completes a status before after was
 completes (Some (SolveOf a)) status before after was = solve_completes a status before after was
 completes (Some (CheckOf a)) status before after was = check_completes a status before after was
+completes (Some (UpgradeOf a)) status before after was = upgrade_completes a status before after was
+completes (Some (GenOf a)) status before after was = gen_completes a status before after was
+completes (Some (TrialOf a)) status before after was = trial_completes a status before after was
 
 -- ---- Usage
 
@@ -89,6 +102,9 @@ has_usage None before after row = tt
 has_usage (Some (FrontOf a)) before after row = row
 has_usage (Some (SolveOf a)) before after row = row.cause
 has_usage (Some (CheckOf a)) before after row = row
+has_usage (Some (UpgradeOf a)) before after row = row
+has_usage (Some (GenOf a)) before after row = row
+has_usage (Some (TrialOf a)) before after row = row
 
 pub only_usage : (request : Option Request) (status : Status) (before after : World) → AnsweredFor request status before after → status ≡ Usage → HasUsage request before.files
 only_usage request status before after was is =

@@ -5,21 +5,30 @@ use Rattle.std.specs.Str.{bytes_eq}
 use Rattle.command_front.specs.Words.{FrontAsked, front_asked}
 use Rattle.command_solve.specs.Words.{SolveAsked, solve_asked}
 use Rattle.command_check.specs.Words.{CheckAsked, check_asked}
+use Rattle.command_upgrade.specs.Words.{UpgradeAsked, upgrade_asked}
+use Rattle.command_gen.specs.Words.{GenAsked, gen_asked}
+use Rattle.command_trial.specs.Words.{TrialAsked, trial_asked}
 use Rattle.scuttle_cli.specs.declared.names.CommandName.{CommandName}
-use Rattle.scuttle_cli.specs.declared.names.CommandName.TheVariants.{Front, Solve, Check}
+use Rattle.scuttle_cli.specs.declared.names.CommandName.TheVariants.{Front, Solve, Check, Upgrade, Gen, Trial}
 
 -- a command with its files and options
 pub data Request : Type 0 where
   FrontOf : (asked : FrontAsked) → Request
   SolveOf : (asked : SolveAsked) → Request
   CheckOf : (asked : CheckAsked) → Request
+  UpgradeOf : (asked : UpgradeAsked) → Request
+  GenOf : (asked : GenAsked) → Request
+  TrialOf : (asked : TrialAsked) → Request
 
 -- the command of this name
 abbrev pub command_named : List ℕ → Option CommandName
 command_named word =
     if bytes_eq word (codes "front") then Some Front
     else (if bytes_eq word (codes "solve") then Some Solve
-    else (if bytes_eq word (codes "check") then Some Check else None))
+    else (if bytes_eq word (codes "check") then Some Check
+    else (if bytes_eq word (codes "upgrade") then Some Upgrade
+    else (if bytes_eq word (codes "gen") then Some Gen
+    else (if bytes_eq word (codes "trial") then Some Trial else None)))))
 
 -- the command that the first word names
 abbrev pub command_in : List (List ℕ) → Option CommandName
@@ -32,6 +41,9 @@ request_by None words = None
 request_by (Some Front) words = option_map FrontOf (front_asked words)
 request_by (Some Solve) words = option_map SolveOf (solve_asked words)
 request_by (Some Check) words = option_map CheckOf (check_asked words)
+request_by (Some Upgrade) words = option_map UpgradeOf (upgrade_asked words)
+request_by (Some Gen) words = option_map GenOf (gen_asked words)
+request_by (Some Trial) words = option_map TrialOf (trial_asked words)
 
 -- What the words ask for. Words that are none of a command ask for nothing.
 abbrev pub request_of : List (List ℕ) → Option Request

@@ -8,6 +8,9 @@ pub enum CommandName {
     Front,
     Solve,
     Check,
+    Upgrade,
+    Gen,
+    Trial,
 }
 
 /// The command that the first word names; `None` where there is none of that name.
@@ -28,6 +31,9 @@ fn command_named(word: &str) -> Option<CommandName>
         "front" => Some(CommandName::Front),
         "solve" => Some(CommandName::Solve),
         "check" => Some(CommandName::Check),
+        "upgrade" => Some(CommandName::Upgrade),
+        "gen" => Some(CommandName::Gen),
+        "trial" => Some(CommandName::Trial),
         _ => None,
     }
 }

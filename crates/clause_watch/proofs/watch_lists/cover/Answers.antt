@@ -10,7 +10,7 @@ loop-place-preserved c = record {
   longer = omega (arith, c.loop-place.invariant.longer, c.reach.ensures.longer);
   covered = λ k below. ⊎_elim
       (λ (e : k ≡ c.loop-place.place).
-      let is = ap (λ (i : ℕ). code_of (get_or c.args.clause.now i no_literal)) e ∙ ap code_of (c.at-lit.ensures.value no_literal) ∙ sym c.literal_code.ensures in
+      let is = ap (λ (i : ℕ). code_of (get_or c.args.clause.now i no_literal)) e ∙ ap code_of (c.at-lit.ensures.value no_literal) ∙ sym c.code.ensures in
       omega (arith, is, c.in_ok-reach.ensures.reached))
       (λ (other : k ≢ c.loop-place.place).
       let before = c.loop-place.invariant.covered k (omega (arith, below, other)) in

@@ -1,6 +1,6 @@
 use Rattle.std.proofs.Common.{map, string_bytes}
 use Rattle.std.specs.Prelude.{None, Some}
-use Rattle.scuttle_cli.specs.declared.names.CommandName.TheVariants.{Front, Solve, Check}
+use Rattle.scuttle_cli.specs.declared.names.CommandName.TheVariants.{Front, Solve, Check, Upgrade, Gen, Trial}
 use Rattle.scuttle_cli.proofs.Answered.{no_request, was_named}
 use Rattle.scuttle_cli.proofs.running.run_named.Goals as goal
 
@@ -15,6 +15,18 @@ returns-in-Some-Solve-clause-answered g c =
 pub returns-in-Some-Check-clause-answered : goal.returns-in-Some-Check-clause-answered
 returns-in-Some-Check-clause-answered g c =
     was_named (Some Check) (map string_bytes c.args.words.now) _ _ _ (rw c.in-Some-Check.field-0-is at c.in-Some-Check.ensures) c.run_check.ensures.answered
+
+pub returns-in-Some-Upgrade-clause-answered : goal.returns-in-Some-Upgrade-clause-answered
+returns-in-Some-Upgrade-clause-answered g c =
+    was_named (Some Upgrade) (map string_bytes c.args.words.now) _ _ _ (rw c.in-Some-Upgrade.field-0-is at c.in-Some-Upgrade.ensures) c.run_upgrade.ensures.answered
+
+pub returns-in-Some-Gen-clause-answered : goal.returns-in-Some-Gen-clause-answered
+returns-in-Some-Gen-clause-answered g c =
+    was_named (Some Gen) (map string_bytes c.args.words.now) _ _ _ (rw c.in-Some-Gen.field-0-is at c.in-Some-Gen.ensures) c.run_gen.ensures.answered
+
+pub returns-in-Some-Trial-clause-answered : goal.returns-in-Some-Trial-clause-answered
+returns-in-Some-Trial-clause-answered g c =
+    was_named (Some Trial) (map string_bytes c.args.words.now) _ _ _ (rw c.in-Some-Trial.field-0-is at c.in-Some-Trial.ensures) c.run_trial.ensures.answered
 
 pub returns-in-None-clause-answered : goal.returns-in-None-clause-answered
 returns-in-None-clause-answered g c =

@@ -26,7 +26,7 @@ returns-in-Some-true-clause-ok c =
     let valid : IsEntry own t.vars e = record { there = c.requires.slot; upto = looking.kept.upto slot first c.literal-first.ensures.among; among = λ _. c.literal-first.ensures.among } in
     let next = looking_next own lists ends t.vars trail lit c.args.at slot looking c.requires.entry (λ _. (first, c.literal-first.ensures.among, value.0)) in
     let done = looking_blocker own lists ends t.vars trail lit c.args.at (c.args.at + 1) e next c.requires.within (sym c.requires.entry) valid in
-    let is : c.set_blocker.new.lists.items ≡ set lists (code_of lit) (set (list_of lists lit) c.args.at e) = c.set_blocker.ensures ∙ ap (λ (i : ℕ). set lists i (set (get_or lists i []) c.args.at e)) c.literal_code.ensures in
+    let is : c.set_entry.new.lists.items ≡ set lists (code_of lit) (set (list_of lists lit) c.args.at e) = c.set_entry.ensures ∙ ap (λ (i : ℕ). set lists i (set (get_or lists i []) c.args.at e)) c.literal_code.ensures in
     record {
       looking = subst (λ (ls : List (List Entry)). IsLooking own ls ends t.vars trail lit (c.args.at + 1)) (sym is) done;
       left = sym (ap (λ (ls : List (List Entry)). length (list_of ls lit)) is ∙ length_blocker lists (code_of lit) c.args.at e);

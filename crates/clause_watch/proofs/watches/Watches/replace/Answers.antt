@@ -4,7 +4,7 @@ use Rattle.std.proofs.lemmas.List.Sorted.{IsPermutation-swap}
 use Rattle.scut_base.specs.Literal.{Literal}
 use Rattle.scut_base.specs.LiteralCode.{code_of}
 use Rattle.clause_watch.specs.declared.watch_lists.Entry.{Entry}
-use Rattle.clause_watch.specs.declared.watch_lists.Slot.{Slot}
+use Rattle.clause_watch.specs.Slot.{Slot}
 use Rattle.clause_watch.specs.Watching.{IsEntry, IsKept, IsRemoved, clause_at, lits_of, no_literal, no_slot}
 use Rattle.clause_watch.specs.Watches.{AreSlots}
 use Rattle.clause_watch.proofs.WatchKept.{replaced}
@@ -15,7 +15,7 @@ use Rattle.clause_watch.proofs.watches.Watches.replace.Goals as goal
 pub add_entry-requires : goal.add_entry-requires
 add_entry-requires c =
     let covered = c.requires.looking.kept.covered c.args.slot c.literal-free.result c.literal-free.ensures.among in
-    omega (arith, covered, c.literal_code.ensures)
+    omega (arith, covered, c.code.ensures)
 
 pub returns-clause-ok : goal.returns-clause-ok
 returns-clause-ok c =
@@ -29,17 +29,17 @@ returns-clause-ok c =
     let e : Entry = record { slot = slot; blocker = c.literal-first.result } in
     let s : Slot = record { id = (get_or own slot no_slot).id; lits = swap clause 1 c.args.place } in
     let l : Literal = get_or clause c.args.place no_literal in
-    let code_is : c.literal_code.result ≡ code_of l = c.literal_code.ensures ∙ ap code_of c.literal-free.ensures.value in
+    let code_is : c.code.result ≡ code_of l = c.code.ensures ∙ ap code_of c.literal-free.ensures.value in
     let valid : IsEntry own t.vars e = record { there = c.requires.slot; upto = looking.kept.upto slot _ c.literal-first.ensures.among; among = λ _. c.literal-first.ensures.among } in
     let is_2 = c.in_ok-add_entry.ensures.ok ∙ ap (λ (i : ℕ). set lists i (get_or lists i [] ++ e ∷ [])) code_is in
-    let removed : IsRemoved (get_or c.add_entry.new.lists.items (code_of c.args.lit) []) (get_or c.drop_entry.new.lists.items (code_of c.args.lit) []) c.args.at = subst (λ (i : ℕ). IsRemoved (get_or c.add_entry.new.lists.items i []) (get_or c.drop_entry.new.lists.items i []) c.args.at) c.literal_code-2.ensures c.drop_entry.ensures.removed in
-    let done = replaced own c.put_at_second.new.slots.items lists c.add_entry.new.lists.items c.drop_entry.new.lists.items w.ends.items t.vars (lits_of t.steps) c.args.lit c.args.at slot c.args.place s e looking c.requires.within c.requires.entry c.requires.slot c.requires.second c.requires.free refl valid is_2 refl c.put_at_second.ensures (λ k n. c.drop_entry.ensures.others k (λ f. n (f ∙ c.literal_code-2.ensures))) removed c.drop_entry.ensures.len in
+    let removed : IsRemoved (get_or c.add_entry.new.lists.items (code_of c.args.lit) []) (get_or c.drop_entry.new.lists.items (code_of c.args.lit) []) c.args.at = subst (λ (i : ℕ). IsRemoved (get_or c.add_entry.new.lists.items i []) (get_or c.drop_entry.new.lists.items i []) c.args.at) c.literal_code.ensures c.drop_entry.ensures.removed in
+    let done = replaced own c.swap.new.self lists c.add_entry.new.lists.items c.drop_entry.new.lists.items w.ends.items t.vars (lits_of t.steps) c.args.lit c.args.at slot c.args.place s e looking c.requires.within c.requires.entry c.requires.slot c.requires.second c.requires.free refl valid is_2 refl c.swap.ensures (λ k n. c.drop_entry.ensures.others k (λ f. n (f ∙ c.literal_code.ensures))) removed c.drop_entry.ensures.len in
     let within = c.requires.free in
     record {
       looking = done.0;
       left = done.1;
       ends = refl;
-      followed = followed_same w _ t (λ lines h. subst (λ o. AreSlots o w.index.entries lines) (sym c.put_at_second.ensures) (hold_reordered own w.index.entries lines slot s h refl (IsPermutation-swap clause s.lits 1 c.args.place (omega (arith, within.0, within.1)) within.1 refl)));
+      followed = followed_same w _ t (λ lines h. subst (λ o. AreSlots o w.index.entries lines) (sym c.swap.ensures) (hold_reordered own w.index.entries lines slot s h refl (IsPermutation-swap clause s.lits 1 c.args.place (omega (arith, within.0, within.1)) within.1 refl)));
       rightly = tt;
     }
 

@@ -1,0 +1,3 @@
+pub mod NumbersWithin
+pub mod GenEnds
+pub mod Completing

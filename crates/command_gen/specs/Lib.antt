@@ -1,0 +1,9 @@
+pub use Rattle.instance.specs.Shape
+pub use Rattle.gen_instance.specs.Generated
+pub use Rattle.gen_instance.specs.Printed
+pub use Rattle.command_base.specs.Answering
+pub use Rattle.command_base.specs.Messages
+pub use Rattle.command_base.specs.Views
+pub mod Origin
+pub mod Words
+pub mod Table

@@ -1,0 +1,4 @@
+pub mod Copies
+pub mod NewLogs
+pub mod UpgradeEnds
+pub mod Completing

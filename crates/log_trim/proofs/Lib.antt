@@ -1,0 +1,16 @@
+pub mod Hints
+pub mod Tokens
+pub mod Live
+pub mod Goals
+pub mod Entered
+pub mod Requirements
+pub mod Written
+pub mod Lines
+pub mod Next
+pub mod Formed
+pub mod Kept
+pub mod Example
+pub mod NewIds
+pub mod NewLines
+pub mod Marking
+pub mod Keeping
