@@ -110,10 +110,10 @@ watched_closed w lines t ready hold all id c there kind =
     let h = hold.held id c there kind in
     let s = hold.stored h.slot h.long in
     let same : s.line ≡ c = same_line s.line c (sym s.there ∙ ap (get lines) h.is ∙ there) in
-    let lits = clause_at w.slots.items h.slot in
+    let lits = clause_at w.slots h.slot in
     let is_perm : IsPermutation (literals c.terms) lits = subst (λ (d : ConstraintValue). IsPermutation (literals d.terms) lits) same s.same in
     let merged : IsMerged c.terms = subst (λ (d : ConstraintValue). IsMerged d.terms) same s.merged in
-    closed_slot w.slots.items w.lists.items w.ends.items t.vars t.steps c h.slot ready all.0 all.1 h.long kind is_perm (λ l among. positive_literal c.terms l merged (Contains-permutation _ _ l (IsPermutation-sym _ _ is_perm) among))
+    closed_slot w.slots w.lists.items w.ends.items t.vars t.steps c h.slot ready all.0 all.1 h.long kind is_perm (λ l among. positive_literal c.terms l merged (Contains-permutation _ _ l (IsPermutation-sym _ _ is_perm) among))
   where
     same_line : (a b : ConstraintValue) → Some a ≡ Some b → a ≡ b
     same_line a b e = cc
@@ -127,9 +127,9 @@ watched_closed w lines t ready hold all id c there kind =
 pub watches_extended : (w : Watches) (lines store : LineMap) (t u : TrailValue) → Extends store t u → AreWatches w lines t → AreWatches w lines u
 unfolding AreWatches
 watches_extended w lines store t u ext watches = (
-  subst (λ (n : ℕ). IsKept w.slots.items w.lists.items w.ends.items n (lits_of u.steps)) (sym ext.vars)
-      (subst (λ (ss : List Step). IsKept w.slots.items w.lists.items w.ends.items t.vars (lits_of ss)) (sym ext.is)
-      (subst (λ (ls : List Literal). IsKept w.slots.items w.lists.items w.ends.items t.vars ls) (sym (lits_appended t.steps ext.more))
-      (kept_push w.slots.items w.lists.items w.ends.items t.vars (lits_of t.steps) (lits_of ext.more) watches.0))),
+  subst (λ (n : ℕ). IsKept w.slots w.lists.items w.ends.items n (lits_of u.steps)) (sym ext.vars)
+      (subst (λ (ss : List Step). IsKept w.slots w.lists.items w.ends.items t.vars (lits_of ss)) (sym ext.is)
+      (subst (λ (ls : List Literal). IsKept w.slots w.lists.items w.ends.items t.vars ls) (sym (lits_appended t.steps ext.more))
+      (kept_push w.slots w.lists.items w.ends.items t.vars (lits_of t.steps) (lits_of ext.more) watches.0))),
   watches.1,
 )

@@ -35,15 +35,15 @@ pub record AreSlots (own : List Slot) (index : List (ℕ × ℕ)) (lines : LineM
   pub held : (id : ℕ) (c : ConstraintValue) → get lines id ≡ Some c → is_watched c ≡ true → IsHeld own id
 
 abbrev pub Hold : Watches → LineMap → Type 0
-Hold w lines = AreSlots w.slots.items w.index.entries lines
+Hold w lines = AreSlots w.slots w.index.entries lines
 
 -- the watches are right for the looked-at steps
 abbrev pub IsReady : Watches → TrailValue → Type 0
-IsReady w t = IsKept w.slots.items w.lists.items w.ends.items t.vars (lits_of t.steps)
+IsReady w t = IsKept w.slots w.lists.items w.ends.items t.vars (lits_of t.steps)
 
 -- the list of a literal is gone through, and this place is next
 abbrev pub IsAt : Watches → TrailValue → Literal → ℕ → Type 0
-IsAt w t lit at = IsLooking w.slots.items w.lists.items w.ends.items t.vars (lits_of t.steps) lit at
+IsAt w t lit at = IsLooking w.slots w.lists.items w.ends.items t.vars (lits_of t.steps) lit at
 
 -- the number of entries in the list of a literal
 abbrev pub entries_of : Watches → Literal → ℕ
@@ -103,8 +103,8 @@ pub record IsCopy (lines : LineMap) (id : ℕ) (line : ConstraintValue) (lits : 
 
 -- a slot of this id without literals is put at the end
 pub record IsOpened (before after : Watches) (id slot : ℕ) : Type 0 where
-  pub is : slot ≡ length before.slots.items
-  pub slots : after.slots.items ≡ before.slots.items ++ record { id = id; lits = [] } ∷ []
+  pub is : slot ≡ length before.slots
+  pub slots : after.slots ≡ before.slots ++ record { id = id; lits = [] } ∷ []
   pub found : lookup (nat_eq id) after.index.entries ≡ Some slot
 
 -- both have the same clauses that are watched

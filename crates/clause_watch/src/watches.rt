@@ -44,12 +44,6 @@ pub fn is_watched(line: &Constraint) -> bool
     line.is_clause() && line.len() >= 2
 }
 
-/// The clauses that are watched.
-#[derive(Debug, Drop)]
-pub struct Watched {
-    pub items: Slots,
-}
-
 /// The clauses of two literals or more, each in an order of its own with two watched literals in
 /// front; for each literal the clauses that watch it; and for each step that was looked at the trail's
 /// length when that was done. (Watched literals: Moskewicz and others 2001. Blockers, which stand beside
@@ -57,7 +51,7 @@ pub struct Watched {
 #[derive(Debug, Drop)]
 pub struct Watches {
     alloc: Global,
-    slots: Watched,
+    slots: Slots,
     // By id the slot of its clause.
     index: HashMap<u64, u32>,
     lists: Vec<Row<Entry>>,
@@ -72,9 +66,7 @@ impl Watches {
     {
         Watches {
             alloc,
-            slots: Watched {
-                items: Slots::new(alloc),
-            },
+            slots: Slots::new(alloc),
             index: HashMap::new(alloc),
             lists: Vec::new(alloc),
             ends: Vec::new(alloc),
@@ -126,22 +118,22 @@ impl Watches {
     {
         if let Some(slot) = self.index.remove(&id) {
             if self.has_slot(slot, id) {
-                self.slots.items.empty(slot);
+                self.slots.empty(slot);
             }
         }
     }
 
     // Whether a slot is of this id; one that isn't there is of none.
     fn has_slot(&self, slot: u32, id: u64) -> bool
-        ensures yes { IsTrue result → (slot < length self.now.slots.items)
-            × ((slice_index_or self.now.slots.items slot no_slot).id ≡ id) }
-        ensures no { result ≡ false → 2 ≤ length (clause_at self.now.slots.items slot)
-            → (slice_index_or self.now.slots.items slot no_slot).id ≢ id }
+        ensures yes { IsTrue result → (slot < length self.now.slots)
+            × ((slice_index_or self.now.slots slot no_slot).id ≡ id) }
+        ensures no { result ≡ false → 2 ≤ length (clause_at self.now.slots slot)
+            → (slice_index_or self.now.slots slot no_slot).id ≢ id }
     {
-        if slot as usize >= self.slots.items.len() {
+        if slot as usize >= self.slots.len() {
             return false;
         }
-        self.slots.items.id(slot) == id
+        self.slots.id(slot) == id
     }
 
     /// Makes ready for a cut of the trail to its first steps. Takes no memory, and costs the
@@ -220,26 +212,26 @@ impl Watches {
 
     // A literal of a slot.
     fn literal(&self, slot: u32, place: usize) -> ShortLit
-        requires slot { slot < length self.now.slots.items }
-        requires place { place < length (clause_at self.now.slots.items slot) }
+        requires slot { slot < length self.now.slots }
+        requires place { place < length (clause_at self.now.slots slot) }
         ensures value { result
-            ≡ slice_index_or (clause_at self.now.slots.items slot) place no_literal }
-        ensures among { Contains (clause_at self.now.slots.items slot) result }
+            ≡ slice_index_or (clause_at self.now.slots slot) place no_literal }
+        ensures among { Contains (clause_at self.now.slots slot) result }
     {
-        self.slots.items.at(slot, place)
+        self.slots.at(slot, place)
     }
 
     // A place from 2 on whose literal isn't false.
     fn free_place(&self, trail: &Trail, slot: u32) -> Option<usize>
-        requires slot { slot < length self.now.slots.items }
-        requires vars { (l : Literal) → Contains (clause_at self.now.slots.items slot) l
+        requires slot { slot < length self.now.slots }
+        requires vars { (l : Literal) → Contains (clause_at self.now.slots slot) l
             → l.var ≤ trail.now.vars }
         ensures free { IfSome result
-            (λ k. IsFree (clause_at self.now.slots.items slot) (lits_of trail.now.steps) k) }
+            (λ k. IsFree (clause_at self.now.slots slot) (lits_of trail.now.steps) k) }
         ensures none { IfNone result
-            (AreFalse (clause_at self.now.slots.items slot) (lits_of trail.now.steps) 2) }
+            (AreFalse (clause_at self.now.slots slot) (lits_of trail.now.steps) 2) }
     {
-        free_place(self.slots.items.lits(slot), trail)
+        free_place(self.slots.lits(slot), trail)
     }
 
     // The first place from one on whose blocker isn't true, or the end of the list. Most visits end
@@ -267,7 +259,7 @@ impl Watches {
             (IsReady self.new trail.new × IsFollowed self.old self.new trail.old trail.new) }
     {
         let entry = self.entry(lit, at);
-        if put_second(&mut self.slots.items, entry.slot, lit) {
+        if put_second(&mut self.slots, entry.slot, lit) {
             self.read(trail, lit, at, entry.slot)
         } else {
             drop_entry(&mut self.lists, literal_code(lit), at);
@@ -281,9 +273,9 @@ impl Watches {
         requires within { at < entries_of self.old lit }
         requires entry { (slice_index_or
             (list_of self.old.lists.items lit) at no_entry).slot ≡ slot }
-        requires slot { slot < length self.old.slots.items }
-        requires long { 2 ≤ length (clause_at self.old.slots.items slot) }
-        requires second { slice_index_or (clause_at self.old.slots.items slot) 1 no_literal ≡ lit }
+        requires slot { slot < length self.old.slots }
+        requires long { 2 ≤ length (clause_at self.old.slots slot) }
+        requires second { slice_index_or (clause_at self.old.slots slot) 1 no_literal ≡ lit }
         ensures ok { IfOk result (IsVisited self.old self.new trail.old trail.new lit at) }
         ensures err { OnErr result (IsReady self.new trail.new
             × IsFollowed self.old self.new trail.old trail.new) }
@@ -316,9 +308,9 @@ impl Watches {
         requires within { at < entries_of self.old lit }
         requires entry { (slice_index_or
             (list_of self.old.lists.items lit) at no_entry).slot ≡ slot }
-        requires slot { slot < length self.old.slots.items }
-        requires second { slice_index_or (clause_at self.old.slots.items slot) 1 no_literal ≡ lit }
-        requires free { IsFree (clause_at self.old.slots.items slot)
+        requires slot { slot < length self.old.slots }
+        requires second { slice_index_or (clause_at self.old.slots slot) 1 no_literal ≡ lit }
+        requires free { IsFree (clause_at self.old.slots slot)
             (lits_of trail.now.steps) place }
         ensures ok { IfOk result (IsVisited self.old self.new trail.now trail.now lit at) }
         ensures err { OnErr result (IsReady self.new trail.now
@@ -331,7 +323,7 @@ impl Watches {
             blocker: first,
         };
         add_entry(&mut self.lists, free.code(), entry)?;
-        self.slots.items.swap(slot, 1, place);
+        self.slots.swap(slot, 1, place);
         drop_entry(&mut self.lists, literal_code(lit), at);
         Ok(Visit::Gone)
     }
@@ -341,15 +333,15 @@ impl Watches {
         requires looking { IsAt self.now trail.old lit at }
         requires entry { (slice_index_or
             (list_of self.now.lists.items lit) at no_entry).slot ≡ slot }
-        requires slot { slot < length self.now.slots.items }
-        requires long { 2 ≤ length (clause_at self.now.slots.items slot) }
-        requires second { slice_index_or (clause_at self.now.slots.items slot) 1 no_literal ≡ lit }
-        requires others { AreFalse (clause_at self.now.slots.items slot)
+        requires slot { slot < length self.now.slots }
+        requires long { 2 ≤ length (clause_at self.now.slots slot) }
+        requires second { slice_index_or (clause_at self.now.slots slot) 1 no_literal ≡ lit }
+        requires others { AreFalse (clause_at self.now.slots slot)
             (lits_of trail.old.steps) 2 }
         ensures { IsVisited self.now self.now trail.old trail.new lit at result }
     {
         let first = self.literal(slot, 0);
-        let id = self.slots.items.id(slot);
+        let id = self.slots.id(slot);
         match truth(trail, first) {
             Some(true) => Visit::Next,
             Some(false) => Visit::Conflict(id),
@@ -404,7 +396,7 @@ impl Watches {
         };
         add_entry(&mut self.lists, first.code(), beside_first)?;
         add_entry(&mut self.lists, second.code(), beside_second)?;
-        self.slots.items.fill(slot, lits.as_slice())?;
+        self.slots.fill(slot, lits.as_slice())?;
         Ok(())
     }
 
@@ -417,8 +409,8 @@ impl Watches {
         ensures ends { self.new.ends.items ≡ self.old.ends.items }
         ensures opened { IfOk result (IsOpened self.old self.new id) }
     {
-        let slot = short_number(self.slots.items.len())?;
-        self.slots.items.push(id)?;
+        let slot = short_number(self.slots.len())?;
+        self.slots.push(id)?;
         self.index.insert(id, slot)?;
         Ok(slot)
     }

@@ -9,6 +9,6 @@ use Rattle.clause_watch.proofs.watches.longer_trail_keeps_watches.Goals as goal
 pub returns : goal.returns
 unfolding AreWatches
 returns c = λ w lines t s watches. (
-  subst (λ (ls : List Literal). IsKept w.slots.items w.lists.items w.ends.items t.vars ls) (sym (lits_pushed t.steps s)) (kept_push w.slots.items w.lists.items w.ends.items t.vars (lits_of t.steps) (s.lit ∷ []) watches.0),
+  subst (λ (ls : List Literal). IsKept w.slots w.lists.items w.ends.items t.vars ls) (sym (lits_pushed t.steps s)) (kept_push w.slots w.lists.items w.ends.items t.vars (lits_of t.steps) (s.lit ∷ []) watches.0),
   watches.1,
 )

@@ -5,4 +5,4 @@ use Rattle.clause_watch.proofs.watches.more_variables_keep_watches.Goals as goal
 
 pub returns : goal.returns
 unfolding AreWatches
-returns c = λ w lines t n up watches. (kept_more w.slots.items w.lists.items w.ends.items t.vars n (lits_of t.steps) up watches.0, watches.1)
+returns c = λ w lines t n up watches. (kept_more w.slots w.lists.items w.ends.items t.vars n (lits_of t.steps) up watches.0, watches.1)

@@ -34,7 +34,7 @@ returns-in-Some-true c =
     let looking = c.requires.looking in
     let value : IsValue (lits_of t.steps) first (Some true) = subst (IsValue (lits_of t.steps) first) (c.in-Some-true.is ∙ ap Some c.in-Some-true.field-0-test) c.truth.ensures.told in
     record {
-      looking = looking_next w.slots.items w.lists.items w.ends.items t.vars (lits_of t.steps) c.args.lit c.args.at c.args.slot looking c.requires.entry (λ _. (first, c.literal-first.ensures.among, value.0));
+      looking = looking_next w.slots w.lists.items w.ends.items t.vars (lits_of t.steps) c.args.lit c.args.at c.args.slot looking c.requires.entry (λ _. (first, c.literal-first.ensures.among, value.0));
       left = refl;
       ends = refl;
       followed = followed_none w t;
@@ -45,7 +45,7 @@ pub returns-in-Some-false : goal.returns-in-Some-false
 returns-in-Some-false c =
     let w = c.args.self.now in
     let t = c.args.trail.now in
-    let own = w.slots.items in
+    let own = w.slots in
     let trail = lits_of t.steps in
     let first = c.literal-first.result in
     let looking = c.requires.looking in
@@ -65,7 +65,7 @@ pub returns-in-None : goal.returns-in-None
 returns-in-None c =
     let w = c.args.self.now in
     let t = c.args.trail.now in
-    let own = w.slots.items in
+    let own = w.slots in
     let trail = lits_of t.steps in
     let slot = c.args.slot in
     let first = c.lit.result in

@@ -13,7 +13,7 @@ loop-at-init c =
     let more = c.requires.more in
     let len : length w.ends.items ≡ c.len.result = omega (arith, c.len.ensures, w.ends.ok.0) in
     record {
-      looking = looking_start w.slots.items w.lists.items w.ends.items t.vars (lits_of t.steps) c.falsified-lit.result c.requires.ready (omega (arith, more, length-map t.steps (λ s. s.lit))) (ap (λ (k : ℕ). get_or (lits_of t.steps) k no_literal) len ∙ c.falsified-lit.ensures);
+      looking = looking_start w.slots w.lists.items w.ends.items t.vars (lits_of t.steps) c.falsified-lit.result c.requires.ready (omega (arith, more, length-map t.steps (λ s. s.lit))) (ap (λ (k : ℕ). get_or (lits_of t.steps) k no_literal) len ∙ c.falsified-lit.ensures);
       ends = refl;
       followed = followed_none w t;
     }
@@ -49,6 +49,6 @@ returns-clause-ready c =
     let w = c.loop-at.self in
     let t = c.loop-at.trail in
     let past = subst (λ (n : ℕ). n ≤ c.skip-at.result) c.entries.ensures c.if-at-entries.true in
-    let done = looking_end w.slots.items w.lists.items w.ends.items t.vars (lits_of t.steps) c.falsified-lit.result c.skip-at.result c.skip-at.ensures.looking past in
+    let done = looking_end w.slots w.lists.items w.ends.items t.vars (lits_of t.steps) c.falsified-lit.result c.skip-at.result c.skip-at.ensures.looking past in
     let is : c.push.new.self.items ≡ w.ends.items ++ length (lits_of t.steps) ∷ [] = c.in_ok-push.ensures.items ∙ ap (λ (n : ℕ). w.ends.items ++ n ∷ []) (c.len-2.ensures.value ∙ sym (length-map t.steps (λ s. s.lit))) in
-    subst (λ (es : List ℕ). IsKept w.slots.items w.lists.items es t.vars (lits_of t.steps)) (sym is) done
+    subst (λ (es : List ℕ). IsKept w.slots w.lists.items es t.vars (lits_of t.steps)) (sym is) done

@@ -22,7 +22,7 @@ returns-clause-ok c =
     let w = c.args.self.now in
     let t = c.args.trail.now in
     let slot = c.args.slot in
-    let own = w.slots.items in
+    let own = w.slots in
     let lists = w.lists.items in
     let looking = c.requires.looking in
     let clause = clause_at own slot in
@@ -47,5 +47,5 @@ pub returns-in_err-add_entry-clause-err : goal.returns-in_err-add_entry-clause-e
 returns-in_err-add_entry-clause-err c =
     let w = c.args.self.now in
     let t = c.args.trail.now in
-    let ready : IsKept w.slots.items c.add_entry.new.lists.items w.ends.items t.vars (lits_of t.steps) = subst (λ ls. IsKept w.slots.items ls w.ends.items t.vars (lits_of t.steps)) (sym c.in_err-add_entry.ensures.err) c.requires.looking.kept in
+    let ready : IsKept w.slots c.add_entry.new.lists.items w.ends.items t.vars (lits_of t.steps) = subst (λ ls. IsKept w.slots ls w.ends.items t.vars (lits_of t.steps)) (sym c.in_err-add_entry.ensures.err) c.requires.looking.kept in
     on_err (ready, followed_same w _ t (λ lines h. h)) c.from_residual.result

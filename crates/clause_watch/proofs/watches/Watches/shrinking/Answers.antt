@@ -14,8 +14,8 @@ returns c = λ store watches.
     let ready = watches.0 in
     let m : ℕ = length c.cut_ends.new.ends.items in
     let small : (p : ℕ) → p < m → get_or w.ends.items p 0 ≤ c.args.keep = λ p h. (let len = c.cut_ends.ensures.len in let last = c.cut_ends.ensures.last (omega arith) in let up = ready.rising p (m - 1) (omega arith) (omega arith) in omega arith) in (
-      subst (λ (ls : List Literal). IsKept w.slots.items w.lists.items c.cut_ends.new.ends.items t.vars ls) (sym (lits_cut c.args.keep t.steps))
-          (subst (λ (es : List ℕ). IsKept w.slots.items w.lists.items es t.vars (take c.args.keep (lits_of t.steps))) (sym c.cut_ends.ensures.front)
-          (kept_cut w.slots.items w.lists.items w.ends.items t.vars (lits_of t.steps) m c.args.keep ready c.cut_ends.ensures.len small)),
+      subst (λ (ls : List Literal). IsKept w.slots w.lists.items c.cut_ends.new.ends.items t.vars ls) (sym (lits_cut c.args.keep t.steps))
+          (subst (λ (es : List ℕ). IsKept w.slots w.lists.items es t.vars (take c.args.keep (lits_of t.steps))) (sym c.cut_ends.ensures.front)
+          (kept_cut w.slots w.lists.items w.ends.items t.vars (lits_of t.steps) m c.args.keep ready c.cut_ends.ensures.len small)),
       watches.1,
     )

@@ -20,4 +20,4 @@ returns-then-code-len-clause-looking c =
     let t = c.args.trail.now in
     let within : c.literal_code-code.result < length w.lists.items = (let h = c.if-code-len.true in let e = c.len.ensures in omega (arith, h, e, w.lists.ok.0)) in
     let is : c.index.result.now ≡ list_of w.lists.items c.args.lit = get_or_read w.lists.items c.literal_code-code.result c.index.result.now within c.index.ensures [] ∙ ap (λ (i : ℕ). get_or w.lists.items i []) c.literal_code-code.ensures in
-    looking_skip w.slots.items w.lists.items w.ends.items t.vars (lits_of t.steps) c.args.lit c.args.at c.skip_true.result c.requires.looking (λ k from below. subst (λ (es : List Entry). (k < length es) × Contains (lits_of t.steps) (get_or es k no_entry).blocker) is (c.skip_true.ensures.held k from below))
+    looking_skip w.slots w.lists.items w.ends.items t.vars (lits_of t.steps) c.args.lit c.args.at c.skip_true.result c.requires.looking (λ k from below. subst (λ (es : List Entry). (k < length es) × Contains (lits_of t.steps) (get_or es k no_entry).blocker) is (c.skip_true.ensures.held k from below))

@@ -19,7 +19,7 @@ use Rattle.clause_watch.proofs.watches.Watches.take_up.Goals as goal
 pub returns-in_err-cover-clause-ready : goal.returns-in_err-cover-clause-ready
 returns-in_err-cover-clause-ready c =
     let w = c.args.self.now in
-    kept_covers w.slots.items w.lists.items c.cover.new.lists.items w.ends.items c.args.trail.now.vars (lits_of c.args.trail.now.steps) c.in_err-cover.ensures.same c.in_err-cover.ensures.longer c.requires.ready
+    kept_covers w.slots w.lists.items c.cover.new.lists.items w.ends.items c.args.trail.now.vars (lits_of c.args.trail.now.steps) c.in_err-cover.ensures.same c.in_err-cover.ensures.longer c.requires.ready
 
 pub latest_first-requires-clause-vars : goal.latest_first-requires-clause-vars
 latest_first-requires-clause-vars c = λ l h. literal_upto c.args.trail.now.vars c.args.line.now l c.requires.vars (subst (λ x. Contains x l) (c.in_ok-lits.ensures ∙ c.literals.ensures.value) h)
@@ -53,8 +53,8 @@ returns-clause-ready c =
     let own : c.in_ok-lits.lits ≡ literals line.terms = c.in_ok-lits.ensures ∙ c.literals.ensures.value in
     let same : IsPermutation c.in_ok-lits.lits c.latest_first.new.clause = c.latest_first.ensures.same in
     let ends = c.latest_first.new.ends.items in
-    let back : IsKept w.slots.items w.lists.items ends t.vars trail = subst (λ (es : List ℕ). IsKept w.slots.items w.lists.items es t.vars trail) (sym c.latest_first.ensures.front) (kept_back w.slots.items w.lists.items w.ends.items t.vars trail (length ends) c.requires.ready c.latest_first.ensures.len) in
-    c.watch.ensures.ready t (kept_covers w.slots.items w.lists.items c.cover.new.lists.items ends t.vars trail c.in_ok-cover.ensures.same c.in_ok-cover.ensures.longer back) (record {
+    let back : IsKept w.slots w.lists.items ends t.vars trail = subst (λ (es : List ℕ). IsKept w.slots w.lists.items es t.vars trail) (sym c.latest_first.ensures.front) (kept_back w.slots w.lists.items w.ends.items t.vars trail (length ends) c.requires.ready c.latest_first.ensures.len) in
+    c.watch.ensures.ready t (kept_covers w.slots w.lists.items c.cover.new.lists.items ends t.vars trail c.in_ok-cover.ensures.same c.in_ok-cover.ensures.longer back) (record {
       upto = λ l h. literal_upto t.vars line l c.requires.vars (subst (λ x. Contains x l) own (Contains-permutation _ _ l (IsPermutation-sym _ _ same) h));
       clear = c.latest_first.ensures.clear;
     })

@@ -21,14 +21,14 @@ returns-in_err-add_entry-2-clause-ready c = λ t ready watchable.
     let o = c.open_slot.new.self in
     let none : Slot = record { id = c.args.id; lits = [] } in
     let e : Entry = record { slot = c.in_ok-slot.slot; blocker = c.at-second.result } in
-    let valid : IsEntry o.slots.items t.vars e = subst (λ x. IsEntry x t.vars e) (sym c.in_ok-slot.ensures.opened.slots) (entry_fresh w.slots.items t.vars none e refl c.in_ok-slot.ensures.opened.is (watchable.upto c.at-second.result c.at-second.ensures.among)) in
-    kept_as o.slots.items o.slots.items (with_entry o.lists.items c.code.result e) c.add_entry-2.new.lists.items o.ends.items o.ends.items t.vars (lits_of t.steps) refl (c.in_err-add_entry-2.ensures.err ∙ c.in_ok-add_entry.ensures.ok) refl
-    (kept_entry o.slots.items o.lists.items o.ends.items t.vars (lits_of t.steps) c.code.result e (c.in_ok-slot.ensures.ready t ready) valid)
+    let valid : IsEntry o.slots t.vars e = subst (λ x. IsEntry x t.vars e) (sym c.in_ok-slot.ensures.opened.slots) (entry_fresh w.slots t.vars none e refl c.in_ok-slot.ensures.opened.is (watchable.upto c.at-second.result c.at-second.ensures.among)) in
+    kept_as o.slots o.slots (with_entry o.lists.items c.code.result e) c.add_entry-2.new.lists.items o.ends.items o.ends.items t.vars (lits_of t.steps) refl (c.in_err-add_entry-2.ensures.err ∙ c.in_ok-add_entry.ensures.ok) refl
+    (kept_entry o.slots o.lists.items o.ends.items t.vars (lits_of t.steps) c.code.result e (c.in_ok-slot.ensures.ready t ready) valid)
 
 pub fill-requires : goal.fill-requires
 fill-requires c =
     let opened = c.in_ok-slot.ensures.opened in
-    omega (arith, opened.is, ap length opened.slots, length_push c.args.self.now.slots.items (record { id = c.args.id; lits = [] }))
+    omega (arith, opened.is, ap length opened.slots, length_push c.args.self.now.slots (record { id = c.args.id; lits = [] }))
 
 pub returns-in_err-fill-clause-ready : goal.returns-in_err-fill-clause-ready
 returns-in_err-fill-clause-ready c = λ t ready watchable.
@@ -40,10 +40,10 @@ returns-in_err-fill-clause-ready c = λ t ready watchable.
     let second = c.at-second.result in
     let e : Entry = record { slot = c.in_ok-slot.slot; blocker = second } in
     let f : Entry = record { slot = c.in_ok-slot.slot; blocker = first } in
-    let valid : (x : Entry) → x.slot ≡ c.in_ok-slot.slot → x.blocker.var ≤ t.vars → IsEntry o.slots.items t.vars x = λ x is upto. subst (λ y. IsEntry y t.vars x) (sym opened.slots) (entry_fresh w.slots.items t.vars none x refl (is ∙ opened.is) upto) in
-    let one = kept_entry o.slots.items o.lists.items o.ends.items t.vars (lits_of t.steps) c.code.result e (c.in_ok-slot.ensures.ready t ready) (valid e refl (watchable.upto second c.at-second.ensures.among)) in
-    let two = kept_entry o.slots.items (with_entry o.lists.items c.code.result e) o.ends.items t.vars (lits_of t.steps) c.code-2.result f one (valid f refl (watchable.upto first c.at-first.ensures.among)) in
-    kept_as o.slots.items c.fill.new.self (with_entry (with_entry o.lists.items c.code.result e) c.code-2.result f) c.add_entry-2.new.lists.items o.ends.items o.ends.items t.vars (lits_of t.steps) c.in_err-fill.ensures.err
+    let valid : (x : Entry) → x.slot ≡ c.in_ok-slot.slot → x.blocker.var ≤ t.vars → IsEntry o.slots t.vars x = λ x is upto. subst (λ y. IsEntry y t.vars x) (sym opened.slots) (entry_fresh w.slots t.vars none x refl (is ∙ opened.is) upto) in
+    let one = kept_entry o.slots o.lists.items o.ends.items t.vars (lits_of t.steps) c.code.result e (c.in_ok-slot.ensures.ready t ready) (valid e refl (watchable.upto second c.at-second.ensures.among)) in
+    let two = kept_entry o.slots (with_entry o.lists.items c.code.result e) o.ends.items t.vars (lits_of t.steps) c.code-2.result f one (valid f refl (watchable.upto first c.at-first.ensures.among)) in
+    kept_as o.slots c.fill.new.self (with_entry (with_entry o.lists.items c.code.result e) c.code-2.result f) c.add_entry-2.new.lists.items o.ends.items o.ends.items t.vars (lits_of t.steps) c.in_err-fill.ensures.err
     (c.in_ok-add_entry-2.ensures.ok ∙ ap (λ (ls : List (List Entry)). with_entry ls c.code-2.result f) c.in_ok-add_entry.ensures.ok) refl two
 
 pub returns-in_err-fill-clause-err : goal.returns-in_err-fill-clause-err
@@ -59,16 +59,16 @@ returns-clause-ready c = λ t ready watchable.
     let opened = c.in_ok-slot.ensures.opened in
     let lits = c.args.lits.now in
     let none : Slot = record { id = c.args.id; lits = [] } in
-    let s : Slot = record { id = (get_or o.slots.items slot no_slot).id; lits = lits } in
+    let s : Slot = record { id = (get_or o.slots slot no_slot).id; lits = lits } in
     let first = c.at-first.result in
     let second = c.at-second.result in
     let e : Entry = record { slot = slot; blocker = second } in
     let f : Entry = record { slot = slot; blocker = first } in
-    let own : c.fill.new.self ≡ set (w.slots.items ++ none ∷ []) (length w.slots.items) s = c.in_ok-fill.ensures.ok ∙ ap (λ (ls : List Literal). set o.slots.items slot (record { id = (get_or o.slots.items slot no_slot).id; lits = ls })) c.as_slice.ensures ∙ ap (λ (x : List Slot). set x slot s) opened.slots ∙ ap (λ (i : ℕ). set (w.slots.items ++ none ∷ []) i s) opened.is in
+    let own : c.fill.new.self ≡ set (w.slots ++ none ∷ []) (length w.slots) s = c.in_ok-fill.ensures.ok ∙ ap (λ (ls : List Literal). set o.slots slot (record { id = (get_or o.slots slot no_slot).id; lits = ls })) c.as_slice.ensures ∙ ap (λ (x : List Slot). set x slot s) opened.slots ∙ ap (λ (i : ℕ). set (w.slots ++ none ∷ []) i s) opened.is in
     let two : c.add_entry.new.lists.items ≡ with_entry w.lists.items (code_of first) e = c.in_ok-add_entry.ensures.ok ∙ ap (λ (i : ℕ). with_entry o.lists.items i e) c.code.ensures ∙ ap (λ (ls : List (List Entry)). with_entry ls (code_of first) e) c.in_ok-slot.ensures.lists in
     let three : c.add_entry-2.new.lists.items ≡ with_entry (with_entry w.lists.items (code_of first) e) (code_of second) f = c.in_ok-add_entry-2.ensures.ok ∙ ap (λ (i : ℕ). with_entry c.add_entry.new.lists.items i f) c.code-2.ensures ∙ ap (λ (ls : List (List Entry)). with_entry ls (code_of second) f) two in
     kept_as _ _ _ _ _ _ t.vars (lits_of t.steps) own three c.in_ok-slot.ensures.ends
-    (kept_watched w.slots.items none s w.lists.items w.ends.items t.vars (lits_of t.steps) first second e f ready refl c.requires.long c.requires.distinct (λ l h. (watchable.upto l h, c.requires.covered l h)) (c.at-first.ensures.value no_literal) (c.at-second.ensures.value no_literal)
+    (kept_watched w.slots none s w.lists.items w.ends.items t.vars (lits_of t.steps) first second e f ready refl c.requires.long c.requires.distinct (λ l h. (watchable.upto l h, c.requires.covered l h)) (c.at-first.ensures.value no_literal) (c.at-second.ensures.value no_literal)
     (ap (λ (i : ℕ). record { slot = i; blocker = second }) opened.is) (ap (λ (i : ℕ). record { slot = i; blocker = first }) opened.is) watchable.clear)
 
 pub returns-clause-ok : goal.returns-clause-ok
@@ -78,11 +78,11 @@ returns-clause-ok c = λ lines line copy hold.
     let slot = c.in_ok-slot.slot in
     let opened = c.in_ok-slot.ensures.opened in
     let none : Slot = record { id = c.args.id; lits = [] } in
-    let s : Slot = record { id = (get_or o.slots.items slot no_slot).id; lits = c.args.lits.now } in
-    let within : slot < length o.slots.items = omega (arith, opened.is, ap length opened.slots, length_push w.slots.items none) in
-    let here : get_or o.slots.items slot no_slot ≡ none = ap (λ (x : List Slot). get_or x slot no_slot) opened.slots ∙ ap (λ (i : ℕ). get_or (w.slots.items ++ none ∷ []) i no_slot) opened.is ∙ get_or_push w.slots.items none no_slot (length w.slots.items) refl in
+    let s : Slot = record { id = (get_or o.slots slot no_slot).id; lits = c.args.lits.now } in
+    let within : slot < length o.slots = omega (arith, opened.is, ap length opened.slots, length_push w.slots none) in
+    let here : get_or o.slots slot no_slot ≡ none = ap (λ (x : List Slot). get_or x slot no_slot) opened.slots ∙ ap (λ (i : ℕ). get_or (w.slots ++ none ∷ []) i no_slot) opened.is ∙ get_or_push w.slots none no_slot (length w.slots) refl in
     let same_id : s.id ≡ c.args.id = ap (λ (x : Slot). x.id) here in
-    let own : c.fill.new.self ≡ set o.slots.items slot s = c.in_ok-fill.ensures.ok ∙ ap (λ (ls : List Literal). set o.slots.items slot (record { id = (get_or o.slots.items slot no_slot).id; lits = ls })) c.as_slice.ensures in
+    let own : c.fill.new.self ≡ set o.slots slot s = c.in_ok-fill.ensures.ok ∙ ap (λ (ls : List Literal). set o.slots slot (record { id = (get_or o.slots slot no_slot).id; lits = ls })) c.as_slice.ensures in
     subst (λ (x : List Slot). AreSlots x o.index.entries lines) (sym own) (
-    hold_filled o.slots.items o.index.entries lines slot s line (subst (λ (i : ℕ). AreSlots o.slots.items o.index.entries (remove lines i)) (sym same_id) (c.in_ok-slot.ensures.hold (remove lines c.args.id) (get_removed lines c.args.id) hold)) within (ap (λ (x : Slot). x.lits) here) c.requires.long
+    hold_filled o.slots o.index.entries lines slot s line (subst (λ (i : ℕ). AreSlots o.slots o.index.entries (remove lines i)) (sym same_id) (c.in_ok-slot.ensures.hold (remove lines c.args.id) (get_removed lines c.args.id) hold)) within (ap (λ (x : Slot). x.lits) here) c.requires.long
     (subst (λ (i : ℕ). IsCopy lines i line c.args.lits.now) (sym same_id) copy) (ap (λ (i : ℕ). lookup (nat_eq i) o.index.entries) same_id ∙ opened.found))
