@@ -6,14 +6,8 @@
 #[cfg(test)]
 mod maximised_objectives;
 #[cfg(test)]
-mod normal_forms;
-#[cfg(test)]
 mod numbers_and_lists;
 #[cfg(test)]
 mod real_files;
 #[cfg(test)]
 mod shelves_in_memory;
-#[cfg(test)]
-mod stacks_of_tokens;
-#[cfg(test)]
-mod sums;

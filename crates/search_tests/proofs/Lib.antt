@@ -2,4 +2,3 @@ pub mod StoredLines
 pub mod Asking
 pub mod Beginnings
 pub mod Rising
-pub mod OneState

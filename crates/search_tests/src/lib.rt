@@ -8,8 +8,6 @@ mod binary;
 #[cfg(test)]
 mod chain;
 #[cfg(test)]
-mod failing_appends;
-#[cfg(test)]
 mod fixture;
 #[cfg(test)]
 mod numbers;
