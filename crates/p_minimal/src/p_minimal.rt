@@ -9,8 +9,9 @@ use crate::relaxed::Relaxed;
 use front_set::CostVec;
 use oracle::{Oracle, OracleFault};
 use pb_lin::PbProblem;
+use row_totalizers::add_row_totalizers;
 use scut_base::{Duplicate, NoMemory};
-use search_base::{Board, Bounds, Search, Turn};
+use search_base::{Board, Bounds, Search, Turn, adding_stays_good, turn_lines_join};
 use search_questions::{Below, seek_any, seek_below};
 use std::alloc::Global;
 use std::marker::Model;
@@ -125,10 +126,36 @@ fn seek<O: Oracle>(
     ensures fault { IfErr result (IsSearchFault (O.seen oracle.old) (O.seen oracle.new)) }
     ensures goes_on { GoesOn (O.seen oracle.old) (O.seen oracle.new) }
 {
-    match relaxations_tell(alloc, aim, relaxed, oracle, bounds, board)? {
-        Some(below) => Ok(below),
-        None => ask_oracle(alloc, aim, oracle, bounds),
+    if let Some(below) = relaxations_tell(alloc, aim, relaxed, oracle, bounds, board)? {
+        return Ok(below);
     }
+    if board.last().is_some() {
+        add_rows(alloc, relaxed, oracle, bounds, board.problem())?;
+    }
+    ask_oracle(alloc, aim, oracle, bounds)
+}
+
+// Gives the rows that count their totalizers before the oracle is asked what relaxations don't tell, once.
+fn add_rows<O: Oracle>(
+    alloc: Global,
+    relaxed: &mut Option<Relaxed>,
+    oracle: &mut O,
+    bounds: &Bounds,
+    problem: &PbProblem,
+) -> Result<(), OracleFault>
+    requires good { IsGoodWithSome (O.seen oracle.old) bounds.now }
+    requires problem { (O.seen oracle.old).problem ≡ problem.now }
+    ensures seeks { SeeksOn (O.seen oracle.old) (O.seen oracle.new) bounds.now bounds.now result }
+{
+    adding_stays_good();
+    turn_lines_join();
+    let Some(relaxed) = relaxed else {
+        return Ok(());
+    };
+    if relaxed.lacks_rows() {
+        add_row_totalizers(alloc, oracle, problem)?;
+    }
+    Ok(())
 }
 
 // The same of the oracle alone.

@@ -25,6 +25,8 @@ const MOST_BOXES: usize = 500;
 pub(crate) struct Relaxed {
     linear: LinearSearch,
     boxes: OpenBoxes,
+    // Whether the rows that count have their totalizers.
+    has_rows: bool,
 }
 
 impl Relaxed {
@@ -33,12 +35,20 @@ impl Relaxed {
         Ok(Relaxed {
             linear: LinearSearch::new(alloc, problem, PURSE)?,
             boxes: OpenBoxes::new(alloc, problem.costs().len())?,
+            has_rows: false,
         })
     }
 
     // Whether nothing can be told any more.
     pub(crate) fn is_spent(&self) -> bool {
         self.linear.is_spent()
+    }
+
+    // Whether the rows that count have no totalizers yet; from now on they have.
+    pub(crate) fn lacks_rows(&mut self) -> bool {
+        let lacks = !self.has_rows;
+        self.has_rows = true;
+        lacks
     }
 
     // Takes the vectors that this one is below out of the boxes.
