@@ -126,25 +126,41 @@ fn seek<O: Oracle>(
     ensures fault { IfErr result (IsSearchFault (O.seen oracle.old) (O.seen oracle.new)) }
     ensures goes_on { GoesOn (O.seen oracle.old) (O.seen oracle.new) }
 {
-    if let Some(below) = relaxations_tell(alloc, aim, relaxed, oracle, bounds, board)? {
-        return Ok(below);
+    match relaxations_tell(alloc, aim, relaxed, oracle, bounds, board)? {
+        Some(below) => Ok(below),
+        None => ask_over_rows(alloc, aim, relaxed, oracle, bounds, board),
     }
-    if board.last().is_some() {
-        add_rows(alloc, relaxed, oracle, bounds, board.problem())?;
-    }
+}
+
+// The same of the oracle alone, over totalizers of the rows that count.
+fn ask_over_rows<O: Oracle>(
+    alloc: Global,
+    aim: &Option<CostVec>,
+    relaxed: &mut Option<Relaxed>,
+    oracle: &mut O,
+    bounds: &mut Bounds,
+    board: &Board<'_>,
+) -> Result<Below, OracleFault>
+    requires good { IsGoodWithSome (O.seen oracle.old) bounds.old }
+    requires problem { (O.seen oracle.old).problem ≡ board.now.problem }
+    requires serves { Serves aim.now (O.seen oracle.old).problem }
+    ensures tells { IfOk result (TellsOfAim (O.seen oracle.new) aim.now) }
+    ensures seeks { SeeksOn (O.seen oracle.old) (O.seen oracle.new) bounds.old bounds.new result }
+{
+    add_rows(alloc, relaxed, oracle, bounds, board)?;
     ask_oracle(alloc, aim, oracle, bounds)
 }
 
-// Gives the rows that count their totalizers before the oracle is asked what relaxations don't tell, once.
+// Gives the rows that count their totalizers, once, where something was found and relaxations don't tell whether that is all.
 fn add_rows<O: Oracle>(
     alloc: Global,
     relaxed: &mut Option<Relaxed>,
     oracle: &mut O,
     bounds: &Bounds,
-    problem: &PbProblem,
+    board: &Board<'_>,
 ) -> Result<(), OracleFault>
     requires good { IsGoodWithSome (O.seen oracle.old) bounds.now }
-    requires problem { (O.seen oracle.old).problem ≡ problem.now }
+    requires problem { (O.seen oracle.old).problem ≡ board.now.problem }
     ensures seeks { SeeksOn (O.seen oracle.old) (O.seen oracle.new) bounds.now bounds.now result }
 {
     adding_stays_good();
@@ -152,9 +168,10 @@ fn add_rows<O: Oracle>(
     let Some(relaxed) = relaxed else {
         return Ok(());
     };
-    if relaxed.lacks_rows() {
-        add_row_totalizers(alloc, oracle, problem)?;
+    if board.last().is_none() || !relaxed.lacks_rows() {
+        return Ok(());
     }
+    add_row_totalizers(alloc, oracle, board.problem())?;
     Ok(())
 }
 

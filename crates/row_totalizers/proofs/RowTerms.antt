@@ -1,13 +1,12 @@
 -- The terms of a row's negation as weights, over variables that are there.
-use Rattle.std.proofs.Common.{◌≡◌, ◌∙◌, ◌≢◌, ℕ, ◌<◌, ◌≤◌, ◌^◌, List, get_or, length, Option, Some, Result, Ok, IfOk, IfSome, arith, sym, subst}
-use Rattle.std.specs.List.{All, AllPairs}
+use Rattle.std.proofs.Common.{◌≡◌, ◌∙◌, ℕ, ◌<◌, ◌^◌, List, get_or, length, Option, Some, Result, Ok, IfOk, IfSome, arith, sym, subst}
+use Rattle.std.specs.List.{All}
 use Rattle.scut_base.specs.Literal.{Literal}
 use Rattle.scut_base.specs.declared.memory.NoMemory.{NoMemory}
 use Rattle.pb_lin.specs.Constraint.{ConstraintValue, IsMerged, TermsUpTo, UpTo, negation, total}
 use Rattle.pb_lin.specs.Problem.{IsProblem, ProblemValue}
 use Rattle.proof_rules.specs.Recording.{Snapshot}
 use Rattle.proof_rules.proofs.GoalFaults.{negation_upto}
-use Rattle.sum_outputs.specs.Adding.{IsReached}
 use Rattle.sum_outputs.specs.Totals.{AreWeights}
 use Rattle.sum_outputs.proofs.LaterStates.{replay_vars}
 use Rattle.totalizer.specs.Totalizing.{Fits, HasVariables, TotalizerValue}

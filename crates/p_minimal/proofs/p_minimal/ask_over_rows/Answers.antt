@@ -1,0 +1,27 @@
+-- The rows' lines come first, and then the oracle's.
+use Rattle.search_questions.proofs.Calls.{seeks_after, seeks_by}
+use Rattle.p_minimal.proofs.Aims.{serves_still}
+use Rattle.p_minimal.proofs.p_minimal.ask_over_rows.Goals as goal
+
+pub ask_oracle-requires-clause-good : goal.ask_oracle-requires-clause-good
+ask_oracle-requires-clause-good g c =
+    let front = c.requires.good in
+    (front.0, (c.in_ok-add_rows.ensures.seeks.good tt front.0 front.1).0)
+
+pub ask_oracle-requires-clause-serves : goal.ask_oracle-requires-clause-serves
+ask_oracle-requires-clause-serves g c =
+    let R = g.O.Recorder in
+    serves_still (R.seen c.args.oracle.now) (R.seen c.add_rows.new.oracle) c.args.aim.now
+    c.in_ok-add_rows.ensures.seeks.goes_on.problem c.requires.serves
+
+pub returns-clause-seeks : goal.returns-clause-seeks
+returns-clause-seeks g c =
+    let R = g.O.Recorder in
+    let a = R.seen c.args.oracle.now in
+    let m = R.seen c.add_rows.new.oracle in
+    let b = R.seen c.ask_oracle.new.oracle in
+    let asked = c.args.bounds.now in
+    let added = c.in_ok-add_rows.ensures.seeks in
+    let call = c.ask_oracle.ensures in
+    seeks_after a m b asked asked c.ask_oracle.new.bounds c.ask_oracle.result (added.good tt) added.goes_on
+    (seeks_by m b asked c.ask_oracle.new.bounds c.ask_oracle.result call.good call.fault call.goes_on)
