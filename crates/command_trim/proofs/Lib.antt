@@ -1,0 +1,4 @@
+pub mod TrimmedTexts
+pub mod TrimEnds
+pub mod Completing
+pub mod Keeps

@@ -23,6 +23,6 @@ pub record IsTrimmedText (kept total : ℕ) (text : List ℕ) (i : InstanceValue
   pub taken : length log < 2 ^ 62
   pub accepted : IsAccepted i list log
   pub is : text ≡ log_text Plain (trimmed_of i list log accepted)
-  pub kept : kept ≡ length (trimmed_of i list log accepted)
-  pub total : total ≡ length accepted.proof.lines
+  pub kept_is : kept ≡ length (trimmed_of i list log accepted)
+  pub total_is : total ≡ length accepted.proof.lines
   pub again : IsAccepted i list text

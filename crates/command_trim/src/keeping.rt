@@ -78,8 +78,8 @@ impl<'a> Keeper<'a> {
     // The lines that are kept.
     pub(crate) fn into_lines(self) -> Items<Line>
         requires { IsSound self }
-        ensures lines { result ≡ self.lines }
-        ensures few { AreFew self.problem.now self.lines }
+        ensures lines { result ≡ self.entry.lines }
+        ensures few { AreFew self.entry.problem.now self.entry.lines }
     {
         // Tells that there were at most 2^61 lines.
         let _vars = self.state.vars();
