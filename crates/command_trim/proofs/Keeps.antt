@@ -17,15 +17,19 @@ use Rattle.proof_text.specs.declared.fault.TextFault.TheVariants.{Syntax as Synt
 use Rattle.proof_text.proofs.Logs.{spelled_whole}
 use Rattle.log_checker.specs.Judging.{IsUnderway}
 use Rattle.log_checker.proofs.Answering.{end_syntax, syntax_refused}
-use Rattle.log_checker.proofs.Faults.{no_whole_fault}
+use Rattle.log_checker.proofs.Faults.{no_whole_fault, whole_fault_more}
 use Rattle.log_trim.specs.Marks.{made_by}
 use Rattle.command_base.specs.Taking.{RefusesNone}
-use Rattle.command_trim.specs.Keeping.{AreFew, IsKeeping, IsLogReason, IsProofOf, IsWholeReason, StandsFor, fault_of, kept_by, whole_by}
+use Rattle.command_base.specs.Judging.{JudgedBy}
+use Rattle.command_base.specs.declared.log_file.LineFault.{LineFault}
+use Rattle.command_base.specs.declared.log_file.LineFault.TheVariants.{Refused}
+use Rattle.command_trim.specs.Keeping.{AreFew, IsKeeping, IsLogReason, IsProofOf, IsWholeReason, StandsFor, every_by, fault_of, kept_by, whole_by}
 use Rattle.command_trim.specs.declared.keeping.Keeper.{Keeper}
 
 -- what was judged of these bytes refuses none
-pub none_refused : (k : Keeper) (bytes : List ℕ) → StandsFor k bytes → RefusesNone (whole_by (kept_by k)) bytes
-none_refused k bytes stands = no_whole_fault k.problem.now k.vectors.now bytes k.lines k.state stands.0.underway.replay stands.0.underway.covered stands.1
+pub none_refused : (by : JudgedBy) (k : Keeper) (bytes : List ℕ) → kept_by k ≡ by → StandsFor k bytes → RefusesNone (whole_by by) bytes
+none_refused by k bytes is stands =
+    subst (λ (b : JudgedBy). RefusesNone (whole_by b) bytes) is (no_whole_fault k.problem.now k.vectors.now bytes k.lines k.state stands.0.underway.replay stands.0.underway.covered stands.1)
 
 -- the reader gives no line, since the next one is wrong
 pub next_reason : (k : Keeper) (new : ReaderValue) (bytes : List ℕ) (fault : TextFault) → IsKeeping k bytes → ((n : ℕ) → fault ≡ SyntaxAt n → IsSyntaxAt bytes n × ReaderStandsFor new bytes k.lines) → ((n : ℕ) → fault ≡ SyntaxAt n → new.wrong ≡ Some n)
@@ -62,3 +66,15 @@ pub few_lines : (k : Keeper) (bytes : List ℕ) → IsKeeping k bytes → IsStat
 few_lines k bytes keeping state =
     let ids = replay_ids k.problem.now k.lines k.state keeping.underway.replay in
     omega (arith, ids, made_sum k.lines, state.next_id, state.lines)
+
+-- ---- by whom it was judged
+
+-- what refuses more bytes
+pub refused_further : (by : JudgedBy) (bytes more : List ℕ) (k : ℕ) (why : Why) → whole_by by bytes k why → whole_by by (bytes ++ more) k why
+refused_further by bytes more k why fault = whole_fault_more by.problem by.vectors bytes more k why fault
+
+pub refused_whole : (old new : JudgedBy) (bytes : List ℕ) (fault : LineFault) → new ≡ old → IsWholeReason new bytes fault → (k : ℕ) (why : Why) → fault ≡ Refused k why → whole_by old bytes k why
+refused_whole old new bytes fault by reason k why is = subst (λ (b : JudgedBy). whole_by b bytes k why) by (let r : IsWholeReason new bytes (Refused k why) = subst (IsWholeReason new bytes) is reason in r)
+
+pub refused_every : (old new : JudgedBy) (bytes : List ℕ) (fault : LineFault) → new ≡ old → IsLogReason new bytes fault → (k : ℕ) (why : Why) → fault ≡ Refused k why → every_by old bytes k why
+refused_every old new bytes fault by reason k why is = subst (λ (b : JudgedBy). every_by b bytes k why) by (let r : IsLogReason new bytes (Refused k why) = subst (IsLogReason new bytes) is reason in r)
