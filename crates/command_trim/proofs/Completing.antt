@@ -1,14 +1,13 @@
 -- Where the command `trim` completes.
-use Rattle.std.proofs.Common.{◌≡◌, ℕ, zero, suc, ◌≢◌, List, refl, inl, inr, arith}
-use Rattle.scut_base.specs.Faults.{Faults}
+use Rattle.std.proofs.Common.{◌≡◌, zero, suc, ◌≢◌, refl, arith}
 use Rattle.scut_base.specs.World.{World}
-use Rattle.command_base.specs.Answering.{Answered, CallRose, OwnRose}
+use Rattle.command_base.specs.Answering.{Answered, OwnRose}
 use Rattle.command_base.specs.declared.status.Status.{Status}
 use Rattle.command_base.specs.Views.{view}
 use Rattle.command_base.specs.declared.status.Status.TheVariants.{Accepted, Refused, Trimmed, NoMemory, ShelfFailed}
 use Rattle.command_check.specs.Table.{CheckTable, IsCheckEnd, check_calls}
 use Rattle.command_check.proofs.Completing.{check_completes}
-use Rattle.command_trim.specs.Table.{AreTrimmable, IsTrimEnd, TrimCompletes, TrimTable, trim_calls}
+use Rattle.command_trim.specs.Table.{AreTrimmable, TrimCompletes, TrimTable, trim_calls}
 use Rattle.command_trim.specs.Words.{TrimAsked, check_of}
 
 module _ (a : TrimAsked) (before after : World) where

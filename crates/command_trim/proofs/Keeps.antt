@@ -1,11 +1,8 @@
 -- What a keeper of a log has after each line, and at the end.
-use Rattle.std.proofs.Common.{◌≡◌, ◌⊎◌, ℕ, ◌+◌, ◌≤◌, ◌^◌, true, List, [], ◌∷◌, ◌++◌, length, refl, sym, ◌∙◌, ap, subst, arith, ℤ}
-use Rattle.std.specs.Prelude.{Option, Some, sum_by}
+use Rattle.std.proofs.Common.{◌≡◌, ◌⊎◌, ℕ, ◌+◌, true, List, [], ◌∷◌, ◌++◌, refl, subst, arith}
+use Rattle.std.specs.Prelude.{Some, sum_by}
 use Rattle.std.proofs.lemmas.List.Sums.{sum_by-cons}
-use Rattle.pb_lin.specs.Problem.{ProblemValue}
-use Rattle.proof_laws.specs.State.{Fits, IsState, StateValue}
-use Rattle.proof_laws.specs.Legal.{IsNext}
-use Rattle.proof_laws.specs.Replay.{IsReplay}
+use Rattle.proof_laws.specs.State.{IsState}
 use Rattle.proof_laws.specs.Steps.{made}
 use Rattle.proof_laws.specs.declared.line.Line.{Line}
 use Rattle.proof_laws.specs.declared.why.Why.{Why}
@@ -15,7 +12,6 @@ use Rattle.proof_text.specs.Reading.{ReaderValue, StandsFor as ReaderStandsFor}
 use Rattle.proof_text.specs.declared.fault.TextFault.{TextFault}
 use Rattle.proof_text.specs.declared.fault.TextFault.TheVariants.{Syntax as SyntaxAt, NoMemory as TextMemory}
 use Rattle.proof_text.proofs.Logs.{spelled_whole}
-use Rattle.log_checker.specs.Judging.{IsUnderway}
 use Rattle.log_checker.proofs.Answering.{end_syntax, syntax_refused}
 use Rattle.log_checker.proofs.Faults.{no_whole_fault, whole_fault_more}
 use Rattle.log_trim.specs.Marks.{made_by}

@@ -29,7 +29,6 @@ use Rattle.command_base.specs.declared.stops.LogStop.TheVariants.{Refused as Lin
 use Rattle.command_base.specs.declared.status.Status.TheVariants.{NoMemory, Trimmed}
 use Rattle.command_base.proofs.Answered.{TakesInput, ended, own_rose, own_rose_at_last, shelf_fault, view_kept}
 use Rattle.command_check.specs.Stages.{IsJudgedFor, IsListed, IsRead}
-use Rattle.command_check.specs.Words.{CheckAsked}
 use Rattle.command_check.proofs.CheckEnds.{list_stopped as check_list_stopped, log_stopped as check_log_stopped}
 use Rattle.command_trim.specs.Keeping.{IsProofOf, IsProved, every_by, whole_by}
 use Rattle.command_trim.specs.Table.{IsCutOff, IsTextOf, IsWritten, TrimTable, trim_calls}

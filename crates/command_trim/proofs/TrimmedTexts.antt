@@ -1,13 +1,12 @@
 -- A trimmed log is accepted for the list for which the old one is.
-use Rattle.std.specs.Prelude.{All, Contains}
-use Rattle.std.proofs.Common.{◌≡◌, ℕ, List, [], ◌∷◌, length, refl, ◌∙◌, subst, sym}
+use Rattle.std.specs.Prelude.{Contains}
+use Rattle.std.proofs.Common.{ℕ, List, [], ◌∷◌, ◌∙◌}
 use Rattle.std.proofs.lemmas.List.Elements.{All-contains, All-weaker}
 use Rattle.instance.specs.Shape.{InstanceValue, IsWithinLimits}
 use Rattle.instance_normal.proofs.Fitted.{form_within}
 use Rattle.pb_lin.specs.Problem.{IsProblem}
 use Rattle.proof_laws.specs.declared.line.Line.{Line}
 use Rattle.proof_lines.specs.declared.spelling.Spelling.TheVariants.{Plain}
-use Rattle.proof_text.specs.LogText.{SpellsLog}
 use Rattle.proof_text.specs.Versions.{AllFit, log_text}
 use Rattle.proof_text.proofs.Logs.{printed_spells}
 use Rattle.log_checker.specs.Accepted.{IsAccepted, IsCovered, problem_vectors}

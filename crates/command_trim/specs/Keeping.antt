@@ -1,5 +1,5 @@
 -- The lines of a log that are kept while they are judged; nothing of it has to be believed.
-use Rattle.std.specs.Prelude.{◌≡◌, ℕ, ◌+◌, ◌<◌, ◌≤◌, ◌^◌, Bool, true, false, List, length, Option, Result, Ok, Err, ℤ}
+use Rattle.std.specs.Prelude.{◌≡◌, ℕ, ◌+◌, ◌<◌, ◌≤◌, ◌^◌, Bool, true, false, List, length, Option, Result, Ok, Err}
 use Rattle.scut_base.specs.Files.{Files}
 use Rattle.front_set.specs.declared.entry.Entry.{Entry}
 use Rattle.instance.specs.Shape.{InstanceValue}

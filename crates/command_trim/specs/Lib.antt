@@ -7,7 +7,7 @@ pub use Rattle.log_trim.specs.Trimmed
 pub use Rattle.command_base.specs.Answering
 pub use Rattle.command_base.specs.Messages
 pub use Rattle.command_base.specs.Views
-pub use Rattle.command_check.specs.Table
+pub use Rattle.command_check.specs.Table as CheckTable
 pub mod Words
 pub mod TrimmedText
 pub mod Table

@@ -188,13 +188,7 @@ impl<'a> Trim<'a> {
     }
 
     // Writes the trimmed lines, of so many.
-    fn write<H: Shelf>(
-        &self,
-        alloc: Global,
-        kept: &[Line],
-        total: u64,
-        shelf: &mut H,
-    ) -> Status
+    fn write<H: Shelf>(&self, alloc: Global, kept: &[Line], total: u64, shelf: &mut H) -> Status
         requires { IsTextOf (H.world shelf.old).files (asked self.now) (log_text Plain kept.now)
             (length kept.now) total }
         ensures answered { Answered (TrimTable (asked self.now)) (trim_calls (asked self.now))

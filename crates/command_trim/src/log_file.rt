@@ -31,12 +31,18 @@ pub(crate) fn proved_lines<H: Shelf>(
 ) -> Result<Items<Line>, LogStop>
     requires entries { AreProblemVectors inst.now entries.now }
     ensures proof { IfOk result (HoldsProof (H.world shelf.old).files log.now (record {
-        problem = problem.now; vectors = problem_vectors inst.now entries.now })) }
+      problem = problem.now;
+      vectors = problem_vectors inst.now entries.now;
+    })) }
     ensures few { IfOk result (AreFew problem.now) }
     ensures stop { IfErr result (λ stop. IsLogStop (whole_by (record {
-        problem = problem.now; vectors = problem_vectors inst.now entries.now }))
+      problem = problem.now;
+      vectors = problem_vectors inst.now entries.now;
+    }))
         (every_by (record {
-        problem = problem.now; vectors = problem_vectors inst.now entries.now })) log.now stop
+          problem = problem.now;
+          vectors = problem_vectors inst.now entries.now;
+        })) log.now stop
         (H.world shelf.old).files (H.world shelf.old).faults (H.world shelf.new).faults) }
     ensures only_reads { OnlyReads (H.world shelf.old) (H.world shelf.new) }
 {

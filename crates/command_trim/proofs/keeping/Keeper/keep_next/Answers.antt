@@ -1,4 +1,4 @@
-use Rattle.std.proofs.Common.{◌≡◌, ◌∷◌, ◌++◌, [], Err, List, None, ap, subst, sym}
+use Rattle.std.proofs.Common.{◌≡◌, Err, List, None, ap, subst, sym}
 use Rattle.proof_laws.specs.declared.line.Line.{Line}
 use Rattle.log_checker.specs.Judging.{IsUnderway}
 use Rattle.log_checker.proofs.Answering.{gives_line, line_formed, line_is_refused, line_taken, not_wrong, reason_is, smaller}
