@@ -1,5 +1,5 @@
 -- The trimmed lines come of the old ones in their order.
-use Rattle.std.specs.Prelude.{◌≡◌, ℕ, ◌+◌, Bool, true, false, if◌then◌else◌, List, [], ◌∷◌, ◌++◌, refl}
+use Rattle.std.specs.Prelude.{ℕ, ◌+◌, Bool, true, false, if◌then◌else◌, List, [], ◌∷◌, refl}
 use Rattle.std.proofs.Common.{ap}
 use Rattle.proof_laws.specs.Steps.{made}
 use Rattle.proof_laws.specs.declared.line.Line.{Line}
