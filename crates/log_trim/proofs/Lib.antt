@@ -14,3 +14,4 @@ pub mod NewIds
 pub mod NewLines
 pub mod Marking
 pub mod Keeping
+pub mod Subsequence

@@ -2,8 +2,8 @@
 //!
 //! Its public contract is that of `run`, by what the words ask for: after Complete the list file holds
 //! exactly the front of the instance, after Accepted list and log are accepted for it, after Done the new
-//! log spells the lines of the old one, and every other answer has its stated cause. Each command is a crate with a table of its own; here stand the first words,
-//! and `main`, which runs them over the real files.
+//! log spells the lines of the old one, after Trimmed it is accepted as the old one is, and every other answer has its stated cause.
+//! Each command is a crate with a table of its own; here stand the first words, and `main`, which runs them over the real files.
 #![tactic(auto)]
 
 mod names;

@@ -9,6 +9,7 @@ pub enum CommandName {
     Solve,
     Check,
     Upgrade,
+    Trim,
     Gen,
     Trial,
 }
@@ -32,6 +33,7 @@ fn command_named(word: &str) -> Option<CommandName>
         "solve" => Some(CommandName::Solve),
         "check" => Some(CommandName::Check),
         "upgrade" => Some(CommandName::Upgrade),
+        "trim" => Some(CommandName::Trim),
         "gen" => Some(CommandName::Gen),
         "trial" => Some(CommandName::Trial),
         _ => None,

@@ -11,9 +11,10 @@ ghost use Rattle.command_front.specs.Words.{front_asked};
 ghost use Rattle.command_gen.specs.Words.{gen_asked};
 ghost use Rattle.command_solve.specs.Words.{solve_asked};
 ghost use Rattle.command_trial.specs.Words.{trial_asked};
+ghost use Rattle.command_trim.specs.Words.{trim_asked};
 ghost use Rattle.command_upgrade.specs.Words.{upgrade_asked};
 ghost use Rattle.scuttle_cli.specs.Answers.{CompletesOf, HasUsage, TableOf, own_calls};
-ghost use Rattle.scuttle_cli.specs.Requests.{CheckOf, FrontOf, GenOf, SolveOf, TrialOf, UpgradeOf, request_of};
+ghost use Rattle.scuttle_cli.specs.Requests.{CheckOf, FrontOf, GenOf, SolveOf, TrialOf, TrimOf, UpgradeOf, request_of};
 
 use crate::names::{CommandName, command_in};
 use command_base::{Status, run_and_warn, warn_of};
@@ -22,6 +23,7 @@ use command_front::read_front;
 use command_gen::read_gen;
 use command_solve::read_solve;
 use command_trial::read_trial;
+use command_trim::read_trim;
 use command_upgrade::read_upgrade;
 use scut_base::{Shelf, ShelfFault};
 use std::alloc::Global;
@@ -62,6 +64,7 @@ fn run_named<H: Shelf>(
         Some(CommandName::Solve) => run_solve(alloc, words, shelf),
         Some(CommandName::Check) => run_check(alloc, words, shelf),
         Some(CommandName::Upgrade) => run_upgrade(alloc, words, shelf),
+        Some(CommandName::Trim) => run_trim(alloc, words, shelf),
         Some(CommandName::Gen) => run_gen(alloc, words, shelf),
         Some(CommandName::Trial) => run_trial(alloc, words, shelf),
         None => not_run(alloc, Status::Usage, shelf),
@@ -142,6 +145,26 @@ fn run_upgrade<H: Shelf>(
         (H.world shelf.new) result.1 }
 {
     match read_upgrade(alloc, words) {
+        Ok(Some(command)) => run_and_warn(alloc, &command, shelf),
+        Ok(None) => not_run(alloc, Status::Usage, shelf),
+        Err(_) => not_run(alloc, Status::NoMemory, shelf),
+    }
+}
+
+// The command `trim`.
+fn run_trim<H: Shelf>(
+    alloc: Global,
+    words: &[String],
+    shelf: &mut H,
+) -> (Status, Result<(), ShelfFault>)
+    ensures answered { Answered
+        (TableOf (option_map TrimOf (trim_asked (map string_bytes words.now))))
+        (own_calls (option_map TrimOf (trim_asked (map string_bytes words.now)))) result.0
+        (H.world shelf.old) (H.world shelf.new) }
+    ensures warned { IsWarned (warning_text result.0) (H.world shelf.old)
+        (H.world shelf.new) result.1 }
+{
+    match read_trim(alloc, words) {
         Ok(Some(command)) => run_and_warn(alloc, &command, shelf),
         Ok(None) => not_run(alloc, Status::Usage, shelf),
         Err(_) => not_run(alloc, Status::NoMemory, shelf),
