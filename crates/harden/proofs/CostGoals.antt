@@ -1,26 +1,24 @@
 -- The goals of the objectives.
-use Rattle.std.proofs.Common.{◌≡◌, ◌⊎◌, ℕ, ◌+◌, ◌-◌, ◌*◌, ◌<◌, ◌≤◌, ◌==◌, zero, suc, Bool, true, false, if◌then◌else◌, None, List, [], ◌∷◌, ◌++◌, length, sum_by, refl, ap, sym, subst, ◌∙◌, arith, pos, ◌-ℤ◌}
+use Rattle.std.proofs.Common.{◌≡◌, ℕ, ◌+◌, ◌<◌, ◌≤◌, ◌==◌, zero, suc, Bool, true, false, if◌then◌else◌, None, List, [], ◌∷◌, refl, arith, pos}
 use Rattle.std.specs.Prelude.{◌^◌}
-use Rattle.std.specs.List.{All, AllPairs}
-use Rattle.std.specs.Int.{int_max}
+use Rattle.std.specs.List.{All}
 use Rattle.std.proofs.lemmas.Bool.{eqb-true, eqb-false}
 use Rattle.std.proofs.lemmas.Int.{ints, clamps}
 use Rattle.std.proofs.lemmas.List.Elements.{All-nil, All-cons, All-head, All-tail}
 use Rattle.std.proofs.lemmas.List.Sums.{sum_by-cons}
 use Rattle.scut_base.specs.Literal.{Literal}
 use Rattle.scut_base.specs.Assignment.{lit_true}
-use Rattle.pb_lin.specs.Constraint.{ConstraintValue, IsNormal, term_value, total, value}
+use Rattle.pb_lin.specs.Constraint.{ConstraintValue, IsNormal, term_value, value}
 use Rattle.pb_lin.specs.CostRow.{CostRowValue, IsCostRow}
-use Rattle.pb_lin.specs.Substitution.{value_under}
 use Rattle.proof_laws.specs.State.{StateValue}
 use Rattle.proof_laws.specs.Steps.{term_of}
-use Rattle.proof_laws.specs.Substituted.{Requirement, IsGoalOf, not_risen, none_risen}
+use Rattle.proof_laws.specs.Substituted.{not_risen, none_risen}
 use Rattle.proof_laws.specs.Refusal.{IsGoalFault}
 use Rattle.proof_laws.specs.declared.goal.Goal.{Goal}
 use Rattle.proof_laws.specs.declared.goal.GoalProof.{GoalProof}
 use Rattle.harden.specs.Hardened.{falsified}
 use Rattle.harden.specs.Laws.{OnlyAs, coefficient}
-use Rattle.harden.proofs.Splitting.{others, split_total, split_value, under_value, own_truth}
+use Rattle.harden.proofs.Splitting.{split_total, split_value, under_value, own_truth}
 use Rattle.harden.proofs.GoalFaults.{closed}
 
 -- one literal with a coefficient, or nothing
@@ -62,16 +60,18 @@ module _ (s : StateValue) (c : ConstraintValue) (proofs : List (Goal × GoalProo
       let k = coefficient l.var r.terms in
       let split = split_total l.var r.terms in
       let small = row.small in
-      closed s c proofs (not_risen (falsified l) i r) (record { terms = term_of l k; degree = 0 }) (omega arith)
-      (one_normal l k 0 from_one (omega arith), record {
-        least = pos 0;
-        same = λ x.
-            let one = one_value x l k in
-            let before = split_value l r.terms x only in
-            let after = under_value l l r.terms x false refl (own_truth l x) only in
-            omega (arith, ints);
-        degree = omega (arith, ints, clamps);
-      }) refl
+      closed s c proofs (not_risen (falsified l) i r) (record { terms = term_of l k; degree = 0 }) (omega arith) (
+        one_normal l k 0 from_one (omega arith),
+        record {
+          least = pos 0;
+          same = λ x.
+              let one = one_value x l k in
+              let before = split_value l r.terms x only in
+              let after = under_value l l r.terms x false refl (own_truth l x) only in
+              omega (arith, ints);
+          degree = omega (arith, ints, clamps);
+        },
+      ) refl
 
   pub costs_closed : (i : ℕ) (rows : List CostRowValue) → All (λ r. IsCostRow r.terms r.offset) rows → All (λ r. OnlyAs l r.terms) rows → All (λ q. IsGoalFault s c proofs q None) (none_risen (falsified l) i rows)
   costs_closed i [] are only = All-nil (λ q. IsGoalFault s c proofs q None)

@@ -1,13 +1,12 @@
 -- Goals that are closed, one after the other.
-use Rattle.std.proofs.Common.{◌≡◌, ◌⊎◌, inl, inr, ℕ, ◌+◌, ◌*◌, ◌<◌, ◌≤◌, Bool, true, false, not, Option, None, Some, List, [], ◌∷◌, refl, ap, sym, subst, ◌∙◌, arith}
-use Rattle.std.specs.Prelude.{◌^◌, nat_lt, MatchOption}
+use Rattle.std.proofs.Common.{◌≡◌, inl, inr, ◌*◌, ◌<◌, ◌≤◌, Option, None, Some, List, [], ◌∷◌, refl, subst, arith}
+use Rattle.std.specs.Prelude.{◌^◌, MatchOption}
 use Rattle.std.specs.List.{All}
-use Rattle.std.proofs.lemmas.Bool.{le-ltb}
 use Rattle.std.proofs.lemmas.List.Elements.{All-head, All-tail}
 use Rattle.pb_lin.specs.Constraint.{ConstraintValue, negation, size}
 use Rattle.proof_laws.specs.State.{StateValue}
 use Rattle.proof_laws.specs.Substituted.{Requirement, IsGoalOf}
-use Rattle.proof_laws.specs.Refusal.{FirstOf, fault_unless, size_fault, proof_of, IsProofFault, IsOpenGoalFault, IsGoalFault, IsFirstGoalFault}
+use Rattle.proof_laws.specs.Refusal.{FirstOf, size_fault, proof_of, IsProofFault, IsGoalFault, IsFirstGoalFault}
 use Rattle.proof_laws.specs.declared.goal.Goal.{Goal}
 use Rattle.proof_laws.specs.declared.goal.GoalProof.{GoalProof}
 use Rattle.proof_laws.specs.declared.why.Why.{Why}

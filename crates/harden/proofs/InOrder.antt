@@ -1,18 +1,17 @@
 -- All lines in order.
-use Rattle.std.proofs.Common.{◌≡◌, ◌≢◌, ◌⊎◌, inl, inr, ℕ, ◌+◌, ◌-◌, ◌<◌, ◌≤◌, ◌==◌, Bool, true, false, not, cond, ◌&&◌, ◌||◌, if◌then◌else◌, Option, None, Some, List, [], ◌∷◌, ◌++◌, length, get_or, refl, ap, sym, subst, ◌∙◌, ⊎_elim, arith, append-nil}
-use Rattle.std.specs.Prelude.{◌^◌, nat_lt}
-use Rattle.std.specs.List.{All, AllPairs, flat_map, list_any}
+use Rattle.std.proofs.Common.{◌≡◌, inl, inr, ℕ, ◌+◌, ◌<◌, ◌≤◌, ◌==◌, Bool, true, false, cond, ◌||◌, if◌then◌else◌, None, Some, List, [], ◌∷◌, ◌++◌, length, get_or, refl, ap, sym, subst, ◌∙◌, ⊎_elim, arith, append-nil}
+use Rattle.std.specs.Prelude.{◌^◌}
+use Rattle.std.specs.List.{All, AllPairs, list_any}
 use Rattle.std.specs.FinMap.{get, insert, get-insert}
-use Rattle.std.specs.Cmp.{nat_cmp_total, unsigned_tied}
+use Rattle.std.specs.Cmp.{nat_cmp_total}
 use Rattle.std.specs.Ordering.{nat_cmp, eq_by_cmp}
-use Rattle.std.proofs.lemmas.Bool.{and_parts, cond-true, cond-false, eq-eqb, ne_eqb, cases_lt}
-use Rattle.std.proofs.lemmas.List.Elements.{All-nil, All-cons, All-append, All-weaker}
+use Rattle.std.proofs.lemmas.Bool.{and_parts, ne_eqb, cases_lt}
+use Rattle.std.proofs.lemmas.List.Elements.{All-nil, All-cons}
 use Rattle.scut_base.specs.Literal.{Literal}
-use Rattle.pb_lin.specs.Constraint.{ConstraintValue, IsNormal, opposite}
+use Rattle.pb_lin.specs.Constraint.{ConstraintValue, opposite}
 use Rattle.pb_lin.specs.Problem.{ProblemValue, IsProblem}
 use Rattle.pb_lin.specs.LineMap.{LineMap}
-use Rattle.pb_lin.specs.Substitution.{touches}
-use Rattle.proof_laws.specs.State.{StateValue, IsState, Fits, numbered, start}
+use Rattle.proof_laws.specs.State.{StateValue, numbered}
 use Rattle.proof_laws.specs.Steps.{with_line}
 use Rattle.proof_laws.specs.WellFormed.{IsWellFormed, IsConstraint, IsSubstitution, AreProofs, IsVariable, IsImage, IsGoal, IsGoalProof, IsToken, IsHint, ComesBefore}
 use Rattle.cutting_planes.specs.declared.token.PolToken.TheVariants.{Id, Negated, Add}
@@ -20,14 +19,11 @@ use Rattle.hint_rup.specs.declared.hint.Hint.TheVariants.{Denied}
 use Rattle.proof_laws.specs.declared.goal.Goal.{Goal}
 use Rattle.proof_laws.specs.declared.goal.Goal.TheVariants.{Row, Strict}
 use Rattle.proof_laws.specs.declared.goal.GoalProof.{GoalProof}
-use Rattle.proof_laws.specs.declared.goal.GoalProof.TheVariants.{Rup as ByRup, Pol as ByPol}
-use Rattle.proof_laws.specs.Legal.{IsLegal, IsNext}
-use Rattle.proof_laws.specs.Replay.{Leads}
-use Rattle.proof_laws.specs.Laws.{StandsBefore}
+use Rattle.proof_laws.specs.declared.goal.GoalProof.TheVariants.{Rup as ByRup}
+use Rattle.proof_laws.specs.Legal.{IsNext}
 use Rattle.proof_laws.specs.declared.line.Line.{Line}
-use Rattle.proof_laws.specs.declared.line.Line.TheVariants.{Red, Dom}
 use Rattle.proof_laws.proofs.NextKept.{start_law, next_fits_law}
-use Rattle.harden.specs.Hardened.{can_fix, dom_line, falsified, false_image, first_fixed, fixing, fixing_line, in_costs, in_rows, is_fixed, red_line, row_proof, row_proofs, row_tokens, stays_open, strict_proof}
+use Rattle.harden.specs.Hardened.{can_fix, dom_line, falsified, false_image, first_fixed, fixing, in_costs, in_rows, is_fixed, red_line, row_proof, row_proofs, stays_open, strict_proof}
 use Rattle.harden.specs.Laws.{TouchesRows, IsHardenedTo, HardeningBegins, HardeningGoesOn, MayBeFixed}
 use Rattle.harden.proofs.RowProofs.{Pairs, kept, proofs_of}
 use Rattle.std.proofs.lemmas.List.Kept.{AllPairs-cons}
@@ -105,6 +101,7 @@ proofs_small l n (c ∷ rows) rest small all = by (stays_open (opposite l) c) (p
   where
     here : IsPair (row_proof n)
     here = (omega arith, ((λ e. cc), All-cons IsToken (Id n) (Negated ∷ Add ∷ []) (omega arith) (All-cons IsToken Negated (Add ∷ []) tt (All-cons IsToken Add [] tt (All-nil IsToken)))))
+
     by : (b : Bool) → All IsPair (row_proofs l (numbered (n + 1) rows) ++ rest) → All IsPair (proofs_of (cond b ((n, c) ∷ kept l (numbered (n + 1) rows)) (kept l (numbered (n + 1) rows))) ++ rest)
     by true more = All-cons IsPair (row_proof n) (row_proofs l (numbered (n + 1) rows) ++ rest) here more
     by false more = more
@@ -149,9 +146,9 @@ module _ (p : ProblemValue) (s : StateValue) (var : ℕ) (problem : IsProblem p)
       let ids = so.state.ids id c live in (
         ids.0,
         ⊎_elim
-        (λ (above : length p.rows < id). absurd (missing (list_any_none (λ t. t.0.var == l.var) c.terms (λ k d short. ne_eqb (get_or c.terms k d).0.var l.var (λ same. let less = so.lines id c live above k d short in omega arith))) (has_variable l c.terms touched)))
-        (λ (most : id ≤ length p.rows). most)
-        (cases_lt (length p.rows) id),
+            (λ (above : length p.rows < id). absurd (missing (list_any_none (λ t. t.0.var == l.var) c.terms (λ k d short. ne_eqb (get_or c.terms k d).0.var l.var (λ same. let less = so.lines id c live above k d short in omega arith))) (has_variable l c.terms touched)))
+            (λ (most : id ≤ length p.rows). most)
+            (cases_lt (length p.rows) id),
       )
     where
       missing : list_any (λ t. t.0.var == l.var) c.terms ≡ false → list_any (λ t. t.0.var == l.var) c.terms ≡ true → ⊥
@@ -164,9 +161,11 @@ module _ (p : ProblemValue) (s : StateValue) (var : ℕ) (problem : IsProblem p)
 
   red_formed : (l : Literal) → l.var ≡ var → IsWellFormed (red_line p l)
   red_formed l is =
-      let vars = problem.variables in
-      (small_clause l (omega arith) (omega arith), small_witness l (omega arith) (omega arith),
-      subst (λ (qs : Pairs). AreProofs qs) (append-nil (row_proofs l (numbered 1 p.rows))) (proofs_formed p l [] problem none_ordered (λ m. All-nil (ComesAfter m)) (All-nil IsPair)))
+      let vars = problem.variables in (
+        small_clause l (omega arith) (omega arith),
+        small_witness l (omega arith) (omega arith),
+        subst (λ (qs : Pairs). AreProofs qs) (append-nil (row_proofs l (numbered 1 p.rows))) (proofs_formed p l [] problem none_ordered (λ m. All-nil (ComesAfter m)) (All-nil IsPair)),
+      )
 
   -- where a line is legal and makes the clause, the next state is one for the next variable
   goes_on : (l : Literal) (line : Line) → l.var ≡ var → IsWellFormed line → IsNext p s line (with_line s (fixing l)) → IsHardenedTo p (with_line s (fixing l)) (l.var + 1)

@@ -1,8 +1,8 @@
 -- A line that fixes a literal by dominance is legal.
-use Rattle.std.proofs.Common.{◌≡◌, ℕ, ◌+◌, ◌<◌, ◌≤◌, Bool, true, false, not, cond, if◌then◌else◌, Option, None, Some, List, [], ◌∷◌, ◌++◌, refl, ap, sym, subst, ◌∙◌, arith}
+use Rattle.std.proofs.Common.{◌≡◌, ℕ, ◌≤◌, Bool, true, false, not, cond, None, List, [], ◌∷◌, ◌++◌, refl, ap, sym, subst, arith}
 use Rattle.std.specs.Prelude.{◌^◌, nat_lt}
 use Rattle.std.specs.List.{All}
-use Rattle.std.proofs.lemmas.Bool.{lt-ltb, le-ltb}
+use Rattle.std.proofs.lemmas.Bool.{lt-ltb}
 use Rattle.std.proofs.lemmas.List.Elements.{All-nil, All-cons, All-append}
 use Rattle.std.specs.List.{flat_map}
 use Rattle.scut_base.specs.Literal.{Literal}
@@ -10,9 +10,7 @@ use Rattle.pb_lin.specs.Constraint.{ConstraintValue, negation, opposite, size}
 use Rattle.pb_lin.specs.Problem.{ProblemValue}
 use Rattle.proof_laws.specs.Refusal.{IsGoalFault, IsFirstGoalFault, fault_unless, size_fault, range_fault, written, image_variables, proof_variables}
 use Rattle.proof_laws.specs.declared.goal.Goal.{Goal}
-use Rattle.proof_laws.specs.declared.goal.Goal.TheVariants.{Row}
 use Rattle.proof_laws.specs.declared.goal.GoalProof.{GoalProof}
-use Rattle.proof_laws.specs.declared.goal.GoalProof.TheVariants.{Pol as ByPol}
 use Rattle.proof_laws.specs.declared.why.Why.TheVariants.{AfterEnd, LogLong}
 use Rattle.proof_laws.proofs.Conditions.{no_fault, no_first, no_range_fault, no_size_fault}
 use Rattle.proof_laws.specs.Substituted.{dominance, none_risen, has_fallen, touched_hold}
@@ -51,10 +49,10 @@ dom_law p s l problem fits open_ room from_one upto can costs =
     let proofs = row_proofs l (numbered 1 p.rows) ++ strict_proof in
     let vars = fits.vars in
     let goals = All-append (λ q. IsGoalFault s (fixing l) proofs q None) (touched_hold (falsified l) (numbered 1 p.rows)) (none_risen (falsified l) 1 p.costs ++ (has_fallen (falsified l) p ∷ []))
-        (rows_closed p s l strict_proof problem fits from_one can)
-        (All-append (λ q. IsGoalFault s (fixing l) proofs q None) (none_risen (falsified l) 1 p.costs) (has_fallen (falsified l) p ∷ [])
-        (costs_closed s (fixing l) proofs l from_one 1 p.costs problem.cost_rows only)
-        (All-cons (λ q. IsGoalFault s (fixing l) proofs q None) (has_fallen (falsified l) p) [] (strict_closed p s l problem from_one (omega arith) only some) (All-nil (λ q. IsGoalFault s (fixing l) proofs q None)))) in
+    (rows_closed p s l strict_proof problem fits from_one can)
+    (All-append (λ q. IsGoalFault s (fixing l) proofs q None) (none_risen (falsified l) 1 p.costs) (has_fallen (falsified l) p ∷ [])
+    (costs_closed s (fixing l) proofs l from_one 1 p.costs problem.cost_rows only)
+    (All-cons (λ q. IsGoalFault s (fixing l) proofs q None) (has_fallen (falsified l) p) [] (strict_closed p s l problem from_one (omega arith) only some) (All-nil (λ q. IsGoalFault s (fixing l) proofs q None)))) in
     let upto_state : l.var ≤ s.vars = omega arith in
     no_first (fault_unless (not s.ended) AfterEnd) _ None (no_fault (not s.ended) AfterEnd (ap not open_))
     (no_first (fault_unless (nat_lt s.lines (2 ^ 61)) LogLong) _ None (no_fault (nat_lt s.lines (2 ^ 61)) LogLong (lt-ltb s.lines (2 ^ 61) room))

@@ -9,3 +9,5 @@ pub mod StrictGoals
 pub mod Legality
 pub mod Redundance
 pub mod InOrder
+pub mod Places
+pub mod Adding

@@ -3,12 +3,10 @@ use Rattle.std.proofs.Common.{◌≡◌, ℕ, ◌+◌, ◌-◌, ◌<◌, ◌≤�
 use Rattle.std.specs.Prelude.{◌^◌, nat_lt}
 use Rattle.std.specs.List.{All, filter, flat_map}
 use Rattle.std.specs.FinMap.{get, entries, entries_sorted, get-entries}
-use Rattle.std.specs.Int.{int_max}
 use Rattle.std.proofs.lemmas.Bool.{lt-ltb}
 use Rattle.std.proofs.lemmas.Int.{ints, clamps}
 use Rattle.std.proofs.lemmas.List.{get_or_default}
 use Rattle.std.proofs.lemmas.List.Elements.{All-nil, All-cons, All-append, All-map}
-use Rattle.std.proofs.lemmas.List.Sums.{sum_by-cons}
 use Rattle.scut_base.specs.Literal.{Literal}
 use Rattle.scut_base.proofs.Lists.{all_filter_if}
 use Rattle.pb_lin.specs.Constraint.{ConstraintValue, negation, opposite, size}
@@ -16,7 +14,7 @@ use Rattle.pb_lin.specs.Problem.{ProblemValue, IsProblem}
 use Rattle.pb_lin.specs.Substitution.{touches, true_under}
 use Rattle.cutting_planes.proofs.Terms.{normal-nil}
 use Rattle.proof_laws.specs.State.{StateValue, Fits, numbered}
-use Rattle.proof_laws.specs.Substituted.{IsGoalOf, redundance, holds_after, none_risen, touched_hold}
+use Rattle.proof_laws.specs.Substituted.{redundance, holds_after, none_risen, touched_hold}
 use Rattle.proof_laws.specs.Refusal.{IsGoalFault, IsFirstGoalFault, fault_unless, size_fault, range_fault, written, image_variables, proof_variables}
 use Rattle.proof_laws.specs.declared.goal.Goal.{Goal}
 use Rattle.proof_laws.specs.declared.goal.Goal.TheVariants.{Row, Itself}
@@ -29,7 +27,7 @@ use Rattle.proof_laws.proofs.Entries.{entry_found}
 use Rattle.harden.proofs.Splitting.{opposite_truth}
 use Rattle.harden.proofs.Tests.{fixed_costs}
 use Rattle.harden.proofs.GoalFaults.{closed, no_faults}
-use Rattle.harden.proofs.RowGoals.{HasNone, at_row}
+use Rattle.harden.proofs.RowGoals.{at_row}
 use Rattle.harden.proofs.CostGoals.{costs_closed}
 use Rattle.harden.proofs.Legality.{no_row_variables}
 
@@ -64,12 +62,14 @@ module _ (p : ProblemValue) (s : StateValue) (l : Literal) (problem : IsProblem 
       at_entry e (get-entries s.live e.0 ∙ entry_found (entries s.live) (entries_sorted s.live) e (k, short, get_or_default (entries s.live) k e d short)) touched))
 
   itself_closed : IsGoalFault s (fixing l) proofs (holds_after (falsified l) Itself (fixing l)) None
-  itself_closed = closed s (fixing l) proofs (holds_after (falsified l) Itself (fixing l)) (record { terms = []; degree = 0 }) (omega arith)
-      (normal-nil 0 (omega arith), record {
-        least = pos 0;
-        same = λ x. by_truth (true_under (falsified l) x (opposite l)) (opposite_truth l x);
-        degree = omega (arith, ints, clamps);
-      }) refl
+  itself_closed = closed s (fixing l) proofs (holds_after (falsified l) Itself (fixing l)) (record { terms = []; degree = 0 }) (omega arith) (
+    normal-nil 0 (omega arith),
+    record {
+      least = pos 0;
+      same = λ x. by_truth (true_under (falsified l) x (opposite l)) (opposite_truth l x);
+      degree = omega (arith, ints, clamps);
+    },
+  ) refl
     where
       by_truth : (b : Bool) → b ≡ true → pos 0 -ℤ pos 0 ≡ pos (0 + (if b then 1 else 0)) -ℤ pos 1
       by_truth true e = refl
@@ -87,6 +87,7 @@ written_upto p l n upto = All-cons (λ v. v ≤ n) l.var (flat_map image_variabl
   where
     none : flat_map (λ q. proof_variables q.1) (row_proofs l (numbered 1 p.rows)) ≡ []
     none = ap (λ (qs : List (Goal × GoalProof)). flat_map (λ q. proof_variables q.1) qs) (sym (append-nil (row_proofs l (numbered 1 p.rows)))) ∙ no_row_variables l (numbered 1 p.rows) []
+
     by : (b : Bool) → All (λ v. v ≤ n) (flat_map image_variables ((l.var, false_image b) ∷ []) ++ [])
     by true = All-cons (λ v. v ≤ n) l.var [] upto (All-nil (λ v. v ≤ n))
     by false = All-cons (λ v. v ≤ n) l.var [] upto (All-nil (λ v. v ≤ n))

@@ -1,14 +1,12 @@
 -- A row with the negation of what is left of it.
-use Rattle.std.proofs.Common.{◌≡◌, ℕ, ◌+◌, ◌-◌, ◌<◌, ◌≤◌, ◌==◌, Bool, true, false, not, if◌then◌else◌, Option, None, Some, List, [], ◌∷◌, refl, ap, sym, subst, ◌∙◌, arith, Ok, Err}
+use Rattle.std.proofs.Common.{◌≡◌, ℕ, ◌+◌, ◌-◌, ◌<◌, ◌≤◌, Option, None, Some, List, [], ◌∷◌, refl, ap, arith, Ok, Err}
 use Rattle.std.specs.Prelude.{◌^◌, nat_lt, MatchOption}
-use Rattle.std.specs.List.{All, AllPairs}
 use Rattle.std.specs.FinMap.{get}
 use Rattle.std.proofs.lemmas.Bool.{cond-false, le-ltb}
 use Rattle.std.proofs.lemmas.List.Elements.{All-nil, All-cons}
 use Rattle.std.proofs.lemmas.List.Sums.{sum_by-cons}
 use Rattle.scut_base.specs.Literal.{Literal}
-use Rattle.scut_base.specs.Assignment.{lit_true}
-use Rattle.pb_lin.specs.Constraint.{ConstraintValue, IsNormal, negation, opposite_terms, size, term_value, total, value}
+use Rattle.pb_lin.specs.Constraint.{ConstraintValue, IsNormal, negation, size, term_value, total}
 use Rattle.pb_lin.specs.Given.{Given}
 use Rattle.pb_lin.proofs.OppositeTerms.{value-opposite, total-opposite}
 use Rattle.cutting_planes.specs.Rules.{IsSum, weakened}
@@ -85,8 +83,8 @@ module _ (s : StateValue) (id : ℕ) (c denied : ConstraintValue) (m : Literal) 
       let given : Given = given_in s (Some against) (Some denied) in (
         sum,
         step given (Id id) [] (c ∷ []) (Negated ∷ Add ∷ []) (Ok sum) (named_fine (get s.live id) id c live) (named_pushed (get s.live id) c [] live)
-        (step given Negated (c ∷ []) (against ∷ c ∷ []) (Add ∷ []) (Ok sum) refl refl
-        (step given Add (against ∷ c ∷ []) (sum ∷ []) [] (Ok sum) (size_fine (size c + size against) sizes) (sum, is_sum, refl) refl)),
+            (step given Negated (c ∷ []) (against ∷ c ∷ []) (Add ∷ []) (Ok sum) refl refl
+            (step given Add (against ∷ c ∷ []) (sum ∷ []) [] (Ok sum) (size_fine (size c + size against) sizes) (sum, is_sum, refl) refl)),
         let all = sum_total in omega arith,
       )
 

@@ -1,28 +1,26 @@
 -- The goals of the problem's rows.
-use Rattle.std.proofs.Common.{◌≡◌, ◌≢◌, ℕ, ◌+◌, ◌-◌, ◌*◌, ◌<◌, ◌≤◌, ◌==◌, zero, suc, Bool, true, false, not, cond, ◌&&◌, if◌then◌else◌, Option, None, Some, List, [], ◌∷◌, ◌++◌, map, length, get_or, refl, ap, sym, subst, ◌∙◌, ⊎_elim, arith, Ok, pos, ◌-ℤ◌}
-use Rattle.std.specs.Prelude.{◌^◌, nat_lt, option_map, slice_index_or}
-use Rattle.std.specs.List.{All, AllPairs, filter, find}
+use Rattle.std.proofs.Common.{◌≡◌, ℕ, ◌+◌, ◌<◌, ◌≤◌, ◌==◌, zero, suc, Bool, true, false, not, cond, None, Some, List, [], ◌∷◌, ◌++◌, length, get_or, refl, ap, sym, subst, ◌∙◌, ⊎_elim, arith, Ok, pos, ◌-ℤ◌}
+use Rattle.std.specs.Prelude.{option_map}
+use Rattle.std.specs.List.{All, filter, find}
 use Rattle.std.specs.FinMap.{get}
-use Rattle.std.specs.Int.{int_max}
-use Rattle.std.proofs.lemmas.Bool.{cond-true, cond-false, eq-eqb, ne_eqb, and_left, and_right, and_from, cases_lt, lt-ltb}
+use Rattle.std.proofs.lemmas.Bool.{cond-true, cond-false, eq-eqb, ne_eqb, cases_lt, lt-ltb}
 use Rattle.std.proofs.lemmas.Int.{ints, clamps}
 use Rattle.std.proofs.lemmas.List.Elements.{All-map, All-filter}
 use Rattle.std.proofs.lemmas.List.Kept.{AllPairs-filter}
 use Rattle.scut_base.specs.Literal.{Literal}
 use Rattle.scut_base.proofs.Lists.{all_filter_if}
-use Rattle.pb_lin.specs.Constraint.{ConstraintValue, IsNormal, negation, opposite, size, total, value}
+use Rattle.pb_lin.specs.Constraint.{ConstraintValue, IsNormal, negation, opposite, total}
 use Rattle.pb_lin.specs.Problem.{ProblemValue, IsProblem}
-use Rattle.pb_lin.specs.Substitution.{touches, value_under}
+use Rattle.pb_lin.specs.Substitution.{touches}
 use Rattle.pb_lin.proofs.OppositeTerms.{total-opposite}
 use Rattle.cutting_planes.specs.Rules.{weakened}
 use Rattle.proof_laws.specs.State.{StateValue, Fits, numbered}
-use Rattle.proof_laws.specs.Substituted.{Requirement, IsGoalOf, holds_after, touched_hold}
+use Rattle.proof_laws.specs.Substituted.{IsGoalOf, holds_after, touched_hold}
 use Rattle.proof_laws.specs.Refusal.{fault_unless, same_goal, IsGoalFault}
 use Rattle.proof_laws.specs.declared.goal.Goal.{Goal}
 use Rattle.proof_laws.specs.declared.goal.Goal.TheVariants.{Row}
 use Rattle.proof_laws.specs.declared.goal.GoalProof.{GoalProof}
 use Rattle.proof_laws.specs.declared.goal.GoalProof.TheVariants.{Pol as ByPol}
-use Rattle.proof_laws.specs.declared.why.Why.{Why}
 use Rattle.proof_laws.specs.declared.why.Why.TheVariants.{GoalOpen}
 use Rattle.harden.specs.Hardened.{can_fix, falsified, fixing, row_proof, row_proofs, row_tokens, stays_open}
 use Rattle.harden.specs.Laws.{OnlyAs, coefficient}

@@ -1,14 +1,13 @@
 -- The goal that the sum of all objectives has fallen.
-use Rattle.std.proofs.Common.{◌≡◌, ◌⊎◌, ℕ, ◌+◌, ◌-◌, ◌*◌, ◌<◌, ◌≤◌, ◌==◌, zero, suc, Bool, true, false, not, cond, ◌&&◌, if◌then◌else◌, Option, None, Some, List, [], ◌∷◌, ◌++◌, length, get_or, map, sum_by, refl, ap, sym, subst, ◌∙◌, arith, Ok, pos, ◌-ℤ◌}
-use Rattle.std.specs.Prelude.{◌^◌, ◌<ℤ◌, int_lt, option_map, replicate, slice_set}
-use Rattle.std.specs.List.{All, AllPairs, find}
-use Rattle.std.specs.Int.{int_max}
+use Rattle.std.proofs.Common.{◌≡◌, ℕ, ◌+◌, ◌-◌, ◌*◌, ◌<◌, ◌≤◌, Bool, true, false, not, cond, ◌&&◌, if◌then◌else◌, Option, None, Some, List, [], ◌∷◌, ◌++◌, length, sum_by, refl, ap, sym, subst, ◌∙◌, arith, Ok, pos, ◌-ℤ◌}
+use Rattle.std.specs.Prelude.{◌^◌, ◌<ℤ◌, int_lt, option_map, replicate}
+use Rattle.std.specs.List.{All, find}
 use Rattle.std.proofs.lemmas.Int.{ints, clamps}
 use Rattle.std.proofs.lemmas.List.Elements.{All-nil, All-cons, All-head, All-tail}
 use Rattle.std.proofs.lemmas.List.Sums.{sum_by-cons}
 use Rattle.scut_base.specs.Literal.{Literal}
 use Rattle.scut_base.specs.Assignment.{lit_true, partial_truth}
-use Rattle.pb_lin.specs.Constraint.{ConstraintValue, IsNormal, negation, opposite, slack, unless_false, term_value, total, value}
+use Rattle.pb_lin.specs.Constraint.{ConstraintValue, negation, opposite, slack, unless_false, term_value, value}
 use Rattle.pb_lin.specs.CostRow.{CostRowValue, IsCostRow}
 use Rattle.pb_lin.specs.Problem.{ProblemValue, IsProblem}
 use Rattle.pb_lin.specs.Substitution.{value_under}
@@ -22,13 +21,13 @@ use Rattle.hint_rup.proofs.Agreement.{all_open}
 use Rattle.hint_rup.specs.declared.hint.Hint.TheVariants.{Denied}
 use Rattle.hint_rup.proofs.Conflict.{conflicts_here, conflicts_later}
 use Rattle.proof_laws.specs.State.{StateValue, numbered}
-use Rattle.proof_laws.specs.Substituted.{Requirement, IsGoalOf, has_fallen}
+use Rattle.proof_laws.specs.Substituted.{IsGoalOf, has_fallen}
 use Rattle.proof_laws.specs.Refusal.{given_in, same_goal, IsGoalFault}
 use Rattle.proof_laws.specs.declared.goal.Goal.{Goal}
-use Rattle.proof_laws.specs.declared.goal.Goal.TheVariants.{Strict, Row}
+use Rattle.proof_laws.specs.declared.goal.Goal.TheVariants.{Strict}
 use Rattle.proof_laws.specs.declared.goal.GoalProof.{GoalProof}
-use Rattle.proof_laws.specs.declared.goal.GoalProof.TheVariants.{Rup as ByRup, Pol as ByPol}
-use Rattle.harden.specs.Hardened.{falsified, fixing, row_proof, row_proofs, stays_open, strict_proof}
+use Rattle.proof_laws.specs.declared.goal.GoalProof.TheVariants.{Rup as ByRup}
+use Rattle.harden.specs.Hardened.{falsified, fixing, row_proofs, stays_open, strict_proof}
 use Rattle.harden.specs.Laws.{OnlyAs, coefficient}
 use Rattle.harden.proofs.Splitting.{others, split_total, split_value, under_value, own_truth}
 use Rattle.harden.proofs.GoalFaults.{proved}

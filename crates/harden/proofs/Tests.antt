@@ -1,9 +1,9 @@
 -- What the tests of a literal say of terms.
-use Rattle.std.proofs.Common.{◌≡◌, ◌≢◌, ℕ, ◌+◌, ◌<◌, ◌≤◌, ◌==◌, Bool, true, false, not, ◌&&◌, ◌||◌, if◌then◌else◌, List, [], ◌∷◌, map, length, get_or, sum_by, refl, ap, sym, subst, ◌∙◌, arith}
+use Rattle.std.proofs.Common.{◌≡◌, ℕ, ◌+◌, ◌<◌, ◌==◌, Bool, true, false, not, ◌&&◌, ◌||◌, if◌then◌else◌, List, [], ◌∷◌, get_or, sum_by, refl, ap, sym, subst, ◌∙◌, arith}
 use Rattle.std.proofs.Math.Bool.{beq}
 use Rattle.std.specs.Prelude.{nat_lt}
 use Rattle.std.specs.List.{All, list_any}
-use Rattle.std.proofs.lemmas.Bool.{and_from, and_parts, eq-eqb, eqb-true, lt-ltb, ne_eqb, or_left, or_parts, or_right}
+use Rattle.std.proofs.lemmas.Bool.{and_from, and_parts, eq-eqb, eqb-true, lt-ltb, or_left, or_parts, or_right}
 use Rattle.std.proofs.lemmas.List.Elements.{All-nil, All-cons, All-head, All-tail}
 use Rattle.std.proofs.lemmas.List.Sums.{sum_by-cons}
 use Rattle.scut_base.specs.Literal.{Literal, is_same}
@@ -13,7 +13,7 @@ use Rattle.pb_lin.specs.Problem.{ProblemValue}
 use Rattle.pb_lin.specs.Substitution.{has_image, touches}
 use Rattle.cutting_planes.specs.Rules.{coefficient_in}
 use Rattle.cutting_planes.proofs.Terms.{Terms}
-use Rattle.harden.specs.Hardened.{occurs, in_rows, in_costs, can_fix, falsified, stays_open}
+use Rattle.harden.specs.Hardened.{occurs, in_rows, in_costs, can_fix, falsified}
 use Rattle.harden.specs.Laws.{OnlyAs, coefficient}
 
 literal_same : (m l : Literal) → m.var ≡ l.var → m.neg ≡ l.neg → m ≡ l
@@ -31,6 +31,7 @@ other_literal l n different same = literal_same n (opposite l) same (by n.neg l.
     no_sign : (a b : Bool) → (a && b) ≡ false → a ≡ true → b ≡ false
     no_sign true b e is = e
     no_sign false b e is = cc
+
     by : (x y : Bool) → beq y x ≡ false → x ≡ not y
     by true true e = cc
     by true false e = refl

@@ -1,5 +1,5 @@
 -- Hardening: the literals of a problem that may as well be false, and the lines that make them so.
-use Rattle.std.specs.Prelude.{ℕ, ◌==◌, ◌&&◌, ◌||◌, nat_lt, not, Bool, true, false, if◌then◌else◌, Option, List, [], ◌∷◌, ◌++◌, map}
+use Rattle.std.specs.Prelude.{ℕ, ◌&&◌, ◌||◌, nat_lt, not, Bool, true, false, if◌then◌else◌, Option, List, [], ◌∷◌, ◌++◌, map}
 use Rattle.std.specs.List.{filter, filter_map, find, list_any, range_with_len}
 use Rattle.scut_base.specs.Literal.{Literal, is_same}
 use Rattle.pb_lin.specs.Constraint.{ConstraintValue, opposite}
