@@ -1,5 +1,5 @@
 -- The beginning of a proof, and what is listed of the board at the end.
-use Rattle.std.proofs.Common.{◌≡◌, ◌≤◌, false, List, [], ◌∷◌, map, ap, refl, sym, subst, arith, ℤ}
+use Rattle.std.proofs.Common.{◌≡◌, false, List, [], ◌∷◌, map, refl, sym, subst, ℤ}
 use Rattle.std.specs.List.{All, AllZip}
 use Rattle.std.proofs.lemmas.List.Elements.{All-cons, All-nil}
 use Rattle.std.specs.List.Sorted.{IsPermutation}
@@ -15,7 +15,6 @@ use Rattle.proof_laws.specs.Replay.{IsReplay}
 use Rattle.proof_laws.specs.declared.line.Line.{Line}
 use Rattle.log_checker.specs.Accepted.{IsCovered, problem_vectors}
 use Rattle.proof_rules.specs.Recording.{Snapshot}
-use Rattle.sum_outputs.specs.Adding.{IsReached}
 use Rattle.sum_outputs.specs.Totals.{AreWeights}
 use Rattle.totalizer.specs.Reforming.{IsReformOf}
 use Rattle.totalizer.specs.declared.reform.Reform.{Reform}
@@ -26,21 +25,10 @@ use Rattle.search_base.specs.Logged.{logged}
 use Rattle.certified_front.specs.Certified.{CoversLogged}
 use Rattle.certified_front.proofs.ListedModels.{all_covered, listed_vectors, right_list}
 
--- no lines are prepared, and reforms of the problem's own terms serve over them
-module _ (a : Snapshot) (p : ProblemValue) (same : a.problem ≡ p) (none : a.lines ≡ []) where
-  start_reached : IsReached a (start a.problem)
-  start_reached = subst (λ (ls : List Line). IsReplay a.problem ls (start a.problem)) (sym none) refl
-
-  pub begins_prepared : NoLinesArePrepared → a.broken ≡ false → IsProblem p → IsPrepared a
-  begins_prepared law whole problem =
-      law a (start a.problem) (subst IsProblem (sym same) problem) none whole start_reached
-
-  pub has_variables : (s : StateValue) → IsReached a s → p.vars ≤ s.vars
-  has_variables s there =
-      let is : s ≡ start a.problem = subst (λ (ls : List Line). IsReplay a.problem ls s) none there in
-      let vars : s.vars ≡ a.problem.vars = ap (λ (t : StateValue). t.vars) is in
-      let problem_vars : a.problem.vars ≡ p.vars = ap (λ (q : ProblemValue). q.vars) same in
-      omega arith
+-- no lines are prepared
+pub begins_prepared : (a : Snapshot) (p : ProblemValue) → a.problem ≡ p → a.lines ≡ [] → NoLinesArePrepared → a.broken ≡ false → IsProblem p → IsPrepared a
+begins_prepared a p same none law whole problem =
+    law a (start a.problem) (subst IsProblem (sym same) problem) none whole (subst (λ (ls : List Line). IsReplay a.problem ls (start a.problem)) (sym none) refl)
 
 -- the board's instance and the problem are known
 listed_covers : LoggedIsReached → (p : ProblemValue) (lines : List Line) (board : BoardValue) (listed : List Entry) → IsBoard board (logged p lines) → IsPermutation (map (listed_entry board.instance) board.entries) listed → AreRising (vectors_of listed) → CoversLogged board.instance p lines listed

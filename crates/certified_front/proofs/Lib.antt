@@ -1,3 +1,4 @@
 pub mod ListedModels
 pub mod EndLines
 pub mod Boards
+pub mod PreparedLines

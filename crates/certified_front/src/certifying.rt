@@ -7,16 +7,18 @@ ghost use Rattle.proof_rules.specs.Recording.{KeepsSurroundings};
 ghost use Rattle.search_base.specs.CostBounds.{AreReforms};
 ghost use Rattle.search_base.specs.Laws.{IsPrepared};
 ghost use Rattle.certified_front.specs.Certified.{CoversLogged, IsEnding};
+ghost use Rattle.certified_front.specs.Planning.{FollowsPlan};
 
-use crate::Found;
+use crate::preparing::prepare;
 use crate::searching::front_with;
+use crate::{Found, Plan};
 use instance::Instance;
 use oracle::Oracle;
 use p_minimal::PMinimal;
 use pb_lin::PbProblem;
 use proof_rules::RecordFault;
 use scut_base::NoMemory;
-use search_base::{Bounds, Search, no_lines_are_prepared, own_reforms};
+use search_base::{Bounds, Search, own_reforms};
 use std::alloc::Global;
 use sum_outputs::in_memory;
 use term_order::ordered;
@@ -49,17 +51,21 @@ pub fn certified_front<O: Oracle>(
     ensures around { KeepsSurroundings (O.seen oracle.old).around (O.seen oracle.new).around }
 {
     match PMinimal::relaxed(alloc, problem) {
-        Ok(mut search) => certified_front_by(alloc, oracle, problem, inst, &mut search),
+        Ok(mut search) => {
+            let plan = Plan { harden: false };
+            certified_front_by(alloc, oracle, problem, inst, plan, &mut search)
+        }
         Err(NoMemory) => Err(RecordFault::NoMemory),
     }
 }
 
-/// The same by any search that serves the problem. After a fault the search isn't used again.
+/// The same by any search that serves the problem, after what the plan says. After a fault the search isn't used again.
 pub fn certified_front_by<O: Oracle, S: Search>(
     alloc: Global,
     oracle: &mut O,
     problem: &PbProblem,
     inst: &Instance,
+    plan: Plan,
     search: &mut S,
 ) -> Result<Found, RecordFault>
     requires normal { IsNormalFormOf inst.now problem.now }
@@ -72,6 +78,7 @@ pub fn certified_front_by<O: Oracle, S: Search>(
     ensures ending { IfOk result
         (λ found. IsEnding (O.seen oracle.old).limit problem.now
         (O.seen oracle.new).lines found.ending) }
+    ensures planned { OnOk result (FollowsPlan plan problem.now (O.seen oracle.new).lines) }
     ensures whole { OnOk result ((O.seen oracle.new).broken ≡ false) }
     ensures failed { IsErrOf result RecordFault.Failed
         → Rose (O.seen oracle.old).faults (O.seen oracle.new).faults }
@@ -80,7 +87,9 @@ pub fn certified_front_by<O: Oracle, S: Search>(
     ensures later { (O.seen oracle.old).faults ≤ (O.seen oracle.new).faults }
     ensures around { KeepsSurroundings (O.seen oracle.old).around (O.seen oracle.new).around }
 {
-    no_lines_are_prepared();
+    prepare(alloc, oracle, problem, plan)?;
+    // Tells that a text can spell each line, for which the laws of the rule book are.
+    let _state = oracle.state();
     // Tells that the problem is within its limits.
     let _vars = problem.vars();
     let own = in_memory(own_reforms(alloc, problem))?;

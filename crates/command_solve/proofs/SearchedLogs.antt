@@ -31,7 +31,9 @@ use Rattle.proof_text.specs.LogText.{SpellsLog}
 use Rattle.proof_text.specs.Recorders.{IsKept, file_seen, without_file}
 use Rattle.proof_text.proofs.LogFiles.{others_same}
 use Rattle.certified_front.specs.Certified.{CoversLogged, IsEnding}
+use Rattle.certified_front.specs.Planning.{FollowsPlan}
 use Rattle.certified_front.specs.declared.ending.Found.{Found}
+use Rattle.certified_front.specs.declared.preparing.Plan.{Plan}
 use Rattle.command_base.proofs.Answered.{rose_at_last}
 use Rattle.command_solve.specs.Logging.{IsFull, IsLogStopped, IsLogged, IsPartOfLog, IsSearched}
 
@@ -114,21 +116,22 @@ module _ (old begun new : Option Files) (name header : List ℕ) (p : ProblemVal
   full_left : length lines ≡ 2 ^ 61 → IsFull old new p name version
   full_left full = record { proof = text; lines = lines; spelled = spelled; first = refl; full = full; replay = (s, kept.replay); files = whole (none_left full) }
 
-  logged : (i : InstanceValue) (limit : Option ℕ) (found : Found) → broken ≡ false → CoversLogged i p lines found.entries.items → IsEnding limit p lines found.ending → IsLogged old new i p name version limit found
-  logged i limit found unbroken covers ending = record {
+  logged : (i : InstanceValue) (limit : Option ℕ) (plan : Plan) (found : Found) → broken ≡ false → FollowsPlan plan p lines → CoversLogged i p lines found.entries.items → IsEnding limit p lines found.ending → IsLogged old new i p name version limit plan found
+  logged i limit plan found unbroken planned covers ending = record {
     proof = text;
     lines = lines;
     spelled = spelled;
     first = refl;
+    planned = planned;
     covers = covers;
     ending = ending;
     files = whole (log.whole unbroken);
   }
 
-  logged_by : (i : InstanceValue) (limit : Option ℕ) (r : Result Found RecordFault) → OnOk r (broken ≡ false) → IfOk r (λ found. CoversLogged i p lines found.entries.items) → IfOk r (λ found. IsEnding limit p lines found.ending)
-      → IfOk r (IsLogged old new i p name version limit)
-  logged_by i limit (Ok found) unbroken covers ending = logged i limit found unbroken covers ending
-  logged_by i limit (Err fault) unbroken covers ending = tt
+  logged_by : (i : InstanceValue) (limit : Option ℕ) (plan : Plan) (r : Result Found RecordFault) → OnOk r (broken ≡ false) → OnOk r (FollowsPlan plan p lines) → IfOk r (λ found. CoversLogged i p lines found.entries.items) → IfOk r (λ found. IsEnding limit p lines found.ending)
+      → IfOk r (IsLogged old new i p name version limit plan)
+  logged_by i limit plan (Ok found) unbroken planned covers ending = logged i limit plan found unbroken planned covers ending
+  logged_by i limit plan (Err fault) unbroken planned covers ending = tt
 
   stopped_by : (before after : Faults) (r : Result Found RecordFault) → (IsErrOf r Failed → WritingFailed before after name) → (IsErrOf r Full → length lines ≡ 2 ^ 61)
       → IfErr r (λ fault. IsLogStopped fault old new p name version before after)
@@ -147,12 +150,12 @@ same_version One Two is = cc
 same_version Two One is = cc
 
 module _ {H : Type 0} (world : H → World) (old : Option Files) (name header : List ℕ) (p : ProblemValue) (version : LogVersion) (first last : Held H) (end : H)
-    (i : InstanceValue) (limit : Option ℕ) (r : Result Found RecordFault)
+    (i : InstanceValue) (limit : Option ℕ) (plan : Plan) (r : Result Found RecordFault)
     (named : first.name ≡ name) (of_problem : first.problem ≡ p) (of_version : first.version ≡ version)
     (begun : (world first.shelf.now).files ≡ with_file old name header)
     (same : end ≡ last.shelf.now)
     (log : IsLogFile (world end).files last.name last.problem last.version last.lines last.broken) (kept : IsKept last.problem last.lines last.state)
-    (searched : IsSearched i p limit (file_seen world first) (file_seen world last) r) where
+    (searched : IsSearched i p limit plan (file_seen world first) (file_seen world last) r) where
   names : last.name ≡ name
   names = searched.around.name ∙ named
 
@@ -176,8 +179,8 @@ module _ {H : Type 0} (world : H → World) (old : Option Files) (name header : 
       ∙ searched.around.others
       ∙ ap (without_file (world first.shelf.now).files) named
 
-  pub found_left : IfOk r (IsLogged old (world end).files i p name version limit)
-  found_left = logged_by old (world first.shelf.now).files (world end).files name header p version last.lines last.state last.broken begun others_here log_here kept_here i limit r searched.whole searched.covers searched.ending
+  pub found_left : IfOk r (IsLogged old (world end).files i p name version limit plan)
+  found_left = logged_by old (world first.shelf.now).files (world end).files name header p version last.lines last.state last.broken begun others_here log_here kept_here i limit plan r searched.whole searched.planned searched.covers searched.ending
 
   rose_here : (began : Faults) → NoneFell began (world first.shelf.now).faults → Rose (count (world first.shelf.now).faults Append first.name) (count (world last.shelf.now).faults Append last.name) → WritingFailed began (world end).faults name
   rose_here began later rose = inr (rose_at_last _ _ _ (later Append name)

@@ -80,12 +80,12 @@ module _ (a : SolveAsked) where
       later = later;
     }
 
-    module _ (before mid : World) (of_file : IsProblemOf before.files a i p) (limits : IsWithinLimits i) (found : Found) (logged : IsLogged before.files mid.files i p a.log a.version a.limit found) (quiet : mid.said ≡ before.said) where
+    module _ (before mid : World) (of_file : IsProblemOf before.files a i p) (limits : IsWithinLimits i) (found : Found) (logged : IsLogged before.files mid.files i p a.log a.version a.limit a.plan found) (quiet : mid.said ≡ before.said) where
       abbrev entries : List Entry
       entries = found.entries.items
 
       found_in : IsFound before.files a i entries logged.proof found.ending
-      found_in = record { problem = p; of_file = of_file; lines = logged.lines; spelled = logged.spelled; first = logged.first; covers = logged.covers; ending = logged.ending }
+      found_in = record { problem = p; of_file = of_file; lines = logged.lines; spelled = logged.spelled; first = logged.first; planned = logged.planned; covers = logged.covers; ending = logged.ending }
 
       mid_is : view mid ≡ with_log (view before) a logged.proof
       mid_is = let files = logged.files in cc
@@ -122,6 +122,7 @@ module _ (a : SolveAsked) where
             proof = logged.proof;
             accepted = accepted ended;
             first = logged.first;
+            planned = logged.planned;
             listed = subst (λ (e : Ending). IsListed a.list (list_text (is_complete e) entries) (status_of (length entries) e) (with_log (view before) a logged.proof) after) is
                 (subst (λ (v : View). IsListed a.list (list_text (is_complete found.ending) entries) (status_of (length entries) found.ending) v after) mid_is listed);
           }

@@ -15,7 +15,9 @@ use Rattle.proof_text.specs.Versions.{first_of, header_line}
 use Rattle.proof_text.specs.declared.version.LogVersion.{LogVersion}
 use Rattle.proof_text.specs.LogText.{BeginsWith, SpellsLog}
 use Rattle.certified_front.specs.Certified.{CoversLogged, IsEnding}
+use Rattle.certified_front.specs.Planning.{FollowsPlan}
 use Rattle.certified_front.specs.declared.ending.Found.{Found}
+use Rattle.certified_front.specs.declared.preparing.Plan.{Plan}
 
 -- ---- the file
 
@@ -32,13 +34,14 @@ pub record IsBrokenLog (version : LogVersion) (p : ProblemValue) (bytes : List �
 abbrev pub IsPartOfLog : LogVersion → ProblemValue → List ℕ → Type 0
 IsPartOfLog version p bytes = IsPrefixOf bytes (header_line (first_of version p)) ⊎ IsBrokenLog version p bytes
 
--- the log is one of this version, of lines whose logged vectors the entries that were found cover
+-- the log is one of this version, of lines that follow the plan and whose logged vectors the entries that were found cover
 pub record IsLogged (old new : Option Files) (i : InstanceValue) (p : ProblemValue) (log : List ℕ) (version : LogVersion) (limit : Option ℕ)
-    (found : Found) : Type 0 where
+    (plan : Plan) (found : Found) : Type 0 where
   pub proof : List ℕ
   pub lines : List Line
   pub spelled : SpellsLog proof lines
   pub first : spelled.first ≡ first_of version p
+  pub planned : FollowsPlan plan p lines
   pub covers : CoversLogged i p lines found.entries.items
   pub ending : IsEnding limit p lines found.ending
   pub files : new ≡ with_file old log proof
@@ -61,8 +64,9 @@ IsLogStopped Failed old new p log version before after = IsTouched old new log (
 
 -- ---- any recorder
 
--- what is found covers what the recorder's lines log, and why nothing was found
-pub record IsSearched (i : InstanceValue) (p : ProblemValue) (limit : Option ℕ) (a b : Snapshot) (result : Result Found RecordFault) : Type 0 where
+-- what is found covers what the recorder's lines log, which follow the plan; and why nothing was found
+pub record IsSearched (i : InstanceValue) (p : ProblemValue) (limit : Option ℕ) (plan : Plan) (a b : Snapshot) (result : Result Found RecordFault) : Type 0 where
+  pub planned : OnOk result (FollowsPlan plan p b.lines)
   pub covers : IfOk result (λ found. CoversLogged i p b.lines found.entries.items)
   pub ending : IfOk result (λ found. IsEnding limit p b.lines found.ending)
   pub whole : OnOk result (b.broken ≡ false)

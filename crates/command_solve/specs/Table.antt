@@ -1,5 +1,5 @@
--- The answers of `solve IN LIST LOG [--search S] [--turns T] [--learn N] [--log-version V]`, a record for each. None of them
--- tells which search it was.
+-- The answers of `solve IN LIST LOG [--search S] [--turns T] [--learn N] [--log-version V] [--harden]`, a record for each. None
+-- of them tells which search it was.
 use Rattle.std.specs.Prelude.{◌≡◌, ◌↔◌, ◌⊎◌, ℕ, ◌^◌, true, false, List, ◌∷◌, ◌==◌, if◌then◌else◌, length, Option, Some}
 use Rattle.scut_base.specs.Files.{Files, content, with_file, IsTouched}
 use Rattle.scut_base.specs.World.{World}
@@ -14,6 +14,7 @@ use Rattle.proof_text.specs.LogText.{SpellsLog}
 use Rattle.proof_text.specs.Versions.{first_of}
 use Rattle.log_checker.specs.Accepted.{IsAccepted}
 use Rattle.certified_front.specs.Certified.{CoversLogged, IsEnding}
+use Rattle.certified_front.specs.Planning.{FollowsPlan}
 use Rattle.certified_front.specs.declared.ending.Ending.{Ending}
 use Rattle.certified_front.specs.declared.ending.Ending.TheVariants.{Incomplete as EndingIncomplete}
 use Rattle.command_base.specs.Answering.{Call, Completes, appending, beginning, reading}
@@ -50,13 +51,14 @@ pub record IsProblemOf (files : Option Files) (a : SolveAsked) (i : InstanceValu
   pub normal : IsNormalFormOf i p
 
 -- What a search has found: a list of models that cover what the lines of the log have logged, and how it has ended. The log
--- is one of the version that is asked for.
+-- is one of the version that is asked for, and its lines follow the plan.
 pub record IsFound (files : Option Files) (a : SolveAsked) (i : InstanceValue) (entries : List Entry) (log : List ℕ) (how : Ending) : Type 0 where
   pub problem : ProblemValue
   pub of_file : IsProblemOf files a i problem
   pub lines : List Line
   pub spelled : SpellsLog log lines
   pub first : spelled.first ≡ first_of a.version problem
+  pub planned : FollowsPlan a.plan problem lines
   pub covers : CoversLogged i problem lines entries
   pub ending : IsEnding a.limit problem lines how
 
@@ -67,7 +69,7 @@ with_log v a proof = record { files = with_file v.files a.log proof; said = v.sa
 -- ---- the answers
 
 -- Complete: LIST holds the list text of the front of IN's instance, and LOG a log that is accepted with it, of the version
--- that is asked for. The size is 0 exactly where the instance has no model.
+-- that is asked for, whose lines follow the plan. The size is 0 exactly where the instance has no model.
 pub record IsCertified (before after : View) (a : SolveAsked) (size : ℕ) : Type 0 where
   pub instance : InstanceValue
   pub text : HasText before.files a.input (IsTextOf a.format instance)
@@ -79,6 +81,7 @@ pub record IsCertified (before after : View) (a : SolveAsked) (size : ℕ) : Typ
   pub proof : List ℕ
   pub accepted : IsAccepted instance (list_text true entries) proof
   pub first : accepted.proof.spelled.first ≡ first_of a.version accepted.problem
+  pub planned : FollowsPlan a.plan accepted.problem accepted.proof.lines
   pub listed : IsListed a.list (list_text true entries) (Complete size) (with_log before a proof) after
 
 -- Incomplete: N was given, LOG has earned so many learned clauses, and one more could follow; LIST has models that cover

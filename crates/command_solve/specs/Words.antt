@@ -1,4 +1,4 @@
--- The words of `solve IN LIST LOG [--search S] [--turns T] [--learn N] [--log-version V]`.
+-- The words of `solve IN LIST LOG [--search S] [--turns T] [--learn N] [--log-version V] [--harden]`.
 use Rattle.std.specs.Prelude.{ℕ, ◌^◌, ◌&&◌, not, nat_lt, if◌then◌else◌, List, codes, Option, Some, None}
 use Rattle.std.specs.Option.{option_and_then, option_map}
 use Rattle.std.specs.Str.{bytes_eq}
@@ -6,7 +6,8 @@ use Rattle.scut_base.specs.Number.{is_natural, natural_value}
 use Rattle.clap.specs.Words.{App, Row, first_of, new_app, with_rule}
 use Rattle.proof_text.specs.declared.version.LogVersion.{LogVersion}
 use Rattle.proof_text.specs.declared.version.LogVersion.TheVariants.{One, Two}
-use Rattle.command_base.specs.CommandWords.{file_rule, option_rule, rows_by, value_of}
+use Rattle.certified_front.specs.declared.preparing.Plan.{Plan}
+use Rattle.command_base.specs.CommandWords.{file_rule, flag_rule, is_set, option_rule, rows_by, value_of}
 use Rattle.command_base.specs.InstanceFile.{format_of_three}
 use Rattle.command_base.specs.declared.instance_file.Format.{Format}
 use Rattle.command_solve.specs.TurnDigits.{turns_fit}
@@ -15,8 +16,8 @@ use Rattle.command_solve.specs.declared.options.SearchKind.{SearchKind}
 use Rattle.command_solve.specs.declared.options.SearchKind.TheVariants.{PMinimal, LowerBounding, BiOptSat, Turns}
 
 -- what is asked for: the front of the instance in the first file, as a list and a log in the two others, by this search,
--- by these turns where it is a search in turns, with so many learned clauses at most as the limit says, and a log of this
--- version
+-- by these turns where it is a search in turns, with so many learned clauses at most as the limit says, a log of this version,
+-- and what the plan says before the search
 pub record SolveAsked : Type 0 where
   pub format : Format
   pub input : List ℕ
@@ -26,6 +27,7 @@ pub record SolveAsked : Type 0 where
   pub turns : Option (List ℕ)
   pub limit : Option ℕ
   pub version : LogVersion
+  pub plan : Plan
 
 abbrev pub asked : Solve → SolveAsked
 asked c =
@@ -38,16 +40,24 @@ asked c =
       turns = option_map (λ s. s.now) c.turns;
       limit = c.limit;
       version = c.version;
+      plan = c.plan;
     }
 
 -- the words, as clap reads them
 abbrev pub solve_files : App
 solve_files = with_rule (with_rule (with_rule (new_app (codes "solve")) (file_rule (codes "IN"))) (file_rule (codes "LIST"))) (file_rule (codes "LOG"))
 
-abbrev pub solve_app : App
-solve_app =
+abbrev pub solve_options : App
+solve_options =
     with_rule (with_rule (with_rule (with_rule solve_files (option_rule (codes "search"))) (option_rule (codes "turns")))
     (option_rule (codes "learn"))) (option_rule (codes "log-version"))
+
+abbrev pub solve_app : App
+solve_app = with_rule solve_options (flag_rule (codes "harden"))
+
+-- what is done before the search
+abbrev pub plan_of_rows : List Row → Plan
+plan_of_rows rows = record { harden = is_set (codes "harden") rows }
 
 -- the search of this name
 abbrev pub search_named : List ℕ → Option SearchKind
@@ -84,8 +94,8 @@ version_of (Some name) = version_named name
 abbrev pub search_with : Option (List ℕ) → Option (List ℕ) → Option SearchKind
 search_with search turns = option_and_then (λ kind. if turns_fit kind turns then Some kind else None) (search_of search)
 
-abbrev pub solve_by : List ℕ → List ℕ → List ℕ → Option (List ℕ) → Format → SearchKind → Option ℕ → LogVersion → SolveAsked
-solve_by input list log turns format search limit version =
+abbrev pub solve_by : List ℕ → List ℕ → List ℕ → Option (List ℕ) → Plan → Format → SearchKind → Option ℕ → LogVersion → SolveAsked
+solve_by input list log turns plan format search limit version =
     record {
       format = format;
       input = input;
@@ -95,21 +105,22 @@ solve_by input list log turns format search limit version =
       turns = turns;
       limit = limit;
       version = version;
+      plan = plan;
     }
 
--- the files, the search with its turns, the limit and the version, where none of them is refused
-abbrev pub solve_of_values : (input list log : List ℕ) → (search turns learn version : Option (List ℕ)) → Option SolveAsked
-solve_of_values input list log search turns learn version =
+-- the files, the search with its turns, the limit, the version and the plan, where none of them is refused
+abbrev pub solve_of_values : (input list log : List ℕ) → (search turns learn version : Option (List ℕ)) → Plan → Option SolveAsked
+solve_of_values input list log search turns learn version plan =
     option_and_then (λ format.
     option_and_then (λ kind.
     option_and_then (λ limit.
-    option_map (solve_by input list log turns format kind limit)
+    option_map (solve_by input list log turns plan format kind limit)
     (version_of version)) (limit_of learn)) (search_with search turns)) (format_of_three input list log)
 
 abbrev pub solve_of_rows : List Row → Option SolveAsked
 solve_of_rows rows =
     solve_of_values (value_of (codes "IN") rows) (value_of (codes "LIST") rows) (value_of (codes "LOG") rows)
-    (first_of (codes "search") rows) (first_of (codes "turns") rows) (first_of (codes "learn") rows) (first_of (codes "log-version") rows)
+    (first_of (codes "search") rows) (first_of (codes "turns") rows) (first_of (codes "learn") rows) (first_of (codes "log-version") rows) (plan_of_rows rows)
 
 -- What the words ask for, of which the first is `solve`; nothing where clap, the names or the options refuse them.
 abbrev pub solve_asked : List (List ℕ) → Option SolveAsked

@@ -1,5 +1,5 @@
-//! The command `solve IN LIST LOG [--search S] [--turns T] [--learn N] [--log-version V]`: the front of the instance in the
-//! file IN by search, as a list in the file LIST, with a log in the file LOG.
+//! The command `solve IN LIST LOG [--search S] [--turns T] [--learn N] [--log-version V] [--harden]`: the front of the
+//! instance in the file IN by search, as a list in the file LIST, with a log in the file LOG.
 //!
 //! Its public contract: what it answers goes by its table (`SolveTable`), and what its words ask for is `solve_asked`. The
 //! log is begun before the search, and the list after it.
@@ -13,7 +13,7 @@ ghost use Rattle.command_base.specs.Answering.{Answered};
 ghost use Rattle.command_base.specs.Causes.{HasText};
 ghost use Rattle.command_base.specs.InstanceFile.{IsTextOf};
 ghost use Rattle.command_solve.specs.Table.{IsProblemOf, SolveTable, solve_calls};
-ghost use Rattle.command_solve.specs.Words.{asked, solve_app, solve_asked, solve_files, solve_of_rows};
+ghost use Rattle.command_solve.specs.Words.{asked, solve_app, solve_asked, solve_files, solve_of_rows, solve_options};
 
 mod listing;
 mod logging;
@@ -24,10 +24,11 @@ use crate::listing::write_found;
 use crate::logging::search_with_log;
 use crate::options::{limit_of, search_with, takes, version_of};
 use bioptsat::BiOpt;
+pub use certified_front::Plan;
 use clap::ArgMatches;
 use command_base::{
-    Command, Format, Status, file, format_of_three, option, optional, read_by, read_instance,
-    value, with_arg,
+    Command, Format, Status, file, flag, format_of_three, is_set, option, optional, read_by,
+    read_instance, value, with_arg,
 };
 use instance::Instance;
 use instance_normal::normalise;
@@ -40,8 +41,8 @@ use scut_base::{NoMemory, Shelf};
 use search_base::Search;
 use std::alloc::Global;
 
-/// The command `solve`, with its files, its search, how many clauses it may learn, and the version of
-/// its log.
+/// The command `solve`, with its files, its search, how many clauses it may learn, the version of
+/// its log, and what is done before the search.
 #[derive(Clone, Copy, Debug)]
 pub struct Solve<'a> {
     pub format: Format,
@@ -53,11 +54,20 @@ pub struct Solve<'a> {
     pub turns: Option<&'a str>,
     pub limit: Option<u64>,
     pub version: LogVersion,
+    pub plan: Plan,
 }
 
 // The words of the command, as clap reads them.
 fn solve_words<'a>(alloc: Global) -> Result<clap::Command<'a>, NoMemory>
     ensures { IfOk result (λ c. app_of c ≡ solve_app) }
+{
+    let command = option_words(alloc)?;
+    with_arg(command, flag(alloc, "harden"))
+}
+
+// The command's files, and its options that have a value.
+fn option_words<'a>(alloc: Global) -> Result<clap::Command<'a>, NoMemory>
+    ensures { IfOk result (λ c. app_of c ≡ solve_options) }
 {
     let command = file_words(alloc)?;
     let command = with_arg(command, option(alloc, "search"))?;
@@ -93,6 +103,9 @@ fn solve_of_matches<'a>(matches: &ArgMatches<'a>) -> Option<Solve<'a>>
         turns,
         limit: limit_of(optional(matches, "learn"))?,
         version: version_of(optional(matches, "log-version"))?,
+        plan: Plan {
+            harden: is_set(matches, "harden"),
+        },
     })
 }
 
@@ -216,6 +229,7 @@ impl<'a> Solve<'a> {
             self.log,
             self.version,
             self.limit,
+            self.plan,
             search,
             shelf,
         ) {

@@ -5,7 +5,7 @@ ghost use Rattle.instance_normal.specs.NormalForm.{IsNormalFormOf};
 ghost use Rattle.command_solve.specs.Logging.{IsLogStopped, IsLogged, IsSearched};
 
 use cdcl_core::{NoRoom, Solver};
-use certified_front::{Found, certified_front_by};
+use certified_front::{Found, Plan, certified_front_by};
 use instance::Instance;
 use pb_lin::PbProblem;
 use proof_rules::{RecordFault, Recorder};
@@ -15,8 +15,8 @@ use search_base::Search;
 use std::alloc::Global;
 use watch_prop::WatchProp;
 
-// Searches for the front of an instance, of which this is the normal form, with a log of this version in this file. After
-// a fault the log is as before, or a part of one.
+// Searches for the front of an instance, of which this is the normal form, with a log of this version in this file, after
+// what the plan says. After a fault the log is as before, or a part of one.
 pub(crate) fn search_with_log<'a, S: Search, H: Shelf>(
     alloc: Global,
     inst: &Instance,
@@ -24,13 +24,14 @@ pub(crate) fn search_with_log<'a, S: Search, H: Shelf>(
     log: &'a str,
     version: LogVersion,
     limit: Option<u64>,
+    plan: Plan,
     search: &mut S,
     shelf: &'a mut H,
 ) -> Result<Found, RecordFault>
     requires normal { IsNormalFormOf inst.now problem.now }
     requires serves { S.serves search.old problem.now }
     ensures found { IfOk result (IsLogged (H.world shelf.old).files (H.world shelf.new).files
-        inst.now problem.now log.now version limit) }
+        inst.now problem.now log.now version limit plan) }
     ensures stopped { IfErr result (λ fault. IsLogStopped fault (H.world shelf.old).files
         (H.world shelf.new).files problem.now log.now version
         (H.world shelf.old).faults (H.world shelf.new).faults) }
@@ -42,7 +43,7 @@ pub(crate) fn search_with_log<'a, S: Search, H: Shelf>(
         Ok(recorder) => recorder,
         Err(refused) => return Err(refused.fault),
     };
-    let (found, recorder) = search_over(alloc, inst, problem, recorder, limit, search);
+    let (found, recorder) = search_over(alloc, inst, problem, recorder, limit, plan, search);
     let _shelf = recorder.finish();
     found
 }
@@ -54,6 +55,7 @@ fn search_over<R: Recorder + Drop, S: Search>(
     problem: &PbProblem,
     recorder: R,
     limit: Option<u64>,
+    plan: Plan,
     search: &mut S,
 ) -> (Result<Found, RecordFault>, R)
     requires normal { IsNormalFormOf inst.now problem.now }
@@ -61,7 +63,7 @@ fn search_over<R: Recorder + Drop, S: Search>(
     requires begun { (R.seen recorder).lines ≡ [] }
     requires whole { (R.seen recorder).broken ≡ false }
     requires serves { S.serves search.old problem.now }
-    ensures { IsSearched inst.now problem.now limit (R.seen recorder) (R.seen result.1)
+    ensures { IsSearched inst.now problem.now limit plan (R.seen recorder) (R.seen result.1)
         result.0 }
 {
     let mut solver = match Solver::new(alloc, recorder, WatchProp::new(alloc), problem, limit) {
@@ -71,6 +73,6 @@ fn search_over<R: Recorder + Drop, S: Search>(
             return (Err(RecordFault::NoMemory), recorder);
         }
     };
-    let found = certified_front_by(alloc, &mut solver, problem, inst, search);
+    let found = certified_front_by(alloc, &mut solver, problem, inst, plan, search);
     (found, solver.into_recorder())
 }

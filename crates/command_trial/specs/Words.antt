@@ -1,5 +1,5 @@
 -- The words of `trial NUMBER VARS OBJECTIVES BASE`, and its three parts.
-use Rattle.std.specs.Prelude.{◌≡◌, ℕ, ◌++◌, List, codes, Option, None}
+use Rattle.std.specs.Prelude.{◌≡◌, ℕ, ◌++◌, false, List, codes, Option, None}
 use Rattle.std.specs.Option.{option_and_then, option_map}
 use Rattle.clap.specs.Words.{App, Row, new_app, with_rule}
 use Rattle.proof_text.specs.declared.version.LogVersion.TheVariants.{One}
@@ -44,7 +44,7 @@ gen_in origin input = record { origin = origin; out = input }
 
 abbrev pub solve_in : (input list log : List ℕ) → SolveAsked
 solve_in input list log =
-    record { format = Mcnf; input = input; list = list; log = log; search = PMinimal; turns = None; limit = None; version = One }
+    record { format = Mcnf; input = input; list = list; log = log; search = PMinimal; turns = None; limit = None; version = One; plan = record { harden = false } }
 
 abbrev pub check_in : (input list log : List ℕ) → CheckAsked
 check_in input list log = record { format = Mcnf; input = input; list = list; log = log }

@@ -19,7 +19,7 @@ use clap::ArgMatches;
 use command_base::{Command, Format, Status, file, read_by, value, with_arg};
 use command_check::Check;
 use command_gen::{Gen, Origin};
-use command_solve::{SearchKind, Solve};
+use command_solve::{Plan, SearchKind, Solve};
 use proof_text::LogVersion;
 use scut_base::{NoMemory, Shelf};
 use std::alloc::Global;
@@ -185,6 +185,7 @@ fn solve_in<'a>(input: &'a str, list: &'a str, log: &'a str) -> Solve<'a>
         turns: None,
         limit: None,
         version: LogVersion::One,
+        plan: Plan { harden: false },
     }
 }
 

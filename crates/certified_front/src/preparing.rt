@@ -1,0 +1,67 @@
+// What is done before a search.
+ghost use Rattle.std.specs.Prelude.{◌≡◌, [], true, false, IfErr, OnOk};
+ghost use Rattle.proof_rules.specs.Recording.{KeepsRecorder};
+ghost use Rattle.search_base.specs.Laws.{IsPrepared};
+ghost use Rattle.harden.specs.Hardened.{hardened};
+ghost use Rattle.certified_front.specs.Stopping.{IsStop};
+
+use harden::harden;
+use oracle::{Oracle, OracleFault};
+use pb_lin::PbProblem;
+use proof_rules::RecordFault;
+use search_base::no_lines_are_prepared;
+use std::alloc::Global;
+
+/// What is done before a search.
+#[derive(Clone, Copy, Debug, PartialEq, Eq)]
+pub struct Plan {
+    /// Whether literals that may as well be false are made false.
+    pub harden: bool,
+}
+
+// Adds the lines that the plan asks for to an oracle without lines.
+pub(crate) fn prepare<O: Oracle>(
+    alloc: Global,
+    oracle: &mut O,
+    problem: &PbProblem,
+    plan: Plan,
+) -> Result<(), RecordFault>
+    requires problem { (O.seen oracle.old).problem ≡ problem.now }
+    requires begun { (O.seen oracle.old).lines ≡ [] }
+    requires whole { (O.seen oracle.old).broken ≡ false }
+    ensures prepared { OnOk result (IsPrepared (O.seen oracle.new)) }
+    ensures hardened { OnOk result
+        (plan.harden ≡ true → (O.seen oracle.new).lines ≡ hardened problem.now) }
+    ensures stop { IfErr result (IsStop (O.seen oracle.old) (O.seen oracle.new)) }
+    ensures keeps { KeepsRecorder (O.seen oracle.old) (O.seen oracle.new) }
+{
+    no_lines_are_prepared();
+    // Tells that the problem is within its limits.
+    let _vars = problem.vars();
+    if plan.harden {
+        return harden_first(alloc, oracle, problem);
+    }
+    Ok(())
+}
+
+// Hardens, for which there is room.
+fn harden_first<O: Oracle>(
+    alloc: Global,
+    oracle: &mut O,
+    problem: &PbProblem,
+) -> Result<(), RecordFault>
+    requires problem { (O.seen oracle.old).problem ≡ problem.now }
+    requires begun { (O.seen oracle.old).lines ≡ [] }
+    requires whole { (O.seen oracle.old).broken ≡ false }
+    ensures prepared { OnOk result (IsPrepared (O.seen oracle.new)) }
+    ensures hardened { OnOk result ((O.seen oracle.new).lines ≡ hardened problem.now) }
+    ensures stop { IfErr result (IsStop (O.seen oracle.old) (O.seen oracle.new)) }
+    ensures keeps { KeepsRecorder (O.seen oracle.old) (O.seen oracle.new) }
+{
+    match harden(alloc, oracle, problem) {
+        Ok(_) => Ok(()),
+        Err(OracleFault::Failed) => Err(RecordFault::Failed),
+        Err(OracleFault::NoMemory) => Err(RecordFault::NoMemory),
+        Err(OracleFault::Full | OracleFault::Spent { .. }) => unreachable!(),
+    }
+}

@@ -1,0 +1,13 @@
+pub mod Splitting
+pub mod Refuting
+pub mod Tests
+pub mod RowProofs
+pub mod GoalFaults
+pub mod RowGoals
+pub mod CostGoals
+pub mod StrictGoals
+pub mod Legality
+pub mod Redundance
+pub mod InOrder
+pub mod Places
+pub mod Adding
