@@ -10,7 +10,7 @@ use Rattle.instance.specs.declared.row.Linear.{Linear}
 use Rattle.instance.specs.declared.row.Rel.{Rel}
 use Rattle.instance.specs.declared.row.Rel.TheVariants.{AtLeast as HoldsAtLeast, AtMost as HoldsAtMost, Equal as HoldsEqual}
 use Rattle.instance.specs.declared.objective.Objective.{Objective as Goal}
-use Rattle.instance.specs.declared.objective.Sense.TheVariants.{Min as Minimised}
+use Rattle.instance.specs.declared.objective.Sense.{Sense}
 use Rattle.instance.specs.declared.fault.BadKind.{BadKind}
 use Rattle.instance.specs.declared.fault.BadKind.TheVariants.{NumberTooWide, ObjectiveAfterConstraint}
 use Rattle.instance.specs.declared.fault.InstanceLimit.{InstanceLimit}
@@ -18,7 +18,7 @@ use Rattle.instance.specs.declared.fault.InstanceLimit.TheVariants.{Vars, Object
 use Rattle.instance.specs.declared.fault.PlaceFault.{PlaceFault}
 use Rattle.instance.specs.declared.fault.PlaceFault.TheVariants.{Bad, Limit}
 use Rattle.instance.specs.Shape.{InstanceValue, terms_magnitude, objective_magnitude, row_magnitude}
-use Rattle.mopb_reader.specs.Tokens.{Token, Plus, Minus, Digits, Positive, Negative, Min, AtLeast, AtMost, Equal, Semicolon, Other, tokens_of}
+use Rattle.mopb_reader.specs.Tokens.{Token, Plus, Minus, Digits, Positive, Negative, Head as Opening, AtLeast, AtMost, Equal, Semicolon, Other, tokens_of}
 use Rattle.mopb_reader.specs.FirstFault.{Kind, Objective, Constraint, limit_of, Place, Start, Head, Sign, Coefficient, Term, Relation, BoundSign, Bound, missing_at, Next, counted, indexed, behind_begun, behind, is_misspelled, Progress, first_fault, lines_of, numbered_tokens, nothing_yet}
 use Rattle.mopb_reader.specs.Grammar.{SpellsLiteral, SpellsUnsigned, SpellsTerm, MayFollowTerm, SpellsTerms, SpellsObjective, SpellsRelation, SpellsBound, SpellsRow, Spells, largest_of, largest_in_objectives, largest_in_rows}
 use Rattle.mopb_reader.specs.Drafts.{SpellsAll, instance_of}
@@ -375,17 +375,17 @@ head_right true b q wrong many f e = absurd cc
 head_right false true q wrong many f e = (refl, refl, e)
 head_right false false q wrong many f e = absurd cc
 
-objective_finished : (n : ℕ) (seen : Bool) (tokens : List Token) → seen ≡ false → n < 64 → Heads (n + 1) false tokens → IsFinished n seen (Min ∷ tokens)
-objective_finished n seen tokens first room h =
+objective_finished : (n : ℕ) (seen : Bool) (sense : Sense) (tokens : List Token) → seen ≡ false → n < 64 → Heads (n + 1) false tokens → IsFinished n seen (Opening sense ∷ tokens)
+objective_finished n seen sense tokens first room h =
     let rest = h.ends.finished in
-    let o : Goal = record { sense = Minimised; softs = []; terms = h.items; offset = pos 0 } in
-    let whole : Min ∷ tokens ≡ (Min ∷ h.front) ++ Semicolon ∷ h.ends.rest = ap (λ ts. Min ∷ ts) (h.cut ∙ ap (λ ts. h.front ++ ts) h.ends.cut) in
-    let here : SpellsObjective (Min ∷ h.front) o = record { after = h.front; begins = refl; terms = h.spelled; sense = refl; softs = refl; offset = refl } in
+    let o : Goal = record { sense = sense; softs = []; terms = h.items; offset = pos 0 } in
+    let whole : Opening sense ∷ tokens ≡ (Opening sense ∷ h.front) ++ Semicolon ∷ h.ends.rest = ap (λ ts. Opening sense ∷ ts) (h.cut ∙ ap (λ ts. h.front ++ ts) h.ends.cut) in
+    let here : SpellsObjective (Opening sense ∷ h.front) o = record { after = h.front; begins = refl; terms = h.spelled; softs = refl; offset = refl } in
     let small : objective_magnitude o < 2 ^ 63 = omega (arith, h.small) in
     record {
       objectives = o ∷ rest.objectives;
       rows = rest.rows;
-      spelled = objective_first (Min ∷ h.front) h.ends.rest (Min ∷ tokens) o rest.objectives rest.rows whole here rest.spelled;
+      spelled = objective_first (Opening sense ∷ h.front) h.ends.rest (Opening sense ∷ tokens) o rest.objectives rest.rows whole here rest.spelled;
       ordered = λ e. absurd cc;
       room = omega (arith, room, rest.room);
       objectives_small = All-cons (λ (x : Goal). objective_magnitude x < 2 ^ 63) o rest.objectives small rest.objectives_small;
@@ -396,9 +396,9 @@ objective_finished n seen tokens first room h =
 
 -- a statement's first token
 statement : (n : ℕ) (seen : Bool) (t : Token) (tokens : List Token) → Hypothesis tokens → fault_in (at_place n seen Start) (t ∷ tokens) ≡ None → IsFinished n seen (t ∷ tokens)
-statement n seen Min tokens further e =
+statement n seen (Opening sense) tokens further e =
     let right = head_right seen (nat_lt n 64) (at_place (n + 1) false Head) (Bad ObjectiveAfterConstraint) (Limit Objectives) (λ q. fault_in q tokens) e in
-    objective_finished n seen tokens right.0 (less n 64 right.1) (further (n + 1) false Head tt right.2)
+    objective_finished n seen sense tokens right.0 (less n 64 right.1) (further (n + 1) false Head tt right.2)
 statement n seen AtLeast tokens further e = row_bare n seen AtLeast HoldsAtLeast tokens refl (further n true (Relation 0) (omega arith) e)
 statement n seen AtMost tokens further e = row_bare n seen AtMost HoldsAtMost tokens refl (further n true (Relation 0) (omega arith) e)
 statement n seen Equal tokens further e = row_bare n seen Equal HoldsEqual tokens refl (further n true (Relation 0) (omega arith) e)

@@ -8,7 +8,7 @@ use Rattle.std.proofs.lemmas.List.Elements.{All-nil, All-cons}
 use Rattle.scut_base.specs.Literal.{Literal as Lit}
 use Rattle.scut_base.specs.Number.{natural_value}
 use Rattle.instance.specs.declared.row.Linear.{Linear}
-use Rattle.mopb_reader.specs.Tokens.{Token, Plus, Minus, Digits, Positive, Negative, Min, Equal, Other, is_comment, is_gap, with_digit, with_x, with_tilde, with_m, with_greater, with_less, with_byte, tokens_of_line, tokens_of}
+use Rattle.mopb_reader.specs.Tokens.{Token, Plus, Minus, Digits, Positive, Negative, Equal, Other, is_comment, is_gap, with_digit, with_x, with_tilde, with_m, with_greater, with_less, with_byte, tokens_of_line, tokens_of}
 use Rattle.mopb_reader.specs.Grammar.{SpellsLiteral, SpellsUnsigned, SpellsTerm, SpellsTerms, SpellsRow, is_semicolon}
 use Rattle.mopb_reader.proofs.Cutting.{byte_cases}
 
@@ -50,8 +50,8 @@ tilde_counted (t ∷ ts) rest = (tt, rest)
 
 m_counted : (rest : List Token) → AreCounted rest → AreCounted (with_m rest)
 m_counted (Other a ∷ Other b ∷ Other c ∷ ts) rest =
-    cond_both (a == 105 && b == 110 && c == 58) (Min ∷ ts) (Other 109 ∷ Other a ∷ Other b ∷ Other c ∷ ts) AreCounted
-    (λ _. (tt, rest.1.1.1)) (λ _. (tt, rest))
+    cond_both (a == 105 && b == 110 && c == 58) _ _ AreCounted (λ _. (tt, rest.1.1.1)) (λ _.
+    cond_both (a == 97 && b == 120 && c == 58) _ _ AreCounted (λ _. (tt, rest.1.1.1)) (λ _. (tt, rest)))
 m_counted ts rest = (tt, rest)
 
 greater_counted : (rest : List Token) → AreCounted rest → AreCounted (with_greater rest)

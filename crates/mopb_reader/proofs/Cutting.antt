@@ -11,9 +11,11 @@ use Rattle.std.proofs.lemmas.List.Elements.{All-from_get_or, filter-append}
 use Rattle.std.proofs.lemmas.List.Splits.{slice_split_none, slice_split_first}
 use Rattle.std.proofs.lemmas.List.Sums.{prefix_len-le-length, fails_before_first}
 use Rattle.scut_base.specs.Number.{natural_value}
-use Rattle.mopb_reader.specs.Tokens.{Token, Blank, Plus, Minus, Digits, Positive, Negative, Min, AtLeast, AtMost, Equal, Semicolon, Other, is_blank, is_comment, is_gap, with_digit, with_x, with_tilde, with_m, with_greater, with_less, with_byte, tokens_of_line}
+use Rattle.instance.specs.declared.objective.Sense.{Sense}
+use Rattle.instance.specs.declared.objective.Sense.TheVariants.{Min, Max}
+use Rattle.mopb_reader.specs.Tokens.{Token, Blank, Plus, Minus, Digits, Positive, Negative, Head, AtLeast, AtMost, Equal, Semicolon, Other, is_blank, is_comment, is_gap, with_digit, with_x, with_tilde, with_m, with_greater, with_less, with_byte, tokens_of_line}
 use Rattle.mopb_reader.specs.FirstFault.{is_misspelled, lines_of, numbered_tokens, tokens_in_line}
-use Rattle.mopb_reader.specs.Cuts.{tokens_in, BeginsNoDigits, BeginsNoBlank, IsNotBefore}
+use Rattle.mopb_reader.specs.Cuts.{tokens_in, BeginsNoDigits, BeginsNoBlank, IsNotBefore, after_m}
 use Rattle.mopb_reader.specs.Streams.{plain, numbered_rest, numbered_from, lines_behind}
 
 at_most : (n m : ℕ) → n ≤ m → unwrap_or (cond (ltb n m) (Some n) None) m ≡ n
@@ -46,7 +48,7 @@ abbrev pub Begun : ℕ → List Token → List Token → Type 0
 Begun b rest (Digits ds ∷ tokens) = is_ascii_digit b ≡ true
 Begun b rest (Positive ds ∷ tokens) = b ≡ 120
 Begun b rest (Negative ds ∷ tokens) = b ≡ 126
-Begun b rest (Min ∷ tokens) = b ≡ 109
+Begun b rest (Head sense ∷ tokens) = b ≡ 109
 Begun b rest (AtLeast ∷ tokens) = b ≡ 62
 Begun b rest (AtMost ∷ tokens) = b ≡ 60
 Begun b rest (Equal ∷ tokens) = b ≡ 61
@@ -69,7 +71,8 @@ tilde_begun (Positive ds ∷ rest) = refl
 tilde_begun (token ∷ rest) = (refl, refl)
 
 m_begun : (rest : List Token) → Begun 109 rest (with_m rest)
-m_begun (Other a ∷ Other b ∷ Other c ∷ rest) = cond_both (a == 105 && b == 110 && c == 58) (Min ∷ rest) (Other 109 ∷ Other a ∷ Other b ∷ Other c ∷ rest) (Begun 109 (Other a ∷ Other b ∷ Other c ∷ rest)) (λ _. refl) (λ _. (refl, refl))
+m_begun (Other a ∷ Other b ∷ Other c ∷ rest) = cond_both (a == 105 && b == 110 && c == 58) _ _ (Begun 109 (Other a ∷ Other b ∷ Other c ∷ rest)) (λ _. refl) (λ _.
+    cond_both (a == 97 && b == 120 && c == 58) _ _ (Begun 109 (Other a ∷ Other b ∷ Other c ∷ rest)) (λ _. refl) (λ _. (refl, refl)))
 m_begun rest = (refl, refl)
 
 greater_begun : (rest : List Token) → Begun 62 rest (with_greater rest)
@@ -140,22 +143,34 @@ other_first (b ∷ cs) a rest e =
     let starts : Begun b (tokens_of_line cs) (Other a ∷ rest) = subst (Begun b (tokens_of_line cs)) e (begun b (tokens_of_line cs)) in
     (cs, ap (λ x. x ∷ cs) starts.0, sym starts.1)
 
-m_stays : (bs : List ℕ) (tokens : List Token) → tokens_of_line bs ≡ tokens → ((rest : List ℕ) → bs ≡ 105 ∷ 110 ∷ 58 ∷ rest → ⊥) → with_m tokens ≡ Other 109 ∷ tokens
-m_stays bs (Other a ∷ Other b ∷ Other c ∷ rest) e other =
-    cond_both (a == 105 && b == 110 && c == 58) (Min ∷ rest) (Other 109 ∷ Other a ∷ Other b ∷ Other c ∷ rest) (λ ts. ts ≡ Other 109 ∷ Other a ∷ Other b ∷ Other c ∷ rest)
-    (λ t.
+-- The three bytes behind an `m` that make it a head, or no head.
+three_bytes : (bs : List ℕ) (a b c : ℕ) (rest : List Token) → tokens_of_line bs ≡ Other a ∷ Other b ∷ Other c ∷ rest → (cs : List ℕ) × (bs ≡ a ∷ b ∷ c ∷ cs)
+three_bytes bs a b c rest e =
     let one = other_first bs a (Other b ∷ Other c ∷ rest) e in
     let two = other_first one.0 b (Other c ∷ rest) one.2 in
     let three = other_first two.0 c rest two.2 in
-    let whole : bs ≡ a ∷ b ∷ c ∷ three.0 = one.1 ∙ ap (λ more. a ∷ more) (two.1 ∙ ap (λ more. b ∷ more) three.1) in
+    (three.0, one.1 ∙ ap (λ more. a ∷ more) (two.1 ∙ ap (λ more. b ∷ more) three.1))
+
+m_stays : (bs : List ℕ) (tokens : List Token) → tokens_of_line bs ≡ tokens → ((sense : Sense) (rest : List ℕ) → bs ≡ after_m sense rest → ⊥) → with_m tokens ≡ Other 109 ∷ tokens
+m_stays bs (Other a ∷ Other b ∷ Other c ∷ rest) e other =
+    let whole = three_bytes bs a b c rest e in
+    let same : List Token → Type 0 = λ ts. ts ≡ Other 109 ∷ Other a ∷ Other b ∷ Other c ∷ rest in
+    cond_both (a == 105 && b == 110 && c == 58) _ _ same
+    (λ t.
     let is_a : a ≡ 105 = grind (arith, nat_tests) in
     let is_b : b ≡ 110 = grind (arith, nat_tests) in
     let is_c : c ≡ 58 = grind (arith, nat_tests) in
-    absurd (other three.0 cc))
-    (λ _. refl)
+    absurd (other Min whole.0 (rw (sym is_a, sym is_b, sym is_c) whole.1)))
+    (λ _. cond_both (a == 97 && b == 120 && c == 58) _ _ same
+    (λ t.
+    let is_a : a ≡ 97 = grind (arith, nat_tests) in
+    let is_b : b ≡ 120 = grind (arith, nat_tests) in
+    let is_c : c ≡ 58 = grind (arith, nat_tests) in
+    absurd (other Max whole.0 (rw (sym is_a, sym is_b, sym is_c) whole.1)))
+    (λ _. refl))
 m_stays bs tokens e other = refl
 
-pub m_alone : (bs : List ℕ) → ((rest : List ℕ) → bs ≡ 105 ∷ 110 ∷ 58 ∷ rest → ⊥) → with_m (tokens_of_line bs) ≡ Other 109 ∷ tokens_of_line bs
+pub m_alone : (bs : List ℕ) → ((sense : Sense) (rest : List ℕ) → bs ≡ after_m sense rest → ⊥) → with_m (tokens_of_line bs) ≡ Other 109 ∷ tokens_of_line bs
 m_alone bs other = m_stays bs (tokens_of_line bs) refl other
 
 -- a digit is no blank

@@ -9,16 +9,17 @@ use Rattle.scut_base.specs.Literal.{Literal as Lit}
 use Rattle.instance.specs.declared.row.Linear.{Linear}
 use Rattle.instance.specs.declared.row.Rel.{Rel}
 use Rattle.instance.specs.declared.objective.Objective.{Objective}
+use Rattle.instance.specs.declared.objective.Sense.{Sense}
 use Rattle.instance.specs.Shape.{objective_magnitude, row_magnitude}
-use Rattle.mopb_reader.specs.Tokens.{Token, Plus, Minus, Digits, Positive, Negative, Min as Head, AtLeast, AtMost, Equal, Semicolon as End}
-use Rattle.mopb_reader.specs.FirstFault.{Start, Head, Progress, Progressed, first_fault, fault_from, head_begun, lines_of, numbered_tokens}
+use Rattle.mopb_reader.specs.Tokens.{Token, Plus, Minus, Digits, Positive, Negative, Head as Opening, AtLeast, AtMost, Equal, Semicolon as End}
+use Rattle.mopb_reader.specs.FirstFault.{Start, Head as Begun, Progress, Progressed, first_fault, fault_from, head_begun, lines_of, numbered_tokens}
 use Rattle.mopb_reader.specs.Symbols.{IsLeft}
 use Rattle.mopb_reader.specs.Streams.{Stream}
 use Rattle.mopb_reader.specs.SymbolTable.{fault_at, fault_behind}
 use Rattle.mopb_reader.specs.Grammar.{SpellsLiteral, SpellsUnsigned, SpellsTerm, SpellsTerms, SpellsMagnitude, SpellsBound, SpellsRelation, SpellsObjective, SpellsRow, is_semicolon, largest_of, largest_in_objectives, largest_in_rows}
 use Rattle.mopb_reader.specs.Drafts.{SpellsAll, IsDraft, GoesOn, AddsObjective, AddsRow, has_any, progress_of}
 use Rattle.mopb_reader.specs.declared.symbol.Symbol.{Symbol}
-use Rattle.mopb_reader.specs.declared.symbol.Symbol.TheVariants.{Min}
+use Rattle.mopb_reader.specs.declared.symbol.Symbol.TheVariants.{Head}
 use Rattle.mopb_reader.specs.declared.draft.Draft.{Draft}
 use Rattle.mopb_reader.proofs.Places.{below}
 use Rattle.mopb_reader.proofs.Findings.{push_some}
@@ -69,7 +70,7 @@ relation_goes Equal rel spelled = refl
 relation_goes t rel spelled = absurd spelled
 
 pub objective_goes : (tokens : List Token) (o : Objective) → SpellsObjective tokens o → NoEnd tokens
-objective_goes tokens o spelled = subst NoEnd (sym spelled.begins) (end_cons Head spelled.after refl (terms_go spelled.after o.terms spelled.terms))
+objective_goes tokens o spelled = subst NoEnd (sym spelled.begins) (end_cons (Opening o.sense) spelled.after refl (terms_go spelled.after o.terms spelled.terms))
 
 pub row_goes : (tokens : List Token) (row : Linear) → SpellsRow tokens row → NoEnd tokens
 row_goes tokens row spelled = subst NoEnd (sym spelled.parts) (All-append (λ (t : Token). is_semicolon t ≡ false) spelled.before (spelled.relation ∷ spelled.after) (terms_go spelled.before row.terms spelled.terms) (end_cons spelled.relation spelled.after (relation_goes spelled.relation row.rel spelled.rel) (bound_goes spelled.after row.bound spelled.bound)))
@@ -103,16 +104,16 @@ row_first front rest left row rows cut spelled more =
     }
 
 -- the draft with an objective more
-min_left : (first : Symbol) (tokens left : List Token) → first ≡ Min → IsLeft (Some first) tokens left → left ≡ Head ∷ tokens
-min_left first tokens left e is_left =
-    let found : IsLeft (Some Min) tokens left = subst (λ (s : Symbol). IsLeft (Some s) tokens left) e is_left in
+head_left : (sense : Sense) (first : Symbol) (tokens left : List Token) → first ≡ Head sense → IsLeft (Some first) tokens left → left ≡ Opening sense ∷ tokens
+head_left sense first tokens left e is_left =
+    let found : IsLeft (Some (Head sense)) tokens left = subst (λ (s : Symbol). IsLeft (Some s) tokens left) e is_left in
     found.1 ∙ ap (λ t. t ∷ tokens) found.2
 
-pub objective_goes_on : (first : Symbol) (tokens rest all left : List Token) (d e : Draft) → first ≡ Min → AddsObjective tokens rest d e → IsLeft (Some first) tokens left → GoesOn all left d → GoesOn all rest e
-objective_goes_on first tokens rest all left d e is_min adds is_left so_far objectives rows ordered spelled =
+pub objective_goes_on : (sense : Sense) (first : Symbol) (tokens rest all left : List Token) (d e : Draft) → first ≡ Head sense → AddsObjective sense tokens rest d e → IsLeft (Some first) tokens left → GoesOn all left d → GoesOn all rest e
+objective_goes_on sense first tokens rest all left d e is_head adds is_left so_far objectives rows ordered spelled =
     let o = adds.objective in
-    let cut : left ≡ (Head ∷ adds.read.front) ++ End ∷ rest = min_left first tokens left is_min is_left ∙ ap (λ ts. Head ∷ ts) adds.read.cut in
-    let whole : SpellsAll all (d.objectives ++ o ∷ objectives) (d.linear ++ rows) = so_far (o ∷ objectives) rows (λ some. absurd (some adds.before)) (objective_first (Head ∷ adds.read.front) rest left o objectives rows cut adds.read.spelled spelled) in
+    let cut : left ≡ (Opening sense ∷ adds.read.front) ++ End ∷ rest = head_left sense first tokens left is_head is_left ∙ ap (λ ts. Opening sense ∷ ts) adds.read.cut in
+    let whole : SpellsAll all (d.objectives ++ o ∷ objectives) (d.linear ++ rows) = so_far (o ∷ objectives) rows (λ some. absurd (some adds.before)) (objective_first (Opening sense ∷ adds.read.front) rest left o objectives rows cut adds.read.spelled spelled) in
     let os : e.objectives ++ objectives ≡ d.objectives ++ o ∷ objectives = ap (λ (x : Draft). x.objectives ++ objectives) adds.added ∙ append_assoc d.objectives (o ∷ []) objectives in
     let rs : e.linear ++ rows ≡ d.linear ++ rows = ap (λ (x : Draft). x.linear ++ rows) adds.added in
     rw (os, rs) whole
@@ -138,8 +139,8 @@ rows_push : (rows : List Linear) (row : Linear) → largest_in_rows (rows ++ row
 rows_push [] row = omega arith
 rows_push (x ∷ rows) row = omega (arith, rows_push rows row)
 
-pub objective_draft : (tokens rest : List Token) (d e : Draft) → AddsObjective tokens rest d e → IsDraft d → IsDraft e
-objective_draft tokens rest d e adds draft =
+pub objective_draft : (sense : Sense) (tokens rest : List Token) (d e : Draft) → AddsObjective sense tokens rest d e → IsDraft d → IsDraft e
+objective_draft sense tokens rest d e adds draft =
     let o = adds.objective in
     subst IsDraft (sym adds.added) (record {
       variables = omega (arith, draft.variables, adds.read.largest, objectives_push d.objectives o);
@@ -165,8 +166,8 @@ row_draft first tokens rest left d e adds is_left draft =
 pub statement_fewer : (front rest left : List Token) → left ≡ front ++ End ∷ rest → length rest < length left
 statement_fewer front rest left cut = omega (arith, ap length cut, length-append front (End ∷ rest))
 
-pub objective_fewer : (first : Symbol) (tokens rest left : List Token) (d e : Draft) → first ≡ Min → AddsObjective tokens rest d e → IsLeft (Some first) tokens left → length rest < length left
-objective_fewer first tokens rest left d e is_min adds is_left = statement_fewer (Head ∷ adds.read.front) rest left (min_left first tokens left is_min is_left ∙ ap (λ ts. Head ∷ ts) adds.read.cut)
+pub objective_fewer : (sense : Sense) (first : Symbol) (tokens rest left : List Token) (d e : Draft) → first ≡ Head sense → AddsObjective sense tokens rest d e → IsLeft (Some first) tokens left → length rest < length left
+objective_fewer sense first tokens rest left d e is_head adds is_left = statement_fewer (Opening sense ∷ adds.read.front) rest left (head_left sense first tokens left is_head is_left ∙ ap (λ ts. Opening sense ∷ ts) adds.read.cut)
 
 pub row_fewer : (first : Symbol) (tokens rest left : List Token) (d e : Draft) → AddsRow first tokens rest d e → IsLeft (Some first) tokens left → length rest < length left
 row_fewer first tokens rest left d e adds is_left =
@@ -199,7 +200,7 @@ behind_row d = record { objectives = length d.objectives; rows = true; place = S
 opened : (b c : Bool) (wrong many begun : Progressed) → b ≡ false → c ≡ true → (if b then wrong else if c then begun else many) ≡ begun
 opened b c wrong many begun first second = rw (first, second) refl
 
-pub head_fits : (s : Stream) (d : Draft) → d.linear ≡ [] → length d.objectives < 64 → fault_behind s (head_begun (progress_of d)) ≡ fault_at s (behind_objective d) Head
+pub head_fits : (s : Stream) (d : Draft) → d.linear ≡ [] → length d.objectives < 64 → fault_behind s (head_begun (progress_of d)) ≡ fault_at s (behind_objective d) Begun
 head_fits s d none room = ap (fault_behind s) (opened (has_any d.linear) (nat_lt (length d.objectives) 64) _ _ _ (ap has_any none) (below (length d.objectives) 64 room))
 
 pub objective_progress : (s : Stream) (d : Draft) (objectives : List Objective) (o : Objective) (vars : ℕ) → d.linear ≡ [] → objectives ≡ d.objectives ++ o ∷ [] → fault_at s (behind_objective d) Start ≡ fault_from s.last (progress_of (record { objectives = objectives; linear = d.linear; vars = vars })) s.left

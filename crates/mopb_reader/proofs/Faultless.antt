@@ -12,6 +12,7 @@ use Rattle.scut_base.specs.Number.{natural_value, signed_value}
 use Rattle.instance.specs.declared.row.Linear.{Linear}
 use Rattle.instance.specs.declared.row.Rel.{Rel}
 use Rattle.instance.specs.declared.objective.Objective.{Objective as Goal}
+use Rattle.instance.specs.declared.objective.Sense.{Sense}
 use Rattle.instance.specs.declared.fault.BadKind.{BadKind}
 use Rattle.instance.specs.declared.fault.InstanceLimit.{InstanceLimit}
 use Rattle.instance.specs.declared.fault.InstanceLimit.TheVariants.{Objectives}
@@ -19,7 +20,7 @@ use Rattle.instance.specs.declared.fault.PlaceFault.{PlaceFault}
 use Rattle.instance.specs.declared.fault.PlaceFault.TheVariants.{Limit}
 use Rattle.instance.specs.declared.fault.ReadFault.{ReadFault}
 use Rattle.instance.specs.Shape.{InstanceValue, terms_magnitude, IsRowWithin, IsObjectiveWithin}
-use Rattle.mopb_reader.specs.Tokens.{Token, Plus, Minus, Digits, Positive, Negative, Min, AtLeast, AtMost, Equal, Semicolon, tokens_of}
+use Rattle.mopb_reader.specs.Tokens.{Token, Plus, Minus, Digits, Positive, Negative, Head as Opening, AtLeast, AtMost, Equal, Semicolon, tokens_of}
 use Rattle.mopb_reader.specs.FirstFault.{Kind, Objective, Constraint, limit_of, Place, Start, Head, Sign, Coefficient, Term, Relation, BoundSign, Bound, missing_at, Next, counted, indexed, behind_begun, behind, Progress, Progressed, moved, step, fault_or, end_in, end_fault, fault_from, first_fault, lines_of, numbered_tokens, nothing_yet}
 use Rattle.mopb_reader.specs.Grammar.{SpellsLiteral, SpellsUnsigned, SpellsTerm, MayFollowTerm, SpellsTerms, SpellsObjective, SpellsRelation, SpellsMagnitude, SpellsBound, SpellsRow, Spells, is_semicolon, largest_of, largest_in_objectives, largest_in_rows}
 use Rattle.mopb_reader.specs.Streams.{plain}
@@ -379,8 +380,8 @@ rows_pass n v seen (part ∷ parts) (row ∷ rows) tokens split spelled limits w
     ∙ row_passes (started n seen) row.terms found.before found.after cut.0 found.relation row.rel row.bound found.terms found.rel found.bound here.magnitude (omega arith)
     ∙ rows_pass n v true parts rows cut.0 cut.2 spelled.1 (All-tail (IsRowWithin v) row rows limits) (omega arith)
 
-head_passes : (n : ℕ) (rest : List Token) → n < 64 → fault_in (started n false) (Min ∷ rest) ≡ fault_on (started (n + 1) false) Head rest
-head_passes n rest room = ap (λ b. fault_then (if b then Ok (record { objectives = n + 1; rows = false; place = Head }) else Err (Limit Objectives)) (λ q. fault_in q rest)) (below n 64 room)
+head_passes : (n : ℕ) (sense : Sense) (rest : List Token) → n < 64 → fault_in (started n false) (Opening sense ∷ rest) ≡ fault_on (started (n + 1) false) Head rest
+head_passes n sense rest room = ap (λ b. fault_then (if b then Ok (record { objectives = n + 1; rows = false; place = Head }) else Err (Limit Objectives)) (λ q. fault_in q rest)) (below n 64 room)
 
 objectives_pass : (n v : ℕ) (first parts : List (List Token)) (objectives : List Goal) (rows : List Linear) (tokens : List Token) → slice_split is_semicolon tokens ≡ first ++ parts ++ [] ∷ [] → AllZip SpellsObjective first objectives → AllZip SpellsRow parts rows → All (IsObjectiveWithin v) objectives → All (IsRowWithin v) rows → largest_in_objectives objectives ≤ 2 ^ 24 → largest_in_rows rows ≤ 2 ^ 24 → n + length objectives ≤ 64 → fault_in (started n false) tokens ≡ None
 objectives_pass n v [] parts [] rows tokens split spelled rows_spelled limits rows_limits within rows_within room = rows_pass n v false parts rows tokens split rows_spelled rows_limits rows_within
@@ -389,10 +390,10 @@ objectives_pass n v (part ∷ first) parts [] rows tokens split spelled rows_spe
 objectives_pass n v (part ∷ first) parts (o ∷ objectives) rows tokens split spelled rows_spelled limits rows_limits within rows_within room =
     let cut = next_cut tokens part (first ++ parts) split in
     let found = spelled.0 in
-    let whole : tokens ≡ Min ∷ found.after ++ Semicolon ∷ cut.0 = cut.1 ∙ ap (λ ts. ts ++ Semicolon ∷ cut.0) found.begins in
+    let whole : tokens ≡ Opening o.sense ∷ found.after ++ Semicolon ∷ cut.0 = cut.1 ∙ ap (λ ts. ts ++ Semicolon ∷ cut.0) found.begins in
     let here : IsObjectiveWithin v o = All-head (IsObjectiveWithin v) o objectives limits in
     ap (fault_in (started n false)) whole
-    ∙ head_passes n (found.after ++ Semicolon ∷ cut.0) (omega arith)
+    ∙ head_passes n o.sense (found.after ++ Semicolon ∷ cut.0) (omega arith)
     ∙ objective_passes (started (n + 1) false) o.terms found.after cut.0 found.terms (omega (arith, here.magnitude)) (omega arith)
     ∙ objectives_pass (n + 1) v first parts objectives rows cut.0 cut.2 spelled.1 rows_spelled (All-tail (IsObjectiveWithin v) o objectives limits) rows_limits (omega arith) rows_within (omega arith)
 

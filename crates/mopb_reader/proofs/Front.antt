@@ -13,7 +13,7 @@ use Rattle.mopb_reader.specs.Symbols.{Shows, IsLeft, begins_term, begins_literal
 use Rattle.mopb_reader.specs.Grammar.{SpellsLiteral, SpellsUnsigned, SpellsTerm, SpellsTerms, MayFollowTerm, largest_of}
 use Rattle.mopb_reader.specs.Steps.{BeginsWith, BeginsWithTerms}
 use Rattle.mopb_reader.specs.declared.symbol.Symbol.{Symbol}
-use Rattle.mopb_reader.specs.declared.symbol.Symbol.TheVariants.{Sign, Number, Literal, Misspelled, Min, Relation, Semicolon, Unknown}
+use Rattle.mopb_reader.specs.declared.symbol.Symbol.TheVariants.{Sign, Number, Literal, Misspelled, Head, Relation, Semicolon, Unknown}
 
 -- digits and a literal
 pub unsigned_digits : (minus : Bool) (first : Option Symbol) (value : Option ℕ) (magnitude : ℕ) (term : ℤ × Lit) (left middle rest : List Token) → first ≡ Some (Number value) → value ≡ Some magnitude → term.0 ≡ signed_value minus magnitude → IsLeft first middle left → (token : Token) × (middle ≡ token ∷ rest) × SpellsLiteral token term.1 → BeginsWith (SpellsUnsigned minus) left rest term
@@ -86,7 +86,7 @@ shown_may (Sign true) token others shows term no_literal = subst (λ (t : Token)
 shown_may (Number value) token others shows term no_literal = subst (λ (t : Token). MayFollowTerm (t ∷ others)) (sym shows.1) tt
 shown_may (Literal var neg) token others shows term no_literal = absurd cc
 shown_may Misspelled token others shows term no_literal = absurd cc
-shown_may Min token others shows term no_literal = absurd cc
+shown_may (Head sense) token others shows term no_literal = absurd cc
 shown_may (Relation rel) token others shows term no_literal = absurd cc
 shown_may Semicolon token others shows term no_literal = absurd cc
 shown_may Unknown token others shows term no_literal = absurd cc

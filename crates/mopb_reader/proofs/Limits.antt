@@ -13,7 +13,7 @@ use Rattle.instance.specs.declared.row.Linear.{Linear}
 use Rattle.instance.specs.declared.objective.Objective.{Objective}
 use Rattle.instance.specs.declared.objective.Soft.{Soft}
 use Rattle.instance.specs.Shape.{IsWithinLimits, IsObjectiveWithin, IsRowWithin, TermsUpTo, ClauseUpTo, objective_magnitude, row_magnitude}
-use Rattle.mopb_reader.specs.Tokens.{Token, Digits, Positive, Min, Equal, Other, is_comment, is_gap, with_digit, with_x, with_tilde, with_m, with_greater, with_less, with_byte, tokens_of_line, tokens_of}
+use Rattle.mopb_reader.specs.Tokens.{Token, Digits, Positive, Equal, Other, is_comment, is_gap, with_digit, with_x, with_tilde, with_m, with_greater, with_less, with_byte, tokens_of_line, tokens_of}
 use Rattle.mopb_reader.specs.Grammar.{SpellsObjective, SpellsRow, Spells, is_semicolon, largest_of, largest_in_objectives, largest_in_rows}
 use Rattle.mopb_reader.specs.Drafts.{SpellsAll, IsDraft, instance_of}
 use Rattle.mopb_reader.specs.declared.draft.Draft.{Draft}
@@ -37,7 +37,8 @@ tilde_long (Positive ds ∷ rest) = omega arith
 tilde_long (token ∷ rest) = omega arith
 
 m_long : (rest : List Token) → length (with_m rest) ≤ length rest + 1
-m_long (Other a ∷ Other b ∷ Other c ∷ rest) = cond_both (a == 105 && b == 110 && c == 58) (Min ∷ rest) (Other 109 ∷ Other a ∷ Other b ∷ Other c ∷ rest) (λ ts. length ts ≤ length (Other a ∷ Other b ∷ Other c ∷ rest) + 1) (λ _. omega arith) (λ _. omega arith)
+m_long (Other a ∷ Other b ∷ Other c ∷ rest) = cond_both (a == 105 && b == 110 && c == 58) _ _ (λ ts. length ts ≤ length (Other a ∷ Other b ∷ Other c ∷ rest) + 1) (λ _. omega arith) (λ _.
+    cond_both (a == 97 && b == 120 && c == 58) _ _ (λ ts. length ts ≤ length (Other a ∷ Other b ∷ Other c ∷ rest) + 1) (λ _. omega arith) (λ _. omega arith))
 m_long rest = omega arith
 
 greater_long : (rest : List Token) → length (with_greater rest) ≤ length rest + 1

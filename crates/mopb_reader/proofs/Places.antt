@@ -7,13 +7,14 @@ use Rattle.instance.specs.declared.row.Rel.TheVariants.{AtLeast as HoldsAtLeast,
 use Rattle.instance.specs.declared.fault.InstanceLimit.{InstanceLimit}
 use Rattle.instance.specs.declared.fault.PlaceFault.TheVariants.{Bad}
 use Rattle.instance.specs.Reading.{at_line}
-use Rattle.mopb_reader.specs.Tokens.{Token, Plus, Minus, Digits, Positive, Negative, Min as Opening, AtLeast, AtMost, Equal, Semicolon as End, Other}
-use Rattle.mopb_reader.specs.FirstFault.{Kind, Objective, Constraint, limit_of, Place, Start, Head, Sign as BehindSign, Coefficient, Term, Relation as BehindRelation, BoundSign, Bound, missing_at, Next, counted, indexed, behind_bare, behind, is_misspelled, Progress, moved, step, fault_or, end_in, end_fault, fault_from}
+use Rattle.instance.specs.declared.objective.Sense.{Sense}
+use Rattle.mopb_reader.specs.Tokens.{Token, Plus, Minus, Digits, Positive, Negative, Head as Opening, AtLeast, AtMost, Equal, Semicolon as End, Other}
+use Rattle.mopb_reader.specs.FirstFault.{Kind, Objective, Constraint, limit_of, Place, Start, Head as BehindHead, Sign as BehindSign, Coefficient, Term, Relation as BehindRelation, BoundSign, Bound, missing_at, Next, counted, indexed, behind_bare, behind, is_misspelled, Progress, moved, step, fault_or, end_in, end_fault, fault_from}
 use Rattle.mopb_reader.specs.Symbols.{ValueIs, Shows}
 use Rattle.mopb_reader.specs.Streams.{Stream, IsTaken}
 use Rattle.mopb_reader.specs.SymbolTable.{value_counted, variable_judged, bare_judged, symbol_behind, taken_behind, symbol_step, placed, fault_at, fault_behind, fault_inside}
 use Rattle.mopb_reader.specs.declared.symbol.Symbol.{Symbol}
-use Rattle.mopb_reader.specs.declared.symbol.Symbol.TheVariants.{Sign, Number, Literal, Misspelled, Min, Relation, Semicolon, Unknown}
+use Rattle.mopb_reader.specs.declared.symbol.Symbol.TheVariants.{Sign, Number, Literal, Misspelled, Head, Relation, Semicolon, Unknown}
 
 pub below : (n m : ℕ) → n < m → nat_lt n m ≡ true
 below n m lt = grind (arith, nat_tests)
@@ -34,7 +35,7 @@ pub bare_value : (kind : Kind) (sum : ℕ) (var : Option ℕ) (ds : List ℕ) �
 bare_value kind sum var ds is = indexed_value (value_counted (limit_of kind) sum (Some 1) (Term kind)) var ds is
 
 -- what holds of each symbol and its token
-pub shown_cases : (P : Symbol → Token → Type 0) → P (Sign false) Plus → P (Sign true) Minus → ((v : Option ℕ) (ds : List ℕ) → ValueIs v ds → P (Number v) (Digits ds)) → ((v : Option ℕ) (ds : List ℕ) → ValueIs v ds → P (Literal v false) (Positive ds)) → ((v : Option ℕ) (ds : List ℕ) → ValueIs v ds → P (Literal v true) (Negative ds)) → P Misspelled (Other 120) → P Misspelled (Other 126) → P Min Opening → P (Relation HoldsAtLeast) AtLeast → P (Relation HoldsAtMost) AtMost → P (Relation HoldsEqual) Equal → P Semicolon End → ((b : ℕ) → is_misspelled b ≡ false → P Unknown (Other b)) → (symbol : Symbol) (token : Token) → Shows symbol token → P symbol token
+pub shown_cases : (P : Symbol → Token → Type 0) → P (Sign false) Plus → P (Sign true) Minus → ((v : Option ℕ) (ds : List ℕ) → ValueIs v ds → P (Number v) (Digits ds)) → ((v : Option ℕ) (ds : List ℕ) → ValueIs v ds → P (Literal v false) (Positive ds)) → ((v : Option ℕ) (ds : List ℕ) → ValueIs v ds → P (Literal v true) (Negative ds)) → P Misspelled (Other 120) → P Misspelled (Other 126) → ((sense : Sense) → P (Head sense) (Opening sense)) → P (Relation HoldsAtLeast) AtLeast → P (Relation HoldsAtMost) AtMost → P (Relation HoldsEqual) Equal → P Semicolon End → ((b : ℕ) → is_misspelled b ≡ false → P Unknown (Other b)) → (symbol : Symbol) (token : Token) → Shows symbol token → P symbol token
 shown_cases P plus minus digits positive negative x tilde opening at_least at_most equal end other = by
   where
     by : (symbol : Symbol) (token : Token) → Shows symbol token → P symbol token
@@ -45,7 +46,7 @@ shown_cases P plus minus digits positive negative x tilde opening at_least at_mo
     by (Literal v true) token shows = subst (P (Literal v true)) (sym shows.1) (negative v shows.0 shows.2)
     by Misspelled token (inl shows) = subst (P Misspelled) (sym shows) x
     by Misspelled token (inr shows) = subst (P Misspelled) (sym shows) tilde
-    by Min token shows = subst (P Min) (sym shows) opening
+    by (Head sense) token shows = subst (P (Head sense)) (sym shows) (opening sense)
     by (Relation HoldsAtLeast) token shows = subst (P (Relation HoldsAtLeast)) (sym shows) at_least
     by (Relation HoldsAtMost) token shows = subst (P (Relation HoldsAtMost)) (sym shows) at_most
     by (Relation HoldsEqual) token shows = subst (P (Relation HoldsEqual)) (sym shows) equal
@@ -55,23 +56,23 @@ shown_cases P plus minus digits positive negative x tilde opening at_least at_mo
 -- a token does at a place what its symbol does
 pub behind_shown : (place : Place) (symbol : Symbol) (token : Token) → Shows symbol token → behind place token ≡ symbol_behind place symbol
 behind_shown Start symbol token shows =
-    shown_cases (λ s t. behind Start t ≡ symbol_behind Start s) refl refl (counted_value (limit_of Constraint) 0 (Coefficient Constraint)) (bare_value Constraint 0) (bare_value Constraint 0) refl refl refl refl refl refl refl (λ b other. rw other refl) symbol token shows
-behind_shown Head symbol token shows =
-    shown_cases (λ s t. behind Head t ≡ symbol_behind Head s) refl refl (counted_value (limit_of Objective) 0 (Coefficient Objective)) (bare_value Objective 0) (bare_value Objective 0) refl refl refl refl refl refl refl (λ b other. rw other refl) symbol token shows
+    shown_cases (λ s t. behind Start t ≡ symbol_behind Start s) refl refl (counted_value (limit_of Constraint) 0 (Coefficient Constraint)) (bare_value Constraint 0) (bare_value Constraint 0) refl refl (λ sense. refl) refl refl refl refl (λ b other. rw other refl) symbol token shows
+behind_shown BehindHead symbol token shows =
+    shown_cases (λ s t. behind BehindHead t ≡ symbol_behind BehindHead s) refl refl (counted_value (limit_of Objective) 0 (Coefficient Objective)) (bare_value Objective 0) (bare_value Objective 0) refl refl (λ sense. refl) refl refl refl refl (λ b other. rw other refl) symbol token shows
 behind_shown (BehindSign kind sum) symbol token shows =
-    shown_cases (λ s t. behind (BehindSign kind sum) t ≡ symbol_behind (BehindSign kind sum) s) refl refl (counted_value (limit_of kind) sum (Coefficient kind)) (bare_value kind sum) (bare_value kind sum) refl refl refl refl refl refl refl (λ b other. refl) symbol token shows
+    shown_cases (λ s t. behind (BehindSign kind sum) t ≡ symbol_behind (BehindSign kind sum) s) refl refl (counted_value (limit_of kind) sum (Coefficient kind)) (bare_value kind sum) (bare_value kind sum) refl refl (λ sense. refl) refl refl refl refl (λ b other. refl) symbol token shows
 behind_shown (Coefficient kind sum) symbol token shows =
-    shown_cases (λ s t. behind (Coefficient kind sum) t ≡ symbol_behind (Coefficient kind sum) s) refl refl (λ v ds is. refl) (indexed_value (Ok (Term kind sum))) (indexed_value (Ok (Term kind sum))) refl refl refl refl refl refl refl (λ b other. refl) symbol token shows
+    shown_cases (λ s t. behind (Coefficient kind sum) t ≡ symbol_behind (Coefficient kind sum) s) refl refl (λ v ds is. refl) (indexed_value (Ok (Term kind sum))) (indexed_value (Ok (Term kind sum))) refl refl (λ sense. refl) refl refl refl refl (λ b other. refl) symbol token shows
 behind_shown (Term Objective sum) symbol token shows =
-    shown_cases (λ s t. behind (Term Objective sum) t ≡ symbol_behind (Term Objective sum) s) refl refl (counted_value (limit_of Objective) sum (Coefficient Objective)) (λ v ds is. refl) (λ v ds is. refl) refl refl refl refl refl refl refl (λ b other. rw other refl) symbol token shows
+    shown_cases (λ s t. behind (Term Objective sum) t ≡ symbol_behind (Term Objective sum) s) refl refl (counted_value (limit_of Objective) sum (Coefficient Objective)) (λ v ds is. refl) (λ v ds is. refl) refl refl (λ sense. refl) refl refl refl refl (λ b other. rw other refl) symbol token shows
 behind_shown (Term Constraint sum) symbol token shows =
-    shown_cases (λ s t. behind (Term Constraint sum) t ≡ symbol_behind (Term Constraint sum) s) refl refl (counted_value (limit_of Constraint) sum (Coefficient Constraint)) (λ v ds is. refl) (λ v ds is. refl) refl refl refl refl refl refl refl (λ b other. rw other refl) symbol token shows
+    shown_cases (λ s t. behind (Term Constraint sum) t ≡ symbol_behind (Term Constraint sum) s) refl refl (counted_value (limit_of Constraint) sum (Coefficient Constraint)) (λ v ds is. refl) (λ v ds is. refl) refl refl (λ sense. refl) refl refl refl refl (λ b other. rw other refl) symbol token shows
 behind_shown (BehindRelation sum) symbol token shows =
-    shown_cases (λ s t. behind (BehindRelation sum) t ≡ symbol_behind (BehindRelation sum) s) refl refl (counted_value (limit_of Constraint) sum (λ _. Bound)) (λ v ds is. refl) (λ v ds is. refl) refl refl refl refl refl refl refl (λ b other. refl) symbol token shows
+    shown_cases (λ s t. behind (BehindRelation sum) t ≡ symbol_behind (BehindRelation sum) s) refl refl (counted_value (limit_of Constraint) sum (λ _. Bound)) (λ v ds is. refl) (λ v ds is. refl) refl refl (λ sense. refl) refl refl refl refl (λ b other. refl) symbol token shows
 behind_shown (BoundSign sum) symbol token shows =
-    shown_cases (λ s t. behind (BoundSign sum) t ≡ symbol_behind (BoundSign sum) s) refl refl (counted_value (limit_of Constraint) sum (λ _. Bound)) (λ v ds is. refl) (λ v ds is. refl) refl refl refl refl refl refl refl (λ b other. refl) symbol token shows
+    shown_cases (λ s t. behind (BoundSign sum) t ≡ symbol_behind (BoundSign sum) s) refl refl (counted_value (limit_of Constraint) sum (λ _. Bound)) (λ v ds is. refl) (λ v ds is. refl) refl refl (λ sense. refl) refl refl refl refl (λ b other. refl) symbol token shows
 behind_shown Bound symbol token shows =
-    shown_cases (λ s t. behind Bound t ≡ symbol_behind Bound s) refl refl (λ v ds is. refl) (λ v ds is. refl) (λ v ds is. refl) refl refl refl refl refl refl refl (λ b other. refl) symbol token shows
+    shown_cases (λ s t. behind Bound t ≡ symbol_behind Bound s) refl refl (λ v ds is. refl) (λ v ds is. refl) (λ v ds is. refl) refl refl (λ sense. refl) refl refl refl refl (λ b other. refl) symbol token shows
 
 -- a place inside a statement
 abbrev pub Inside : Place → Type 0
@@ -92,7 +93,7 @@ step_start p symbol token shows =
     (λ v ds is. moved_placed p Start true (behind Start (Digits ds)) ∙ ap (moved p true) (behind_shown Start (Number v) (Digits ds) (ds, refl, is)))
     (λ v ds is. moved_placed p Start true (behind Start (Positive ds)) ∙ ap (moved p true) (bare_value Constraint 0 v ds is))
     (λ v ds is. moved_placed p Start true (behind Start (Negative ds)) ∙ ap (moved p true) (bare_value Constraint 0 v ds is))
-    refl refl refl refl refl refl refl (λ b other. moved_placed p Start true (behind Start (Other b)) ∙ ap (moved p true) (behind_shown Start Unknown (Other b) (b, refl, other))) symbol token shows
+    refl refl (λ sense. refl) refl refl refl refl (λ b other. moved_placed p Start true (behind Start (Other b)) ∙ ap (moved p true) (behind_shown Start Unknown (Other b) (b, refl, other))) symbol token shows
 
 ended_inside : (line : ℕ) (place : Place) → Inside place → end_in line (end_fault place) ≡ Some (at_line line (Bad (missing_at place)))
 ended_inside line Start inside = absurd inside
@@ -115,6 +116,6 @@ took_first symbol new old p taken last =
     ∙ ap (λ next. fault_or next new.line (λ q. fault_from old.last q new.left)) (step_start p symbol taken.0 taken.2)
     ∙ ap (λ (n : ℕ). fault_or (symbol_step p symbol) new.line (λ q. fault_from n q new.left)) (sym last)
 
-pub step_other : (p : Progress) (symbol : Symbol) → symbol ≢ Min → symbol_step p symbol ≡ moved p true (symbol_behind Start symbol)
-step_other p Min other = absurd (other refl)
+pub step_other : (p : Progress) (symbol : Symbol) → ((sense : Sense) → symbol ≢ Head sense) → symbol_step p symbol ≡ moved p true (symbol_behind Start symbol)
+step_other p (Head sense) other = absurd (other sense refl)
 step_other p symbol other = refl

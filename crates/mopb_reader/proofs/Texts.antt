@@ -10,7 +10,7 @@ use Rattle.instance.specs.declared.objective.Objective.{Objective}
 use Rattle.instance.specs.declared.objective.Soft.{Soft}
 use Rattle.instance.specs.declared.objective.Sense.{Sense}
 use Rattle.instance.specs.Shape.{InstanceValue}
-use Rattle.mopb_reader.specs.Tokens.{Token, Plus, Minus, Digits, Positive, Negative, Min, AtLeast, AtMost, Equal}
+use Rattle.mopb_reader.specs.Tokens.{Token, Plus, Minus, Digits, Positive, Negative, Head, AtLeast, AtMost, Equal}
 use Rattle.mopb_reader.specs.Grammar.{SpellsLiteral, SpellsUnsigned, SpellsTerm, SpellsTerms, SpellsMagnitude, SpellsBound, SpellsRelation, SpellsObjective, SpellsRow, Spells, largest_in_objectives, largest_in_rows}
 
 abbrev literal_from : ℕ → Bool → Lit
@@ -171,11 +171,16 @@ terms_same (s ∷ ss) (t ∷ ts) p q xs ys e left right ended finished =
 abbrev objective_from : Sense → List Soft → List (ℤ × Lit) → ℤ → Objective
 objective_from sense softs terms offset = record { sense = sense; softs = softs; terms = terms; offset = offset }
 
+one_sense : (a b : Sense) → Head a ≡ Head b → a ≡ b
+one_sense a b e = cc
+
 one_objective : (tokens : List Token) (o p : Objective) → SpellsObjective tokens o → SpellsObjective tokens p → o ≡ p
 one_objective tokens o p left right =
-    let after : left.after ≡ right.after = tail_same Min Min left.after right.after (sym left.begins ∙ right.begins) in
+    let begins : Head o.sense ∷ left.after ≡ Head p.sense ∷ right.after = sym left.begins ∙ right.begins in
+    let sense : o.sense ≡ p.sense = one_sense o.sense p.sense (head_same (Head o.sense) (Head p.sense) left.after right.after begins) in
+    let after : left.after ≡ right.after = tail_same (Head o.sense) (Head p.sense) left.after right.after begins in
     let terms = terms_same o.terms p.terms left.after right.after [] [] (ap (λ z. z ++ []) after) left.terms right.terms tt tt in
-    ap (λ x. objective_from x o.softs o.terms o.offset) (left.sense ∙ sym right.sense) ∙ ap (λ x. objective_from p.sense x o.terms o.offset) (left.softs ∙ sym right.softs) ∙ ap (λ x. objective_from p.sense p.softs x o.offset) terms.0 ∙ ap (objective_from p.sense p.softs p.terms) (left.offset ∙ sym right.offset)
+    ap (λ x. objective_from x o.softs o.terms o.offset) sense ∙ ap (λ x. objective_from p.sense x o.terms o.offset) (left.softs ∙ sym right.softs) ∙ ap (λ x. objective_from p.sense p.softs x o.offset) terms.0 ∙ ap (objective_from p.sense p.softs p.terms) (left.offset ∙ sym right.offset)
 
 -- a statement spells one row at most
 relation_ends : (t : Token) (rel : Rel) (rest : List Token) → SpellsRelation t rel → BeginsNoTerm (t ∷ rest)
@@ -212,23 +217,23 @@ one_row tokens r s left right =
     ap (λ x. row_from x r.rel r.bound) found.0 ∙ ap (λ x. row_from s.terms x r.bound) rel ∙ ap (row_from s.terms s.rel) bound
 
 -- no statement is both
-min_term : (p others rest : List Token) (s : ℤ × Lit) → SpellsTerm p s → p ++ others ≡ Min ∷ rest → ⊥
-min_term [] others rest s spelled e = spelled
-min_term (x ∷ p) others rest s spelled e =
-    by p (subst (λ (y : Token). SpellsTerm (y ∷ p) s) (head_same x Min (p ++ others) rest e) spelled)
+head_term : (sense : Sense) (p others rest : List Token) (s : ℤ × Lit) → SpellsTerm p s → p ++ others ≡ Head sense ∷ rest → ⊥
+head_term sense [] others rest s spelled e = spelled
+head_term sense (x ∷ p) others rest s spelled e =
+    by p (subst (λ (y : Token). SpellsTerm (y ∷ p) s) (head_same x (Head sense) (p ++ others) rest e) spelled)
   where
-    by : (q : List Token) → SpellsTerm (Min ∷ q) s → ⊥
+    by : (q : List Token) → SpellsTerm (Head sense ∷ q) s → ⊥
     by [] found = found.1
     by (y ∷ q) found = found
 
-min_terms : (before rest after : List Token) (relation : Token) (rel : Rel) (terms : List (ℤ × Lit)) → SpellsTerms before terms → SpellsRelation relation rel → before ++ relation ∷ after ≡ Min ∷ rest → ⊥
-min_terms before rest after relation rel [] spelled related e =
-    subst (λ (t : Token). SpellsRelation t rel) (head_same relation Min after rest (ap (λ z. z ++ relation ∷ after) (sym spelled) ∙ e)) related
-min_terms before rest after relation rel (t ∷ terms) spelled related e =
-    min_term spelled.0 (spelled.1 ++ relation ∷ after) rest t spelled.3 (sym (append_assoc spelled.0 spelled.1 (relation ∷ after)) ∙ ap (λ z. z ++ relation ∷ after) (sym spelled.2) ∙ e)
+head_terms : (sense : Sense) (before rest after : List Token) (relation : Token) (rel : Rel) (terms : List (ℤ × Lit)) → SpellsTerms before terms → SpellsRelation relation rel → before ++ relation ∷ after ≡ Head sense ∷ rest → ⊥
+head_terms sense before rest after relation rel [] spelled related e =
+    subst (λ (t : Token). SpellsRelation t rel) (head_same relation (Head sense) after rest (ap (λ z. z ++ relation ∷ after) (sym spelled) ∙ e)) related
+head_terms sense before rest after relation rel (t ∷ terms) spelled related e =
+    head_term sense spelled.0 (spelled.1 ++ relation ∷ after) rest t spelled.3 (sym (append_assoc spelled.0 spelled.1 (relation ∷ after)) ∙ ap (λ z. z ++ relation ∷ after) (sym spelled.2) ∙ e)
 
 not_both : (tokens : List Token) (o : Objective) (row : Linear) → SpellsObjective tokens o → SpellsRow tokens row → ⊥
-not_both tokens o row left right = min_terms right.before left.after right.after right.relation row.rel row.terms right.terms right.rel (sym right.parts ∙ left.begins)
+not_both tokens o row left right = head_terms o.sense right.before left.after right.after right.relation row.rel row.terms right.terms right.rel (sym right.parts ∙ left.begins)
 
 zip_same : {X Y : Type 0} (R : X → Y → Type 0) → ((x : X) (y z : Y) → R x y → R x z → y ≡ z) → (xs : List X) (ys zs : List Y) → AllZip R xs ys → AllZip R xs zs → ys ≡ zs
 zip_same R one [] [] [] left right = refl

@@ -2,6 +2,8 @@
 use Rattle.std.specs.Prelude.{◌≡◌, ◌≢◌, ℕ, ◌+◌, ◌<◌, false, not, List, [], ◌∷◌, length, Option, Some, None}
 use Rattle.std.specs.List.{filter}
 use Rattle.scut_base.specs.Number.{natural_value}
+use Rattle.instance.specs.declared.objective.Sense.{Sense}
+use Rattle.instance.specs.declared.objective.Sense.TheVariants.{Min, Max}
 use Rattle.mopb_reader.specs.Tokens.{Token, Digits, is_blank, is_gap, tokens_of_line}
 use Rattle.mopb_reader.specs.Symbols.{Shows, ValueIs}
 use Rattle.mopb_reader.specs.declared.symbol.Symbol.{Symbol}
@@ -32,6 +34,11 @@ BeginsNoDigits tokens = Unit {0}
 -- the tokens are digits of this value, at least 1, and those of the text behind them
 abbrev pub HasVariable : List Token → Option ℕ → List ℕ → Type 0
 HasVariable tokens var rest = (digits : List ℕ) × (tokens ≡ Digits digits ∷ tokens_of_line rest) × ValueIs var digits × (0 < natural_value digits)
+
+-- what follows the `m` of an objective's head
+abbrev pub after_m : Sense → List ℕ → List ℕ
+after_m Min rest = 105 ∷ 110 ∷ 58 ∷ rest
+after_m Max rest = 97 ∷ 120 ∷ 58 ∷ rest
 
 -- the text does not begin with this byte
 abbrev pub IsNotBefore : ℕ → List ℕ → Type 0

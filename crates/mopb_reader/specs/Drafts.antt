@@ -3,6 +3,7 @@ use Rattle.std.specs.Prelude.{◌≡◌, ◌≢◌, ℕ, ◌<◌, ◌≤◌, ◌
 use Rattle.std.specs.List.{AllZip, slice_split}
 use Rattle.instance.specs.declared.row.Linear.{Linear}
 use Rattle.instance.specs.declared.objective.Objective.{Objective}
+use Rattle.instance.specs.declared.objective.Sense.{Sense}
 use Rattle.instance.specs.Shape.{InstanceValue, objective_magnitude, row_magnitude}
 use Rattle.mopb_reader.specs.Tokens.{Token}
 use Rattle.mopb_reader.specs.FirstFault.{Progress, Start}
@@ -32,14 +33,14 @@ pub record IsDraft (d : Draft) : Type 0 where
 abbrev pub GoesOn : List Token → List Token → Draft → Type 0
 GoesOn all left d = (objectives : List Objective) (rows : List Linear) → (d.linear ≢ [] → objectives ≡ []) → SpellsAll left objectives rows → SpellsAll all (d.objectives ++ objectives) (d.linear ++ rows)
 
--- what an objective more makes of a draft
-pub record AddsObjective (tokens rest : List Token) (d e : Draft) : Type 0 where
+-- what an objective of this sense more makes of a draft
+pub record AddsObjective (sense : Sense) (tokens rest : List Token) (d e : Draft) : Type 0 where
   pub objective : Objective
   pub vars : ℕ
   pub before : d.linear ≡ []
   pub room : length d.objectives < 64
   pub added : e ≡ record d { objectives = d.objectives ++ objective ∷ []; vars = max d.vars vars }
-  pub read : IsReadObjective tokens rest objective vars
+  pub read : IsReadObjective sense tokens rest objective vars
 
 -- what a row more makes of a draft
 pub record AddsRow (first : Symbol) (tokens rest : List Token) (d e : Draft) : Type 0 where

@@ -11,7 +11,7 @@ use Rattle.instance.specs.declared.fault.PlaceFault.TheVariants.{Bad, Limit}
 use Rattle.instance.specs.declared.fault.ReadFault.{ReadFault}
 use Rattle.instance.specs.Shape.{max_vars, max_objectives, magnitude_limit}
 use Rattle.instance.specs.Reading.{at_line}
-use Rattle.mopb_reader.specs.Tokens.{Token, Plus, Minus, Digits, Positive, Negative, Min, AtLeast, AtMost, Equal, Semicolon, Other, is_comment, is_gap, tokens_of_line}
+use Rattle.mopb_reader.specs.Tokens.{Token, Plus, Minus, Digits, Positive, Negative, Head as Opening, AtLeast, AtMost, Equal, Semicolon, Other, is_comment, is_gap, tokens_of_line}
 
 -- the kind of statement that a term stands in
 pub data Kind : Type 0 where
@@ -27,7 +27,7 @@ limit_of Constraint = Row
 pub data Place : Type 0 where
   -- a whole statement, or nothing
   Start : Place
-  -- `min:`
+  -- `min:` or `max:`
   Head : Place
   -- a term's sign
   Sign : Kind → ℕ → Place
@@ -109,7 +109,7 @@ behind_term Constraint sum AtMost = Ok (Relation sum)
 behind_term Constraint sum Equal = Ok (Relation sum)
 behind_term kind sum token = behind_begun kind sum (missing_at (Term kind sum)) token
 
--- behind `min:`
+-- behind `min:` or `max:`
 abbrev pub behind_head : Token → Next
 behind_head Semicolon = Ok Start
 behind_head token = behind_begun Objective 0 SemicolonMissing token
@@ -135,7 +135,7 @@ abbrev pub behind_bound : Token → Next
 behind_bound Semicolon = Ok Start
 behind_bound token = Err (Bad SemicolonMissing)
 
--- the place behind a token, or what is wrong with it; a `min:` where a statement begins is left out
+-- the place behind a token, or what is wrong with it; a `min:` or `max:` where a statement begins is left out
 abbrev pub behind : Place → Token → Next
 behind Start token = behind_start token
 behind Head token = behind_head token
@@ -169,7 +169,7 @@ moved p rows (Err fault) = Err fault
 
 -- the progress with a token at this place more
 abbrev pub step_at : Place → Progress → Token → Progressed
-step_at Start p Min = head_begun p
+step_at Start p (Opening sense) = head_begun p
 step_at Start p token = moved p true (behind Start token)
 step_at place p token = moved p p.rows (behind place token)
 

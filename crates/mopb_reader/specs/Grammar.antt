@@ -7,9 +7,8 @@ use Rattle.instance.specs.declared.row.Linear.{Linear}
 use Rattle.instance.specs.declared.row.Rel.{Rel}
 use Rattle.instance.specs.declared.row.Rel.TheVariants.{AtLeast as HoldsAtLeast, AtMost as HoldsAtMost, Equal as HoldsEqual}
 use Rattle.instance.specs.declared.objective.Objective.{Objective}
-use Rattle.instance.specs.declared.objective.Sense.TheVariants.{Min as Minimised}
 use Rattle.instance.specs.Shape.{InstanceValue, IsWithinLimits}
-use Rattle.mopb_reader.specs.Tokens.{Token, Plus, Minus, Digits, Positive, Negative, Min, AtLeast, AtMost, Equal, Semicolon, tokens_of}
+use Rattle.mopb_reader.specs.Tokens.{Token, Plus, Minus, Digits, Positive, Negative, Head, AtLeast, AtMost, Equal, Semicolon, tokens_of}
 
 abbrev pub SpellsLiteral : Token → Literal → Type 0
 SpellsLiteral (Positive digits) l = (natural_value digits ≡ l.var) × (l.neg ≡ false)
@@ -41,12 +40,11 @@ abbrev pub SpellsTerms : List Token → List (ℤ × Literal) → Type 0
 SpellsTerms tokens [] = tokens ≡ []
 SpellsTerms tokens (term ∷ terms) = (first : List Token) × (others : List Token) × (tokens ≡ first ++ others) × SpellsTerm first term × MayFollowTerm others × SpellsTerms others terms
 
--- `min:` and terms
+-- `min:` and terms where it is minimised, `max:` and terms where it is maximised
 pub record SpellsObjective (tokens : List Token) (o : Objective) : Type 0 where
   pub after : List Token
-  pub begins : tokens ≡ Min ∷ after
+  pub begins : tokens ≡ Head o.sense ∷ after
   pub terms : SpellsTerms after o.terms
-  pub sense : o.sense ≡ Minimised
   pub softs : o.softs ≡ []
   pub offset : o.offset ≡ pos 0
 

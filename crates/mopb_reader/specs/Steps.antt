@@ -4,7 +4,8 @@ use Rattle.scut_base.specs.Literal.{Literal}
 use Rattle.instance.specs.Shape.{terms_magnitude, objective_magnitude, row_magnitude}
 use Rattle.instance.specs.declared.row.Linear.{Linear}
 use Rattle.instance.specs.declared.objective.Objective.{Objective}
-use Rattle.mopb_reader.specs.Tokens.{Token, Min, Semicolon}
+use Rattle.instance.specs.declared.objective.Sense.{Sense}
+use Rattle.mopb_reader.specs.Tokens.{Token, Head, Semicolon}
 use Rattle.mopb_reader.specs.Symbols.{IsLeft, IsSound, begins_term}
 use Rattle.mopb_reader.specs.Grammar.{SpellsTerms, SpellsObjective, SpellsRow, largest_of}
 use Rattle.mopb_reader.specs.declared.symbol.Symbol.{Symbol}
@@ -26,11 +27,11 @@ pub record BeginsWithTerms (left rest : List Token) (taken : Option Symbol) (ite
   pub next : IsLeft taken rest after
   pub spelled : SpellsTerms front items
 
--- an objective and its largest variable, within the limits
-pub record IsReadObjective (tokens rest : List Token) (o : Objective) (vars : ℕ) : Type 0 where
+-- an objective of this sense and its largest variable, within the limits
+pub record IsReadObjective (sense : Sense) (tokens rest : List Token) (o : Objective) (vars : ℕ) : Type 0 where
   pub front : List Token
   pub cut : tokens ≡ front ++ Semicolon ∷ rest
-  pub spelled : SpellsObjective (Min ∷ front) o
+  pub spelled : SpellsObjective (Head sense ∷ front) o
   pub magnitude : objective_magnitude o < 2 ^ 63
   pub largest : vars ≡ largest_of o.terms
   pub within : vars ≤ 2 ^ 24

@@ -10,10 +10,10 @@ use Rattle.instance.specs.declared.fault.PlaceFault.{PlaceFault}
 use Rattle.instance.specs.declared.fault.PlaceFault.TheVariants.{Bad, Limit}
 use Rattle.instance.specs.declared.fault.ReadFault.{ReadFault}
 use Rattle.instance.specs.Reading.{at_line, IsFaultOf}
-use Rattle.mopb_reader.specs.FirstFault.{Kind, Objective, Constraint, limit_of, Place, Start, Head, Sign as BehindSign, Coefficient, Term, Relation as BehindRelation, BoundSign, Bound, missing_at, Next, Progress, Progressed, head_begun, moved, fault_or, fault_from}
+use Rattle.mopb_reader.specs.FirstFault.{Kind, Objective, Constraint, limit_of, Place, Start, Head as BehindHead, Sign as BehindSign, Coefficient, Term, Relation as BehindRelation, BoundSign, Bound, missing_at, Next, Progress, Progressed, head_begun, moved, fault_or, fault_from}
 use Rattle.mopb_reader.specs.Streams.{Stream}
 use Rattle.mopb_reader.specs.declared.symbol.Symbol.{Symbol}
-use Rattle.mopb_reader.specs.declared.symbol.Symbol.TheVariants.{Sign, Number, Literal, Misspelled, Min, Relation, Semicolon}
+use Rattle.mopb_reader.specs.declared.symbol.Symbol.TheVariants.{Sign, Number, Literal, Misspelled, Head, Relation, Semicolon}
 
 -- the place behind a value that counts in the statement
 abbrev pub value_counted : InstanceLimit → ℕ → Option ℕ → (ℕ → Place) → Next
@@ -61,7 +61,7 @@ symbol_further Objective sum Semicolon = Ok Start
 symbol_further Constraint sum (Relation rel) = Ok (BehindRelation sum)
 symbol_further kind sum symbol = symbol_begun kind sum (missing_at (Term kind sum)) symbol
 
--- behind `min:`
+-- behind `min:` or `max:`
 abbrev pub symbol_of_head : Symbol → Next
 symbol_of_head Semicolon = Ok Start
 symbol_of_head symbol = symbol_begun Objective 0 SemicolonMissing symbol
@@ -86,10 +86,10 @@ abbrev pub symbol_end : Symbol → Next
 symbol_end Semicolon = Ok Start
 symbol_end symbol = Err (Bad SemicolonMissing)
 
--- the place behind a symbol, or what is wrong with it; a `min:` where a statement begins is left out
+-- the place behind a symbol, or what is wrong with it; a `min:` or `max:` where a statement begins is left out
 abbrev pub symbol_behind : Place → Symbol → Next
 symbol_behind Start symbol = symbol_of_row symbol
-symbol_behind Head symbol = symbol_of_head symbol
+symbol_behind BehindHead symbol = symbol_of_head symbol
 symbol_behind (BehindSign kind sum) symbol = symbol_unsigned kind sum symbol
 symbol_behind (Coefficient kind sum) symbol = symbol_literal kind sum symbol
 symbol_behind (Term kind sum) symbol = symbol_further kind sum symbol
@@ -104,7 +104,7 @@ taken_behind place (Some symbol) = symbol_behind place symbol
 
 -- the progress with the first symbol of a statement
 abbrev pub symbol_step : Progress → Symbol → Progressed
-symbol_step p Min = head_begun p
+symbol_step p (Head sense) = head_begun p
 symbol_step p symbol = moved p true (symbol_behind Start symbol)
 
 -- the same progress at another place
@@ -140,6 +140,6 @@ Judges next (Err fault) place = next ≡ Err fault
 
 -- the place where the next term may begin
 abbrev pub place_of : Kind → List (ℤ × Lit) → Place
-place_of Objective [] = Head
+place_of Objective [] = BehindHead
 place_of Constraint [] = Start
 place_of kind (term ∷ terms) = Term kind (terms_magnitude (term ∷ terms))

@@ -3,10 +3,10 @@ use Rattle.std.specs.Prelude.{◌≡◌, ℕ, ◌<◌, ◌≤◌, ◌^◌, ◌�
 use Rattle.scut_base.specs.Number.{natural_value}
 use Rattle.instance.specs.declared.row.Rel.{Rel}
 use Rattle.instance.specs.declared.row.Rel.TheVariants.{AtLeast as HoldsAtLeast, AtMost as HoldsAtMost, Equal as HoldsEqual}
-use Rattle.mopb_reader.specs.Tokens.{Token, Plus, Minus, Digits, Positive, Negative, Min as Head, AtLeast, AtMost, Equal, Semicolon as End, Other}
+use Rattle.mopb_reader.specs.Tokens.{Token, Plus, Minus, Digits, Positive, Negative, Head as Opening, AtLeast, AtMost, Equal, Semicolon as End, Other}
 use Rattle.mopb_reader.specs.FirstFault.{is_misspelled}
 use Rattle.mopb_reader.specs.declared.symbol.Symbol.{Symbol}
-use Rattle.mopb_reader.specs.declared.symbol.Symbol.TheVariants.{Sign, Number, Literal, Misspelled, Min, Relation, Semicolon, Unknown}
+use Rattle.mopb_reader.specs.declared.symbol.Symbol.TheVariants.{Sign, Number, Literal, Misspelled, Head, Relation, Semicolon, Unknown}
 
 -- the value of digits, or none from 2^63 on
 abbrev pub ValueIs : Option ℕ → List ℕ → Type 0
@@ -27,7 +27,7 @@ Shows (Number value) token = (digits : List ℕ) × (token ≡ Digits digits) ×
 Shows (Literal var false) token = (digits : List ℕ) × (token ≡ Positive digits) × ValueIs var digits × (0 < natural_value digits)
 Shows (Literal var true) token = (digits : List ℕ) × (token ≡ Negative digits) × ValueIs var digits × (0 < natural_value digits)
 Shows Misspelled token = (token ≡ Other 120) ⊎ (token ≡ Other 126)
-Shows Min token = token ≡ Head
+Shows (Head sense) token = token ≡ Opening sense
 Shows (Relation rel) token = token ≡ relation_token rel
 Shows Semicolon token = token ≡ End
 Shows Unknown token = (b : ℕ) × (token ≡ Other b) × (is_misspelled b ≡ false)

@@ -3,6 +3,8 @@ use Rattle.std.specs.Prelude.{ℕ, Bool, true, false, not, ◌==◌, ◌||◌, �
 use Rattle.std.specs.List.{filter, flat_map, slice_split}
 use Rattle.std.specs.Char.{is_ascii_digit}
 use Rattle.scut_base.specs.Number.{natural_value}
+use Rattle.instance.specs.declared.objective.Sense.{Sense}
+use Rattle.instance.specs.declared.objective.Sense.TheVariants.{Min, Max}
 
 -- a token, or the blank that parts two of them
 pub data Token : Type 0 where
@@ -14,7 +16,8 @@ pub data Token : Type 0 where
   -- `x` or `~x`, directly followed by digits of a value of at least 1
   Positive : List ℕ → Token
   Negative : List ℕ → Token
-  Min : Token
+  -- `min:` or `max:`
+  Head : Sense → Token
   AtLeast : Token
   AtMost : Token
   Equal : Token
@@ -46,9 +49,12 @@ abbrev pub with_tilde : List Token → List Token
 with_tilde (Positive ds ∷ rest) = Negative ds ∷ rest
 with_tilde rest = Other 126 ∷ rest
 
--- an `m` before what follows
+-- an `m` before what follows, by `in:` and `ax:`
 abbrev pub with_m : List Token → List Token
-with_m (Other a ∷ Other b ∷ Other c ∷ rest) = if a == 105 && b == 110 && c == 58 then Min ∷ rest else Other 109 ∷ Other a ∷ Other b ∷ Other c ∷ rest
+with_m (Other a ∷ Other b ∷ Other c ∷ rest) =
+    if a == 105 && b == 110 && c == 58 then Head Min ∷ rest
+    else if a == 97 && b == 120 && c == 58 then Head Max ∷ rest
+    else Other 109 ∷ Other a ∷ Other b ∷ Other c ∷ rest
 with_m rest = Other 109 ∷ rest
 
 -- a `>` before what follows

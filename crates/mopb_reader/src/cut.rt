@@ -4,11 +4,12 @@ ghost use Rattle.std.specs.List.{position_or_len};
 ghost use Rattle.std.specs.Char.{is_ascii_digit};
 ghost use Rattle.scut_base.specs.Number.{IsNatural};
 ghost use Rattle.mopb_reader.specs.Tokens.{Other, Digits, is_blank, tokens_of_line, with_x, with_tilde, with_m, with_greater, with_less};
-ghost use Rattle.mopb_reader.specs.Cuts.{HasFront, HasVariable, BeginsNoDigits, IsNotBefore};
+ghost use Rattle.mopb_reader.specs.Cuts.{HasFront, HasVariable, BeginsNoDigits, IsNotBefore, after_m};
+ghost use Rattle.instance.specs.declared.objective.Sense.{Sense};
 ghost use Rattle.mopb_reader.specs.Symbols.{ValueIs};
 
 use crate::symbol::Symbol;
-use instance::{MAX_MAGNITUDE, Rel};
+use instance::{MAX_MAGNITUDE, Rel, Sense};
 use scut_base::read_u64;
 
 /// The token that a line begins with, and what follows it.
@@ -25,7 +26,7 @@ pub fn cut_token(line: &[u8]) -> (Symbol, &[u8])
     match byte {
         b'x' => cut_positive(rest),
         b'~' => cut_negative(rest),
-        b'm' => cut_min(rest),
+        b'm' => cut_head(rest),
         b'>' => cut_greater(rest),
         b'<' => cut_less(rest),
         b'=' => (Symbol::Relation { rel: Rel::Equal }, rest),
@@ -79,11 +80,11 @@ fn cut_negated<'a>(text: &'a [u8], after: &'a [u8]) -> (Symbol, &'a [u8])
 }
 
 // What stands behind an `m`.
-fn cut_min(text: &[u8]) -> (Symbol, &[u8])
+fn cut_head(text: &[u8]) -> (Symbol, &[u8])
     ensures { HasFront (with_m (tokens_of_line text.entry.now)) result.0 result.1.now }
 {
     match after_head(text) {
-        Some(rest) => (Symbol::Min, rest),
+        Some((sense, rest)) => (Symbol::Head { sense }, rest),
         None => (Symbol::Unknown, text),
     }
 }
@@ -108,13 +109,15 @@ fn cut_less(text: &[u8]) -> (Symbol, &[u8])
     }
 }
 
-// What follows the head of an objective without its `m`, if the text begins with it.
-fn after_head(text: &[u8]) -> Option<&[u8]>
-    ensures { MatchOption result ((rest : List ℕ) → text.entry.now ≡ 105 ∷ 110 ∷ 58 ∷ rest
-        → ⊥) (λ rest. text.entry.now ≡ 105 ∷ 110 ∷ 58 ∷ rest.now) }
+// The sense of an objective's head, if the text begins with it without its `m`, and what follows it.
+fn after_head(text: &[u8]) -> Option<(Sense, &[u8])>
+    ensures { MatchOption result
+        ((sense : Sense) (rest : List ℕ) → text.entry.now ≡ after_m sense rest → ⊥)
+        (λ r. text.entry.now ≡ after_m r.0 r.1.now) }
 {
     match text {
-        [b'i', b'n', b':', rest @ ..] => Some(rest),
+        [b'i', b'n', b':', rest @ ..] => Some((Sense::Min, rest)),
+        [b'a', b'x', b':', rest @ ..] => Some((Sense::Max, rest)),
         _ => None,
     }
 }

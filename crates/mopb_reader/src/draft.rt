@@ -12,7 +12,9 @@ use crate::statement::{read_objective, read_row};
 use crate::symbol::Symbol;
 use crate::terms::begins_row;
 use crate::tokens::Tokens;
-use instance::{BadKind, Instance, InstanceLimit, Linear, MAX_OBJECTIVES, Objective, PlaceFault};
+use instance::{
+    BadKind, Instance, InstanceLimit, Linear, MAX_OBJECTIVES, Objective, PlaceFault, Sense,
+};
 use scut_base::Items;
 use std::alloc::Global;
 
@@ -60,7 +62,7 @@ pub fn add_statement(
         (progress_of draft.new) tokens.new.left) }
 {
     match first {
-        Symbol::Min => add_objective(alloc, tokens, draft),
+        Symbol::Head { sense } => add_objective(alloc, sense, tokens, draft),
         _ => add_row(alloc, first, tokens, draft),
     }
 }
@@ -68,10 +70,11 @@ pub fn add_statement(
 // Reads an objective into the draft, from behind its head on.
 fn add_objective(
     alloc: Global,
+    sense: Sense,
     tokens: &mut Tokens<'_>,
     draft: &mut Draft,
 ) -> Result<(), PlaceFault>
-    ensures ok { OnOk result (AddsObjective (plain tokens.old.left)
+    ensures ok { OnOk result (AddsObjective sense (plain tokens.old.left)
         (plain tokens.new.left) draft.old draft.new) }
     ensures fault { Finds (fault_behind tokens.old (head_begun
         (progress_of draft.old))) result tokens.new (λ _. fault_from tokens.new.last
@@ -83,7 +86,7 @@ fn add_objective(
     if draft.objectives.len() >= MAX_OBJECTIVES {
         return Err(PlaceFault::Limit(InstanceLimit::Objectives));
     }
-    let (objective, largest) = read_objective(alloc, tokens)?;
+    let (objective, largest) = read_objective(alloc, sense, tokens)?;
     draft.objectives.push(objective)?;
     draft.vars = draft.vars.max(largest);
     Ok(())

@@ -20,9 +20,10 @@ use std::alloc::Global;
 /// Reads an objective from behind its head on, and answers its largest variable too.
 pub fn read_objective(
     alloc: Global,
+    sense: Sense,
     tokens: &mut Tokens<'_>,
 ) -> Result<(Objective, u64), PlaceFault>
-    ensures ok { IfOk result (λ r. IsReadObjective (plain tokens.old.left)
+    ensures ok { IfOk result (λ r. IsReadObjective sense (plain tokens.old.left)
         (plain tokens.new.left) r.0 r.1) }
     ensures fault { (p : Progress)
         → Finds (fault_at tokens.old p Head) result tokens.new (λ _. fault_at tokens.new p Start) }
@@ -31,7 +32,7 @@ pub fn read_objective(
     let terms = read_terms(alloc, first, tokens, InstanceLimit::Weights)?;
     end_statement(terms.next)?;
     let objective = Objective {
-        sense: Sense::Min,
+        sense,
         softs: Items::new(alloc),
         terms: terms.items,
         offset: 0,

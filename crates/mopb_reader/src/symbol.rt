@@ -3,7 +3,7 @@ ghost use Rattle.std.specs.Prelude.{ℕ, Bool, ◌≡◌, Some, None, Option, Ma
 ghost use Rattle.instance.specs.declared.row.Rel.{Rel};
 ghost use Rattle.mopb_reader.specs.declared.symbol.Symbol.TheVariants.{Sign, Number, Relation};
 
-use instance::Rel;
+use instance::{Rel, Sense};
 
 /// A token, with the values of its digits in place of them. A value above 2^63 - 1 is `None`.
 #[derive(Clone, Copy, Debug, PartialEq, Eq)]
@@ -16,8 +16,8 @@ pub enum Symbol {
     Literal { var: Option<u64>, neg: bool },
     /// The beginning of a literal, behind which there is no variable.
     Misspelled,
-    /// The head of an objective.
-    Min,
+    /// The head of an objective: `min:` or `max:`.
+    Head { sense: Sense },
     /// A relation.
     Relation { rel: Rel },
     /// The end of a statement.
