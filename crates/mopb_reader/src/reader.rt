@@ -1,18 +1,16 @@
 // The reader.
-ghost use Rattle.std.specs.Prelude.{ℕ, List, ◌≡◌, ◌<◌, ◌^◌, length, Some, None, IfOk, IfErr, OnOk};
+ghost use Rattle.std.specs.Prelude.{ℕ, List, ◌≡◌, ◌<◌, ◌≤◌, ◌^◌, length, Some, None, IfOk, IfErr, OnOk};
 ghost use Rattle.instance.specs.Shape.{InstanceValue};
 ghost use Rattle.instance.specs.declared.fault.ReadFault.{ReadFault};
 ghost use Rattle.instance.specs.Reading.{IsFaultOf, HasLine};
-ghost use Rattle.mopb_reader.specs.Tokens.{Token, tokens_of};
-ghost use Rattle.mopb_reader.specs.FirstFault.{first_fault, fault_from};
-ghost use Rattle.mopb_reader.specs.Symbols.{IsLeft, IsSound};
-ghost use Rattle.mopb_reader.specs.Streams.{plain};
-ghost use Rattle.mopb_reader.specs.SymbolTable.{symbol_step, fault_behind, Meets};
+ghost use Rattle.mopb_reader.specs.Tokens.{tokens_of, plain};
+ghost use Rattle.mopb_reader.specs.FirstFault.{first_fault, step};
+ghost use Rattle.mopb_reader.specs.Cuts.{IsSound};
 ghost use Rattle.mopb_reader.specs.Grammar.{Spells};
-ghost use Rattle.mopb_reader.specs.Drafts.{SpellsAll, IsDraft, GoesOn, progress_of};
+ghost use Rattle.mopb_reader.specs.Drafts.{SpellsAll, IsDraft, AddsStatement, MeetsStatement, progress_of};
 
 use crate::draft::{Draft, add_statement, finish, new_draft};
-use crate::symbol::Symbol;
+use crate::token::Token;
 use crate::tokens::Tokens;
 use instance::{Instance, ReadFault};
 use std::alloc::Global;
@@ -31,8 +29,7 @@ pub fn read(alloc: Global, bytes: &[u8]) -> Result<Instance, ReadFault>
 // Reads all statements.
 fn read_statements(alloc: Global, bytes: &[u8]) -> Result<Draft, ReadFault>
     requires { length bytes.now < 2 ^ 32 }
-    ensures ok { IfOk result (λ d. SpellsAll (tokens_of bytes.now) d.objectives d.linear
-        × IsDraft d) }
+    ensures ok { IfOk result (λ d. SpellsAll d.objectives d.linear (tokens_of bytes.now) × IsDraft d) }
     ensures fault { IfErr result (λ f. IsFaultOf (first_fault bytes.now) f) }
 {
     let mut draft = new_draft(alloc);
@@ -46,23 +43,15 @@ fn read_statements(alloc: Global, bytes: &[u8]) -> Result<Draft, ReadFault>
 // Reads one statement into the draft, from its first token and those after it.
 fn read_statement(
     alloc: Global,
-    first: Symbol,
+    first: Token,
     tokens: &mut Tokens<'_>,
     draft: &mut Draft,
 ) -> Result<(), ReadFault>
-    requires { IsSound (Some first) }
-    ensures draft { OnOk result ((left : List Token)
-        → IsLeft (Some first) (plain tokens.old.left) left → IsDraft draft.old
-        → IsDraft draft.new) }
-    ensures spelled { OnOk result ((all left : List Token)
-        → IsLeft (Some first) (plain tokens.old.left) left → GoesOn all left draft.old
-        → GoesOn all (plain tokens.new.left) draft.new) }
-    ensures fewer { OnOk result ((left : List Token)
-        → IsLeft (Some first) (plain tokens.old.left) left
-        → length (plain tokens.new.left) < length left) }
-    ensures fault { Meets (fault_behind tokens.old (symbol_step
-        (progress_of draft.old) first)) result (fault_from tokens.new.last
-        (progress_of draft.new) tokens.new.left) }
+    requires { IsSound first }
+    ensures ok { OnOk result (AddsStatement first tokens.old tokens.new draft.old draft.new) }
+    ensures fewer { length (plain tokens.new.left) ≤ length (plain tokens.old.left) }
+    ensures fault { let begun = step (progress_of draft.old) first in
+        MeetsStatement begun tokens.old tokens.new draft.new result }
 {
     match add_statement(alloc, first, tokens, draft) {
         Ok(()) => Ok(()),
