@@ -18,14 +18,13 @@ use Rattle.instance.specs.declared.fault.PlaceFault.TheVariants.{Bad, Limit}
 use Rattle.instance.specs.Shape.{InstanceValue, terms_magnitude, objective_magnitude, row_magnitude}
 use Rattle.mopb_reader.specs.Tokens.{lines_of, numbered_tokens, tokens_of}
 use Rattle.mopb_reader.specs.FirstFault.{Kind, Objective, Constraint, limit_of, Place, Start, Head, Sign, Coefficient, Term as AfterTerm, Relation, BoundSign, Bound, Next, counted, indexed, after_bare, after, Progress, first_fault, nothing_yet}
-use Rattle.mopb_reader.specs.Grammar.{Term, term_of, FurtherTerms, TermsThen, BoundThen, RowThen, objective_of, Spells, largest_of, largest_in_objectives, largest_in_rows}
-use Rattle.mopb_reader.specs.Steps.{EndThen}
-use Rattle.mopb_reader.specs.Drafts.{SpellsAll, instance_of}
+use Rattle.mopb_reader.specs.Grammar.{Term, term_of, FurtherTerms, TermsThen, BoundThen, RowThen, objective_of, Spells, largest_of, largest_in_objectives, largest_in_rows, EndThen, SpellsStatements}
+use Rattle.mopb_reader.specs.Drafts.{instance_of}
 use Rattle.mopb_reader.specs.declared.token.Token.{Token}
 use Rattle.mopb_reader.specs.declared.token.Token.TheVariants.{Sign as SignToken, Number, Literal, Head as HeadToken, Relation as RelationToken, Semicolon}
 use Rattle.mopb_reader.specs.declared.draft.Draft.{Draft}
 use Rattle.mopb_reader.proofs.Limits.{draft_spells}
-use Rattle.mopb_reader.proofs.Statements.{may_be_first}
+use Rattle.mopb_reader.proofs.Spelling.{may_be_first}
 use Rattle.mopb_reader.proofs.Faultless.{fault_then, fault_in, fault_after, magnitude_cons, size_of, bare}
 
 -- statements within the limits, after n objectives and perhaps a row
@@ -41,7 +40,7 @@ record Finish (n : ℕ) (seen : Bool) : Type 0 where
 
 -- a semicolon and the statements
 abbrev Ends : (n : ℕ) (seen : Bool) → Finish n seen → List Token → Type 0
-Ends n seen f tokens = EndThen (SpellsAll f.objectives f.rows) tokens
+Ends n seen f tokens = EndThen (SpellsStatements f.objectives f.rows) tokens
 
 -- what follows the terms of a statement; only a row has the relation and the bound
 record Ending (n : ℕ) (seen : Bool) : Type 0 where
@@ -55,7 +54,7 @@ EndsTerms n seen Constraint e tokens = BoundThen e.rel e.bound (Ends n seen e.fi
 
 record Finished (n : ℕ) (seen : Bool) (tokens : List Token) : Type 0 where
   finish : Finish n seen
-  spelled : SpellsAll finish.objectives finish.rows tokens
+  spelled : SpellsStatements finish.objectives finish.rows tokens
 
 record Heads (n : ℕ) (seen : Bool) (tokens : List Token) : Type 0 where
   terms : List Term
@@ -357,7 +356,7 @@ row_finished n seen tokens terms e small within spelled =
         objectives_within = omega arith;
         rows_within = omega (arith, within, f.rows_within);
       };
-      spelled = subst (λ (os : List Goal). RowThen (EndThen (SpellsAll os f.rows)) tokens row) (f.ordered refl) spelled;
+      spelled = subst (λ (os : List Goal). RowThen (EndThen (SpellsStatements os f.rows)) tokens row) (f.ordered refl) spelled;
     }
 
 row_further : (n : ℕ) (seen : Bool) (tokens : List Token) → Further n true Constraint 0 tokens → Finished n seen tokens

@@ -13,10 +13,8 @@ use Rattle.instance.specs.declared.objective.Objective.{Objective}
 use Rattle.instance.specs.declared.objective.Sense.{Sense}
 use Rattle.mopb_reader.specs.Lexemes.{Lexeme, Blank, Digits, Literal, Relation, Other, with_digit, with_x, with_tilde, with_m, with_greater, with_less, with_byte, lexemes_of}
 use Rattle.mopb_reader.specs.Tokens.{is_comment, token_of, tokens_in_line, lines_of, numbered_tokens, plain, tokens_of, small_value}
-use Rattle.mopb_reader.specs.Grammar.{Term, objective_of, FurtherTerms, TermsThen, BoundThen}
+use Rattle.mopb_reader.specs.Grammar.{Term, objective_of, FurtherTerms, TermsThen, BoundThen, EndThen, SpellsRows, SpellsStatements}
 use Rattle.mopb_reader.specs.Cuts.{IsSound}
-use Rattle.mopb_reader.specs.Steps.{EndThen}
-use Rattle.mopb_reader.specs.Drafts.{SpellsRows, SpellsAll}
 use Rattle.mopb_reader.specs.declared.token.Token.{Token}
 use Rattle.mopb_reader.specs.declared.token.Token.TheVariants.{Sign, Number, Literal as LiteralToken, Head, Relation as RelationToken, Semicolon}
 use Rattle.mopb_reader.proofs.Cutting.{byte_cases, sound_value}
@@ -189,15 +187,15 @@ plain_objective sense o is =
     subst (λ (s : Sense). o ≡ objective_of s o.terms) (sym (ap (λ (x : Objective). x.sense) is)) is
 
 all_counted : (objectives : List Objective) (rows : List Linear) (tokens : List Token) → AreSound tokens
-    → SpellsAll objectives rows tokens → All IsPlain objectives × AreCountedRows rows tokens
+    → SpellsStatements objectives rows tokens → All IsPlain objectives × AreCountedRows rows tokens
 all_counted [] rows tokens sound is = (All-nil IsPlain, rows_counted rows tokens sound is)
 all_counted (o ∷ objectives) rows (Head sense ∷ tokens) sound is =
-    let terms = terms_counted (EndThen (SpellsAll objectives rows)) tokens o.terms sound.1 is.1 in
-    let end = end_leaves (SpellsAll objectives rows) terms.1.0 terms.1.1 terms.1.3 in
+    let terms = terms_counted (EndThen (SpellsStatements objectives rows)) tokens o.terms sound.1 is.1 in
+    let end = end_leaves (SpellsStatements objectives rows) terms.1.0 terms.1.1 terms.1.3 in
     let rest = all_counted objectives rows end.0 end.1 end.3 in
     (All-cons IsPlain o objectives (plain_objective sense o is.0) rest.0, (rest.1.0, omega (arith, terms.1.2, end.2, rest.1.1)))
 all_counted (o ∷ objectives) rows tokens sound is = absurd is
 
 pub text_counted : (text : List ℕ) (objectives : List Objective) (rows : List Linear)
-    → SpellsAll objectives rows (tokens_of text) → All IsPlain objectives × AreCountedRows rows (tokens_of text)
+    → SpellsStatements objectives rows (tokens_of text) → All IsPlain objectives × AreCountedRows rows (tokens_of text)
 text_counted text objectives rows is = all_counted objectives rows (tokens_of text) (text_sound text) is

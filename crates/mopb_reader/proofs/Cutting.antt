@@ -324,13 +324,6 @@ other_alone line b rest e blank digit x tilde m greater less equal plus minus se
 pub other_plain : (b : ℕ) → b ≢ 120 → b ≢ 126 → token_of_byte b ≡ Unknown
 other_plain b x tilde = rw (ne_eqb b 120 x, ne_eqb b 126 tilde) refl
 
--- the value of digits, where it is below the limit, and where it isn't
-pub value_small : (ds : List ℕ) (n : ℕ) → natural_value ds ≡ n → n < 2 ^ 63 → small_value ds ≡ Some n
-value_small ds n e small = rw (below (natural_value ds) (2 ^ 63) (omega (arith, e, small))) (ap (λ k. Some k) e)
-
-pub value_wide : (ds : List ℕ) → 2 ^ 63 ≤ natural_value ds → small_value ds ≡ None
-value_wide ds wide = rw (not_below (natural_value ds) (2 ^ 63) wide) refl
-
 from_cond : (c : Bool) (n v : ℕ) → Some v ≡ cond c (Some n) None → n ≡ v
 from_cond true n v e = cc
 from_cond false n v e = absurd cc

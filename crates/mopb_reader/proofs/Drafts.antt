@@ -10,10 +10,10 @@ use Rattle.instance.specs.Shape.{objective_magnitude, row_magnitude}
 use Rattle.instance.specs.declared.fault.ReadFault.{ReadFault}
 use Rattle.mopb_reader.specs.Tokens.{plain, lines_of, numbered_tokens}
 use Rattle.mopb_reader.specs.FirstFault.{Start, Head as Begun, Progress, Progressed, first_fault, fault_from, head_begun}
-use Rattle.mopb_reader.specs.Grammar.{largest_of, largest_in_objectives, largest_in_rows}
+use Rattle.mopb_reader.specs.Grammar.{largest_of, largest_in_objectives, largest_in_rows, EndThen, SpellsRows, SpellsStatements}
 use Rattle.mopb_reader.specs.Streams.{Stream}
-use Rattle.mopb_reader.specs.Steps.{IsLeft, EndThen, fault_at, fault_after}
-use Rattle.mopb_reader.specs.Drafts.{SpellsRows, SpellsAll, IsDraft, GoesOn, AddsObjective, AddsRow, AddsStatement, has_any, progress_of, draft_fault}
+use Rattle.mopb_reader.specs.Steps.{IsLeft, fault_at, fault_after}
+use Rattle.mopb_reader.specs.Drafts.{IsDraft, GoesOn, AddsObjective, AddsRow, AddsStatement, has_any, progress_of, draft_fault}
 use Rattle.mopb_reader.specs.declared.token.Token.{Token}
 use Rattle.mopb_reader.specs.declared.token.Token.TheVariants.{Head, Semicolon}
 use Rattle.mopb_reader.specs.declared.draft.Draft.{Draft}
@@ -30,10 +30,10 @@ objective_goes_on : (sense : Sense) (old new : Stream) (all : List Token) (d e :
     → GoesOn all (Head sense ∷ plain old.left) d → GoesOn all (plain new.left) e
 objective_goes_on sense old new all d e adds so_far objectives rows ordered spelled =
     let o = adds.objective in
-    let P = SpellsAll objectives rows in
-    let here : SpellsAll (o ∷ objectives) rows (Head sense ∷ plain old.left) =
+    let P = SpellsStatements objectives rows in
+    let here : SpellsStatements (o ∷ objectives) rows (Head sense ∷ plain old.left) =
     (adds.read.shape, terms_map (EndThen (IsLeft new)) (EndThen P) (end_then P new spelled) (plain old.left) o.terms adds.read.read) in
-    let whole : SpellsAll (d.objectives ++ o ∷ objectives) (d.linear ++ rows) all =
+    let whole : SpellsStatements (d.objectives ++ o ∷ objectives) (d.linear ++ rows) all =
     so_far (o ∷ objectives) rows (λ some. absurd (some adds.before)) here in
     let os : e.objectives ++ objectives ≡ d.objectives ++ o ∷ objectives =
     ap (λ (x : Draft). x.objectives ++ objectives) adds.added ∙ append_assoc d.objectives (o ∷ []) objectives in
@@ -46,11 +46,11 @@ row_goes_on first old new all d e adds so_far objectives rows ordered spelled =
     let row = adds.row in
     let some : e.linear ≢ [] = λ none. push_some d.linear row (sym (ap (λ (x : Draft). x.linear) adds.added) ∙ none) in
     let none : objectives ≡ [] = ordered some in
-    let tail : SpellsRows rows (plain new.left) = subst (λ (os : List Objective). SpellsAll os rows (plain new.left)) none spelled in
+    let tail : SpellsRows rows (plain new.left) = subst (λ (os : List Objective). SpellsStatements os rows (plain new.left)) none spelled in
     let P = SpellsRows rows in
     let here : SpellsRows (row ∷ rows) (first ∷ plain old.left) =
     row_then row (EndThen (IsLeft new)) (EndThen P) (end_then P new tail) (first ∷ plain old.left) adds.read.read in
-    let whole : SpellsAll (d.objectives ++ []) (d.linear ++ row ∷ rows) all = so_far [] (row ∷ rows) (λ _. refl) here in
+    let whole : SpellsStatements (d.objectives ++ []) (d.linear ++ row ∷ rows) all = so_far [] (row ∷ rows) (λ _. refl) here in
     let os : e.objectives ++ objectives ≡ d.objectives ++ [] =
     ap (λ (x : Draft). x.objectives ++ objectives) adds.added ∙ ap (λ (xs : List Objective). d.objectives ++ xs) none in
     let rs : e.linear ++ rows ≡ d.linear ++ row ∷ rows =
@@ -105,17 +105,17 @@ row_adds first old new d e adds = record {
 -- no statement is read yet
 pub none_read : (all left : List Token) (d : Draft) → left ≡ all → d.objectives ≡ [] → d.linear ≡ [] → GoesOn all left d
 none_read all left d same no_objectives no_rows objectives rows ordered spelled =
-    rw (no_objectives, no_rows) (subst (SpellsAll objectives rows) same spelled)
+    rw (no_objectives, no_rows) (subst (SpellsStatements objectives rows) same spelled)
 
 pub went_on : (all left now : List Token) (d : Draft) → left ≡ now → GoesOn all left d → GoesOn all now d
 went_on all left now d e so_far = subst (λ (ts : List Token). GoesOn all ts d) e so_far
 
 -- all statements are read
-pub all_read : (all left : List Token) (d : Draft) → left ≡ [] → GoesOn all left d → SpellsAll d.objectives d.linear all
+pub all_read : (all left : List Token) (d : Draft) → left ≡ [] → GoesOn all left d → SpellsStatements d.objectives d.linear all
 all_read all left d none so_far =
-    let whole : SpellsAll (d.objectives ++ []) (d.linear ++ []) all = so_far [] [] (λ _. refl) none in
-    subst (λ (rows : List Linear). SpellsAll d.objectives rows all) (append-nil d.linear)
-    (subst (λ (os : List Objective). SpellsAll os (d.linear ++ []) all) (append-nil d.objectives) whole)
+    let whole : SpellsStatements (d.objectives ++ []) (d.linear ++ []) all = so_far [] [] (λ _. refl) none in
+    subst (λ (rows : List Linear). SpellsStatements d.objectives rows all) (append-nil d.linear)
+    (subst (λ (os : List Objective). SpellsStatements os (d.linear ++ []) all) (append-nil d.objectives) whole)
 
 -- ---- how far a draft with a statement more is
 

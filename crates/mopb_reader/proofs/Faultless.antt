@@ -19,14 +19,12 @@ use Rattle.instance.specs.declared.fault.ReadFault.{ReadFault}
 use Rattle.instance.specs.Shape.{InstanceValue, terms_magnitude, IsRowWithin, IsObjectiveWithin}
 use Rattle.mopb_reader.specs.Tokens.{lines_of, numbered_tokens, plain, tokens_of}
 use Rattle.mopb_reader.specs.FirstFault.{Kind, Objective, Constraint, limit_of, Place, Start, Head, Sign, Coefficient, Term as AfterTerm, Relation, BoundSign, Bound, Next, counted, indexed, after, Progress, Progressed, moved, step, fault_or, end_in, end_fault, fault_from, first_fault, nothing_yet}
-use Rattle.mopb_reader.specs.Grammar.{Term, term_of, FurtherTerms, TermsThen, BoundThen, Spells, largest_of, largest_in_objectives, largest_in_rows}
-use Rattle.mopb_reader.specs.Steps.{placed, EndThen}
-use Rattle.mopb_reader.specs.Drafts.{SpellsRows, SpellsAll}
+use Rattle.mopb_reader.specs.Grammar.{Term, term_of, FurtherTerms, TermsThen, BoundThen, Spells, largest_of, largest_in_objectives, largest_in_rows, EndThen, SpellsRows, SpellsStatements}
+use Rattle.mopb_reader.specs.Steps.{placed}
 use Rattle.mopb_reader.specs.declared.token.Token.{Token}
 use Rattle.mopb_reader.specs.declared.token.Token.TheVariants.{Sign as SignToken, Number, Literal, Head as HeadToken, Relation as RelationToken, Semicolon}
 use Rattle.mopb_reader.proofs.Cutting.{below}
 use Rattle.mopb_reader.proofs.Places.{Inside, step_inside}
-use Rattle.mopb_reader.proofs.Texts.{spelled_all}
 
 -- the first fault of tokens, without its line
 abbrev pub fault_then : Progressed → (Progress → Option PlaceFault) → Option PlaceFault
@@ -276,14 +274,14 @@ head_passes n sense rest room passes =
     ap (λ b. fault_then (if b then Ok (record { objectives = n + 1; rows = false; place = Head }) else Err (Limit Objectives)) (λ q. fault_in q rest))
     (below n 64 room) ∙ passes
 
-all_pass : (v : ℕ) (objectives : List Goal) (rows : List Linear) (n : ℕ) (tokens : List Token) → SpellsAll objectives rows tokens
+all_pass : (v : ℕ) (objectives : List Goal) (rows : List Linear) (n : ℕ) (tokens : List Token) → SpellsStatements objectives rows tokens
     → All (IsObjectiveWithin v) objectives → All (IsRowWithin v) rows → largest_in_objectives objectives ≤ 2 ^ 24
     → largest_in_rows rows ≤ 2 ^ 24 → n + length objectives ≤ 64 → fault_in (started n false) tokens ≡ None
 all_pass v [] rows n tokens is limits rows_limits within rows_within room = rows_pass n v rows false tokens is rows_limits rows_within
 all_pass v (o ∷ objectives) rows n (HeadToken sense ∷ tokens) is limits rows_limits within rows_within room =
     let here : IsObjectiveWithin v o = All-head (IsObjectiveWithin v) o objectives limits in
     head_passes n sense tokens (omega arith)
-    (objective_passes (started (n + 1) false) (SpellsAll objectives rows) o.terms tokens is.1 (omega (arith, here.magnitude)) (omega arith)
+    (objective_passes (started (n + 1) false) (SpellsStatements objectives rows) o.terms tokens is.1 (omega (arith, here.magnitude)) (omega arith)
     (λ rest rest_passes. all_pass v objectives rows (n + 1) rest rest_passes (All-tail (IsObjectiveWithin v) o objectives limits) rows_limits
     (omega arith) rows_within (omega arith)))
 all_pass v (o ∷ objectives) rows n tokens is limits rows_limits within rows_within room = absurd is
@@ -292,5 +290,5 @@ pub spelled_faultless : (text : List ℕ) (i : InstanceValue) → Spells text i 
 spelled_faultless text i spelled =
     let limits = spelled.limits in
     lined (length (lines_of text)) nothing_yet (numbered_tokens 1 (lines_of text))
-    (all_pass i.vars i.objectives i.linear 0 (tokens_of text) (spelled_all text i spelled) limits.objectives limits.rows
+    (all_pass i.vars i.objectives i.linear 0 (tokens_of text) spelled.statements limits.objectives limits.rows
     (omega (arith, spelled.variables, limits.variables)) (omega (arith, spelled.variables, limits.variables)) (omega (arith, limits.count)))

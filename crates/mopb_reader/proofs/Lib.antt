@@ -1,5 +1,4 @@
 pub mod Cutting
-pub mod Statements
 pub mod Counted
 pub mod Limits
 pub mod Places

@@ -14,13 +14,12 @@ use Rattle.instance.specs.declared.objective.Soft.{Soft}
 use Rattle.instance.specs.Shape.{IsWithinLimits, IsObjectiveWithin, IsRowWithin, TermsUpTo, ClauseUpTo, objective_magnitude, row_magnitude}
 use Rattle.mopb_reader.specs.Lexemes.{Lexeme, Blank, Digits, Literal, Relation, Other, with_digit, with_x, with_tilde, with_m, with_greater, with_less, with_byte, lexemes_of}
 use Rattle.mopb_reader.specs.Tokens.{is_comment, token_of, tokens_in_line, lines_of, numbered_tokens, plain, tokens_of}
-use Rattle.mopb_reader.specs.Grammar.{Term, Spells, largest_of, largest_in_objectives, largest_in_rows}
-use Rattle.mopb_reader.specs.Drafts.{SpellsAll, IsDraft, instance_of}
+use Rattle.mopb_reader.specs.Grammar.{Term, Spells, largest_of, largest_in_objectives, largest_in_rows, SpellsStatements}
+use Rattle.mopb_reader.specs.Drafts.{IsDraft, instance_of}
 use Rattle.mopb_reader.specs.declared.token.Token.{Token}
 use Rattle.mopb_reader.specs.declared.draft.Draft.{Draft}
 use Rattle.mopb_reader.proofs.Counted.{RowCounted, IsPlain, text_counted}
 use Rattle.mopb_reader.proofs.Cutting.{byte_cases}
-use Rattle.mopb_reader.proofs.Statements.{all_split}
 
 -- a byte makes one lexeme at most
 digit_long : (b : ℕ) (rest : List Lexeme) → length (with_digit b rest) ≤ length rest + 1
@@ -160,7 +159,7 @@ none_soft (o ∷ os) are = omega (
   sum_by-cons (λ (x : Objective). length x.softs) o os,
 )
 
-pub draft_within : (text : List ℕ) (d : Draft) → length text < 2 ^ 32 → SpellsAll d.objectives d.linear (tokens_of text)
+pub draft_within : (text : List ℕ) (d : Draft) → length text < 2 ^ 32 → SpellsStatements d.objectives d.linear (tokens_of text)
     → IsDraft d → IsWithinLimits (instance_of d)
 draft_within text d short spelled draft =
     let found = text_counted text d.objectives d.linear spelled in
@@ -173,17 +172,11 @@ draft_within text d short spelled draft =
       size = omega (arith, short, none_soft d.objectives found.0, found.1.1, tokens_fit text);
     }
 
-pub draft_spells : (text : List ℕ) (d : Draft) → length text < 2 ^ 32 → SpellsAll d.objectives d.linear (tokens_of text)
+pub draft_spells : (text : List ℕ) (d : Draft) → length text < 2 ^ 32 → SpellsStatements d.objectives d.linear (tokens_of text)
     → IsDraft d → Spells text (instance_of d)
-draft_spells text d short spelled draft =
-    let parts = all_split d.objectives d.linear (tokens_of text) spelled in
-    record {
-      first = parts.first;
-      then = parts.then;
-      statements = parts.statements;
-      objectives = parts.first_spelled;
-      rows = parts.then_spelled;
-      clauses = refl;
-      variables = draft.variables;
-      limits = draft_within text d short spelled draft;
-    }
+draft_spells text d short spelled draft = record {
+  statements = spelled;
+  clauses = refl;
+  variables = draft.variables;
+  limits = draft_within text d short spelled draft;
+}

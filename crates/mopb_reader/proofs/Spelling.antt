@@ -11,12 +11,11 @@ use Rattle.instance.specs.declared.row.Rel.{Rel}
 use Rattle.scut_base.specs.Literal.{Literal as Lit}
 use Rattle.scut_base.specs.Number.{signed_value}
 use Rattle.mopb_reader.specs.Tokens.{plain}
-use Rattle.mopb_reader.specs.Grammar.{Term, term_of, FurtherTerms, TermsThen, BoundThen, RowThen, largest_of}
+use Rattle.mopb_reader.specs.Grammar.{Term, term_of, FurtherTerms, TermsThen, BoundThen, RowThen, largest_of, EndThen}
 use Rattle.mopb_reader.specs.Streams.{Stream, ahead, begins_term, begins_literal}
-use Rattle.mopb_reader.specs.Steps.{IsLeft, IsAhead, BeginsWithTerm, BeginsUnsigned, BeginsWithBound, EndThen}
+use Rattle.mopb_reader.specs.Steps.{IsLeft, IsAhead, BeginsWithTerm, BeginsUnsigned, BeginsWithBound}
 use Rattle.mopb_reader.specs.declared.token.Token.{Token}
 use Rattle.mopb_reader.specs.declared.token.Token.TheVariants.{Sign, Number, Literal, Relation, Semicolon}
-use Rattle.mopb_reader.proofs.Statements.{may_be_first}
 
 -- ---- one term
 
@@ -57,6 +56,13 @@ pub term_bare : (first : Option Token) (old new : Stream) (t : Term) → BeginsU
 term_bare first old new t unsigned = unsigned_bare (IsLeft new) (ahead first old) t [] unsigned
 
 -- ---- terms
+
+-- where the first of further terms has a sign or digits, it may be the first of all
+pub may_be_first : (P : List Token → Type 0) (tokens : List Token) (terms : List Term) → FurtherTerms P tokens terms → TermsThen P tokens terms
+may_be_first P tokens [] is = is
+may_be_first P (Number n ∷ tokens) (t ∷ terms) is = is
+may_be_first P (Sign minus ∷ tokens) (t ∷ terms) is = is
+may_be_first P tokens (t ∷ terms) is = absurd is
 
 -- what follows may be said otherwise
 further_map : (S P : List Token → Type 0) → ((tokens : List Token) → S tokens → P tokens) → (tokens : List Token) (terms : List Term)

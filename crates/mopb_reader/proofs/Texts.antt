@@ -7,12 +7,9 @@ use Rattle.instance.specs.declared.objective.Objective.{Objective}
 use Rattle.instance.specs.declared.objective.Sense.{Sense}
 use Rattle.instance.specs.Shape.{InstanceValue}
 use Rattle.mopb_reader.specs.Tokens.{tokens_of}
-use Rattle.mopb_reader.specs.Grammar.{Term, FurtherTerms, TermsThen, BoundThen, RowThen, objective_of, Spells, largest_in_objectives, largest_in_rows}
-use Rattle.mopb_reader.specs.Steps.{EndThen}
-use Rattle.mopb_reader.specs.Drafts.{SpellsRows, SpellsAll}
+use Rattle.mopb_reader.specs.Grammar.{Term, FurtherTerms, TermsThen, BoundThen, RowThen, objective_of, Spells, largest_in_objectives, largest_in_rows, EndThen, SpellsRows, SpellsStatements}
 use Rattle.mopb_reader.specs.declared.token.Token.{Token}
 use Rattle.mopb_reader.specs.declared.token.Token.TheVariants.{Sign, Number, Literal, Head, Relation, Semicolon}
-use Rattle.mopb_reader.proofs.Statements.{split_all}
 
 -- the tokens begin no term
 abbrev BeginsNoTerm : List Token → Type 0
@@ -138,16 +135,16 @@ no_head : (rows : List Linear) (sense : Sense) (tokens : List Token) → SpellsR
 no_head [] sense tokens is = absurd cc
 no_head (row ∷ rows) sense tokens is = no_row row (EndThen (SpellsRows rows)) (Head sense) tokens tt (λ found. found) is
 
-all_same : (os ps : List Objective) (rows lines : List Linear) (tokens : List Token) → SpellsAll os rows tokens
-    → SpellsAll ps lines tokens → (os ≡ ps) × (rows ≡ lines)
+all_same : (os ps : List Objective) (rows lines : List Linear) (tokens : List Token) → SpellsStatements os rows tokens
+    → SpellsStatements ps lines tokens → (os ≡ ps) × (rows ≡ lines)
 all_same [] [] rows lines tokens left right = (refl, rows_same rows lines tokens left right)
 all_same [] (p ∷ ps) rows lines (Head sense ∷ tokens) left right = absurd (no_head rows sense tokens left)
 all_same [] (p ∷ ps) rows lines tokens left right = absurd right
 all_same (o ∷ os) [] rows lines (Head sense ∷ tokens) left right = absurd (no_head lines sense tokens right)
 all_same (o ∷ os) [] rows lines tokens left right = absurd left
 all_same (o ∷ os) (p ∷ ps) rows lines (Head sense ∷ tokens) left right =
-    let P = SpellsAll os rows in
-    let Q = SpellsAll ps lines in
+    let P = SpellsStatements os rows in
+    let Q = SpellsStatements ps lines in
     let terms = terms_same (EndThen P) (EndThen Q) (end_ends P) (end_ends Q) tokens o.terms p.terms left.1 right.1 in
     let end = end_same P Q terms.1.0 terms.1.1 terms.1.2 in
     let rest = all_same os ps rows lines end.0 end.1 end.2 in
@@ -158,13 +155,9 @@ all_same (o ∷ os) (p ∷ ps) rows lines tokens left right = absurd left
 abbrev instance_from : ℕ → List (List Lit) → List Linear → List Objective → InstanceValue
 instance_from vars clauses linear objectives = record { vars = vars; clauses = clauses; linear = linear; objectives = objectives }
 
--- what a text spells, statement by statement
-pub spelled_all : (text : List ℕ) (i : InstanceValue) → Spells text i → SpellsAll i.objectives i.linear (tokens_of text)
-spelled_all text i is = split_all is.first is.then i.objectives i.linear (tokens_of text) is.statements is.objectives is.rows
-
 pub one_spelled : (text : List ℕ) (i j : InstanceValue) → Spells text i → Spells text j → i ≡ j
 one_spelled text i j left right =
-    let both = all_same i.objectives j.objectives i.linear j.linear (tokens_of text) (spelled_all text i left) (spelled_all text j right) in
+    let both = all_same i.objectives j.objectives i.linear j.linear (tokens_of text) left.statements right.statements in
     let clauses : i.clauses ≡ j.clauses = left.clauses ∙ sym right.clauses in
     let vars : i.vars ≡ j.vars = omega (arith, left.variables, right.variables, ap largest_in_objectives both.0, ap largest_in_rows both.1) in
     ap (λ x. instance_from x i.clauses i.linear i.objectives) vars ∙ ap (λ x. instance_from j.vars x i.linear i.objectives) clauses

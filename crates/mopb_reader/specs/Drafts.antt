@@ -7,22 +7,12 @@ use Rattle.instance.specs.declared.fault.PlaceFault.{PlaceFault}
 use Rattle.instance.specs.declared.fault.ReadFault.{ReadFault}
 use Rattle.instance.specs.Shape.{InstanceValue, objective_magnitude, row_magnitude}
 use Rattle.mopb_reader.specs.Tokens.{plain}
-use Rattle.mopb_reader.specs.Grammar.{ObjectiveThen, RowThen, IsNothing, largest_in_objectives, largest_in_rows}
+use Rattle.mopb_reader.specs.Grammar.{SpellsStatements, largest_in_objectives, largest_in_rows}
 use Rattle.mopb_reader.specs.FirstFault.{Progress, Progressed, Start, fault_from}
 use Rattle.mopb_reader.specs.Streams.{Stream}
-use Rattle.mopb_reader.specs.Steps.{EndThen, IsReadObjective, IsReadRow, fault_after, Finds, Meets}
+use Rattle.mopb_reader.specs.Steps.{IsReadObjective, IsReadRow, fault_after, Finds, Meets}
 use Rattle.mopb_reader.specs.declared.token.Token.{Token}
 use Rattle.mopb_reader.specs.declared.draft.Draft.{Draft}
-
--- rows, each with its semicolon
-abbrev pub SpellsRows : List Linear → List Token → Type 0
-SpellsRows [] tokens = IsNothing tokens
-SpellsRows (row ∷ rows) tokens = RowThen (EndThen (SpellsRows rows)) tokens row
-
--- objectives, each with its semicolon, and then rows
-abbrev pub SpellsAll : List Objective → List Linear → List Token → Type 0
-SpellsAll [] rows tokens = SpellsRows rows tokens
-SpellsAll (o ∷ objectives) rows tokens = ObjectiveThen (EndThen (SpellsAll objectives rows)) tokens o
 
 -- the draft is within the limits, and knows its largest variable
 pub record IsDraft (d : Draft) : Type 0 where
@@ -35,7 +25,7 @@ pub record IsDraft (d : Draft) : Type 0 where
 -- What the tokens left spell makes, after the draft, what all tokens spell: no objective stands after a row.
 abbrev pub GoesOn : List Token → List Token → Draft → Type 0
 GoesOn all left d = (objectives : List Objective) (rows : List Linear) → (d.linear ≢ [] → objectives ≡ [])
-    → SpellsAll objectives rows left → SpellsAll (d.objectives ++ objectives) (d.linear ++ rows) all
+    → SpellsStatements objectives rows left → SpellsStatements (d.objectives ++ objectives) (d.linear ++ rows) all
 
 -- what an objective of this sense more makes of a draft
 pub record AddsObjective (sense : Sense) (old new : Stream) (d e : Draft) : Type 0 where

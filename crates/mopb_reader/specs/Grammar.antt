@@ -1,7 +1,6 @@
--- Which text spells which instance. The tokens between semicolons spell objectives, and then rows. What is spelled is seen
--- at the leading tokens.
-use Rattle.std.specs.Prelude.{◌≡◌, ℕ, Bool, true, false, max, List, [], ◌∷◌, ◌++◌, ℤ, pos, Some}
-use Rattle.std.specs.List.{AllZip, slice_split}
+-- Which text spells which instance. Its tokens spell objectives, and then rows; what is spelled is seen at the leading tokens,
+-- and what follows is said by a predicate `P` of the tokens that are left.
+use Rattle.std.specs.Prelude.{◌≡◌, ℕ, Bool, false, max, List, [], ◌∷◌, ℤ, pos, Some}
 use Rattle.scut_base.specs.Literal.{Literal as Lit}
 use Rattle.scut_base.specs.Number.{signed_value}
 use Rattle.instance.specs.declared.row.Linear.{Linear}
@@ -60,19 +59,21 @@ BoundThen rel bound P tokens = ⊥
 abbrev pub RowThen : (List Token → Type 0) → List Token → Linear → Type 0
 RowThen P tokens row = TermsThen (BoundThen row.rel row.bound P) tokens row.terms
 
-abbrev pub IsNothing : List Token → Type 0
-IsNothing tokens = tokens ≡ []
+-- a semicolon, and then tokens that `P` holds of
+abbrev pub EndThen : (List Token → Type 0) → List Token → Type 0
+EndThen P (Semicolon ∷ tokens) = P tokens
+EndThen P tokens = ⊥
 
--- the tokens of one statement, without its semicolon
-abbrev pub SpellsObjective : List Token → Objective → Type 0
-SpellsObjective tokens o = ObjectiveThen IsNothing tokens o
+-- rows and nothing more, each with its semicolon
+abbrev pub SpellsRows : List Linear → List Token → Type 0
+SpellsRows [] tokens = tokens ≡ []
+SpellsRows (row ∷ rows) tokens = RowThen (EndThen (SpellsRows rows)) tokens row
 
-abbrev pub SpellsRow : List Token → Linear → Type 0
-SpellsRow tokens row = RowThen IsNothing tokens row
-
-abbrev pub is_semicolon : Token → Bool
-is_semicolon Semicolon = true
-is_semicolon token = false
+-- objectives, each with its semicolon, and then rows
+abbrev pub SpellsStatements : List Objective → List Linear → List Token → Type 0
+SpellsStatements [] rows tokens = SpellsRows rows tokens
+SpellsStatements (o ∷ objectives) rows tokens =
+    ObjectiveThen (EndThen (SpellsStatements objectives rows)) tokens o
 
 -- the largest variable of the terms, or 0
 abbrev pub largest_of : List Term → ℕ
@@ -87,13 +88,9 @@ abbrev pub largest_in_rows : List Linear → ℕ
 largest_in_rows [] = 0
 largest_in_rows (row ∷ rows) = max (largest_of row.terms) (largest_in_rows rows)
 
--- The text spells the instance: each statement ends with a semicolon, and all objectives stand before the rows.
+-- The text spells the instance: its tokens are the objectives' statements and then the rows'.
 pub record Spells (text : List ℕ) (i : InstanceValue) : Type 0 where
-  pub first : List (List Token)
-  pub then : List (List Token)
-  pub statements : slice_split is_semicolon (tokens_of text) ≡ first ++ then ++ [] ∷ []
-  pub objectives : AllZip SpellsObjective first i.objectives
-  pub rows : AllZip SpellsRow then i.linear
+  pub statements : SpellsStatements i.objectives i.linear (tokens_of text)
   pub clauses : i.clauses ≡ []
   pub variables : i.vars ≡ max (largest_in_objectives i.objectives) (largest_in_rows i.linear)
   pub limits : IsWithinLimits i

@@ -12,11 +12,11 @@ use Rattle.instance.specs.declared.row.Linear.{Linear}
 use Rattle.instance.specs.declared.objective.Objective.{Objective as Goal}
 use Rattle.instance.specs.declared.objective.Sense.{Sense}
 use Rattle.mopb_reader.specs.Tokens.{plain}
-use Rattle.mopb_reader.specs.Grammar.{Term, FurtherTerms, TermsThen, BoundThen, RowThen, objective_of, largest_of}
+use Rattle.mopb_reader.specs.Grammar.{Term, FurtherTerms, TermsThen, BoundThen, RowThen, EndThen, objective_of, largest_of}
 use Rattle.mopb_reader.specs.FirstFault.{Kind, Objective, Constraint, limit_of, Place, Start, Head, Sign, Term as AfterTerm, missing_at, Next, begun, after, Progress, Progressed, moved, fault_or, fault_from}
 use Rattle.mopb_reader.specs.Streams.{Stream, ahead, begins_term, IsSoundTaken}
 use Rattle.mopb_reader.specs.declared.token.Token.{Token}
-use Rattle.mopb_reader.specs.declared.token.Token.TheVariants.{Sign as SignToken, Relation as RelationToken, Semicolon}
+use Rattle.mopb_reader.specs.declared.token.Token.TheVariants.{Sign as SignToken, Relation as RelationToken}
 use Rattle.mopb_reader.specs.declared.terms.Terms.{Terms}
 
 -- the place after the token that was taken, where the text may have ended
@@ -127,11 +127,6 @@ terms_fault p kind next tokens items = fault_inside tokens p (after_taken (place
 abbrev pub FindsTerms : InstanceLimit → Option Token → Stream → Stream → Result Terms PlaceFault → Type 0
 FindsTerms limit first old new result = (kind : Kind) (p : Progress) → limit ≡ limit_of kind
     → Finds (terms_fault p kind first old []) result new (λ t. terms_fault p kind t.next new t.items)
-
--- a semicolon, and then tokens that `P` holds of
-abbrev pub EndThen : (List Token → Type 0) → List Token → Type 0
-EndThen P (Semicolon ∷ tokens) = P tokens
-EndThen P tokens = ⊥
 
 -- an objective and its largest variable, within the limits
 pub record IsReadObjective (sense : Sense) (old new : Stream) (o : Goal) (vars : ℕ) : Type 0 where

@@ -6,8 +6,8 @@ ghost use Rattle.instance.specs.Reading.{IsFaultOf, HasLine};
 ghost use Rattle.mopb_reader.specs.Tokens.{tokens_of, plain};
 ghost use Rattle.mopb_reader.specs.FirstFault.{first_fault, step};
 ghost use Rattle.mopb_reader.specs.Cuts.{IsSound};
-ghost use Rattle.mopb_reader.specs.Grammar.{Spells};
-ghost use Rattle.mopb_reader.specs.Drafts.{SpellsAll, IsDraft, AddsStatement, MeetsStatement, progress_of};
+ghost use Rattle.mopb_reader.specs.Grammar.{Spells, SpellsStatements};
+ghost use Rattle.mopb_reader.specs.Drafts.{IsDraft, AddsStatement, MeetsStatement, progress_of};
 
 use crate::draft::{Draft, add_statement, finish, new_draft};
 use crate::token::Token;
@@ -29,7 +29,7 @@ pub fn read(alloc: Global, bytes: &[u8]) -> Result<Instance, ReadFault>
 // Reads all statements.
 fn read_statements(alloc: Global, bytes: &[u8]) -> Result<Draft, ReadFault>
     requires { length bytes.now < 2 ^ 32 }
-    ensures ok { IfOk result (λ d. SpellsAll d.objectives d.linear (tokens_of bytes.now) × IsDraft d) }
+    ensures ok { IfOk result (λ d. SpellsStatements d.objectives d.linear (tokens_of bytes.now) × IsDraft d) }
     ensures fault { IfErr result (λ f. IsFaultOf (first_fault bytes.now) f) }
 {
     let mut draft = new_draft(alloc);
