@@ -30,51 +30,65 @@ AreCounted (t ∷ ts) = IsCounted t × AreCounted ts
 
 -- ---- a line's lexemes
 
-digit_counted : (b : ℕ) (rest : List Lexeme) → AreCounted rest → AreCounted (with_digit b rest)
-digit_counted b [] rest = (tt, tt)
-digit_counted b (Digits ds ∷ ts) rest = (tt, rest.1)
-digit_counted b (t ∷ ts) rest = (tt, rest)
+-- A byte more keeps the variables, and makes one lexeme at most.
+abbrev Grows : List Lexeme → List Lexeme → Type 0
+Grows rest more = AreCounted more × (length more ≤ length rest + 1)
+
+digit_grows : (b : ℕ) (rest : List Lexeme) → AreCounted rest → Grows rest (with_digit b rest)
+digit_grows b [] counted = ((tt, tt), omega arith)
+digit_grows b (Digits ds ∷ ls) counted = ((tt, counted.1), omega arith)
+digit_grows b (l ∷ ls) counted = ((tt, counted), omega arith)
 
 above_none : (n : ℕ) → (n == 0) ≡ false → 0 < n
 above_none n e = grind (arith, nat_tests)
 
-x_counted : (rest : List Lexeme) → AreCounted rest → AreCounted (with_x rest)
-x_counted [] rest = (tt, tt)
-x_counted (Digits ds ∷ ts) rest =
-    cond_both (natural_value ds == 0) (Other 120 ∷ Digits ds ∷ ts) (Literal ds false ∷ ts) AreCounted
-    (λ _. (tt, rest)) (λ e. (above_none (natural_value ds) e, rest.1))
-x_counted (t ∷ ts) rest = (tt, rest)
+x_grows : (rest : List Lexeme) → AreCounted rest → Grows rest (with_x rest)
+x_grows [] counted = ((tt, tt), omega arith)
+x_grows (Digits ds ∷ ls) counted = cond_both (natural_value ds == 0) _ _ (Grows (Digits ds ∷ ls))
+    (λ _. ((tt, counted), omega arith)) (λ e. ((above_none (natural_value ds) e, counted.1), omega arith))
+x_grows (l ∷ ls) counted = ((tt, counted), omega arith)
 
-tilde_counted : (rest : List Lexeme) → AreCounted rest → AreCounted (with_tilde rest)
-tilde_counted [] rest = (tt, tt)
-tilde_counted (Literal ds false ∷ ts) rest = rest
-tilde_counted (t ∷ ts) rest = (tt, rest)
+tilde_grows : (rest : List Lexeme) → AreCounted rest → Grows rest (with_tilde rest)
+tilde_grows [] counted = ((tt, tt), omega arith)
+tilde_grows (Literal ds false ∷ ls) counted = (counted, omega arith)
+tilde_grows (l ∷ ls) counted = ((tt, counted), omega arith)
 
-m_counted : (rest : List Lexeme) → AreCounted rest → AreCounted (with_m rest)
-m_counted (Other a ∷ Other b ∷ Other c ∷ ts) rest =
-    cond_both (a == 105 && b == 110 && c == 58) _ _ AreCounted (λ _. (tt, rest.1.1.1)) (λ _.
-    cond_both (a == 97 && b == 120 && c == 58) _ _ AreCounted (λ _. (tt, rest.1.1.1)) (λ _. (tt, rest)))
-m_counted ts rest = (tt, rest)
+m_grows : (rest : List Lexeme) → AreCounted rest → Grows rest (with_m rest)
+m_grows (Other a ∷ Other b ∷ Other c ∷ ls) counted =
+    let grows = Grows (Other a ∷ Other b ∷ Other c ∷ ls) in
+    cond_both (a == 105 && b == 110 && c == 58) _ _ grows (λ _. ((tt, counted.1.1.1), omega arith)) (λ _.
+    cond_both (a == 97 && b == 120 && c == 58) _ _ grows (λ _. ((tt, counted.1.1.1), omega arith)) (λ _. ((tt, counted), omega arith)))
+m_grows ls counted = ((tt, counted), omega arith)
 
-greater_counted : (rest : List Lexeme) → AreCounted rest → AreCounted (with_greater rest)
-greater_counted [] rest = (tt, tt)
-greater_counted (Relation Equal ∷ ts) rest = (tt, rest.1)
-greater_counted (t ∷ ts) rest = (tt, rest)
+greater_grows : (rest : List Lexeme) → AreCounted rest → Grows rest (with_greater rest)
+greater_grows [] counted = ((tt, tt), omega arith)
+greater_grows (Relation Equal ∷ ls) counted = ((tt, counted.1), omega arith)
+greater_grows (l ∷ ls) counted = ((tt, counted), omega arith)
 
-less_counted : (rest : List Lexeme) → AreCounted rest → AreCounted (with_less rest)
-less_counted [] rest = (tt, tt)
-less_counted (Relation Equal ∷ ts) rest = (tt, rest.1)
-less_counted (t ∷ ts) rest = (tt, rest)
+less_grows : (rest : List Lexeme) → AreCounted rest → Grows rest (with_less rest)
+less_grows [] counted = ((tt, tt), omega arith)
+less_grows (Relation Equal ∷ ls) counted = ((tt, counted.1), omega arith)
+less_grows (l ∷ ls) counted = ((tt, counted), omega arith)
 
-byte_counted : (b : ℕ) (rest : List Lexeme) → AreCounted rest → AreCounted (with_byte b rest)
-byte_counted b rest counted = byte_cases AreCounted b rest (λ _. (tt, counted)) (λ _. digit_counted b rest counted)
-    (λ _. x_counted rest counted) (λ _. tilde_counted rest counted) (λ _. m_counted rest counted)
-    (λ _. greater_counted rest counted) (λ _. less_counted rest counted) (λ _. (tt, counted)) (λ _. (tt, counted))
-    (λ _. (tt, counted)) (λ _. (tt, counted)) (tt, counted)
+byte_grows : (b : ℕ) (rest : List Lexeme) → AreCounted rest → Grows rest (with_byte b rest)
+byte_grows b rest counted =
+    byte_cases (Grows rest) b rest (λ _. ((tt, counted), omega arith)) (λ _. digit_grows b rest counted)
+    (λ _. x_grows rest counted) (λ _. tilde_grows rest counted) (λ _. m_grows rest counted)
+    (λ _. greater_grows rest counted) (λ _. less_grows rest counted) (λ _. ((tt, counted), omega arith)) (λ _. ((tt, counted), omega arith))
+    (λ _. ((tt, counted), omega arith)) (λ _. ((tt, counted), omega arith)) ((tt, counted), omega arith)
+
+line_grows : (line : List ℕ) → AreCounted (lexemes_of line) × (length (lexemes_of line) ≤ length line)
+line_grows [] = (tt, omega arith)
+line_grows (b ∷ line) =
+    let rest = line_grows line in
+    let more = byte_grows b (lexemes_of line) rest.0 in
+    (more.0, omega (arith, rest.1, more.1))
 
 line_counted : (line : List ℕ) → AreCounted (lexemes_of line)
-line_counted [] = tt
-line_counted (b ∷ line) = byte_counted b (lexemes_of line) (line_counted line)
+line_counted line = (line_grows line).0
+
+pub line_long : (line : List ℕ) → length (lexemes_of line) ≤ length line
+line_long line = (line_grows line).1
 
 -- ---- a text's tokens
 

@@ -1,6 +1,6 @@
 -- Where tokens and lines are cut.
-use Rattle.std.proofs.Common.{◌≡◌, ◌≢◌, ℕ, ◌+◌, ◌<◌, ◌≤◌, ◌^◌, Bool, true, false, not, cond, get_or, ltb, List, [], ◌∷◌, ◌++◌, length, take, drop, map, Option, Some, None, ⊎_elim, inl, inr, suc, zero, refl, sym, ap, ◌∙◌, subst, arith}
-use Rattle.std.specs.Prelude.{unwrap_or, ◌==◌, ◌&&◌, nat_lt}
+use Rattle.std.proofs.Common.{◌≡◌, ◌≢◌, ℕ, ◌+◌, ◌<◌, ◌≤◌, ◌^◌, Bool, true, false, not, cond, get_or, List, [], ◌∷◌, ◌++◌, length, take, drop, map, Option, Some, None, ⊎_elim, inl, inr, suc, zero, refl, sym, ap, ◌∙◌, subst, arith}
+use Rattle.std.specs.Prelude.{◌==◌, ◌&&◌, nat_lt}
 use Rattle.std.specs.List.{All, between, position_or_len}
 use Rattle.std.specs.Char.{is_ascii_digit, digit_value}
 use Rattle.std.specs.Str.Parse.{AllDigits}
@@ -9,7 +9,7 @@ use Rattle.std.proofs.lemmas.Bool.Decides.{nat_tests}
 use Rattle.std.proofs.lemmas.List.{take_all}
 use Rattle.std.proofs.lemmas.List.Elements.{All-from_get_or}
 use Rattle.std.proofs.lemmas.List.Splits.{slice_split_none, slice_split_first}
-use Rattle.std.proofs.lemmas.List.Sums.{prefix_len-le-length, fails_before_first}
+use Rattle.std.proofs.lemmas.List.Sums.{fails_before_first}
 use Rattle.std.proofs.lemmas.Slice.{first_rest}
 use Rattle.scut_base.specs.Number.{natural_value}
 use Rattle.instance.specs.declared.row.Rel.TheVariants.{AtLeast, AtMost, Equal}
@@ -26,16 +26,6 @@ below n m lt = grind (arith, nat_tests)
 
 pub not_below : (n m : ℕ) → m ≤ n → nat_lt n m ≡ false
 not_below n m le = grind (arith, nat_tests)
-
-at_most : (n m : ℕ) → n ≤ m → unwrap_or (cond (ltb n m) (Some n) None) m ≡ n
-at_most n m le = grind (arith, nat_tests)
-
--- the first place that passes, or the length
-pub first_or_length : {X : Type 0} (p : X → Bool) (xs : List X) (r : Option ℕ) → r ≡ cond (ltb (position_or_len p xs) (length xs)) (Some (position_or_len p xs)) None → unwrap_or r (length xs) ≡ position_or_len p xs
-first_or_length p xs r e = ap (λ o. unwrap_or o (length xs)) e ∙ at_most (position_or_len p xs) (length xs) (prefix_len-le-length (λ x. not (p x)) xs)
-
-pub first_within : {X : Type 0} (p : X → Bool) (xs : List X) → position_or_len p xs ≤ length xs
-first_within p xs = prefix_len-le-length (λ x. not (p x)) xs
 
 -- what holds of a byte before tokens, whichever byte it is
 pub byte_cases : (P : List Lexeme → Type 0) (b : ℕ) (rest : List Lexeme) → (is_blank b ≡ true → P (Blank ∷ rest)) → (is_ascii_digit b ≡ true → P (with_digit b rest)) → (b ≡ 120 → P (with_x rest)) → (b ≡ 126 → P (with_tilde rest)) → (b ≡ 109 → P (with_m rest)) → (b ≡ 62 → P (with_greater rest)) → (b ≡ 60 → P (with_less rest)) → (b ≡ 43 → P (Sign false ∷ rest)) → (b ≡ 45 → P (Sign true ∷ rest)) → (b ≡ 61 → P (Relation Equal ∷ rest)) → (b ≡ 59 → P (Semicolon ∷ rest)) → P (Other b ∷ rest) → P (with_byte b rest)

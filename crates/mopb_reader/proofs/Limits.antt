@@ -1,82 +1,23 @@
 -- The limits of a whole text.
-use Rattle.std.proofs.Common.{◌≡◌, ℕ, ◌+◌, ◌<◌, ◌≤◌, ◌^◌, Bool, true, false, cond, List, [], ◌∷◌, ◌++◌, length, map, refl, sym, ap, subst, arith}
-use Rattle.std.specs.Prelude.{◌==◌, ◌&&◌}
-use Rattle.std.specs.List.{All, flat_map, slice_split, onto_first, sum_by}
+use Rattle.std.proofs.Common.{◌≡◌, ℕ, ◌+◌, ◌<◌, ◌≤◌, ◌^◌, List, [], ◌∷◌, ◌++◌, length, map, refl, sym, ap, subst, arith}
+use Rattle.std.specs.Prelude.{◌==◌}
+use Rattle.std.specs.List.{All, flat_map, sum_by}
 use Rattle.std.proofs.lemmas.Bool.{cond_both}
 use Rattle.std.proofs.lemmas.List.{length-append}
 use Rattle.std.proofs.lemmas.List.Elements.{All-nil, All-cons, All-head, All-tail}
 use Rattle.std.proofs.lemmas.List.Sums.{sum_by-cons}
-use Rattle.scut_base.specs.Number.{natural_value}
 use Rattle.instance.specs.declared.row.Linear.{Linear}
-use Rattle.instance.specs.declared.row.Rel.TheVariants.{Equal}
 use Rattle.instance.specs.declared.objective.Objective.{Objective}
 use Rattle.instance.specs.declared.objective.Soft.{Soft}
 use Rattle.instance.specs.Shape.{IsWithinLimits, IsObjectiveWithin, IsRowWithin, TermsUpTo, ClauseUpTo, objective_magnitude, row_magnitude}
-use Rattle.mopb_reader.specs.Lexemes.{Lexeme, Blank, Digits, Literal, Relation, Other, with_digit, with_x, with_tilde, with_m, with_greater, with_less, with_byte, lexemes_of}
+use Rattle.mopb_reader.specs.Lexemes.{Lexeme, Blank, lexemes_of}
 use Rattle.mopb_reader.specs.Tokens.{is_comment, token_of, tokens_in_line, lines_of, numbered_tokens, plain, tokens_of}
 use Rattle.mopb_reader.specs.Grammar.{Term, Spells, largest_of, largest_in_objectives, largest_in_rows, SpellsStatements}
 use Rattle.mopb_reader.specs.Drafts.{IsDraft, instance_of}
 use Rattle.mopb_reader.specs.declared.token.Token.{Token}
 use Rattle.mopb_reader.specs.declared.draft.Draft.{Draft}
-use Rattle.mopb_reader.proofs.Counted.{RowCounted, IsPlain, text_counted}
-use Rattle.mopb_reader.proofs.Cutting.{byte_cases}
-
--- a byte makes one lexeme at most
-digit_long : (b : ℕ) (rest : List Lexeme) → length (with_digit b rest) ≤ length rest + 1
-digit_long b [] = omega arith
-digit_long b (Digits ds ∷ rest) = omega arith
-digit_long b (token ∷ rest) = omega arith
-
-x_long : (rest : List Lexeme) → length (with_x rest) ≤ length rest + 1
-x_long [] = omega arith
-x_long (Digits ds ∷ rest) = cond_both (natural_value ds == 0) (Other 120 ∷ Digits ds ∷ rest) (Literal ds false ∷ rest) (λ ts. length ts ≤ length (Digits ds ∷ rest) + 1) (λ _. omega arith) (λ _. omega arith)
-x_long (token ∷ rest) = omega arith
-
-tilde_long : (rest : List Lexeme) → length (with_tilde rest) ≤ length rest + 1
-tilde_long [] = omega arith
-tilde_long (Literal ds false ∷ rest) = omega arith
-tilde_long (token ∷ rest) = omega arith
-
-m_long : (rest : List Lexeme) → length (with_m rest) ≤ length rest + 1
-m_long (Other a ∷ Other b ∷ Other c ∷ rest) = cond_both (a == 105 && b == 110 && c == 58) _ _ (λ ts. length ts ≤ length (Other a ∷ Other b ∷ Other c ∷ rest) + 1) (λ _. omega arith) (λ _.
-    cond_both (a == 97 && b == 120 && c == 58) _ _ (λ ts. length ts ≤ length (Other a ∷ Other b ∷ Other c ∷ rest) + 1) (λ _. omega arith) (λ _. omega arith))
-m_long rest = omega arith
-
-greater_long : (rest : List Lexeme) → length (with_greater rest) ≤ length rest + 1
-greater_long [] = omega arith
-greater_long (Relation Equal ∷ rest) = omega arith
-greater_long (token ∷ rest) = omega arith
-
-less_long : (rest : List Lexeme) → length (with_less rest) ≤ length rest + 1
-less_long [] = omega arith
-less_long (Relation Equal ∷ rest) = omega arith
-less_long (token ∷ rest) = omega arith
-
-byte_long : (b : ℕ) (rest : List Lexeme) → length (with_byte b rest) ≤ length rest + 1
-byte_long b rest = byte_cases (λ ts. length ts ≤ length rest + 1) b rest (λ _. omega arith) (λ _. digit_long b rest) (λ _. x_long rest) (λ _. tilde_long rest) (λ _. m_long rest) (λ _. greater_long rest) (λ _. less_long rest) (λ _. omega arith) (λ _. omega arith) (λ _. omega arith) (λ _. omega arith) (omega arith)
-
-line_long : (line : List ℕ) → length (lexemes_of line) ≤ length line
-line_long [] = omega arith
-line_long (b ∷ line) = omega (arith, byte_long b (lexemes_of line), line_long line)
-
-abbrev total_length : List (List ℕ) → ℕ
-total_length [] = 0
-total_length (x ∷ xs) = length x + total_length xs
-
-onto_length : (x : ℕ) (parts : List (List ℕ)) → total_length (onto_first x parts) ≤ total_length parts + 1
-onto_length x [] = omega arith
-onto_length x (part ∷ parts) = omega arith
-
-either_length : (b : Bool) (xs ys : List (List ℕ)) (n : ℕ) → total_length xs ≤ n → total_length ys ≤ n → total_length (cond b xs ys) ≤ n
-either_length true xs ys n left right = left
-either_length false xs ys n left right = right
-
-split_length : (p : ℕ → Bool) (xs : List ℕ) → total_length (slice_split p xs) ≤ length xs
-split_length p [] = omega arith
-split_length p (x ∷ xs) =
-    let rest : total_length (slice_split p xs) ≤ length xs = split_length p xs in
-    let onto : total_length (onto_first x (slice_split p xs)) ≤ total_length (slice_split p xs) + 1 = onto_length x (slice_split p xs) in
-    either_length (p x) ([] ∷ slice_split p xs) (onto_first x (slice_split p xs)) (length (x ∷ xs)) (omega (arith, rest)) (omega (arith, rest, onto))
+use Rattle.mopb_reader.proofs.Counted.{RowCounted, IsPlain, text_counted, line_long}
+use Rattle.scut_base.proofs.Lists.{total_length, split_length}
 
 -- a lexeme makes one token at most
 token_long : (l : Lexeme) → length (token_of l) ≤ 1

@@ -3,7 +3,7 @@ use Rattle.std.specs.Prelude.{◌≡◌, ◌≢◌, ℕ, ◌+◌, ◌<◌, false
 use Rattle.scut_base.specs.Number.{natural_value}
 use Rattle.instance.specs.declared.objective.Sense.{Sense}
 use Rattle.instance.specs.declared.objective.Sense.TheVariants.{Min, Max}
-use Rattle.mopb_reader.specs.Lexemes.{Lexeme, Digits, is_blank, lexemes_of}
+use Rattle.mopb_reader.specs.Lexemes.{Lexeme, Digits, Other, is_blank, with_x, lexemes_of}
 use Rattle.mopb_reader.specs.Tokens.{token_of, small_value}
 use Rattle.mopb_reader.specs.declared.token.Token.{Token}
 use Rattle.mopb_reader.specs.declared.token.Token.TheVariants.{Literal}
@@ -36,12 +36,21 @@ BeginsNoDigits lexemes = Unit {0}
 -- the lexemes are digits of this value, at least 1, and those of the text after them
 abbrev pub HasVariable : List Lexeme → Option ℕ → List ℕ → Type 0
 HasVariable lexemes var rest =
-    (ds : List ℕ) × (lexemes ≡ Digits ds ∷ lexemes_of rest) × (var ≡ small_value ds) × (0 < natural_value ds)
+    (ds : List ℕ) × (lexemes ≡ Digits ds ∷ lexemes_of rest) × (var ≡ small_value ds)
+    × (0 < natural_value ds)
 
 -- what follows the `m` of an objective's head
 abbrev pub after_m : Sense → List ℕ → List ℕ
 after_m Min rest = 105 ∷ 110 ∷ 58 ∷ rest
 after_m Max rest = 97 ∷ 120 ∷ 58 ∷ rest
+
+-- the text does not go on with a head
+abbrev pub BeginsNoHead : List ℕ → Type 0
+BeginsNoHead text = (sense : Sense) (rest : List ℕ) → text ≡ after_m sense rest → ⊥
+
+-- an `x` before the lexemes stands alone
+abbrev pub LeavesX : List Lexeme → Type 0
+LeavesX lexemes = with_x lexemes ≡ Other 120 ∷ lexemes
 
 -- the text does not begin with this byte
 abbrev pub IsNotBefore : ℕ → List ℕ → Type 0

@@ -1,4 +1,5 @@
--- The first fault of a text: the first token, or end, that isn't allowed at its place or reaches a limit.
+-- The first fault of a text: the first token, or end, that isn't allowed at its place or reaches a
+-- limit.
 use Rattle.std.specs.Prelude.{ℕ, Bool, true, false, ◌+◌, nat_lt, nat_le, if◌then◌else◌, List, [], ◌∷◌, length, Option, Some, None, Result, Ok, Err}
 use Rattle.instance.specs.declared.fault.BadKind.{BadKind}
 use Rattle.instance.specs.declared.fault.BadKind.TheVariants.{UnknownLine, NumberTooWide, TermExpected, RelationExpected, BoundExpected, SemicolonMissing, Product, ObjectiveAfterConstraint}
@@ -155,4 +156,5 @@ abbrev pub nothing_yet : Progress
 nothing_yet = record { objectives = 0; rows = false; place = Start }
 
 abbrev pub first_fault : List ℕ → Option ReadFault
-first_fault text = fault_from (length (lines_of text)) nothing_yet (numbered_tokens 1 (lines_of text))
+first_fault text =
+    fault_from (length (lines_of text)) nothing_yet (numbered_tokens 1 (lines_of text))

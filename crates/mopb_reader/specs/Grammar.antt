@@ -1,5 +1,5 @@
--- Which text spells which instance. Its tokens spell objectives, and then rows; what is spelled is seen at the leading tokens,
--- and what follows is said by a predicate `P` of the tokens that are left.
+-- Which text spells which instance. Its tokens spell objectives, and then rows. What is spelled is seen
+-- at the leading tokens; of what follows a predicate `P` is said.
 use Rattle.std.specs.Prelude.{◌≡◌, ℕ, Bool, false, max, List, [], ◌∷◌, ℤ, pos, Some}
 use Rattle.scut_base.specs.Literal.{Literal as Lit}
 use Rattle.scut_base.specs.Number.{signed_value}
@@ -20,7 +20,8 @@ Term = ℤ × Lit
 abbrev pub term_of : Bool → ℕ → ℕ → Bool → Term
 term_of minus magnitude var neg = (signed_value minus magnitude, record { var = var; neg = neg })
 
--- Terms, each with a sign or digits, and then tokens that `P` holds of. A missing sign is a plus, missing digits are 1.
+-- Terms, each with a sign or digits, and then tokens that `P` holds of. A missing sign is a plus,
+-- missing digits are 1.
 abbrev pub FurtherTerms : (List Token → Type 0) → List Token → List Term → Type 0
 FurtherTerms P tokens [] = P tokens
 FurtherTerms P (Number (Some n) ∷ Literal (Some v) neg ∷ tokens) (t ∷ terms) =
@@ -42,9 +43,11 @@ TermsThen P tokens (t ∷ terms) = FurtherTerms P tokens (t ∷ terms)
 abbrev pub objective_of : Sense → List Term → Objective
 objective_of sense terms = record { sense = sense; softs = []; terms = terms; offset = pos 0 }
 
--- `min:` where the objective is minimised, `max:` where it is maximised, and terms; and then tokens that `P` holds of
+-- `min:` where the objective is minimised, `max:` where it is maximised, and terms; and then tokens
+-- that `P` holds of
 abbrev pub ObjectiveThen : (List Token → Type 0) → List Token → Objective → Type 0
-ObjectiveThen P (Head sense ∷ tokens) o = (o ≡ objective_of sense o.terms) × TermsThen P tokens o.terms
+ObjectiveThen P (Head sense ∷ tokens) o =
+    (o ≡ objective_of sense o.terms) × TermsThen P tokens o.terms
 ObjectiveThen P tokens o = ⊥
 
 -- a relation and a bound, which is an optional sign and digits; and then tokens that `P` holds of
@@ -94,3 +97,6 @@ pub record Spells (text : List ℕ) (i : InstanceValue) : Type 0 where
   pub clauses : i.clauses ≡ []
   pub variables : i.vars ≡ max (largest_in_objectives i.objectives) (largest_in_rows i.linear)
   pub limits : IsWithinLimits i
+
+abbrev pub IsSpelled : List ℕ → Type 0
+IsSpelled text = (i : InstanceValue) × Spells text i

@@ -60,7 +60,8 @@ abbrev pub with_less : List Lexeme → List Lexeme
 with_less (Relation Equal ∷ rest) = Relation AtMost ∷ rest
 with_less rest = Other 60 ∷ rest
 
--- a byte before what follows: it is joined to the lexeme that begins there directly, where both are one
+-- a byte before what follows: it is joined to the lexeme that begins there directly, where both are
+-- one
 abbrev pub with_byte : ℕ → List Lexeme → List Lexeme
 with_byte b rest =
     if is_blank b then Blank ∷ rest

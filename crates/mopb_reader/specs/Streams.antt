@@ -5,8 +5,8 @@ use Rattle.mopb_reader.specs.Cuts.{IsSound}
 use Rattle.mopb_reader.specs.declared.token.Token.{Token}
 use Rattle.mopb_reader.specs.declared.token.Token.TheVariants.{Sign, Number, Literal, Misspelled, Relation}
 
--- The tokens left with their lines, the line that the text ends in, and that of the token taken last, or the last line where
--- none is left.
+-- The tokens left with their lines, the line that the text ends in, and that of the token taken
+-- last, or the last line where none is left.
 pub record Stream : Type 0 where
   pub left : List (ℕ × Token)
   pub last : ℕ
@@ -19,12 +19,26 @@ numbered_rest number (Some text) = numbered_tokens number (lines_of text)
 
 -- the numbered tokens of a line from here on, and of what follows it
 abbrev pub numbered_from : ℕ → List ℕ → Option (List ℕ) → List (ℕ × Token)
-numbered_from number line rest = map (λ t. (number, t)) (tokens_in line) ++ numbered_rest (number + 1) rest
+numbered_from number line rest =
+    map (λ t. (number, t)) (tokens_in line) ++ numbered_rest (number + 1) rest
+
+-- the line and what follows it have the text's tokens, whatever the number of its first line is
+abbrev pub HasTokens : List ℕ → List ℕ → Option (List ℕ) → Type 0
+HasTokens text line rest =
+    (number : ℕ) → numbered_from number line rest ≡ numbered_tokens number (lines_of text)
 
 -- how many lines follow a line
 abbrev pub lines_after : Option (List ℕ) → ℕ
 lines_after None = 0
 lines_after (Some text) = length (lines_of text)
+
+-- the tokens from here on in a line, and of what follows it
+abbrev pub stream_from : ℕ → List ℕ → Option (List ℕ) → Stream
+stream_from number line rest = record {
+  left = numbered_from number line rest;
+  last = number + lines_after rest;
+  line = number;
+}
 
 -- the first token was taken, with its line, or there was none
 abbrev pub IsTaken : Option Token → Stream → Stream → Type 0

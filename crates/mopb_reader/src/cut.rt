@@ -6,7 +6,7 @@ ghost use Rattle.scut_base.specs.Number.{IsNatural};
 ghost use Rattle.instance.specs.declared.objective.Sense.{Sense};
 ghost use Rattle.mopb_reader.specs.Lexemes.{Other, Digits, is_blank, lexemes_of, with_x, with_tilde, with_m, with_greater, with_less};
 ghost use Rattle.mopb_reader.specs.Tokens.{small_value};
-ghost use Rattle.mopb_reader.specs.Cuts.{HasFront, HasVariable, BeginsNoDigits, IsNotBefore, after_m};
+ghost use Rattle.mopb_reader.specs.Cuts.{HasFront, HasVariable, BeginsNoDigits, BeginsNoHead, LeavesX, IsNotBefore, after_m};
 
 use crate::token::Token;
 use instance::{MAX_MAGNITUDE, Rel, Sense};
@@ -109,10 +109,9 @@ fn cut_less(text: &[u8]) -> (Token, &[u8])
     }
 }
 
-// The sense of an objective's head, if the text begins with it without its `m`, and what follows it.
+// The sense of an objective's head, if the text goes on with one after its `m`, and what follows it.
 fn after_head(text: &[u8]) -> Option<(Sense, &[u8])>
-    ensures { MatchOption result
-        ((sense : Sense) (rest : List ℕ) → text.entry.now ≡ after_m sense rest → ⊥)
+    ensures { MatchOption result (BeginsNoHead text.entry.now)
         (λ r. text.entry.now ≡ after_m r.0 r.1.now) }
 {
     match text {
@@ -135,8 +134,7 @@ fn after_byte(text: &[u8], byte: u8) -> Option<&[u8]>
 
 // Digits of a value of at least 1, if the text begins with them, and what follows them.
 fn cut_variable(text: &[u8]) -> Option<(Option<u64>, &[u8])>
-    ensures { MatchOption result
-        (with_x (lexemes_of text.entry.now) ≡ Other 120 ∷ lexemes_of text.entry.now)
+    ensures { MatchOption result (LeavesX (lexemes_of text.entry.now))
         (λ r. HasVariable (lexemes_of text.entry.now) r.0 r.1.now) }
 {
     let (digits, rest) = cut_digits(text);

@@ -2,9 +2,8 @@
 ghost use Rattle.std.specs.Prelude.{◌≡◌, ◌≤◌, [], length, true, OnOk};
 ghost use Rattle.instance.specs.Shape.{IsWithinLimits};
 ghost use Rattle.mopb_reader.specs.Tokens.{plain};
-ghost use Rattle.mopb_reader.specs.FirstFault.{Start, after, head_begun, moved, step};
 ghost use Rattle.mopb_reader.specs.Cuts.{IsSound};
-ghost use Rattle.mopb_reader.specs.Drafts.{IsDraft, AddsObjective, AddsRow, AddsStatement, FindsStatement, instance_of, progress_of};
+ghost use Rattle.mopb_reader.specs.Drafts.{IsDraft, AddsObjective, AddsRow, AddsStatement, FindsStatement, FindsObjective, FindsRowIn, instance_of};
 
 use crate::statement::{read_objective, read_row};
 use crate::token::{Token, begins_row};
@@ -36,8 +35,8 @@ pub fn new_draft(alloc: Global) -> Draft
     }
 }
 
-/// Reads a statement into the draft, from its first token and those after it. After a fault the draft
-/// is of no use.
+/// Reads a statement into the draft, from its first token and those after it. After a fault the
+/// draft is of no use.
 pub fn add_statement(
     alloc: Global,
     first: Token,
@@ -47,8 +46,7 @@ pub fn add_statement(
     requires { IsSound first }
     ensures ok { OnOk result (AddsStatement first tokens.old tokens.new draft.old draft.new) }
     ensures fewer { length (plain tokens.new.left) ≤ length (plain tokens.old.left) }
-    ensures fault { let begun = step (progress_of draft.old) first in
-        FindsStatement begun tokens.old tokens.new draft.new result }
+    ensures fault { FindsStatement first tokens.old tokens.new draft.old draft.new result }
 {
     match first {
         Token::Head { sense } => add_objective(alloc, sense, tokens, draft),
@@ -65,8 +63,7 @@ fn add_objective(
 ) -> Result<(), PlaceFault>
     ensures ok { OnOk result (AddsObjective sense tokens.old tokens.new draft.old draft.new) }
     ensures fewer { length (plain tokens.new.left) ≤ length (plain tokens.old.left) }
-    ensures fault { let begun = head_begun (progress_of draft.old) in
-        FindsStatement begun tokens.old tokens.new draft.new result }
+    ensures fault { FindsObjective tokens.old tokens.new draft.old draft.new result }
 {
     if !draft.linear.is_empty() {
         return Err(PlaceFault::Bad(BadKind::ObjectiveAfterConstraint));
@@ -90,8 +87,7 @@ fn add_row(
     requires { IsSound first }
     ensures ok { OnOk result (AddsRow first tokens.old tokens.new draft.old draft.new) }
     ensures fewer { length (plain tokens.new.left) ≤ length (plain tokens.old.left) }
-    ensures fault { let begun = moved (progress_of draft.old) true (after Start first) in
-        FindsStatement begun tokens.old tokens.new draft.new result }
+    ensures fault { FindsRowIn first tokens.old tokens.new draft.old draft.new result }
 {
     if !begins_row(first) {
         return Err(PlaceFault::Bad(BadKind::UnknownLine));

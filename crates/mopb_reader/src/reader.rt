@@ -4,10 +4,10 @@ ghost use Rattle.instance.specs.Shape.{InstanceValue};
 ghost use Rattle.instance.specs.declared.fault.ReadFault.{ReadFault};
 ghost use Rattle.instance.specs.Reading.{IsFaultOf, HasLine};
 ghost use Rattle.mopb_reader.specs.Tokens.{tokens_of, plain};
-ghost use Rattle.mopb_reader.specs.FirstFault.{first_fault, step};
+ghost use Rattle.mopb_reader.specs.FirstFault.{first_fault};
 ghost use Rattle.mopb_reader.specs.Cuts.{IsSound};
-ghost use Rattle.mopb_reader.specs.Grammar.{Spells, SpellsStatements};
-ghost use Rattle.mopb_reader.specs.Drafts.{IsDraft, AddsStatement, MeetsStatement, progress_of};
+ghost use Rattle.mopb_reader.specs.Grammar.{IsSpelled, Spells};
+ghost use Rattle.mopb_reader.specs.Drafts.{IsDraft, IsSpelledBy, AddsStatement, MeetsStatement};
 
 use crate::draft::{Draft, add_statement, finish, new_draft};
 use crate::token::Token;
@@ -16,7 +16,8 @@ use instance::{Instance, ReadFault};
 use std::alloc::Global;
 
 /// Reads the instance that a text of fewer than 2^32 bytes spells. One pass over the tokens; nothing
-/// of the text is copied. A refusal names the first bad place or reached limit with its line, from 1.
+/// of the text is copied. A refusal names the first bad place or reached limit with its line, from
+/// 1.
 pub fn read(alloc: Global, bytes: &[u8]) -> Result<Instance, ReadFault>
     requires { length bytes.now < 2 ^ 32 }
     ensures spelled { IfOk result (λ inst. Spells bytes.now inst) }
@@ -29,7 +30,8 @@ pub fn read(alloc: Global, bytes: &[u8]) -> Result<Instance, ReadFault>
 // Reads all statements.
 fn read_statements(alloc: Global, bytes: &[u8]) -> Result<Draft, ReadFault>
     requires { length bytes.now < 2 ^ 32 }
-    ensures ok { IfOk result (λ d. SpellsStatements d.objectives d.linear (tokens_of bytes.now) × IsDraft d) }
+    ensures ok { IfOk result (IsSpelledBy (tokens_of bytes.now)) }
+    ensures draft { IfOk result (λ d. IsDraft d) }
     ensures fault { IfErr result (λ f. IsFaultOf (first_fault bytes.now) f) }
 {
     let mut draft = new_draft(alloc);
@@ -50,8 +52,7 @@ fn read_statement(
     requires { IsSound first }
     ensures ok { OnOk result (AddsStatement first tokens.old tokens.new draft.old draft.new) }
     ensures fewer { length (plain tokens.new.left) ≤ length (plain tokens.old.left) }
-    ensures fault { let begun = step (progress_of draft.old) first in
-        MeetsStatement begun tokens.old tokens.new draft.new result }
+    ensures fault { MeetsStatement first tokens.old tokens.new draft.old draft.new result }
 {
     match add_statement(alloc, first, tokens, draft) {
         Ok(()) => Ok(()),
@@ -72,7 +73,7 @@ pub fn no_fault_where_spelled()
 /// Law: a text of fewer than 2^32 bytes that has no fault spells an instance.
 pub fn spelled_where_no_fault()
     ensures { (text : List ℕ) → length text < 2 ^ 32 → first_fault text ≡ None
-        → (i : InstanceValue) × Spells text i }
+        → IsSpelled text }
 {}
 
 /// Law: the line of a fault is counted from 1.

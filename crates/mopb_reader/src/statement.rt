@@ -1,12 +1,11 @@
 // One statement: an objective or a row.
-ghost use Rattle.std.specs.Prelude.{ℕ, ◌≡◌, ◌<◌, ◌≤◌, ◌+◌, ◌^◌, length, unsigned_abs, true, false, Some, IfOk, OnOk};
-ghost use Rattle.scut_base.specs.Number.{signed_value};
+ghost use Rattle.std.specs.Prelude.{◌≡◌, ◌<◌, ◌≤◌, ◌^◌, length, unsigned_abs, true, Some, IfOk, OnOk};
 ghost use Rattle.mopb_reader.specs.Tokens.{plain};
-ghost use Rattle.mopb_reader.specs.FirstFault.{Start, Head, Term, Constraint, Relation as AfterRelation, BoundSign, Bound, Progress};
+ghost use Rattle.mopb_reader.specs.FirstFault.{Start, Head, Bound, Progress};
 ghost use Rattle.mopb_reader.specs.Cuts.{IsSound};
-ghost use Rattle.mopb_reader.specs.Streams.{begins_term, begins_row};
-ghost use Rattle.mopb_reader.specs.Steps.{after_taken, Judges, IsRoom, IsReadObjective, IsReadRow, FindsFrom, FindsRow, BeginsWithBound};
-ghost use Rattle.mopb_reader.specs.declared.token.Token.TheVariants.{Number, Relation, Semicolon};
+ghost use Rattle.mopb_reader.specs.Streams.{begins_row};
+ghost use Rattle.mopb_reader.specs.Steps.{after_taken, Judges, JudgesRelation, JudgesBound, IsBoundOf, IsReadObjective, IsReadRow, FindsFrom, FindsRow, FindsBound, BeginsWithBound};
+ghost use Rattle.mopb_reader.specs.declared.token.Token.TheVariants.{Relation, Semicolon};
 
 use crate::term::{magnitude_within, signed};
 use crate::terms::read_terms;
@@ -66,8 +65,7 @@ pub fn read_row(
 // Reads a relation.
 fn read_relation(token: Option<Token>) -> Result<Rel, PlaceFault>
     ensures ok { IfOk result (λ rel. token ≡ Some (Relation rel)) }
-    ensures fault { (sum : ℕ) → begins_term token ≡ false
-        → Judges (after_taken (Term Constraint sum) token) result (λ _. AfterRelation sum) }
+    ensures fault { JudgesRelation token result }
 {
     match relation_of(token) {
         Some(rel) => Ok(rel),
@@ -81,8 +79,7 @@ fn read_bound(tokens: &mut Tokens<'_>, room: u64) -> Result<i64, PlaceFault>
     ensures ok { IfOk result (BeginsWithBound tokens.old tokens.new) }
     ensures within { IfOk result (λ bound. unsigned_abs bound ≤ room) }
     ensures fewer { length (plain tokens.new.left) ≤ length (plain tokens.old.left) }
-    ensures fault { (sum : ℕ) (p : Progress) → IsRoom room sum
-        → FindsFrom p (AfterRelation sum) Bound tokens.old tokens.new result }
+    ensures fault { FindsBound room tokens.old tokens.new result }
 {
     let first = tokens.next();
     match sign_of(first) {
@@ -97,11 +94,9 @@ fn read_bound(tokens: &mut Tokens<'_>, room: u64) -> Result<i64, PlaceFault>
 // Reads a bound from after its sign on.
 fn read_magnitude(minus: bool, token: Option<Token>, room: u64) -> Result<i64, PlaceFault>
     requires { room < 2 ^ 63 }
-    ensures ok { IfOk result (λ bound. (n : ℕ) × (token ≡ Some (Number (Some n)))
-        × (bound ≡ signed_value minus n)) }
+    ensures ok { IfOk result (IsBoundOf minus token) }
     ensures within { IfOk result (λ bound. unsigned_abs bound ≤ room) }
-    ensures fault { (sum : ℕ) → IsRoom room sum
-        → Judges (after_taken (BoundSign sum) token) result (λ _. Bound) }
+    ensures fault { JudgesBound token room result }
 {
     match number_of(token) {
         Some(value) => {

@@ -1,10 +1,9 @@
 // One term, and what it is made of.
-ghost use Rattle.std.specs.Prelude.{ℕ, ◌≡◌, ◌<◌, ◌≤◌, ◌+◌, ◌^◌, length, unsigned_abs, true, Some, IfOk};
+ghost use Rattle.std.specs.Prelude.{◌≡◌, ◌<◌, ◌≤◌, ◌^◌, length, unsigned_abs, Some, IfOk};
 ghost use Rattle.scut_base.specs.Number.{signed_value};
 ghost use Rattle.mopb_reader.specs.Tokens.{plain};
-ghost use Rattle.mopb_reader.specs.FirstFault.{Kind, Place, Coefficient, Term, counted};
 ghost use Rattle.mopb_reader.specs.Streams.{IsSoundTaken};
-ghost use Rattle.mopb_reader.specs.Steps.{after_taken, Judges, IsRoom, IsTermWithin, BeginsWithTerm, BeginsUnsigned, FindsTerm, FindsUnsigned};
+ghost use Rattle.mopb_reader.specs.Steps.{JudgesLiteral, JudgesMagnitude, IsTermWithin, BeginsWithTerm, BeginsUnsigned, FindsTerm, FindsUnsigned};
 ghost use Rattle.mopb_reader.specs.declared.token.Token.TheVariants.{Literal};
 
 use crate::token::{Token, number_of, sign_of};
@@ -83,8 +82,7 @@ pub fn magnitude_within(
     limit: InstanceLimit,
 ) -> Result<u64, PlaceFault>
     ensures ok { IfOk result (λ magnitude. (value ≡ Some magnitude) × (magnitude ≤ room)) }
-    ensures fault { (sum : ℕ) (place : ℕ → Place) → IsRoom room sum
-        → Judges (counted limit sum value place) result (λ n. place (sum + n)) }
+    ensures fault { JudgesMagnitude value room limit result }
 {
     match value {
         None => Err(PlaceFault::Bad(BadKind::NumberTooWide)),
@@ -102,8 +100,7 @@ fn read_literal(token: Option<Token>) -> Result<Lit, PlaceFault>
     requires { IsSoundTaken token }
     ensures ok { IfOk result (λ l. token ≡ Some (Literal (Some l.var) l.neg)) }
     ensures within { IfOk result (λ l. l.var ≤ 2 ^ 24) }
-    ensures fault { (kind : Kind) (sum : ℕ)
-        → Judges (after_taken (Coefficient kind sum) token) result (λ _. Term kind sum) }
+    ensures fault { JudgesLiteral token result }
 {
     match token {
         Some(Token::Literal { var: None, .. }) => Err(PlaceFault::Bad(BadKind::NumberTooWide)),

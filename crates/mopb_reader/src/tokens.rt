@@ -20,11 +20,11 @@ pub struct Tokens<'a> {
 impl<'a> Model for Tokens<'a> {
     ghost use Rattle.std.specs.Prelude.{◌+◌, ◌<◌, ◌≤◌, ◌^◌, option_map};
     ghost use Rattle.mopb_reader.specs.Cuts.{rest_size, BeginsNoBlank};
-    ghost use Rattle.mopb_reader.specs.Streams.{Stream, numbered_from, lines_after};
+    ghost use Rattle.mopb_reader.specs.Streams.{Stream, stream_from};
 
     ghost Value = { Stream };
 
-    ghost view = { λ t. record { left = numbered_from t.number t.line.now (option_map (λ r. r.now) t.rest); last = t.number + lines_after (option_map (λ r. r.now) t.rest); line = t.number } };
+    ghost view = { λ t. stream_from t.number t.line.now (option_map (λ r. r.now) t.rest) };
 
     ghost invariant = { λ t. BeginsNoBlank t.line.now
         × (t.number + rest_size (option_map (λ r. r.now) t.rest) ≤ 2 ^ 32) };

@@ -20,12 +20,8 @@ loop-first-preserved c =
     }
 
 pub returns-clause-ok : goal.returns-clause-ok
-returns-clause-ok c =
-    let left = c.loop-first.tokens.left in (
-      all_read (tokens_of c.args.bytes.now) (plain left) c.loop-first.draft (ap plain c.in_default.ensures.taken.0)
-          c.loop-first.invariant.so_far,
-      c.loop-first.invariant.draft,
-    )
+returns-clause-ok c = all_read (tokens_of c.args.bytes.now) (plain c.loop-first.tokens.left) c.loop-first.draft
+    (ap plain c.in_default.ensures.taken.0) c.loop-first.invariant.so_far
 
 pub loop-first-init : goal.loop-first-init
 loop-first-init c =
