@@ -17,8 +17,9 @@ class Malformed(Exception):
         super().__init__('%s:%d: %s' % (path, line, what))
 
 
-# An objective is a sum of weights; each counts where one of its literals is true, or, of a soft clause, where none is.
-Objective = namedtuple('Objective', 'terms softs offset')
+# An objective is a sum of weights; each counts where its literal is true, or, of a soft clause, where none of its literals is. Its
+# sense is `min` or `max`: small or large sums are better.
+Objective = namedtuple('Objective', 'sense terms softs offset')
 Instance = namedtuple('Instance', 'variables objectives')
 Entry = namedtuple('Entry', 'costs model')
 Listing = namedtuple('Listing', 'complete entries')
@@ -64,12 +65,12 @@ def is_clauses(path):
 
 
 def read_names(path):
-    """The names of variables and objectives: a comment of its own line `x5 fibre Cob-Dun`, or `min 1 cost`."""
+    """The names of variables and objectives: a comment of its own line `x5 fibre Cob-Dun`, `min 1 cost` or `max 2 profit`."""
     names = Names({}, {})
     mark = re.compile(r'\s*c\s+(.*)' if is_clauses(path) else r'\s*\*\s*(.*)')
     for _, line in lines_of(path):
         comment = mark.fullmatch(line)
-        named = comment and re.fullmatch(r'(x|min )\s*0*([1-9]\d*)\s+(\S.*)', comment.group(1).rstrip())
+        named = comment and re.fullmatch(r'(x|min |max )\s*0*([1-9]\d*)\s+(\S.*)', comment.group(1).rstrip())
         if named:
             group = names.variables if named.group(1) == 'x' else names.objectives
             group.setdefault(int(named.group(2)), named.group(3))
@@ -103,7 +104,7 @@ def read_clauses(path):
         variables = max([variables] + [abs(literal) for literal in literals])
         if first == 2:
             objectives.setdefault(int(words[0][1:]), []).append((int(words[1]), literals))
-    return Instance(variables, [Objective([], objectives.get(k, []), 0) for k in range(1, max(objectives, default=0) + 1)])
+    return Instance(variables, [Objective('min', [], objectives.get(k, []), 0) for k in range(1, max(objectives, default=0) + 1)])
 
 
 def read_statements(path):
@@ -113,12 +114,12 @@ def read_statements(path):
             continue
         if not words:
             begun = number
-        for word in re.findall(r'min:|>=|<=|~?x\d+|\d+|[^\s\d]', line):
+        for word in re.findall(r'min:|max:|>=|<=|~?x\d+|\d+|[^\s\d]', line):
             if word != ';':
                 words.append(word)
                 continue
-            if words[:1] == ['min:']:
-                objectives.append(Objective(terms_of(path, begun, words[1:]), [], 0))
+            if words[:1] in (['min:'], ['max:']):
+                objectives.append(Objective(words[0][:3], terms_of(path, begun, words[1:]), [], 0))
             variables = max([variables] + [int(word.lstrip('~x')) for word in words if re.fullmatch(r'~?x\d+', word)])
             words, begun = [], number
     if words:
@@ -149,6 +150,16 @@ def costs_of(instance, model):
         return model[abs(literal) - 1] == literal
     return tuple(o.offset + sum(weight for weight, literal in o.terms if holds(literal))
                  + sum(weight for weight, clause in o.softs if not any(map(holds, clause))) for o in instance.objectives)
+
+
+def senses_of(instance, count):
+    """The senses of so many objectives: all are minimised where no instance says it."""
+    return [o.sense for o in instance.objectives] if instance else ['min'] * count
+
+
+def is_as_good(senses, u, v):
+    """Whether each number of u is as good as that of v."""
+    return all(a <= b if sense == 'min' else a >= b for sense, a, b in zip(senses, u, v))
 
 
 def read_list(path):

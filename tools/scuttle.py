@@ -12,8 +12,8 @@
     for plan in front.plans:
         print(plan.costs["pay"], plan.costs["wishes"], plan.taken)
 
-An option is a name; it is there from its first use on. `no` is its opposite. All costs are made small: of a profit give
-what is lost where an option isn't taken, `model.cost("profit lost", 7, no("shop"))`.
+An option is a name; it is there from its first use on. `no` is its opposite. A cost is made small; what is to be made large is a
+gain, `model.gain("profit", 7, "shop")`, and stands among a plan's costs as the sum that it is.
 """
 import os
 import subprocess
@@ -45,7 +45,7 @@ class Model:
     """Options, what has to hold of them, and what they cost."""
 
     def __init__(self):
-        self.numbers, self.costs, self.rows = {}, {}, []
+        self.numbers, self.costs, self.senses, self.rows = {}, {}, {}, []
 
     def literal(self, option):
         name = option.name if isinstance(option, Opposite) else option
@@ -76,15 +76,24 @@ class Model:
             self.at_least(1, no(option), other)
 
     def cost(self, objective, weight, *options):
-        """Each of the options that is taken adds the weight to the objective."""
+        """Each of the options that is taken adds the weight to the objective, which is made small."""
+        self.add(objective, 'min', weight, options)
+
+    def gain(self, objective, weight, *options):
+        """Each of the options that is taken adds the weight to the objective, which is made large."""
+        self.add(objective, 'max', weight, options)
+
+    def add(self, objective, sense, weight, options):
+        if self.senses.setdefault(objective, sense) != sense:
+            raise ValueError('an objective is made small or large, and not both: %r' % (objective,))
         terms = self.costs.setdefault(objective, [])
         terms += [(weight, self.literal(option)) for option in options]
 
     def text(self):
         """The instance, in the format of linear statements."""
         lines = ['* x%d %s' % (number, name) for name, number in self.numbers.items()]
-        lines += ['* min %d %s' % (number, name) for number, name in enumerate(self.costs, 1)]
-        lines += ['min: %s ;' % ' '.join('%+d %s' % term for term in terms) for terms in self.costs.values()]
+        lines += ['* %s %d %s' % (self.senses[name], number, name) for number, name in enumerate(self.costs, 1)]
+        lines += ['%s: %s ;' % (self.senses[name], ' '.join('%+d %s' % term for term in terms)) for name, terms in self.costs.items()]
         return '\n'.join(lines + self.rows) + '\n'
 
     def write(self, path):

@@ -4,8 +4,6 @@
 #![tactic(auto)]
 
 #[cfg(test)]
-mod maximised_objectives;
-#[cfg(test)]
 mod numbers_and_lists;
 #[cfg(test)]
 mod real_files;

@@ -6,8 +6,9 @@ use Rattle.instance.specs.declared.fault.PlaceFault.{PlaceFault}
 use Rattle.instance.specs.declared.fault.ReadFault.{ReadFault}
 use Rattle.instance.specs.Reading.{HasLine}
 use Rattle.instance.proofs.FaultLines.{has_line}
-use Rattle.mopb_reader.specs.Tokens.{Token}
-use Rattle.mopb_reader.specs.FirstFault.{Progress, Progressed, step, end_fault, end_in, fault_or, fault_from, numbered_tokens, tokens_in_line, nothing_yet, lines_of, first_fault}
+use Rattle.mopb_reader.specs.Tokens.{tokens_in_line, lines_of, numbered_tokens}
+use Rattle.mopb_reader.specs.declared.token.Token.{Token}
+use Rattle.mopb_reader.specs.FirstFault.{Progress, Progressed, step, end_fault, end_in, fault_or, fault_from, nothing_yet, first_fault}
 
 -- the lines of these tokens are counted from 1
 abbrev HaveLines : List (ℕ × Token) → Type 0

@@ -1,11 +1,10 @@
 pub mod Cutting
-pub mod Front
-pub mod Statements
-pub mod Places
-pub mod Findings
-pub mod Drafts
 pub mod Counted
 pub mod Limits
+pub mod Places
+pub mod Spelling
+pub mod Findings
+pub mod Drafts
 pub mod Texts
 pub mod Faultless
 pub mod Completions

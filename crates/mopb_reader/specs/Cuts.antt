@@ -1,14 +1,12 @@
 -- Where a text and its lines are cut.
-use Rattle.std.specs.Prelude.{◌≡◌, ◌≢◌, ℕ, ◌+◌, ◌<◌, false, not, List, [], ◌∷◌, length, Option, Some, None}
-use Rattle.std.specs.List.{filter}
+use Rattle.std.specs.Prelude.{◌≡◌, ◌≢◌, ℕ, ◌+◌, ◌<◌, false, List, [], ◌∷◌, length, Option, Some, None}
 use Rattle.scut_base.specs.Number.{natural_value}
-use Rattle.mopb_reader.specs.Tokens.{Token, Digits, is_blank, is_gap, tokens_of_line}
-use Rattle.mopb_reader.specs.Symbols.{Shows, ValueIs}
-use Rattle.mopb_reader.specs.declared.symbol.Symbol.{Symbol}
-
--- the tokens of a line that is no comment
-abbrev pub tokens_in : List ℕ → List Token
-tokens_in line = filter (λ t. not (is_gap t)) (tokens_of_line line)
+use Rattle.instance.specs.declared.objective.Sense.{Sense}
+use Rattle.instance.specs.declared.objective.Sense.TheVariants.{Min, Max}
+use Rattle.mopb_reader.specs.Lexemes.{Lexeme, Digits, Other, is_blank, with_x, lexemes_of}
+use Rattle.mopb_reader.specs.Tokens.{token_of, small_value}
+use Rattle.mopb_reader.specs.declared.token.Token.{Token}
+use Rattle.mopb_reader.specs.declared.token.Token.TheVariants.{Literal}
 
 -- how much follows a line
 abbrev pub rest_size : Option (List ℕ) → ℕ
@@ -20,18 +18,39 @@ abbrev pub BeginsNoBlank : List ℕ → Type 0
 BeginsNoBlank [] = Unit {0}
 BeginsNoBlank (b ∷ bs) = is_blank b ≡ false
 
--- the tokens are that of the symbol, and those of the text behind it
-abbrev pub HasFront : List Token → Symbol → List ℕ → Type 0
-HasFront tokens symbol rest = (token : Token) × (tokens ≡ token ∷ tokens_of_line rest) × Shows symbol token
+-- a variable is at least 1
+abbrev pub IsSound : Token → Type 0
+IsSound (Literal (Some var) neg) = 0 < var
+IsSound token = Unit {0}
 
--- the tokens do not begin with digits
-abbrev pub BeginsNoDigits : List Token → Type 0
-BeginsNoDigits (Digits digits ∷ tokens) = ⊥
-BeginsNoDigits tokens = Unit {0}
+-- the lexemes are that of the token, and those of the text after it
+abbrev pub HasFront : List Lexeme → Token → List ℕ → Type 0
+HasFront lexemes token rest =
+    (l : Lexeme) × (lexemes ≡ l ∷ lexemes_of rest) × (token_of l ≡ token ∷ []) × IsSound token
 
--- the tokens are digits of this value, at least 1, and those of the text behind them
-abbrev pub HasVariable : List Token → Option ℕ → List ℕ → Type 0
-HasVariable tokens var rest = (digits : List ℕ) × (tokens ≡ Digits digits ∷ tokens_of_line rest) × ValueIs var digits × (0 < natural_value digits)
+-- the lexemes do not begin with digits
+abbrev pub BeginsNoDigits : List Lexeme → Type 0
+BeginsNoDigits (Digits digits ∷ lexemes) = ⊥
+BeginsNoDigits lexemes = Unit {0}
+
+-- the lexemes are digits of this value, at least 1, and those of the text after them
+abbrev pub HasVariable : List Lexeme → Option ℕ → List ℕ → Type 0
+HasVariable lexemes var rest =
+    (ds : List ℕ) × (lexemes ≡ Digits ds ∷ lexemes_of rest) × (var ≡ small_value ds)
+    × (0 < natural_value ds)
+
+-- what follows the `m` of an objective's head
+abbrev pub after_m : Sense → List ℕ → List ℕ
+after_m Min rest = 105 ∷ 110 ∷ 58 ∷ rest
+after_m Max rest = 97 ∷ 120 ∷ 58 ∷ rest
+
+-- the text does not go on with a head
+abbrev pub BeginsNoHead : List ℕ → Type 0
+BeginsNoHead text = (sense : Sense) (rest : List ℕ) → text ≡ after_m sense rest → ⊥
+
+-- an `x` before the lexemes stands alone
+abbrev pub LeavesX : List Lexeme → Type 0
+LeavesX lexemes = with_x lexemes ≡ Other 120 ∷ lexemes
 
 -- the text does not begin with this byte
 abbrev pub IsNotBefore : ℕ → List ℕ → Type 0

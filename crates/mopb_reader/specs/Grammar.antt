@@ -1,88 +1,85 @@
--- Which text spells which instance. The tokens between semicolons spell objectives, and then rows.
-use Rattle.std.specs.Prelude.{◌≡◌, ℕ, Bool, true, false, max, List, [], ◌∷◌, ◌++◌, ℤ, pos}
-use Rattle.std.specs.List.{AllZip, slice_split}
-use Rattle.scut_base.specs.Literal.{Literal}
-use Rattle.scut_base.specs.Number.{natural_value, signed_value}
+-- Which text spells which instance. Its tokens spell objectives, and then rows. What is spelled is seen
+-- at the leading tokens; of what follows a predicate `P` is said.
+use Rattle.std.specs.Prelude.{◌≡◌, ℕ, Bool, false, max, List, [], ◌∷◌, ℤ, pos, Some}
+use Rattle.scut_base.specs.Literal.{Literal as Lit}
+use Rattle.scut_base.specs.Number.{signed_value}
 use Rattle.instance.specs.declared.row.Linear.{Linear}
 use Rattle.instance.specs.declared.row.Rel.{Rel}
-use Rattle.instance.specs.declared.row.Rel.TheVariants.{AtLeast as HoldsAtLeast, AtMost as HoldsAtMost, Equal as HoldsEqual}
 use Rattle.instance.specs.declared.objective.Objective.{Objective}
-use Rattle.instance.specs.declared.objective.Sense.TheVariants.{Min as Minimised}
+use Rattle.instance.specs.declared.objective.Sense.{Sense}
 use Rattle.instance.specs.Shape.{InstanceValue, IsWithinLimits}
-use Rattle.mopb_reader.specs.Tokens.{Token, Plus, Minus, Digits, Positive, Negative, Min, AtLeast, AtMost, Equal, Semicolon, tokens_of}
+use Rattle.mopb_reader.specs.Tokens.{tokens_of}
+use Rattle.mopb_reader.specs.declared.token.Token.{Token}
+use Rattle.mopb_reader.specs.declared.token.Token.TheVariants.{Sign, Number, Literal, Head, Relation, Semicolon}
 
-abbrev pub SpellsLiteral : Token → Literal → Type 0
-SpellsLiteral (Positive digits) l = (natural_value digits ≡ l.var) × (l.neg ≡ false)
-SpellsLiteral (Negative digits) l = (natural_value digits ≡ l.var) × (l.neg ≡ true)
-SpellsLiteral token l = ⊥
+-- a coefficient and a literal
+abbrev pub Term : Type 0
+Term = ℤ × Lit
 
--- optional digits and a literal; missing digits are 1
-abbrev pub SpellsUnsigned : Bool → List Token → ℤ × Literal → Type 0
-SpellsUnsigned minus (Digits digits ∷ t ∷ []) term = (term.0 ≡ signed_value minus (natural_value digits)) × SpellsLiteral t term.1
-SpellsUnsigned minus (t ∷ []) term = (term.0 ≡ signed_value minus 1) × SpellsLiteral t term.1
-SpellsUnsigned minus tokens term = ⊥
+-- the term of a sign, a magnitude and a literal
+abbrev pub term_of : Bool → ℕ → ℕ → Bool → Term
+term_of minus magnitude var neg = (signed_value minus magnitude, record { var = var; neg = neg })
 
--- a term: an optional sign, and what may stand behind one; a missing sign is a plus
-abbrev pub SpellsTerm : List Token → ℤ × Literal → Type 0
-SpellsTerm (Plus ∷ tokens) term = SpellsUnsigned false tokens term
-SpellsTerm (Minus ∷ tokens) term = SpellsUnsigned true tokens term
-SpellsTerm tokens term = SpellsUnsigned false tokens term
+-- Terms, each with a sign or digits, and then tokens that `P` holds of. A missing sign is a plus,
+-- missing digits are 1.
+abbrev pub FurtherTerms : (List Token → Type 0) → List Token → List Term → Type 0
+FurtherTerms P tokens [] = P tokens
+FurtherTerms P (Number (Some n) ∷ Literal (Some v) neg ∷ tokens) (t ∷ terms) =
+    (t ≡ term_of false n v neg) × FurtherTerms P tokens terms
+FurtherTerms P (Sign minus ∷ Literal (Some v) neg ∷ tokens) (t ∷ terms) =
+    (t ≡ term_of minus 1 v neg) × FurtherTerms P tokens terms
+FurtherTerms P (Sign minus ∷ Number (Some n) ∷ Literal (Some v) neg ∷ tokens) (t ∷ terms) =
+    (t ≡ term_of minus n v neg) × FurtherTerms P tokens terms
+FurtherTerms P tokens (t ∷ terms) = ⊥
 
--- what may stand directly after a term: nothing, or a term with a sign or digits
-abbrev pub MayFollowTerm : List Token → Type 0
-MayFollowTerm [] = Unit {0}
-MayFollowTerm (Plus ∷ tokens) = Unit {0}
-MayFollowTerm (Minus ∷ tokens) = Unit {0}
-MayFollowTerm (Digits digits ∷ tokens) = Unit {0}
-MayFollowTerm tokens = ⊥
+-- the same, where the first term may be a literal by itself
+abbrev pub TermsThen : (List Token → Type 0) → List Token → List Term → Type 0
+TermsThen P tokens [] = P tokens
+TermsThen P (Literal (Some v) neg ∷ tokens) (t ∷ terms) =
+    (t ≡ term_of false 1 v neg) × FurtherTerms P tokens terms
+TermsThen P tokens (t ∷ terms) = FurtherTerms P tokens (t ∷ terms)
 
--- terms, one directly after another
-abbrev pub SpellsTerms : List Token → List (ℤ × Literal) → Type 0
-SpellsTerms tokens [] = tokens ≡ []
-SpellsTerms tokens (term ∷ terms) = (first : List Token) × (others : List Token) × (tokens ≡ first ++ others) × SpellsTerm first term × MayFollowTerm others × SpellsTerms others terms
+-- the objective of this sense and these terms
+abbrev pub objective_of : Sense → List Term → Objective
+objective_of sense terms = record { sense = sense; softs = []; terms = terms; offset = pos 0 }
 
--- `min:` and terms
-pub record SpellsObjective (tokens : List Token) (o : Objective) : Type 0 where
-  pub after : List Token
-  pub begins : tokens ≡ Min ∷ after
-  pub terms : SpellsTerms after o.terms
-  pub sense : o.sense ≡ Minimised
-  pub softs : o.softs ≡ []
-  pub offset : o.offset ≡ pos 0
+-- `min:` where the objective is minimised, `max:` where it is maximised, and terms; and then tokens
+-- that `P` holds of
+abbrev pub ObjectiveThen : (List Token → Type 0) → List Token → Objective → Type 0
+ObjectiveThen P (Head sense ∷ tokens) o =
+    (o ≡ objective_of sense o.terms) × TermsThen P tokens o.terms
+ObjectiveThen P tokens o = ⊥
 
-abbrev pub SpellsRelation : Token → Rel → Type 0
-SpellsRelation AtLeast rel = rel ≡ HoldsAtLeast
-SpellsRelation AtMost rel = rel ≡ HoldsAtMost
-SpellsRelation Equal rel = rel ≡ HoldsEqual
-SpellsRelation token rel = ⊥
+-- a relation and a bound, which is an optional sign and digits; and then tokens that `P` holds of
+abbrev pub BoundThen : Rel → ℤ → (List Token → Type 0) → List Token → Type 0
+BoundThen rel bound P (Relation r ∷ Number (Some n) ∷ tokens) =
+    (rel ≡ r) × (bound ≡ signed_value false n) × P tokens
+BoundThen rel bound P (Relation r ∷ Sign minus ∷ Number (Some n) ∷ tokens) =
+    (rel ≡ r) × (bound ≡ signed_value minus n) × P tokens
+BoundThen rel bound P tokens = ⊥
 
--- digits
-abbrev pub SpellsMagnitude : Bool → List Token → ℤ → Type 0
-SpellsMagnitude minus (Digits digits ∷ []) bound = bound ≡ signed_value minus (natural_value digits)
-SpellsMagnitude minus tokens bound = ⊥
+-- terms, a relation and a bound; and then tokens that `P` holds of
+abbrev pub RowThen : (List Token → Type 0) → List Token → Linear → Type 0
+RowThen P tokens row = TermsThen (BoundThen row.rel row.bound P) tokens row.terms
 
--- a bound: an optional sign and digits; a missing sign is a plus
-abbrev pub SpellsBound : List Token → ℤ → Type 0
-SpellsBound (Plus ∷ tokens) bound = SpellsMagnitude false tokens bound
-SpellsBound (Minus ∷ tokens) bound = SpellsMagnitude true tokens bound
-SpellsBound tokens bound = SpellsMagnitude false tokens bound
+-- a semicolon, and then tokens that `P` holds of
+abbrev pub EndThen : (List Token → Type 0) → List Token → Type 0
+EndThen P (Semicolon ∷ tokens) = P tokens
+EndThen P tokens = ⊥
 
--- terms, a relation and a bound
-pub record SpellsRow (tokens : List Token) (row : Linear) : Type 0 where
-  pub before : List Token
-  pub relation : Token
-  pub after : List Token
-  pub parts : tokens ≡ before ++ relation ∷ after
-  pub terms : SpellsTerms before row.terms
-  pub rel : SpellsRelation relation row.rel
-  pub bound : SpellsBound after row.bound
+-- rows and nothing more, each with its semicolon
+abbrev pub SpellsRows : List Linear → List Token → Type 0
+SpellsRows [] tokens = tokens ≡ []
+SpellsRows (row ∷ rows) tokens = RowThen (EndThen (SpellsRows rows)) tokens row
 
-abbrev pub is_semicolon : Token → Bool
-is_semicolon Semicolon = true
-is_semicolon token = false
+-- objectives, each with its semicolon, and then rows
+abbrev pub SpellsStatements : List Objective → List Linear → List Token → Type 0
+SpellsStatements [] rows tokens = SpellsRows rows tokens
+SpellsStatements (o ∷ objectives) rows tokens =
+    ObjectiveThen (EndThen (SpellsStatements objectives rows)) tokens o
 
 -- the largest variable of the terms, or 0
-abbrev pub largest_of : List (ℤ × Literal) → ℕ
+abbrev pub largest_of : List Term → ℕ
 largest_of [] = 0
 largest_of (t ∷ terms) = max t.1.var (largest_of terms)
 
@@ -94,13 +91,12 @@ abbrev pub largest_in_rows : List Linear → ℕ
 largest_in_rows [] = 0
 largest_in_rows (row ∷ rows) = max (largest_of row.terms) (largest_in_rows rows)
 
--- The text spells the instance: each statement ends with a semicolon, and all objectives stand before the rows.
+-- The text spells the instance: its tokens are the objectives' statements and then the rows'.
 pub record Spells (text : List ℕ) (i : InstanceValue) : Type 0 where
-  pub first : List (List Token)
-  pub then : List (List Token)
-  pub statements : slice_split is_semicolon (tokens_of text) ≡ first ++ then ++ [] ∷ []
-  pub objectives : AllZip SpellsObjective first i.objectives
-  pub rows : AllZip SpellsRow then i.linear
+  pub statements : SpellsStatements i.objectives i.linear (tokens_of text)
   pub clauses : i.clauses ≡ []
   pub variables : i.vars ≡ max (largest_in_objectives i.objectives) (largest_in_rows i.linear)
   pub limits : IsWithinLimits i
+
+abbrev pub IsSpelled : List ℕ → Type 0
+IsSpelled text = (i : InstanceValue) × Spells text i

@@ -1,11 +1,10 @@
 pub use Rattle.instance.specs.Shape
 pub use Rattle.instance.specs.Reading
+pub mod Lexemes
 pub mod Tokens
 pub mod Grammar
 pub mod FirstFault
-pub mod Symbols
 pub mod Cuts
 pub mod Streams
-pub mod SymbolTable
 pub mod Steps
 pub mod Drafts

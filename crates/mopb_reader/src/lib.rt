@@ -11,9 +11,9 @@ mod draft;
 mod lines;
 mod reader;
 mod statement;
-mod symbol;
 mod term;
 mod terms;
+mod token;
 mod tokens;
 
 pub use reader::{

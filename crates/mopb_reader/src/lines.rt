@@ -1,17 +1,15 @@
 // The lines of a text, from first to last.
 ghost use Rattle.std.specs.Prelude.{ℕ, ◌≡◌, ◌==◌, ◌≤◌, ◌+◌, not, length, option_map};
 ghost use Rattle.std.specs.List.{position_or_len};
-ghost use Rattle.mopb_reader.specs.Tokens.{is_blank, is_comment};
-ghost use Rattle.mopb_reader.specs.FirstFault.{lines_of, numbered_tokens, tokens_in_line};
-ghost use Rattle.mopb_reader.specs.Cuts.{tokens_in, rest_size, BeginsNoBlank};
-ghost use Rattle.mopb_reader.specs.Streams.{numbered_from, lines_behind};
+ghost use Rattle.mopb_reader.specs.Lexemes.{is_blank};
+ghost use Rattle.mopb_reader.specs.Tokens.{is_comment, lines_of, numbered_tokens, tokens_in, tokens_in_line};
+ghost use Rattle.mopb_reader.specs.Cuts.{rest_size, BeginsNoBlank};
+ghost use Rattle.mopb_reader.specs.Streams.{HasTokens, lines_after};
 
 /// The first line of a text from its first token on, and what follows its line feed, if it has one.
 pub fn first_line(text: &[u8]) -> (&[u8], Option<&[u8]>)
-    ensures same { (number : ℕ)
-        → numbered_from number result.0.now (option_map
-        (λ r. r.now) result.1) ≡ numbered_tokens number (lines_of text.entry.now) }
-    ensures lines { lines_behind (option_map (λ r. r.now) result.1) + 1 ≡ length
+    ensures same { HasTokens text.entry.now result.0.now (option_map (λ r. r.now) result.1) }
+    ensures lines { lines_after (option_map (λ r. r.now) result.1) + 1 ≡ length
         (lines_of text.entry.now) }
     ensures at_token { BeginsNoBlank result.0.now }
     ensures less { rest_size (option_map (λ r. r.now) result.1) ≤ length text.entry.now }

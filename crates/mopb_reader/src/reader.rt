@@ -1,24 +1,23 @@
 // The reader.
-ghost use Rattle.std.specs.Prelude.{ℕ, List, ◌≡◌, ◌<◌, ◌^◌, length, Some, None, IfOk, IfErr, OnOk};
+ghost use Rattle.std.specs.Prelude.{ℕ, List, ◌≡◌, ◌<◌, ◌≤◌, ◌^◌, length, Some, None, IfOk, IfErr, OnOk};
 ghost use Rattle.instance.specs.Shape.{InstanceValue};
 ghost use Rattle.instance.specs.declared.fault.ReadFault.{ReadFault};
 ghost use Rattle.instance.specs.Reading.{IsFaultOf, HasLine};
-ghost use Rattle.mopb_reader.specs.Tokens.{Token, tokens_of};
-ghost use Rattle.mopb_reader.specs.FirstFault.{first_fault, fault_from};
-ghost use Rattle.mopb_reader.specs.Symbols.{IsLeft, IsSound};
-ghost use Rattle.mopb_reader.specs.Streams.{plain};
-ghost use Rattle.mopb_reader.specs.SymbolTable.{symbol_step, fault_behind, Meets};
-ghost use Rattle.mopb_reader.specs.Grammar.{Spells};
-ghost use Rattle.mopb_reader.specs.Drafts.{SpellsAll, IsDraft, GoesOn, progress_of};
+ghost use Rattle.mopb_reader.specs.Tokens.{tokens_of, plain};
+ghost use Rattle.mopb_reader.specs.FirstFault.{first_fault};
+ghost use Rattle.mopb_reader.specs.Cuts.{IsSound};
+ghost use Rattle.mopb_reader.specs.Grammar.{IsSpelled, Spells};
+ghost use Rattle.mopb_reader.specs.Drafts.{IsDraft, IsSpelledBy, AddsStatement, MeetsStatement};
 
 use crate::draft::{Draft, add_statement, finish, new_draft};
-use crate::symbol::Symbol;
+use crate::token::Token;
 use crate::tokens::Tokens;
 use instance::{Instance, ReadFault};
 use std::alloc::Global;
 
 /// Reads the instance that a text of fewer than 2^32 bytes spells. One pass over the tokens; nothing
-/// of the text is copied. A refusal names the first bad place or reached limit with its line, from 1.
+/// of the text is copied. A refusal names the first bad place or reached limit with its line, from
+/// 1.
 pub fn read(alloc: Global, bytes: &[u8]) -> Result<Instance, ReadFault>
     requires { length bytes.now < 2 ^ 32 }
     ensures spelled { IfOk result (λ inst. Spells bytes.now inst) }
@@ -31,8 +30,8 @@ pub fn read(alloc: Global, bytes: &[u8]) -> Result<Instance, ReadFault>
 // Reads all statements.
 fn read_statements(alloc: Global, bytes: &[u8]) -> Result<Draft, ReadFault>
     requires { length bytes.now < 2 ^ 32 }
-    ensures ok { IfOk result (λ d. SpellsAll (tokens_of bytes.now) d.objectives d.linear
-        × IsDraft d) }
+    ensures ok { IfOk result (IsSpelledBy (tokens_of bytes.now)) }
+    ensures draft { IfOk result (λ d. IsDraft d) }
     ensures fault { IfErr result (λ f. IsFaultOf (first_fault bytes.now) f) }
 {
     let mut draft = new_draft(alloc);
@@ -46,23 +45,14 @@ fn read_statements(alloc: Global, bytes: &[u8]) -> Result<Draft, ReadFault>
 // Reads one statement into the draft, from its first token and those after it.
 fn read_statement(
     alloc: Global,
-    first: Symbol,
+    first: Token,
     tokens: &mut Tokens<'_>,
     draft: &mut Draft,
 ) -> Result<(), ReadFault>
-    requires { IsSound (Some first) }
-    ensures draft { OnOk result ((left : List Token)
-        → IsLeft (Some first) (plain tokens.old.left) left → IsDraft draft.old
-        → IsDraft draft.new) }
-    ensures spelled { OnOk result ((all left : List Token)
-        → IsLeft (Some first) (plain tokens.old.left) left → GoesOn all left draft.old
-        → GoesOn all (plain tokens.new.left) draft.new) }
-    ensures fewer { OnOk result ((left : List Token)
-        → IsLeft (Some first) (plain tokens.old.left) left
-        → length (plain tokens.new.left) < length left) }
-    ensures fault { Meets (fault_behind tokens.old (symbol_step
-        (progress_of draft.old) first)) result (fault_from tokens.new.last
-        (progress_of draft.new) tokens.new.left) }
+    requires { IsSound first }
+    ensures ok { OnOk result (AddsStatement first tokens.old tokens.new draft.old draft.new) }
+    ensures fewer { length (plain tokens.new.left) ≤ length (plain tokens.old.left) }
+    ensures fault { MeetsStatement first tokens.old tokens.new draft.old draft.new result }
 {
     match add_statement(alloc, first, tokens, draft) {
         Ok(()) => Ok(()),
@@ -83,7 +73,7 @@ pub fn no_fault_where_spelled()
 /// Law: a text of fewer than 2^32 bytes that has no fault spells an instance.
 pub fn spelled_where_no_fault()
     ensures { (text : List ℕ) → length text < 2 ^ 32 → first_fault text ≡ None
-        → (i : InstanceValue) × Spells text i }
+        → IsSpelled text }
 {}
 
 /// Law: the line of a fault is counted from 1.

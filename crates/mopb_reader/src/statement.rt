@@ -1,37 +1,35 @@
 // One statement: an objective or a row.
-ghost use Rattle.std.specs.Prelude.{ℕ, List, ◌≡◌, ◌<◌, ◌≤◌, ◌+◌, ◌^◌, [], ◌∷◌, unsigned_abs, true, false, Some, IfOk, OnOk};
-ghost use Rattle.mopb_reader.specs.Tokens.{Token};
-ghost use Rattle.mopb_reader.specs.FirstFault.{Place, Start, Head, Term, Constraint, Relation as BehindRelation, BoundSign, Bound, Progress};
-ghost use Rattle.mopb_reader.specs.Symbols.{IsLeft, IsSound, begins_term, begins_row};
-ghost use Rattle.mopb_reader.specs.Streams.{plain};
-ghost use Rattle.mopb_reader.specs.SymbolTable.{taken_behind, symbol_behind, fault_at, fault_inside, Finds, Judges};
-ghost use Rattle.mopb_reader.specs.Grammar.{SpellsBound, SpellsMagnitude};
-ghost use Rattle.mopb_reader.specs.Steps.{BeginsWith, IsReadObjective, IsReadRow};
-ghost use Rattle.mopb_reader.specs.declared.symbol.Symbol.TheVariants.{Relation, Semicolon};
+ghost use Rattle.std.specs.Prelude.{◌≡◌, ◌<◌, ◌≤◌, ◌^◌, length, unsigned_abs, true, Some, IfOk, OnOk};
+ghost use Rattle.mopb_reader.specs.Tokens.{plain};
+ghost use Rattle.mopb_reader.specs.FirstFault.{Start, Head, Bound, Progress};
+ghost use Rattle.mopb_reader.specs.Cuts.{IsSound};
+ghost use Rattle.mopb_reader.specs.Streams.{begins_row};
+ghost use Rattle.mopb_reader.specs.Steps.{after_taken, Judges, JudgesRelation, JudgesBound, IsBoundOf, IsReadObjective, IsReadRow, FindsFrom, FindsRow, FindsBound, BeginsWithBound};
+ghost use Rattle.mopb_reader.specs.declared.token.Token.TheVariants.{Relation, Semicolon};
 
-use crate::symbol::{Symbol, number_of, relation_of, sign_of};
 use crate::term::{magnitude_within, signed};
 use crate::terms::read_terms;
+use crate::token::{Token, number_of, relation_of, sign_of};
 use crate::tokens::Tokens;
 use instance::{BadKind, InstanceLimit, Linear, MAX_MAGNITUDE, Objective, PlaceFault, Rel, Sense};
 use scut_base::Items;
 use std::alloc::Global;
 
-/// Reads an objective from behind its head on, and answers its largest variable too.
+/// Reads an objective from after its head on, and answers its largest variable too.
 pub fn read_objective(
     alloc: Global,
+    sense: Sense,
     tokens: &mut Tokens<'_>,
 ) -> Result<(Objective, u64), PlaceFault>
-    ensures ok { IfOk result (λ r. IsReadObjective (plain tokens.old.left)
-        (plain tokens.new.left) r.0 r.1) }
-    ensures fault { (p : Progress)
-        → Finds (fault_at tokens.old p Head) result tokens.new (λ _. fault_at tokens.new p Start) }
+    ensures ok { IfOk result (λ r. IsReadObjective sense tokens.old tokens.new r.0 r.1) }
+    ensures fewer { length (plain tokens.new.left) ≤ length (plain tokens.old.left) }
+    ensures fault { (p : Progress) → FindsFrom p Head Start tokens.old tokens.new result }
 {
     let first = tokens.next();
     let terms = read_terms(alloc, first, tokens, InstanceLimit::Weights)?;
     end_statement(terms.next)?;
     let objective = Objective {
-        sense: Sense::Min,
+        sense,
         softs: Items::new(alloc),
         terms: terms.items,
         offset: 0,
@@ -42,17 +40,14 @@ pub fn read_objective(
 /// Reads a row from its first token and those after it, and answers its largest variable too.
 pub fn read_row(
     alloc: Global,
-    first: Symbol,
+    first: Token,
     tokens: &mut Tokens<'_>,
 ) -> Result<(Linear, u64), PlaceFault>
-    requires sound { IsSound (Some first) }
+    requires sound { IsSound first }
     requires begins { begins_row first ≡ true }
-    ensures ok { IfOk result (λ r. (left : List Token)
-        → IsLeft (Some first) (plain tokens.old.left) left
-        → IsReadRow left (plain tokens.new.left) r.0 r.1) }
-    ensures fault { (p : Progress)
-        → Finds (fault_inside tokens.old p (symbol_behind Start first)) result tokens.new
-        (λ _. fault_at tokens.new p Start) }
+    ensures ok { IfOk result (λ r. IsReadRow first tokens.old tokens.new r.0 r.1) }
+    ensures fewer { length (plain tokens.new.left) ≤ length (plain tokens.old.left) }
+    ensures fault { FindsRow first tokens.old tokens.new result }
 {
     let terms = read_terms(alloc, Some(first), tokens, InstanceLimit::Row)?;
     let rel = read_relation(terms.next)?;
@@ -68,12 +63,11 @@ pub fn read_row(
 }
 
 // Reads a relation.
-fn read_relation(symbol: Option<Symbol>) -> Result<Rel, PlaceFault>
-    ensures ok { IfOk result (λ rel. symbol ≡ Some (Relation rel)) }
-    ensures fault { (sum : ℕ) → begins_term symbol ≡ false
-        → Judges (taken_behind (Term Constraint sum) symbol) result (λ _. BehindRelation sum) }
+fn read_relation(token: Option<Token>) -> Result<Rel, PlaceFault>
+    ensures ok { IfOk result (λ rel. token ≡ Some (Relation rel)) }
+    ensures fault { JudgesRelation token result }
 {
-    match relation_of(symbol) {
+    match relation_of(token) {
         Some(rel) => Ok(rel),
         None => Err(PlaceFault::Bad(BadKind::RelationExpected)),
     }
@@ -82,12 +76,10 @@ fn read_relation(symbol: Option<Symbol>) -> Result<Rel, PlaceFault>
 // Reads a bound, whose magnitude is at most what there is room for.
 fn read_bound(tokens: &mut Tokens<'_>, room: u64) -> Result<i64, PlaceFault>
     requires { room < 2 ^ 63 }
-    ensures ok { IfOk result (λ bound. BeginsWith SpellsBound (plain tokens.old.left)
-        (plain tokens.new.left) bound) }
+    ensures ok { IfOk result (BeginsWithBound tokens.old tokens.new) }
     ensures within { IfOk result (λ bound. unsigned_abs bound ≤ room) }
-    ensures fault { (sum : ℕ) (p : Progress) → room + sum + 1 ≡ 2 ^ 63
-        → Finds (fault_at tokens.old p (BehindRelation sum)) result tokens.new
-        (λ _. fault_at tokens.new p Bound) }
+    ensures fewer { length (plain tokens.new.left) ≤ length (plain tokens.old.left) }
+    ensures fault { FindsBound room tokens.old tokens.new result }
 {
     let first = tokens.next();
     match sign_of(first) {
@@ -99,16 +91,14 @@ fn read_bound(tokens: &mut Tokens<'_>, room: u64) -> Result<i64, PlaceFault>
     }
 }
 
-// Reads a bound from behind its sign on.
-fn read_magnitude(minus: bool, symbol: Option<Symbol>, room: u64) -> Result<i64, PlaceFault>
+// Reads a bound from after its sign on.
+fn read_magnitude(minus: bool, token: Option<Token>, room: u64) -> Result<i64, PlaceFault>
     requires { room < 2 ^ 63 }
-    ensures ok { IfOk result (λ bound. (rest left : List Token) → IsLeft symbol rest left
-        → (token : Token) × (left ≡ token ∷ rest) × SpellsMagnitude minus (token ∷ []) bound) }
+    ensures ok { IfOk result (IsBoundOf minus token) }
     ensures within { IfOk result (λ bound. unsigned_abs bound ≤ room) }
-    ensures fault { (sum : ℕ) → room + sum + 1 ≡ 2 ^ 63
-        → Judges (taken_behind (BoundSign sum) symbol) result (λ _. Bound) }
+    ensures fault { JudgesBound token room result }
 {
-    match number_of(symbol) {
+    match number_of(token) {
         Some(value) => {
             let magnitude = magnitude_within(value, room, InstanceLimit::Row)?;
             Ok(signed(minus, magnitude))
@@ -118,12 +108,12 @@ fn read_magnitude(minus: bool, symbol: Option<Symbol>, room: u64) -> Result<i64,
 }
 
 // Reads the end of a statement.
-fn end_statement(symbol: Option<Symbol>) -> Result<(), PlaceFault>
-    ensures ok { OnOk result (symbol ≡ Some Semicolon) }
-    ensures fault { Judges (taken_behind Bound symbol) result (λ _. Start) }
+fn end_statement(token: Option<Token>) -> Result<(), PlaceFault>
+    ensures ok { OnOk result (token ≡ Some Semicolon) }
+    ensures fault { Judges (after_taken Bound token) result (λ _. Start) }
 {
-    match symbol {
-        Some(Symbol::Semicolon) => Ok(()),
+    match token {
+        Some(Token::Semicolon) => Ok(()),
         _ => Err(PlaceFault::Bad(BadKind::SemicolonMissing)),
     }
 }

@@ -1,16 +1,12 @@
 // One term, and what it is made of.
-ghost use Rattle.std.specs.Prelude.{ℕ, List, ◌≡◌, ◌<◌, ◌≤◌, ◌+◌, ◌^◌, ◌∷◌, length, unsigned_abs, true, Some, IfOk};
+ghost use Rattle.std.specs.Prelude.{◌≡◌, ◌<◌, ◌≤◌, ◌^◌, length, unsigned_abs, Some, IfOk};
 ghost use Rattle.scut_base.specs.Number.{signed_value};
-ghost use Rattle.mopb_reader.specs.Tokens.{Token};
-ghost use Rattle.instance.specs.declared.fault.BadKind.{BadKind};
-ghost use Rattle.mopb_reader.specs.FirstFault.{Kind, limit_of, Place, Sign, Coefficient, Term, Progress};
-ghost use Rattle.mopb_reader.specs.Symbols.{IsLeft, IsSound, begins_term};
-ghost use Rattle.mopb_reader.specs.Streams.{plain};
-ghost use Rattle.mopb_reader.specs.SymbolTable.{value_counted, taken_begun, taken_behind, fault_at, fault_inside, Finds, Judges};
-ghost use Rattle.mopb_reader.specs.Grammar.{SpellsLiteral, SpellsUnsigned, SpellsTerm};
-ghost use Rattle.mopb_reader.specs.Steps.{BeginsWith, IsTermWithin};
+ghost use Rattle.mopb_reader.specs.Tokens.{plain};
+ghost use Rattle.mopb_reader.specs.Streams.{IsSoundTaken};
+ghost use Rattle.mopb_reader.specs.Steps.{JudgesLiteral, JudgesMagnitude, IsTermWithin, BeginsWithTerm, BeginsUnsigned, FindsTerm, FindsUnsigned};
+ghost use Rattle.mopb_reader.specs.declared.token.Token.TheVariants.{Literal};
 
-use crate::symbol::{Symbol, number_of, sign_of};
+use crate::token::{Token, number_of, sign_of};
 use crate::tokens::Tokens;
 use instance::{BadKind, InstanceLimit, MAX_VARS, PlaceFault};
 use scut_base::Lit;
@@ -18,23 +14,17 @@ use scut_base::Lit;
 /// Reads a term from its first token, if there is one, and those after it. Its magnitude is at most
 /// what there is room for.
 pub fn read_term(
-    first: Option<Symbol>,
+    first: Option<Token>,
     tokens: &mut Tokens<'_>,
     room: u64,
     limit: InstanceLimit,
 ) -> Result<(i64, Lit), PlaceFault>
     requires room { room < 2 ^ 63 }
-    requires sound { IsSound first }
-    ensures ok { IfOk result (λ term. (left : List Token)
-        → IsLeft first (plain tokens.old.left) left
-        → BeginsWith SpellsTerm left (plain tokens.new.left) term) }
-    ensures within { IfOk result (λ term. IsTermWithin room term) }
+    requires sound { IsSoundTaken first }
+    ensures ok { IfOk result (BeginsWithTerm first tokens.old tokens.new) }
+    ensures within { IfOk result (IsTermWithin room) }
     ensures fewer { length (plain tokens.new.left) ≤ length (plain tokens.old.left) }
-    ensures fault { (kind : Kind) (sum : ℕ) (missing : BadKind) (p : Progress)
-        → limit ≡ limit_of kind → room + sum + 1 ≡ 2 ^ 63 → begins_term first ≡ true
-        → Finds (fault_inside tokens.old p
-        (taken_begun kind sum missing first)) result tokens.new (λ term. fault_at tokens.new p
-        (Term kind (sum + unsigned_abs term.0))) }
+    ensures fault { FindsTerm limit room first tokens.old tokens.new result }
 {
     match sign_of(first) {
         Some(minus) => {
@@ -45,26 +35,20 @@ pub fn read_term(
     }
 }
 
-// Reads a term from behind its sign on.
+// Reads a term from after its sign on.
 fn read_unsigned(
     minus: bool,
-    first: Option<Symbol>,
+    first: Option<Token>,
     tokens: &mut Tokens<'_>,
     room: u64,
     limit: InstanceLimit,
 ) -> Result<(i64, Lit), PlaceFault>
     requires room { room < 2 ^ 63 }
-    requires sound { IsSound first }
-    ensures ok { IfOk result (λ term. (left : List Token)
-        → IsLeft first (plain tokens.old.left) left
-        → BeginsWith (SpellsUnsigned minus) left (plain tokens.new.left) term) }
-    ensures within { IfOk result (λ term. IsTermWithin room term) }
+    requires sound { IsSoundTaken first }
+    ensures ok { IfOk result (BeginsUnsigned minus first tokens.old tokens.new) }
+    ensures within { IfOk result (IsTermWithin room) }
     ensures fewer { length (plain tokens.new.left) ≤ length (plain tokens.old.left) }
-    ensures fault { (kind : Kind) (sum : ℕ) (p : Progress) → limit ≡ limit_of kind
-        → room + sum + 1 ≡ 2 ^ 63
-        → Finds (fault_inside tokens.old p (taken_behind
-        (Sign kind sum) first)) result tokens.new (λ term. fault_at tokens.new p (Term kind
-        (sum + unsigned_abs term.0))) }
+    ensures fault { FindsUnsigned limit room first tokens.old tokens.new result }
 {
     match number_of(first) {
         Some(value) => {
@@ -98,9 +82,7 @@ pub fn magnitude_within(
     limit: InstanceLimit,
 ) -> Result<u64, PlaceFault>
     ensures ok { IfOk result (λ magnitude. (value ≡ Some magnitude) × (magnitude ≤ room)) }
-    ensures fault { (sum : ℕ) (place : ℕ → Place) → room + sum + 1 ≡ 2 ^ 63
-        → Judges (value_counted limit sum value place) result (λ magnitude. place
-        (sum + magnitude)) }
+    ensures fault { JudgesMagnitude value room limit result }
 {
     match value {
         None => Err(PlaceFault::Bad(BadKind::NumberTooWide)),
@@ -114,18 +96,16 @@ pub fn magnitude_within(
 }
 
 // Reads a literal, whose variable is at most the largest.
-fn read_literal(symbol: Option<Symbol>) -> Result<Lit, PlaceFault>
-    requires { IsSound symbol }
-    ensures ok { IfOk result (λ l. (rest left : List Token) → IsLeft symbol rest left
-        → (token : Token) × (left ≡ token ∷ rest) × SpellsLiteral token l) }
+fn read_literal(token: Option<Token>) -> Result<Lit, PlaceFault>
+    requires { IsSoundTaken token }
+    ensures ok { IfOk result (λ l. token ≡ Some (Literal (Some l.var) l.neg)) }
     ensures within { IfOk result (λ l. l.var ≤ 2 ^ 24) }
-    ensures fault { (kind : Kind) (sum : ℕ)
-        → Judges (taken_behind (Coefficient kind sum) symbol) result (λ _. Term kind sum) }
+    ensures fault { JudgesLiteral token result }
 {
-    match symbol {
-        Some(Symbol::Literal { var: None, .. }) => Err(PlaceFault::Bad(BadKind::NumberTooWide)),
+    match token {
+        Some(Token::Literal { var: None, .. }) => Err(PlaceFault::Bad(BadKind::NumberTooWide)),
         Some(
-            Symbol::Literal {
+            Token::Literal {
                 var: Some(var),
                 neg,
             },

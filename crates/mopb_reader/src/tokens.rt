@@ -1,12 +1,11 @@
 // The tokens of a text, from first to last.
 ghost use Rattle.std.specs.Prelude.{◌≡◌, ◌<◌, ◌^◌, length};
-ghost use Rattle.mopb_reader.specs.FirstFault.{lines_of, numbered_tokens};
-ghost use Rattle.mopb_reader.specs.Symbols.{IsLeft, IsSound};
-ghost use Rattle.mopb_reader.specs.Streams.{IsTaken, plain};
+ghost use Rattle.mopb_reader.specs.Tokens.{lines_of, numbered_tokens, plain};
+ghost use Rattle.mopb_reader.specs.Streams.{IsTaken, IsSoundTaken, ahead};
 
 use crate::cut::cut_token;
 use crate::lines::{first_line, skip_blanks};
-use crate::symbol::Symbol;
+use crate::token::Token;
 use std::marker::Model;
 
 /// The tokens of a text that were not taken yet. Contracts see it as their list, with lines. It keeps
@@ -21,11 +20,11 @@ pub struct Tokens<'a> {
 impl<'a> Model for Tokens<'a> {
     ghost use Rattle.std.specs.Prelude.{◌+◌, ◌<◌, ◌≤◌, ◌^◌, option_map};
     ghost use Rattle.mopb_reader.specs.Cuts.{rest_size, BeginsNoBlank};
-    ghost use Rattle.mopb_reader.specs.Streams.{Stream, numbered_from, lines_behind};
+    ghost use Rattle.mopb_reader.specs.Streams.{Stream, stream_from};
 
     ghost Value = { Stream };
 
-    ghost view = { λ t. record { left = numbered_from t.number t.line.now (option_map (λ r. r.now) t.rest); last = t.number + lines_behind (option_map (λ r. r.now) t.rest); line = t.number } };
+    ghost view = { λ t. stream_from t.number t.line.now (option_map (λ r. r.now) t.rest) };
 
     ghost invariant = { λ t. BeginsNoBlank t.line.now
         × (t.number + rest_size (option_map (λ r. r.now) t.rest) ≤ 2 ^ 32) };
@@ -54,11 +53,11 @@ impl<'a> Tokens<'a> {
     }
 
     /// Takes the next token.
-    pub fn next(&mut self) -> Option<Symbol>
+    pub fn next(&mut self) -> Option<Token>
         ensures taken { IsTaken result self.new self.old }
-        ensures left { IsLeft result (plain self.new.left) (plain self.old.left) }
+        ensures left { plain self.old.left ≡ ahead result self.new }
         ensures last { self.new.last ≡ self.old.last }
-        ensures sound { IsSound result }
+        ensures sound { IsSoundTaken result }
     {
         while self.line.is_empty() {
             match self.rest {
@@ -71,8 +70,8 @@ impl<'a> Tokens<'a> {
                 }
             }
         }
-        let (symbol, after) = cut_token(self.line);
+        let (token, after) = cut_token(self.line);
         self.line = skip_blanks(after);
-        Some(symbol)
+        Some(token)
     }
 }

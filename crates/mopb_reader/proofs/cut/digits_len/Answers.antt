@@ -2,7 +2,7 @@ use Rattle.std.proofs.Common.{◌∙◌, not, tests, rules}
 use Rattle.std.specs.Char.{is_ascii_digit}
 use Rattle.std.proofs.lemmas.Iterator.{YieldsList-from_slice}
 use Rattle.std.proofs.lemmas.Iterator.Search.{position_from_yields_List}
-use Rattle.mopb_reader.proofs.Cutting.{first_or_length, first_within}
+use Rattle.scut_base.proofs.Lists.{first_or_length, first_within}
 use Rattle.mopb_reader.proofs.cut.digits_len.Goals as goal
 
 pub returns : goal.returns

@@ -1,8 +1,8 @@
 use Rattle.std.proofs.Common.{◌∙◌, not, tests, rules}
-use Rattle.mopb_reader.specs.Tokens.{is_blank}
+use Rattle.mopb_reader.specs.Lexemes.{is_blank}
 use Rattle.std.proofs.lemmas.Iterator.{YieldsList-from_slice}
 use Rattle.std.proofs.lemmas.Iterator.Search.{position_from_yields_List}
-use Rattle.mopb_reader.proofs.Cutting.{first_or_length, first_within}
+use Rattle.scut_base.proofs.Lists.{first_or_length, first_within}
 use Rattle.mopb_reader.proofs.lines.blanks_before.Goals as goal
 
 pub returns : goal.returns

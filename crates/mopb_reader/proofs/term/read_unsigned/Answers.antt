@@ -1,21 +1,29 @@
 use Rattle.std.proofs.Common.{ap, sym, ◌∙◌, ◌+◌}
 use Rattle.std.proofs.lemmas.Result.{err_from_is_err_and}
-use Rattle.mopb_reader.specs.Streams.{plain}
 use Rattle.mopb_reader.specs.FirstFault.{Sign, Coefficient, Term}
-use Rattle.mopb_reader.specs.SymbolTable.{taken_behind, fault_at, fault_inside}
+use Rattle.mopb_reader.specs.Steps.{after_taken, fault_at, fault_inside}
+use Rattle.std.specs.Prelude.{Some}
+use Rattle.mopb_reader.specs.declared.token.Token.TheVariants.{Number}
+use Rattle.mopb_reader.proofs.Spelling.{term_is, unsigned_digits, unsigned_lone}
 use Rattle.mopb_reader.proofs.Findings.{refused, digits_refused, bare_wrong, bare_counted}
-use Rattle.mopb_reader.proofs.Front.{unsigned_digits, unsigned_lone, literal_is}
 use Rattle.mopb_reader.proofs.term.read_unsigned.Goals as goal
 
 pub returns-in_ok-lit-in-Some-clause-ok : goal.returns-in_ok-lit-in-Some-clause-ok
-returns-in_ok-lit-in-Some-clause-ok c left is_left =
-    unsigned_digits c.args.minus c.args.first c.in-Some.value c.in_ok-magnitude-in-Some.magnitude c.term_of.result left (plain c.args.tokens.now.left) (plain c.next-next.new.self.left) c.in-Some.ensures c.in_ok-magnitude-in-Some.ensures.ok.0 c.term_of.ensures.coefficient is_left
-    (literal_is c.term_of.result.1 c.in_ok-lit-in-Some.lit _ _ c.term_of.ensures.literal (c.in_ok-lit-in-Some.ensures.ok _ _ c.next-next.ensures.left))
+returns-in_ok-lit-in-Some-clause-ok c =
+    let n = c.in_ok-magnitude-in-Some.magnitude in
+    let l = c.in_ok-lit-in-Some.lit in
+    let t = c.term_of.result in
+    unsigned_digits c.args.minus n c.args.first c.next-next.result t l c.args.tokens.now c.next-next.new.self
+    (c.in-Some.ensures ∙ ap (λ v. Some (Number v)) c.in_ok-magnitude-in-Some.ensures.ok.0) c.next-next.ensures.left c.in_ok-lit-in-Some.ensures.ok
+    (term_is c.args.minus n t l c.term_of.ensures.coefficient c.term_of.ensures.literal)
 
 pub returns-in_ok-magnitude-in-None-clause-ok : goal.returns-in_ok-magnitude-in-None-clause-ok
-returns-in_ok-magnitude-in-None-clause-ok c left is_left =
-    unsigned_lone c.args.minus c.in_ok-magnitude-in-None.magnitude c.term_of-in-None.result left (plain c.args.tokens.now.left) c.in_ok-magnitude-in-None.ensures.ok.0 c.term_of-in-None.ensures.coefficient
-    (literal_is c.term_of-in-None.result.1 c.in_ok-lit-in-None.lit _ _ c.term_of-in-None.ensures.literal (c.in_ok-lit-in-None.ensures.ok _ _ is_left))
+returns-in_ok-magnitude-in-None-clause-ok c =
+    let n = c.in_ok-magnitude-in-None.magnitude in
+    let l = c.in_ok-lit-in-None.lit in
+    let t = c.term_of-in-None.result in
+    unsigned_lone c.args.minus n c.args.first t l c.args.tokens.now c.in_ok-lit-in-None.ensures.ok c.in_ok-magnitude-in-None.ensures.ok.0
+    (term_is c.args.minus n t l c.term_of-in-None.ensures.coefficient c.term_of-in-None.ensures.literal)
 
 pub returns-in_err-lit-in-Some-clause-fault : goal.returns-in_err-lit-in-Some-clause-fault
 returns-in_err-lit-in-Some-clause-fault c =
@@ -25,12 +33,12 @@ returns-in_err-lit-in-Some-clause-fault c =
 pub returns-in_err-lit-in-None-clause-fault : goal.returns-in_err-lit-in-None-clause-fault
 returns-in_err-lit-in-None-clause-fault c =
     let q = err_from_is_err_and c.from_residual-in_err-lit-in-None.result c.from_residual-in_err-lit-in-None.ensures.1 in
-    rw (q.1, q.2) (λ kind sum p is room. refused c.args.tokens.now p (taken_behind (Sign kind sum) c.args.first) _ (bare_wrong kind sum c.args.first _ c.in-None.ensures (c.in_err-lit-in-None.ensures.fault kind sum)))
+    rw (q.1, q.2) (λ kind sum p is room. refused c.args.tokens.now p (after_taken (Sign kind sum) c.args.first) _ (bare_wrong kind sum c.args.first _ c.in-None.ensures (c.in_err-lit-in-None.ensures.fault kind sum)))
 
 pub returns-in_err-magnitude-in-None-clause-fault : goal.returns-in_err-magnitude-in-None-clause-fault
 returns-in_err-magnitude-in-None-clause-fault c =
     let q = err_from_is_err_and c.from_residual-in_err-magnitude-in-None.result c.from_residual-in_err-magnitude-in-None.ensures.1 in
-    rw (q.1, q.2) (λ kind sum p is room. refused c.args.tokens.now p (taken_behind (Sign kind sum) c.args.first) _ (bare_counted kind sum c.args.limit c.args.first _ c.in-None.ensures is (c.in_ok-lit-in-None.ensures.fault kind sum) (c.in_err-magnitude-in-None.ensures.fault sum (Term kind) room)))
+    rw (q.1, q.2) (λ kind sum p is room. refused c.args.tokens.now p (after_taken (Sign kind sum) c.args.first) _ (bare_counted kind sum c.args.limit c.args.first _ c.in-None.ensures is (c.in_ok-lit-in-None.ensures.fault kind sum) (c.in_err-magnitude-in-None.ensures.fault sum (Term kind) room)))
 
 pub returns-in_ok-magnitude-in-None-clause-fault : goal.returns-in_ok-magnitude-in-None-clause-fault
 returns-in_ok-magnitude-in-None-clause-fault c kind sum p is room =
