@@ -19,7 +19,7 @@ use Rattle.cutting_planes.proofs.Terms.{Terms}
 use Rattle.sum_outputs.specs.Totals.{AreWeights}
 use Rattle.sum_outputs.proofs.Glue.{AreApart}
 use Rattle.core_boosting.proofs.Countings.{scaled, scaled_value, scaled_total, scaled_positive, if_scaled}
-use Rattle.core_boosting.specs.Exchanging.{lowered, remaining, exchanged, CanExchange, ExchangeSums, ExchangesSum}
+use Rattle.core_boosting.specs.Exchanging.{lowered, remaining, exchanged, CanExchange, ExchangeSums}
 
 -- ---- pairs
 
@@ -29,10 +29,10 @@ pairs_cons R x xs head tail zero (suc j) d before short = head j d (omega arith)
 pairs_cons R x xs head tail (suc i) zero d before short = absurd (omega arith)
 pairs_cons R x xs head tail (suc i) (suc j) d before short = tail i j d (omega arith) (omega arith)
 
-pairs_head : {X : Type 0} (R : X → X → Type 0) (x : X) (xs : List X) → AllPairs R (x ∷ xs) → All (R x) xs
+pub pairs_head : {X : Type 0} (R : X → X → Type 0) (x : X) (xs : List X) → AllPairs R (x ∷ xs) → All (R x) xs
 pairs_head R x xs all k d short = all 0 (suc k) d (omega arith) (omega arith)
 
-pairs_tail : {X : Type 0} (R : X → X → Type 0) (x : X) (xs : List X) → AllPairs R (x ∷ xs) → AllPairs R xs
+pub pairs_tail : {X : Type 0} (R : X → X → Type 0) (x : X) (xs : List X) → AllPairs R (x ∷ xs) → AllPairs R xs
 pairs_tail R x xs all i j d before short = all (suc i) (suc j) d (omega arith) (omega arith)
 
 pub pairs_append : {X : Type 0} (R : X → X → Type 0) (xs ys : List X) → AllPairs R xs → AllPairs R ys → All (λ x. All (R x) ys) xs → AllPairs R (xs ++ ys)
@@ -264,6 +264,3 @@ module _ (terms : Terms) (lits outputs : List Literal) (w : ℕ) (can : CanExcha
 
   pub exchange_sums : ExchangeSums terms lits outputs w
   exchange_sums = record { weights = new_weights; same = new_value; falls = new_total; product = let left = left_total in omega arith }
-
-pub exchange_law : ExchangesSum
-exchange_law terms lits outputs w can = exchange_sums terms lits outputs w can

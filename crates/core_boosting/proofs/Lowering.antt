@@ -1,6 +1,6 @@
 -- How the line below an objective goes on with a core.
 use Rattle.std.proofs.Common.{◌≡◌, ◌≢◌, ℕ, ◌+◌, ◌-◌, ◌*◌, ◌<◌, ◌≤◌, ◌==◌, zero, suc, Bool, true, false, cond, if◌then◌else◌, Some, List, [], ◌∷◌, ◌++◌, map, length, get_or, sum_by, refl, ap, sym, subst, ◌∙◌, arith, Ok, pos, ℤ, ◌+ℤ◌, ◌-ℤ◌}
-use Rattle.std.specs.Prelude.{◌^◌, ◌≤ℤ◌, nat_lt}
+use Rattle.std.specs.Prelude.{◌^◌, ◌≤ℤ◌, ◌↔◌, nat_lt}
 use Rattle.std.specs.List.{All, AllPairs}
 use Rattle.std.specs.FinMap.{get}
 use Rattle.std.proofs.lemmas.Bool.{cond-true, cond-false, eq-eqb, eqb-true, eqb-false, ne_eqb, ltb-true, ltb-false}
@@ -11,7 +11,7 @@ use Rattle.std.proofs.lemmas.List.Elements.{All-nil, All-cons, All-append, All-m
 use Rattle.std.proofs.lemmas.List.Sums.{sum_by-cons, sum_by-append}
 use Rattle.scut_base.specs.Literal.{Literal}
 use Rattle.scut_base.specs.Assignment.{lit_true}
-use Rattle.pb_lin.specs.Constraint.{ConstraintValue, IsNormal, ones, opposite, opposite_terms, size, term_value, total, value}
+use Rattle.pb_lin.specs.Constraint.{ConstraintValue, Covers, Holds, IsNormal, ones, opposite, opposite_terms, size, term_value, total, value}
 use Rattle.pb_lin.specs.CostRow.{CostRowValue, row_cost}
 use Rattle.pb_lin.specs.Given.{Given}
 use Rattle.pb_lin.proofs.Ones.{AllPairs-map}
@@ -24,23 +24,31 @@ use Rattle.cutting_planes.proofs.Terms.{Terms, changed, total-multiplied, normal
 use Rattle.proof_laws.specs.Refusal.{line_or_none}
 use Rattle.proof_laws.proofs.NormalForms.{sum_exists}
 use Rattle.sum_outputs.proofs.Glue.{AreApart, all_true, bound, bound_within, value-le-total, none_true, apart_from_rising}
-use Rattle.core_boosting.specs.Counting.{counted, times}
-use Rattle.core_boosting.specs.Exchanging.{IsLowerLine, HasGreatest, IsAbove, OutputsFollow, exchanged, CanExchange, CanLower, LowersOn, lower_tokens, LinesLower, GreatestStays, UppersStay, LowersCover, LowersHold}
-use Rattle.core_boosting.proofs.Countings.{step, push_line, size_fine, factor_fine, constraint_same, scaled, scaled_value, scaled_total}
+use Rattle.totalizer.specs.Reforming.{IsLowerLine}
+use Rattle.core_boosting.specs.Counting.{OutputsFollow, counting, times}
+use Rattle.core_boosting.specs.Exchanging.{CanExchange, CanLower, HasGreatest, IsAbove, LowersOn, exchanged, lower_tokens}
+use Rattle.sum_outputs.proofs.Chains.{push_line, size_fine, step}
+use Rattle.core_boosting.proofs.Countings.{factor_fine, constraint_same, scaled, scaled_value, scaled_total}
 use Rattle.core_boosting.proofs.Exchanges.{exchange_sums, pairs_append}
 
 -- ---- what a line says
 
-pub cover_law : LowersCover
-cover_law row offset terms c m lower most a = let here = lower a in omega (arith, ints)
+-- the line covers "the row is at least its offset with m"
+pub lower_covers : (row : CostRowValue) (offset : ℤ) (terms : Terms) (c : ConstraintValue) (m : ℕ) →
+    IsLowerLine row offset terms c → (row.offset +ℤ pos m) ≤ℤ offset → Covers c (record { terms = row.terms; degree = m })
+lower_covers row offset terms c m lower most a = let here = lower a in omega (arith, ints)
 
-pub hold_law : LowersHold
-hold_law row offset terms c x lower = (λ holds. let here = lower x in omega (arith, ints), λ above. let here = lower x in omega (arith, ints))
+-- it holds exactly where the row is at least the new sum
+pub lower_holds : (row : CostRowValue) (offset : ℤ) (terms : Terms) (c : ConstraintValue) (x : List Bool) →
+    IsLowerLine row offset terms c → (Holds x c ↔ ((offset +ℤ pos (value x terms)) ≤ℤ row_cost x row))
+lower_holds row offset terms c x lower = (λ holds. let here = lower x in omega (arith, ints), λ above. let here = lower x in omega (arith, ints))
 
 -- ---- the greatest value
 
-pub greatest_law : GreatestStays
-greatest_law row offset terms lits outputs w can greatest = let sums = exchange_sums terms lits outputs w can in let falls = sums.falls in omega (arith, ints)
+pub greatest_stays : (row : CostRowValue) (offset : ℤ) (terms : Terms) (lits outputs : List Literal) (w : ℕ) →
+    CanExchange terms lits outputs w → HasGreatest row offset terms →
+    HasGreatest row (offset +ℤ pos w) (exchanged lits w outputs terms)
+greatest_stays row offset terms lits outputs w can greatest = let sums = exchange_sums terms lits outputs w can in let falls = sums.falls in omega (arith, ints)
 
 -- ---- the sum from above
 
@@ -87,8 +95,11 @@ module _ (terms : Terms) (lits outputs : List Literal) (w : ℕ) (can : CanExcha
 times_le : (w m n : ℕ) → m ≤ n → w * m ≤ w * n
 times_le w m n le = mul-le-mul_left w le
 
-pub upper_law : UppersStay
-upper_law row offset terms lits outputs w x can follow above =
+-- where the outputs follow, the new sum is no less than the row
+pub upper_stays : (row : CostRowValue) (offset : ℤ) (terms : Terms) (lits outputs : List Literal) (w : ℕ) (x : List Bool) →
+    CanExchange terms lits outputs w → OutputsFollow lits outputs x → IsAbove row offset terms x →
+    IsAbove row (offset +ℤ pos w) (exchanged lits w outputs terms) x
+upper_stays row offset terms lits outputs w x can follow above =
     let same = exactly terms lits outputs w can x in
     let up = times_le w (value x (ones lits)) (1 + value x (ones outputs)) (outputs_up terms lits outputs w can x follow) in
     let product : w * (1 + value x (ones outputs)) ≡ w + w * value x (ones outputs) = omega arith in
@@ -101,7 +112,7 @@ module _ (given : Given) (row : CostRowValue) (offset : ℤ) (terms : Terms) (li
   ex = can.exchange
 
   abbrev core : ConstraintValue
-  core = counted lits (map opposite outputs)
+  core = counting lits (map opposite outputs)
 
   abbrev many : ConstraintValue
   many = multiplied w core
@@ -282,7 +293,9 @@ module _ (given : Given) (row : CostRowValue) (offset : ℤ) (terms : Terms) (li
       by true e is = alone (let same : ◌≡◌ {A = ConstraintValue} (record { terms = []; degree = 0 }) can.before = cc in sym same)
       by false e is = both_lines is
 
-pub lower_law : LinesLower
-lower_law given row offset terms lits outputs w old line can =
+pub line_lowers : (given : Given) (row : CostRowValue) (offset : ℤ) (terms : Terms) (lits outputs : List Literal) (w old line : ℕ) →
+    CanLower given row offset terms lits outputs w old line →
+    LowersOn given row offset (exchanged lits w outputs terms) old line w
+line_lowers given row offset terms lits outputs w old line can =
     let has = has_line given row offset terms lits outputs w old line can in
     record { made = has.0; tokens = has.1; lower = has.2 }

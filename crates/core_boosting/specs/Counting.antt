@@ -19,8 +19,8 @@ use Rattle.core_boosting.specs.declared.counting.Counted.{Counted}
 -- ---- the line
 
 -- One more of the literals is true, at least, than are false of the others: these are the opposites of outputs.
-abbrev pub counted : List Literal → List Literal → ConstraintValue
-counted lits against = record { terms = ones (lits ++ against); degree = length against + 1 }
+abbrev pub counting : List Literal → List Literal → ConstraintValue
+counting lits against = record { terms = ones (lits ++ against); degree = length against + 1 }
 
 -- where the output is true, n of the literals are; `against` is its opposite
 abbrev pub reaching : List Literal → Literal → ℕ → ConstraintValue
@@ -36,7 +36,7 @@ raised_tokens line t lower = Id line ∷ (times t ++ (Id lower ∷ Add ∷ Div (
 
 -- the line that counts so far, and the lower line of the next output
 pub record CountsSoFar (given : Given) (lits against : List Literal) (next : Literal) (line lower : ℕ) : Type 0 where
-  pub counts : get given.lines line ≡ Some (counted lits against)
+  pub counts : get given.lines line ≡ Some (counting lits against)
   pub reaches : get given.lines lower ≡ Some (reaching lits next (length against + 2))
   pub from_one : All (λ l. 0 < l.var) (lits ++ (against ++ next ∷ []))
   pub rising : AllPairs (λ l m. l.var < m.var) (lits ++ (against ++ next ∷ []))
@@ -45,7 +45,7 @@ pub record CountsSoFar (given : Given) (lits against : List Literal) (next : Lit
 
 -- ---- the core, and the outputs over it
 
--- where n + 1 of the literals or more are true, so is the n-th output, counted from 1
+-- where n + 1 of the literals or more are true, so is the n-th output, counting from 1
 abbrev pub OutputsFollow : List Literal → List Literal → List Bool → Type 0
 OutputsFollow lits outputs x = (i : ℕ) (d : Literal) → i < length outputs → i + 2 ≤ value x (ones lits)
     → lit_true x (slice_index_or outputs i d) ≡ true
@@ -64,7 +64,7 @@ pub record HasCore (a : Snapshot) (lits : List Literal) (id : ℕ) : Type 0 wher
   pub few : length lits ≤ 2 ^ 40
   pub rising : AllPairs (λ l m. l.var < m.var) lits
   pub variables : HasVariablesNow a lits
-  pub line : IsLiveNow a id (counted lits [])
+  pub line : IsLiveNow a id (counting lits [])
 
 -- The outputs so far stand for "two of the literals are true", "three are" and so on, and the line says that more of
 -- the literals are true than of the outputs. The totalizer has no other outputs.
@@ -77,7 +77,7 @@ pub record CountsNow (a : Snapshot) (lits : List Literal) (t : TotalizerValue) (
   pub sums : (n : ℕ) (l : Literal) → 1 < length lits → IsThere t.made (length t.nodes - 1) n l → n ≤ length c.outputs + 1
   pub bounds : (i : ℕ) (d : Literal) → i < length c.outputs → (id : ℕ)
       × IsBound a.problem a.lines (ones lits) (pos (i + 2)) (At (slice_index_or c.outputs i d) id)
-  pub line : IsLiveNow a c.line (counted lits (map opposite c.outputs))
+  pub line : IsLiveNow a c.line (counting lits (map opposite c.outputs))
 
 -- the line that counts so far, and one output more with its lower line, of a variable above those that were there
 pub record HasNext (a : Snapshot) (lits : List Literal) (c : Counted) (output : Literal) (lower : ℕ) : Type 0 where
@@ -85,7 +85,7 @@ pub record HasNext (a : Snapshot) (lits : List Literal) (c : Counted) (output : 
   pub more : length c.outputs + 1 < length lits
   pub rising : AllPairs (λ l m. l.var < m.var) (lits ++ (c.outputs ++ output ∷ []))
   pub from_one : All (λ l. 0 < l.var) (lits ++ (c.outputs ++ output ∷ []))
-  pub counts : IsLiveNow a c.line (counted lits (map opposite c.outputs))
+  pub counts : IsLiveNow a c.line (counting lits (map opposite c.outputs))
   pub reaches : IsLiveNow a lower (reaching lits (opposite output) (length c.outputs + 2))
 
 -- one output more, whose variable is above those that were there
@@ -101,4 +101,4 @@ pub record CountsCore (a b : Snapshot) (lits : List Literal) (c : Counted) : Typ
   pub new : (s : StateValue) → IsReached a s → All (λ o. s.vars < o.var) c.outputs
   pub variables : HasVariablesNow b c.outputs
   pub follow : Always b (OutputsFollow lits c.outputs)
-  pub line : IsLiveNow b c.line (counted lits (map opposite c.outputs))
+  pub line : IsLiveNow b c.line (counting lits (map opposite c.outputs))

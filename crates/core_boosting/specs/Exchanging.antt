@@ -19,7 +19,7 @@ use Rattle.sum_outputs.specs.Totals.{AreWeights}
 use Rattle.totalizer.specs.declared.reform.Reform.{Reform}
 use Rattle.totalizer.specs.Reforming.{IsLowerLine, IsReformOf}
 use Rattle.core_boosting.specs.declared.counting.Counted.{Counted}
-use Rattle.core_boosting.specs.Counting.{counted, times, HasVariablesNow, IsLiveNow, OutputsFollow}
+use Rattle.core_boosting.specs.Counting.{counting, times, HasVariablesNow, IsLiveNow, OutputsFollow}
 
 -- ---- the terms
 
@@ -84,8 +84,8 @@ pub record CanLower (given : Given) (row : CostRowValue) (offset : ℤ) (terms :
   pub named : line_or_none given.lines old ≡ Some before
   pub normal : IsNormal before.terms before.degree
   pub lower : IsLowerLine row offset terms before
-  pub counts : get given.lines line ≡ Some (counted lits (map opposite outputs))
-  pub counts_normal : IsNormal (counted lits (map opposite outputs)).terms (counted lits (map opposite outputs)).degree
+  pub counts : get given.lines line ≡ Some (counting lits (map opposite outputs))
+  pub counts_normal : IsNormal (counting lits (map opposite outputs)).terms (counting lits (map opposite outputs)).degree
 
 -- the line that is made of them, and what it says
 pub record LowersOn (given : Given) (row : CostRowValue) (offset : ℤ) (terms : List (Literal × ℕ)) (old line w : ℕ) : Type 0 where
@@ -108,7 +108,7 @@ DerivesOwn a b tokens id = (s t : StateValue) (c : ConstraintValue) → IsReache
 
 -- it is the row in other terms, with the row's greatest value
 pub record IsExactly (a : Snapshot) (row : CostRowValue) (r : Reform) : Type 0 where
-  pub row : IsCostRow row.terms row.offset
+  pub is_row : IsCostRow row.terms row.offset
   pub greatest : HasGreatest row r.offset r.terms
   pub reform : (s : StateValue) → IsReached a s → IsReformOf a.problem a.lines s row r
 
@@ -126,4 +126,4 @@ pub record MayExchange (a : Snapshot) (r : Reform) (lits : List Literal) (c : Co
   pub exchange : CanExchange r.terms lits c.outputs w
   pub variables : HasVariablesNow a c.outputs
   pub follow : Always a (OutputsFollow lits c.outputs)
-  pub line : IsLiveNow a c.line (counted lits (map opposite c.outputs))
+  pub line : IsLiveNow a c.line (counting lits (map opposite c.outputs))

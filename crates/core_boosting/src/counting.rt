@@ -6,7 +6,7 @@ ghost use Rattle.sum_outputs.specs.Adding.{IsReady, IsRecorded};
 ghost use Rattle.totalizer.specs.Totalizing.{Fits, HasVariables, IsBuilt, terms_of};
 ghost use Rattle.proof_rules.specs.Recording.{Snapshot};
 ghost use Rattle.sum_outputs.specs.Totals.{AreWeights};
-ghost use Rattle.core_boosting.specs.Counting.{AddsOutput, CountsCore, CountsNow, HasCore, HasNext, IsLiveNow, counted, raised_tokens, times};
+ghost use Rattle.core_boosting.specs.Counting.{AddsOutput, CountsCore, CountsNow, HasCore, HasNext, IsLiveNow, counting, raised_tokens, times};
 
 use crate::exchanging::derive;
 use cutting_planes::PolToken;
@@ -25,7 +25,7 @@ pub(crate) struct Counted {
 }
 
 // All outputs over the literals of a core but the first, which its clause, the line of this id, makes true.
-pub(crate) fn counted<R: Recorder>(
+pub(crate) fn count_core<R: Recorder>(
     alloc: Global,
     rec: &mut R,
     lits: &[Lit],
@@ -100,7 +100,7 @@ fn count_by<R: Recorder>(
     ensures line { OnOk result ((lits : List Literal)
         → HasNext (R.seen rec.old) lits counted.old output lower_line
         → IsLiveNow (R.seen rec.new) counted.new.line
-        (counted lits (map opposite (counted.old.outputs ++ output ∷ [])))) }
+        (counting lits (map opposite (counted.old.outputs ++ output ∷ [])))) }
 {
     let count = counted.outputs.len() as u64 + 1;
     let tokens = in_memory(raised_tokens(alloc, counted.line, count, lower_line))?;

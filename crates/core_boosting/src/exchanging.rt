@@ -6,7 +6,7 @@ ghost use Rattle.sum_outputs.specs.Adding.{IsReady, IsRecorded};
 ghost use Rattle.core_boosting.specs.Boosting.{HasCoreLine};
 ghost use Rattle.core_boosting.specs.Exchanging.{DerivesOwn, IsOfRow, KeepsRow, MakesSome, MayExchange, exchanged, lower_tokens};
 
-use crate::counting::{Counted, counted, push_factor};
+use crate::counting::{Counted, count_core, push_factor};
 use crate::terms::{exchanged, least_weight, literals_of};
 use cutting_planes::PolToken;
 use proof_laws::Line;
@@ -35,7 +35,7 @@ pub(crate) fn take_up<R: Recorder>(
     // Of the line itself, whose literals rise.
     let lits = in_memory(literals_of(alloc, rec.state(), id))?;
     let weight = least_weight(reform.terms.as_slice(), lits.as_slice());
-    let counted = counted(alloc, rec, lits.as_slice(), id)?;
+    let counted = count_core(alloc, rec, lits.as_slice(), id)?;
     exchange(alloc, rec, reform, lits.as_slice(), &counted, weight)
 }
 

@@ -1,8 +1,8 @@
 // Weighted literals, and a core's among them.
-ghost use Rattle.std.specs.Prelude.{◌≡◌, ◌<◌, ◌≤◌, All, AllPairs, IfOk};
+ghost use Rattle.std.specs.Prelude.{◌≡◌, ◌<◌, All, AllPairs, IfOk, Some};
 ghost use Rattle.std.specs.FinMap.{get};
-ghost use Rattle.std.specs.Prelude.{Some};
 ghost use Rattle.pb_lin.specs.Constraint.{ConstraintValue, literals};
+ghost use Rattle.pb_lin.specs.Place.{IsPlace};
 ghost use Rattle.pb_lin.specs.Restriction.{is_among};
 ghost use Rattle.core_boosting.specs.Exchanging.{AllWeigh, exchanged, remaining};
 
@@ -92,6 +92,17 @@ fn is_among(lits: &[Lit], lit: Lit) -> bool
     requires { AllPairs (λ l m. l.var < m.var) lits.now }
     ensures { result ≡ is_among lits.now lit }
 {
-    let place = lits.partition_point(|other| other.var() < lit.var());
-    place < lits.len() && lits[place] == lit
+    let place = literal_place(lits, lit.var());
+    if place == lits.len() || lits[place].var() != lit.var() {
+        return false;
+    }
+    lits[place].is_neg() == lit.is_neg()
+}
+
+// The first place whose variable isn't below the given one.
+fn literal_place(lits: &[Lit], var: u64) -> usize
+    requires { AllPairs (λ l m. l.var < m.var) lits.now }
+    ensures { IsPlace (λ l. l.var) lits.now var result }
+{
+    lits.partition_point(|lit| lit.var() < var)
 }
