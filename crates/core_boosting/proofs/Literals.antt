@@ -39,6 +39,10 @@ rising_first xs ys rising i j d before short =
     let other = ap var_of (get_or_append_left xs ys d j short) in
     omega arith
 
+pub rising_rest : (xs ys : List Literal) → AreRising (xs ++ ys) → AreRising ys
+rising_rest [] ys rising = rising
+rising_rest (x ∷ xs) ys rising = rising_rest xs ys (pairs_tail (λ l m. l.var < m.var) x (xs ++ ys) rising)
+
 module _ (xs ys : List Literal) (same : map var_of xs ≡ map var_of ys) where
   as_long : length xs ≡ length ys
   as_long =

@@ -101,10 +101,15 @@ module _ (a b : Snapshot) (ready : IsReady a) (t u : TotalizerValue) (c : Counte
       let all = scaled_total 1 lits in
       absurd (omega (arith, ints))
 
-  pub not_output : (bound : Bound) → IsBoundNow bound → ((l : Literal) (id : ℕ) → bound ≡ At l id → ⊥) → ⊥
-  not_output (Always id) is none = never_always id is
-  not_output Never is none = never_never is
-  not_output (At l id) is none = none l id refl
+  some_output : (bound : Bound) → IsBoundNow bound → ((l : Literal) (id : ℕ) → bound ≡ At l id → ⊥) → ⊥
+  some_output (Always id) is none = never_always id is
+  some_output Never is none = never_never is
+  some_output (At l id) is none = none l id refl
+
+  -- there are as many literals, so there is an output
+  pub not_output : (k : ℤ) → k ≡ pos n → (bound : Bound) → IsBound b.problem b.lines (terms_of t) k bound →
+      ((l : Literal) (id : ℕ) → bound ≡ At l id → ⊥) → ⊥
+  not_output k asked bound is = some_output bound (subst (λ (z : ℤ). IsBound b.problem b.lines (terms_of t) z bound) asked is)
 
   abbrev root : ℕ
   root = length u.nodes - 1
@@ -124,14 +129,21 @@ module _ (a b : Snapshot) (ready : IsReady a) (t u : TotalizerValue) (c : Counte
   there_before : (k : ℕ) (m : Literal) → IsThere t.made root k m → k ≤ length c.outputs + 1
   there_before k m has = so.sums k m (omega arith) (subst (λ (ns : List Node). IsThere t.made (length ns - 1) k m) nodes has)
 
-  module _ (l : Literal) (id : ℕ) (is : IsBoundNow (At l id)) (added : AddsFor a b (pos n) t u (At l id)) where
+  module _ (k : ℤ) (asked : k ≡ pos n) (answer : Bound) (given : IsBound b.problem b.lines (terms_of t) k answer)
+      (adds : AddsFor a b k t u answer) (l : Literal) (id : ℕ) (is_at : answer ≡ At l id) where
+    is : IsBoundNow (At l id)
+    is = subst IsBoundNow is_at (subst (λ (z : ℤ). IsBound b.problem b.lines (terms_of t) z answer) asked given)
+
+    added : AddsFor a b (pos n) t u (At l id)
+    added = subst (λ (bound : Bound). AddsFor a b (pos n) t u bound) is_at (subst (λ (z : ℤ). AddsFor a b z t u answer) asked adds)
+
     bound : IsBound b.problem b.lines (ones lits) (pos n) (At l id)
     bound = subst (λ (ts : Terms). IsBound b.problem b.lines ts (pos n) (At l id)) so.terms is
 
     at : (s : StateValue) → IsReached b s → IsBoundAt b.problem b.lines s (ones lits) n l id
     at s reached =
         let same : bound.0 ≡ n = let e = bound.1 in omega (arith, ints) in
-        subst (λ (k : ℕ). IsBoundAt b.problem b.lines s (ones lits) k l id) same (bound.4 s reached)
+        subst (λ (m : ℕ). IsBoundAt b.problem b.lines s (ones lits) m l id) same (bound.4 s reached)
 
     defined : (s : StateValue) → IsReached b s → IsDefinedFor b.problem s (ones lits) n l id
     defined s reached =
@@ -152,12 +164,12 @@ module _ (a b : Snapshot) (ready : IsReady a) (t u : TotalizerValue) (c : Counte
         let sums : has.sum.degree ≡ n = least_once (ones lits) n has.sum.degree n has.least (least_is lits n weights (omega arith)) in
         has.line ∙ ap (λ (d : ConstraintValue). Some d)
         (reached_is lits l has.sum rising from_one so.few has.order (omega arith) has.positive
-        ∙ ap (λ (k : ℕ). reaching lits (opposite l) k) sums)
+        ∙ ap (λ (m : ℕ). reaching lits (opposite l) m) sums)
 
     demanded : AddsDemanded a b n t u l
     demanded =
         let same : added.0 ≡ n = let e = added.1 in omega (arith, ints) in
-        subst (λ (k : ℕ). AddsDemanded a b k t u l) same added.2
+        subst (λ (m : ℕ). AddsDemanded a b m t u l) same added.2
 
     -- its variable is new
     pub new : (s : StateValue) → IsReached a s → s.vars < l.var
@@ -169,28 +181,28 @@ module _ (a b : Snapshot) (ready : IsReady a) (t u : TotalizerValue) (c : Counte
         (λ (fresh : IsDemanded u.nodes n root n × ((r : StateValue) → IsReached a r → r.vars < l.var)). fresh.1 s reached)
         (makes.new root n l (let some = some_node in omega arith) there)
 
-    sums_now : (k : ℕ) (m : Literal) → IsThere u.made root k m → k ≤ n
-    sums_now k m has =
+    sums_now : (j : ℕ) (m : Literal) → IsThere u.made root j m → j ≤ n
+    sums_now j m has =
         let makes = demanded.makes in
         let some = some_node in ⊎_elim
-        (λ (old : IsThere t.made root k m). let most = there_before k m old in omega arith)
-        (λ (fresh : IsDemanded u.nodes n root k × ((r : StateValue) → IsReached a r → r.vars < m.var)). ⊎_elim
-        (λ (last : (root + 1 ≡ length u.nodes) × IsLeastSum (get_or u.nodes root any_node).terms n k).
-        let least : IsLeastSum (ones lits) n k = subst (λ (ts : Terms). IsLeastSum ts n k) (sym (root_is u.nodes any_node some) ∙ terms_now) last.1 in
+        (λ (old : IsThere t.made root j m). let most = there_before j m old in omega arith)
+        (λ (fresh : IsDemanded u.nodes n root j × ((r : StateValue) → IsReached a r → r.vars < m.var)). ⊎_elim
+        (λ (last : (root + 1 ≡ length u.nodes) × IsLeastSum (get_or u.nodes root any_node).terms n j).
+        let least : IsLeastSum (ones lits) n j = subst (λ (ts : Terms). IsLeastSum ts n j) (sym (root_is u.nodes any_node some) ∙ terms_now) last.1 in
         least.least n (ones_attain lits n weights (omega arith)) (omega arith))
         (λ inner. absurd (let low = inner.0 in omega arith))
         (fresh.0 any_node))
-        (makes.new root k m (omega arith) has)
+        (makes.new root j m (omega arith) has)
 
     abbrev outputs : List Literal
     outputs = c.outputs ++ l ∷ []
 
     rising_now : AreRising (lits ++ outputs)
     rising_now = subst AreRising (append_assoc lits c.outputs (l ∷ []))
-        (pairs_append (λ m k. m.var < k.var) (lits ++ c.outputs) (l ∷ []) so.rising (λ i j d before short. absurd (omega arith))
-        (λ k d short. All-cons (λ m. (get_or (lits ++ c.outputs) k d).var < m.var) l []
-        (let here = so.variables ready.state ready.reached k d short in let most = here.1 in let above = new ready.state ready.reached in omega arith)
-        (All-nil (λ m. (get_or (lits ++ c.outputs) k d).var < m.var))))
+        (pairs_append (λ m j. m.var < j.var) (lits ++ c.outputs) (l ∷ []) so.rising (λ i j d before short. absurd (omega arith))
+        (λ i d short. All-cons (λ m. (get_or (lits ++ c.outputs) i d).var < m.var) l []
+        (let here = so.variables ready.state ready.reached i d short in let most = here.1 in let above = new ready.state ready.reached in omega arith)
+        (All-nil (λ m. (get_or (lits ++ c.outputs) i d).var < m.var))))
 
     variables_now : HasVariablesNow b (lits ++ outputs)
     variables_now s reached = subst (λ (ls : List Literal). All (λ m. IsVariable s.vars m.var) ls) (append_assoc lits c.outputs (l ∷ []))
@@ -207,7 +219,7 @@ module _ (a b : Snapshot) (ready : IsReady a) (t u : TotalizerValue) (c : Counte
         few = so.few;
         more = more;
         rising = rising_now;
-        from_one = λ k d short. let has = variables_now ready_now.state ready_now.reached k d short in has.0;
+        from_one = λ i d short. let has = variables_now ready_now.state ready_now.reached i d short in has.0;
         counts = still_live a b on ready c.line (counting lits (map opposite c.outputs)) so.line;
         reaches = reaches;
       }
@@ -218,17 +230,17 @@ module _ (a b : Snapshot) (ready : IsReady a) (t u : TotalizerValue) (c : Counte
         keeps = own_law b.problem b.lines e.lines (totalizer_lines b e then)
 
         -- of an output that was there already in b
-        stays : (k : ℕ) (m : Literal) (i : ℕ) → IsBound b.problem b.lines (ones lits) (pos k) (At m i) → IsBound e.problem e.lines (ones lits) (pos k) (At m i)
-        stays k m i old = subst (λ (p : ProblemValue). IsBound p e.lines (ones lits) (pos k) (At m i)) (sym then.problem)
-            (bounds_stay_law b.problem b.lines e.lines ready_now.state (ones lits) (pos k) (At m i) keeps ready_now.reached old)
+        stays : (j : ℕ) (m : Literal) (i : ℕ) → IsBound b.problem b.lines (ones lits) (pos j) (At m i) → IsBound e.problem e.lines (ones lits) (pos j) (At m i)
+        stays j m i old = subst (λ (p : ProblemValue). IsBound p e.lines (ones lits) (pos j) (At m i)) (sym then.problem)
+            (bounds_stay_law b.problem b.lines e.lines ready_now.state (ones lits) (pos j) (At m i) keeps ready_now.reached old)
 
-        stays_first : (k : ℕ) (m : Literal) (i : ℕ) → IsBound a.problem a.lines (ones lits) (pos k) (At m i) → IsBound b.problem b.lines (ones lits) (pos k) (At m i)
-        stays_first k m i old = subst (λ (p : ProblemValue). IsBound p b.lines (ones lits) (pos k) (At m i)) (sym on.problem)
-            (bounds_stay_law a.problem a.lines b.lines ready.state (ones lits) (pos k) (At m i)
+        stays_first : (j : ℕ) (m : Literal) (i : ℕ) → IsBound a.problem a.lines (ones lits) (pos j) (At m i) → IsBound b.problem b.lines (ones lits) (pos j) (At m i)
+        stays_first j m i old = subst (λ (p : ProblemValue). IsBound p b.lines (ones lits) (pos j) (At m i)) (sym on.problem)
+            (bounds_stay_law a.problem a.lines b.lines ready.state (ones lits) (pos j) (At m i)
             (own_law a.problem a.lines b.lines (totalizer_lines a b on)) ready.reached old)
 
         abbrev HasBound : ℕ → Literal → Type 0
-        HasBound k m = (i : ℕ) × IsBound e.problem e.lines (ones lits) (pos k) (At m i)
+        HasBound j m = (i : ℕ) × IsBound e.problem e.lines (ones lits) (pos j) (At m i)
 
         bounds_now : (i : ℕ) (f : Literal) → i < length outputs → HasBound (i + 2) (get_or outputs i f)
         bounds_now i f short = ⊎_elim
@@ -240,9 +252,9 @@ module _ (a b : Snapshot) (ready : IsReady a) (t u : TotalizerValue) (c : Counte
             let long = length-append c.outputs (l ∷ []) in
             let here : i ≡ length c.outputs = omega arith in
             let last : get_or outputs i f ≡ l = get_or-append_right c.outputs (l ∷ []) (length c.outputs) i f refl late
-            ∙ ap (λ (k : ℕ). get_or (l ∷ []) k f) (let z : i - length c.outputs ≡ 0 = omega arith in z) in
+            ∙ ap (λ (j : ℕ). get_or (l ∷ []) j f) (let z : i - length c.outputs ≡ 0 = omega arith in z) in
             subst (HasBound (i + 2)) (sym last)
-            (subst (λ (k : ℕ). HasBound k l) (let z : n ≡ i + 2 = omega arith in z) (id, stays n l id bound)))
+            (subst (λ (j : ℕ). HasBound j l) (let z : n ≡ i + 2 = omega arith in z) (id, stays n l id bound)))
             (cases_lt i (length c.outputs))
 
         pub counts_now : CountsNow e lits u d
@@ -253,8 +265,8 @@ module _ (a b : Snapshot) (ready : IsReady a) (t u : TotalizerValue) (c : Counte
           rising = subst (λ (os : List Literal). AreRising (lits ++ os)) (sym has) rising_now;
           variables = subst (λ (os : List Literal). HasVariablesNow e (lits ++ os)) (sym has)
               (still_variables b e then ready_now (lits ++ outputs) variables_now);
-          sums = λ k m long there.
-              let most = sums_now k m there in
+          sums = λ j m long there.
+              let most = sums_now j m there in
               let sizes = ap (λ (os : List Literal). length os) has in
               let one = length-append c.outputs (l ∷ []) in
               omega arith;

@@ -76,8 +76,8 @@ fn count_next<R: Recorder>(
         totalizer.new counted.new) }
     ensures added { OnOk result (AddsOutput (R.seen rec.old) counted.old counted.new) }
 {
-    let sum = counted.outputs.len() as i64 + 2;
-    let Bound::At { lit, lower_line } = totalizer.output(rec, sum)? else {
+    let sum = counted.outputs.len() as u64 + 2;
+    let Bound::At { lit, lower_line } = totalizer.output(rec, sum as i64)? else {
         // There are as many literals.
         return Ok(());
     };

@@ -32,8 +32,11 @@ pub(crate) fn take_up<R: Recorder>(
     ensures row { OnOk result (KeepsRow (R.seen rec.old) (R.seen rec.new) reform.old reform.new) }
     ensures falls { OnOk result (total reform.new.terms < total reform.old.terms) }
 {
+    let state = rec.state();
+    // Tells of which kind the live lines are.
+    let _vars = state.vars();
     // Of the line itself, whose literals rise.
-    let lits = in_memory(literals_of(alloc, rec.state(), id))?;
+    let lits = in_memory(literals_of(alloc, state, id))?;
     let weight = least_weight(reform.terms.as_slice(), lits.as_slice());
     let counted = count_core(alloc, rec, lits.as_slice(), id)?;
     exchange(alloc, rec, reform, lits.as_slice(), &counted, weight)
@@ -55,6 +58,8 @@ fn exchange<R: Recorder>(
     ensures terms { OnOk result (reform.new.terms
         ≡ exchanged lits.now weight counted.now.outputs reform.old.terms) }
 {
+    // Tells of which kind the live lines are.
+    let _vars = rec.state().vars();
     let outputs = counted.outputs.as_slice();
     let terms = in_memory(exchanged(alloc, reform.terms.as_slice(), lits, weight, outputs))?;
     let tokens = in_memory(lower_tokens(alloc, reform.lower_line, counted.line, weight))?;

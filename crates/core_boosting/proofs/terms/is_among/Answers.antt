@@ -1,5 +1,5 @@
 -- The literal at the place of its variable is the only one that it can be.
-use Rattle.std.proofs.Common.{◌≡◌, ◌≢◌, ◌<◌, ℕ, length, sym, arith, ap, subst}
+use Rattle.std.proofs.Common.{◌≡◌, ◌≢◌, ◌<◌, ℕ, length, Bool, sym, arith, ap, subst, ◌∙◌}
 use Rattle.std.proofs.Math.Bool.{beq}
 use Rattle.std.specs.List.{All}
 use Rattle.std.proofs.lemmas.List.{get_or_read}
@@ -30,8 +30,8 @@ returns c =
     let place = subst (λ (v : ℕ). IsPlace {X = Literal} (λ m. m.var) lits v c.literal_place-place.result) c.var.ensures.value c.literal_place-place.ensures in
     let bound = c.literal_place-place.ensures.bound in
     let short : c.literal_place-place.result < length lits = omega arith in
-    let at = λ (d : Literal). get_or_read lits _ _ short c.index-lits-place-2.is d in
+    let at = λ (d : Literal). sym (get_or_read lits _ _ short c.index-lits-place-2.is d) in
     let first = ap (λ (m : Literal). m.var) (get_or_read lits _ _ short c.index-lits-place.is l) in
     let second = ap (λ (m : Literal). m.var) (at l) in
     let is = among_at lits l c.index-lits-place-2.result c.literal_place-place.result c.requires place short at (omega arith) in
-    rw c.is_neg.ensures at rw c.is_neg-2.ensures at is
+    ap (λ (n : Bool). beq n c.is_neg-2.result) c.is_neg.ensures ∙ ap (λ (n : Bool). beq c.index-lits-place-2.result.neg n) c.is_neg-2.ensures ∙ is
