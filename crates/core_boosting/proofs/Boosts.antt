@@ -10,10 +10,10 @@ use Rattle.pb_lin.specs.Problem.{ProblemValue, IsProblem}
 use Rattle.proof_laws.specs.State.{StateValue}
 use Rattle.proof_laws.specs.WellFormed.{IsWellFormed}
 use Rattle.proof_laws.specs.Replay.{IsReplay}
-use Rattle.proof_laws.specs.Laws.{ReplayIsSound}
 use Rattle.proof_laws.specs.Earned.{HasBoosted, IsBoosted, IsBounded, IsLeastValue, is_sol}
 use Rattle.proof_laws.specs.declared.line.Line.{Line}
 use Rattle.proof_laws.specs.declared.line.Line.TheVariants.{Pol, Rup, Learn, Def, Red, Dom, Sol, Del, Reduce, End}
+use Rattle.proof_laws.proofs.NextKept.{replay_law}
 use Rattle.proof_rules.specs.Recording.{Snapshot}
 use Rattle.sum_outputs.specs.Adding.{IsReached}
 use Rattle.totalizer.specs.Keeping.{KeepsOwn}
@@ -79,8 +79,7 @@ boosts_none a prepared = record {
 module _ {T : Type 0} (a b : Snapshot) (p : ProblemValue) (problem : IsProblem p) (same : a.problem ≡ p) (reforms : List Reform) (first : BoostsFirst a reforms)
     (there : length reforms < length p.costs) (formed : All IsWellFormed b.lines) (x : T) (boosts : BoostsOn {T = T} a b (Ok x))
     (r : Reform) (is : (d : CostRowValue) → IsReformNow b (get_or p.costs (length reforms) d) r)
-    (ends : (s : StateValue) → IsReplay p b.lines s → EndsBoosting p r.terms s)
-    (sound_of : (s : StateValue) → IsProblem p → All IsWellFormed b.lines → IsReplay p b.lines s → ReplayIsSound p s) where
+    (ends : (s : StateValue) → IsReplay p b.lines s → EndsBoosting p r.terms s) where
   problem_now : b.problem ≡ p
   problem_now = boosts.goes_on.problem ∙ same
 
@@ -140,7 +139,7 @@ module _ {T : Type 0} (a b : Snapshot) (p : ProblemValue) (problem : IsProblem p
   least_now d reaches =
       let row = get_or p.costs (length reforms) d in
       let sols : s.sols ≡ [] = reached_law b.problem b.lines s prepared.ready.reached ∙ prepared.none in
-      least_offset p b.lines s row r problem (sound_of s problem formed reached) sols
+      least_offset p b.lines s row r problem (replay_law p b.lines s problem formed reached) sols
       (length reforms, there, get_or_default p.costs (length reforms) row d there)
       (subst (λ (q : ProblemValue). IsReformOf q b.lines s row r) problem_now (is d s prepared.ready.reached)) reaches
 

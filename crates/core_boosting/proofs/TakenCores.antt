@@ -1,5 +1,6 @@
 -- Cores that are taken up, one after the other.
-use Rattle.std.proofs.Common.{◌≡◌, ℕ, ◌≤◌, Ok, sym, ap, subst, ◌∙◌, arith}
+use Rattle.std.proofs.Common.{◌≡◌, ℕ, Option, None, Some, Ok, refl}
+use Rattle.std.specs.Prelude.{MatchOption}
 use Rattle.std.specs.List.{All}
 use Rattle.pb_lin.specs.Constraint.{IsVariable}
 use Rattle.pb_lin.specs.CostRow.{CostRowValue}
@@ -46,3 +47,8 @@ takes_more a b e before now then takes on may keeps = record {
 
 pub of_row : (a b : Snapshot) (before now : Reform) → KeepsRow a b before now → IsOfRow a before → IsOfRow b now
 of_row a b before now keeps (row, is) = (row, keeps row is)
+
+-- where nothing is found
+pub none_found : (o : Option ℕ) (P : Type 0) (Q : ℕ → Type 0) → MatchOption o P Q → ((x : ℕ) → o ≡ Some x → ⊥) → P
+none_found None P Q is none = is
+none_found (Some x) P Q is none = absurd (none x refl)

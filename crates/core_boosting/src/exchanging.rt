@@ -1,10 +1,10 @@
 // A core that is taken up: its literals' terms for those of its outputs.
-ghost use Rattle.std.specs.Prelude.{◌≡◌, ◌<◌, ◌+ℤ◌, pos, IfOk, OnOk};
+ghost use Rattle.std.specs.Prelude.{◌≡◌, ◌<◌, IfOk, OnOk};
 ghost use Rattle.pb_lin.specs.Constraint.{total};
 ghost use Rattle.oracle.specs.Solving.{Reaches};
 ghost use Rattle.sum_outputs.specs.Adding.{IsReady, IsRecorded};
 ghost use Rattle.core_boosting.specs.Boosting.{HasCoreLine};
-ghost use Rattle.core_boosting.specs.Exchanging.{DerivesOwn, IsOfRow, KeepsRow, MakesSome, MayExchange, exchanged, lower_tokens};
+ghost use Rattle.core_boosting.specs.Exchanging.{DerivesOwn, IsOfRow, KeepsRow, MakesSome, MayExchange, lower_tokens};
 
 use crate::counting::{Counted, count_core, push_factor};
 use crate::terms::{exchanged, least_weight, literals_of};
@@ -55,8 +55,7 @@ fn exchange<R: Recorder>(
     requires may { MayExchange (R.seen rec.old) reform.old lits.now counted.now weight }
     ensures recorded { IsRecorded (R.seen rec.old) (R.seen rec.new) result }
     ensures row { OnOk result (KeepsRow (R.seen rec.old) (R.seen rec.new) reform.old reform.new) }
-    ensures terms { OnOk result (reform.new.terms
-        ≡ exchanged lits.now weight counted.now.outputs reform.old.terms) }
+    ensures falls { OnOk result (total reform.new.terms < total reform.old.terms) }
 {
     // Tells of which kind the live lines are.
     let _vars = rec.state().vars();

@@ -1,13 +1,15 @@
 -- The terms are exchanged, and the line goes with them.
-use Rattle.std.proofs.Common.{◌≡◌, ℕ, List, refl, sym, subst, rules, FitsSigned}
+use Rattle.std.proofs.Common.{◌≡◌, ℕ, ◌+◌, ◌<◌, List, refl, ap, sym, subst, rules, arith, FitsSigned}
 use Rattle.std.specs.Int.{w64}
 use Rattle.scut_base.specs.Literal.{Literal}
-use Rattle.pb_lin.specs.Constraint.{ConstraintValue}
+use Rattle.pb_lin.specs.Constraint.{total}
+use Rattle.cutting_planes.proofs.Terms.{Terms}
 use Rattle.cutting_planes.specs.declared.token.PolToken.{PolToken}
 use Rattle.sum_outputs.specs.Laws.{AreTokensOf}
 use Rattle.sum_outputs.proofs.LaterStates.{continues_again}
 use Rattle.search_base.proofs.Recordings.{memory_handed}
 use Rattle.core_boosting.specs.Exchanging.{DerivesOwn, exchanged, lower_tokens}
+use Rattle.core_boosting.proofs.Exchanges.{exchange_sums}
 use Rattle.core_boosting.proofs.Raised.{raised_fits, raised_is, weight_fits}
 use Rattle.core_boosting.proofs.TakenUp.{keeps_row, makes_line, offset_fits, weight_small}
 use Rattle.core_boosting.proofs.exchanging.exchange.Goals as goal
@@ -72,3 +74,18 @@ returns-clause-row g c =
     rw c.as_slice-outputs.ensures at rw c.as_slice.ensures at rw c.in_ok-terms.ensures.ok at c.exchanged.ensures in
     keeps_row a r lits counted w may s reached state b call.recorded.continues c.in_ok-reform.field-0 derives _
     (raised_is r.offset w in_range small most) terms refl
+
+pub returns-clause-falls : goal.returns-clause-falls
+returns-clause-falls g c =
+    let r = c.args.reform.now in
+    let w = c.args.weight in
+    let lits = c.args.lits.now in
+    let counted = c.args.counted.now in
+    let may = c.requires.may in
+    let terms : c.in_ok-terms.terms ≡ exchanged lits w counted.outputs r.terms =
+    rw c.as_slice-outputs.ensures at rw c.as_slice.ensures at rw c.in_ok-terms.ensures.ok at c.exchanged.ensures in
+    let same = ap (λ (ts : Terms). total ts) terms in
+    let sums = exchange_sums r.terms lits counted.outputs w may.exchange in
+    let falls = sums.falls in
+    let some = may.exchange.some in
+    omega arith
