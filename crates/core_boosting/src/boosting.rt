@@ -75,7 +75,7 @@ pub fn boost_all<O: Oracle>(
     // Tells that the problem is within its limits.
     let _vars = problem.vars();
     let mut reforms = Items::new(alloc);
-    for _ in problem.costs() {
+    for _ in 0..problem.costs().len() {
         boost_next(alloc, oracle, problem, &mut reforms)?;
     }
     Ok(reforms.into_vec())
