@@ -1,5 +1,5 @@
 -- Lines that begin with boosted ones.
-use Rattle.std.proofs.Common.{◌≡◌, List, ◌++◌, ap, ◌∙◌, append_assoc}
+use Rattle.std.proofs.Common.{List, ◌++◌, ap, ◌∙◌, append_assoc}
 use Rattle.proof_laws.specs.declared.line.Line.{Line}
 use Rattle.core_boosting.specs.Boosting.{BoostedStays}
 

@@ -1,16 +1,15 @@
 -- Objectives that are boosted, one after the other.
-use Rattle.std.proofs.Common.{◌≡◌, ◌⊎◌, inl, inr, ⊎_elim, ℕ, suc, ◌+◌, ◌-◌, ◌<◌, ◌≤◌, false, List, [], ◌∷◌, ◌++◌, length, get_or, refl, ap, sym, subst, ◌∙◌, arith, ℤ, pos, ◌+ℤ◌, Ok}
-use Rattle.std.specs.Prelude.{◌^◌, Contains}
-use Rattle.std.specs.List.{All, AllZip, flat_map}
+use Rattle.std.proofs.Common.{◌≡◌, ◌⊎◌, inl, inr, ⊎_elim, ℕ, suc, ◌-◌, ◌<◌, ◌≤◌, false, List, [], ◌∷◌, ◌++◌, length, get_or, refl, ap, sym, subst, ◌∙◌, arith, pos, Ok}
+use Rattle.std.specs.List.{All, AllZip}
 use Rattle.std.proofs.lemmas.Bool.{cases_lt}
 use Rattle.std.proofs.lemmas.List.{get_or_append_left, get_or-append_right, get_or_default, length-append}
 use Rattle.std.proofs.lemmas.List.Elements.{All-nil, All-cons}
-use Rattle.pb_lin.specs.CostRow.{CostRowValue, IsCostRow}
+use Rattle.pb_lin.specs.CostRow.{CostRowValue}
 use Rattle.pb_lin.specs.Problem.{ProblemValue, IsProblem}
 use Rattle.proof_laws.specs.State.{StateValue}
 use Rattle.proof_laws.specs.WellFormed.{IsWellFormed}
 use Rattle.proof_laws.specs.Replay.{IsReplay}
-use Rattle.proof_laws.specs.Earned.{HasBoosted, IsBoosted, IsBounded, IsLeastValue, is_sol}
+use Rattle.proof_laws.specs.Earned.{HasBoosted, IsBoosted, is_sol}
 use Rattle.proof_laws.specs.declared.line.Line.{Line}
 use Rattle.proof_laws.specs.declared.line.Line.TheVariants.{Pol, Rup, Learn, Def, Red, Dom, Sol, Del, Reduce, End}
 use Rattle.proof_laws.proofs.NextKept.{replay_law}
@@ -22,7 +21,7 @@ use Rattle.totalizer.specs.declared.reform.Reform.{Reform}
 use Rattle.totalizer.proofs.LawsKept.{reform_stays_law}
 use Rattle.search_base.specs.CostBounds.{AreReforms}
 use Rattle.search_base.specs.Laws.{IsPrepared}
-use Rattle.search_base.specs.Logged.{LogsNone, logged, logged_by}
+use Rattle.search_base.specs.Logged.{LogsNone, logged}
 use Rattle.search_base.proofs.LoggedVectors.{reached_law}
 use Rattle.search_base.proofs.TurnLines.{own_law}
 use Rattle.core_boosting.specs.Boosting.{BoostsFirst, BoostsOn, EndsBoosting, HasLeastOffset, IsReformNow, MayBoost, ReachesOffset}
@@ -202,9 +201,12 @@ module _ (a : Snapshot) (problem : IsProblem a.problem) (reforms : List Reform) 
   are_boosted = ⊎_elim (λ (old : IsBoosted a.problem a.lines). old)
       (λ least. boosted_here a first.prepared first.prepared.ready.state first.prepared.ready.reached (inr (inr (λ k d short.
       let e = any_reform k in
-      let has = least k d e (omega arith) in
-      (has.0, has.1, least_bounded a.problem a.lines first.prepared.ready.state (get_or a.problem.costs k d) (get_or reforms k e)
-      (first.each k d e (omega arith) first.prepared.ready.state first.prepared.ready.reached) has.0 has.2)))))
+      let has = least k d e (omega arith) in (
+        has.0,
+        has.1,
+        least_bounded a.problem a.lines first.prepared.ready.state (get_or a.problem.costs k d) (get_or reforms k e)
+            (first.each k d e (omega arith) first.prepared.ready.state first.prepared.ready.reached) has.0 has.2,
+      )))))
       first.least
     where
       any_reform : ℕ → Reform

@@ -1,5 +1,5 @@
 -- What calls of an oracle and of a recorder leave, one after the other.
-use Rattle.std.proofs.Common.{◌≡◌, ℕ, ◌≤◌, false, Option, List, Result, Ok, Err, ap, refl, sym, subst, ◌∙◌, arith}
+use Rattle.std.proofs.Common.{◌≡◌, ℕ, false, Option, Result, Ok, Err, ap, refl, sym, subst, ◌∙◌, arith}
 use Rattle.std.specs.Prelude.{IfErr, IsErrAnd}
 use Rattle.std.proofs.lemmas.Result.{err_from_is_err_and}
 use Rattle.scut_base.specs.Faults.{Rose}

@@ -1,8 +1,7 @@
 -- What an oracle's answer says of an objective's terms.
-use Rattle.std.proofs.Common.{◌≡◌, ◌≢◌, ℕ, ◌<◌, ◌≤◌, ◌==◌, Bool, true, false, not, if◌then◌else◌, Some, List, [], ◌∷◌, ◌++◌, map, length, get_or, ap, refl, sym, subst, ◌∙◌, arith}
-use Rattle.std.specs.Prelude.{Contains, ◌^◌}
+use Rattle.std.proofs.Common.{◌≡◌, ◌≢◌, ℕ, ◌<◌, ◌==◌, Bool, true, false, not, if◌then◌else◌, Some, List, [], ◌∷◌, ◌++◌, map, length, get_or, ap, refl, sym, subst, ◌∙◌, arith}
+use Rattle.std.specs.Prelude.{Contains}
 use Rattle.std.specs.List.{All, AllPairs, list_all}
-use Rattle.std.specs.FinMap.{get}
 use Rattle.std.proofs.lemmas.Bool.{and_parts, eqb-true}
 use Rattle.std.proofs.lemmas.List.{get_or-map, get_or_default, length-map}
 use Rattle.std.proofs.lemmas.List.Elements.{All-nil, All-contains, All-head, All-tail, All-cons}
@@ -11,10 +10,8 @@ use Rattle.scut_base.specs.Assignment.{lit_true, value_of}
 use Rattle.scut_base.proofs.Lists.{Contains-from_map, Contains-head, Contains-nil}
 use Rattle.pb_lin.specs.Constraint.{ConstraintValue, IsVariable, literals, opposite}
 use Rattle.pb_lin.specs.Problem.{ProblemValue}
-use Rattle.pb_lin.proofs.Ones.{AllPairs-map}
 use Rattle.cutting_planes.proofs.Terms.{Terms}
-use Rattle.proof_laws.specs.State.{StateValue, IsState}
-use Rattle.proof_laws.specs.Refusal.{is_clause}
+use Rattle.proof_laws.specs.State.{StateValue}
 use Rattle.proof_laws.specs.Legal.{IsNext}
 use Rattle.proof_laws.specs.Replay.{IsReplay, Leads}
 use Rattle.proof_laws.specs.declared.line.Line.{Line}
@@ -24,7 +21,7 @@ use Rattle.sum_outputs.specs.Totals.{AreWeights}
 use Rattle.search_base.proofs.Cuts.{opposite_twice}
 use Rattle.search_base.proofs.Places.{from_places}
 use Rattle.search_base.proofs.TurnStates.{replay_after}
-use Rattle.core_boosting.specs.Boosting.{EndsBoosting, IsContradicted, IsCoreLine, ReachesOffset}
+use Rattle.core_boosting.specs.Boosting.{IsContradicted, IsCoreLine, ReachesOffset}
 use Rattle.core_boosting.proofs.Countings.{constraint_same}
 
 abbrev pub denied : Terms → List Literal
@@ -44,9 +41,11 @@ may_deny n terms weights variables = record { variables = each; apart = apart }
               ∙ get_or-map opposite (literals terms) k (opposite d) (opposite (opposite d)) (omega arith)
               ∙ ap opposite (get_or-map (λ (t : Literal × ℕ). t.0) terms k (opposite d, 0) (opposite d) (omega arith)),
         )
+
     each : All (λ l. IsVariable n l.var) (denied terms)
     each k d short = let at = place k d short in
         subst (λ (l : Literal). IsVariable n l.var) (sym at.1) (variables k (opposite d, 0) at.0)
+
     apart : AllPairs (λ l m. l.var ≢ m.var) (denied terms)
     apart i j d before short e =
         let one = place i d (omega arith) in

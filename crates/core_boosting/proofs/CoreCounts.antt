@@ -1,7 +1,7 @@
 -- The outputs over a core's literals, one after the other.
-use Rattle.std.proofs.Common.{◌≡◌, ℕ, ◌+◌, ◌-◌, ◌<◌, ◌≤◌, false, List, [], ◌∷◌, ◌++◌, map, length, get_or, refl, ap, sym, subst, ◌∙◌, arith, pos}
-use Rattle.std.specs.Prelude.{◌^◌, Contains}
-use Rattle.std.specs.List.{All, AllPairs}
+use Rattle.std.proofs.Common.{◌≡◌, ℕ, ◌+◌, ◌-◌, ◌<◌, false, List, [], ◌∷◌, length, get_or, refl, ap, sym, subst, ◌∙◌, arith}
+use Rattle.std.specs.Prelude.{Contains}
+use Rattle.std.specs.List.{All}
 use Rattle.std.proofs.lemmas.Int.{ints}
 use Rattle.std.proofs.lemmas.List.{get_or-map, length-append}
 use Rattle.std.proofs.lemmas.List.Elements.{All-nil, All-cons, All-append, All-map}
@@ -24,7 +24,6 @@ use Rattle.totalizer.proofs.Roots.{root_is, some_nodes}
 use Rattle.core_boosting.specs.declared.counting.Counted.{Counted}
 use Rattle.core_boosting.specs.Counting.{AddsOutput, CountsCore, CountsNow, HasCore}
 use Rattle.core_boosting.proofs.Literals.{AreRising, literals_of_ones, nothing_more, ones_long, ones_weights, rising_rest}
-use Rattle.core_boosting.proofs.LiveLines.{live_on}
 
 -- after k - 1 outputs
 pub record CountsTo (a b : Snapshot) (lits : List Literal) (t : TotalizerValue) (c : Counted) (k : ℕ) : Type 0 where

@@ -1,10 +1,9 @@
 -- The line that counts one output more is made.
-use Rattle.std.proofs.Common.{◌≡◌, ℕ, ◌+◌, ◌<◌, ◌≤◌, None, Some, List, [], ◌∷◌, ◌++◌, map, length, ap, sym, subst, ◌∙◌, arith, Ok}
-use Rattle.std.specs.Prelude.{◌^◌}
-use Rattle.std.specs.List.{All, AllPairs}
+use Rattle.std.proofs.Common.{◌≡◌, ℕ, ◌+◌, ◌<◌, None, Some, List, [], ◌∷◌, ◌++◌, map, length, ap, sym, subst, ◌∙◌, arith, Ok}
+use Rattle.std.specs.List.{All}
 use Rattle.std.proofs.lemmas.List.{length-map, map-append}
 use Rattle.scut_base.specs.Literal.{Literal}
-use Rattle.pb_lin.specs.Constraint.{ConstraintValue, opposite}
+use Rattle.pb_lin.specs.Constraint.{opposite}
 use Rattle.cutting_planes.specs.Stack.{IsValueOn}
 use Rattle.proof_laws.specs.State.{StateValue, IsState}
 use Rattle.proof_laws.specs.Refusal.{given_in}

@@ -1,5 +1,5 @@
 -- Lines of a totalizer keep what was earned, and learn nothing.
-use Rattle.std.proofs.Common.{◌≡◌, ℕ, ◌≤◌, false, Option, None, Some, List, [], ◌∷◌, ◌++◌, ap, refl, sym, subst, ◌∙◌, arith, append-nil, append_assoc}
+use Rattle.std.proofs.Common.{◌≡◌, ℕ, false, Option, None, Some, List, [], ◌∷◌, ◌++◌, ap, refl, sym, subst, ◌∙◌, arith, append-nil, append_assoc}
 use Rattle.std.specs.List.{All}
 use Rattle.std.proofs.lemmas.List.Elements.{All-head, All-tail}
 use Rattle.pb_lin.specs.Problem.{ProblemValue}
@@ -14,7 +14,7 @@ use Rattle.proof_laws.proofs.Replays.{leads_further}
 use Rattle.proof_rules.specs.Recording.{Snapshot}
 use Rattle.oracle.specs.Solving.{AreEarned, IsWithin}
 use Rattle.sum_outputs.specs.Totals.{IsTotalizerLine}
-use Rattle.sum_outputs.specs.Adding.{Continues, IsReady}
+use Rattle.sum_outputs.specs.Adding.{Continues}
 use Rattle.sum_outputs.proofs.LaterStates.{ready_later}
 use Rattle.search_base.proofs.TurnStates.{replay_after}
 use Rattle.core_boosting.specs.Boosting.{MayBoost}

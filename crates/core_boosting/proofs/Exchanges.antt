@@ -1,11 +1,11 @@
 -- What a core makes of weighted terms.
 use Rattle.std.proofs.Common.{◌≡◌, ◌≢◌, ℕ, ◌+◌, ◌-◌, ◌*◌, ◌<◌, ◌≤◌, ◌==◌, zero, suc, Bool, true, false, cond, ◌&&◌, ◌||◌, if◌then◌else◌, List, [], ◌∷◌, ◌++◌, map, length, get_or, sum_by, refl, ap, sym, subst, ◌∙◌, arith}
-use Rattle.std.specs.Prelude.{◌^◌, nat_lt, Contains}
+use Rattle.std.specs.Prelude.{nat_lt, Contains}
 use Rattle.std.proofs.Math.Bool.{beq}
 use Rattle.std.specs.List.{All, AllPairs, filter}
-use Rattle.std.proofs.lemmas.Bool.{cond-true, cond-false, eq-eqb, ne_eqb, le-ltb, ltb-false, and_left}
+use Rattle.std.proofs.lemmas.Bool.{cond-true, cond-false, eq-eqb, ne_eqb, ltb-false, and_left}
 use Rattle.std.proofs.lemmas.List.{get_or-map, length-map}
-use Rattle.std.proofs.lemmas.List.Elements.{All-nil, All-cons, All-head, All-tail, All-append, All-map, All-filter}
+use Rattle.std.proofs.lemmas.List.Elements.{All-head, All-tail, All-append, All-map, All-filter}
 use Rattle.std.proofs.lemmas.List.Kept.{AllPairs-filter}
 use Rattle.std.proofs.lemmas.List.Sums.{sum_by-cons, sum_by-append}
 use Rattle.scut_base.specs.Literal.{Literal}
@@ -14,11 +14,11 @@ use Rattle.scut_base.proofs.Lists.{all_filter_if}
 use Rattle.pb_lin.specs.Constraint.{ones, term_value, total, value}
 use Rattle.pb_lin.specs.Restriction.{is_among}
 use Rattle.pb_lin.proofs.Ones.{AllPairs-map}
-use Rattle.pb_lin.proofs.Truths.{beq_same, beq_other, not_among}
+use Rattle.pb_lin.proofs.Truths.{beq_same, not_among}
 use Rattle.cutting_planes.proofs.Terms.{Terms}
 use Rattle.sum_outputs.specs.Totals.{AreWeights}
 use Rattle.sum_outputs.proofs.Glue.{AreApart}
-use Rattle.core_boosting.proofs.Countings.{scaled, scaled_value, scaled_total, scaled_positive, if_scaled}
+use Rattle.core_boosting.proofs.Countings.{scaled, scaled_value, scaled_total, scaled_positive}
 use Rattle.core_boosting.specs.Exchanging.{lowered, remaining, exchanged, CanExchange, ExchangeSums}
 
 -- ---- pairs
@@ -120,6 +120,7 @@ sum_among_all f (l ∷ ls) ts apart rising among =
     by true true n never = let e = never refl in cc
     by true false n never = omega arith
     by false b n never = omega arith
+
     others : (m : Literal) → is_same l m ≡ true → All (λ n. n.var ≢ m.var) ls
     others m is k d short e =
         let less = pairs_head (λ p n. p.var < n.var) l ls rising k d short in

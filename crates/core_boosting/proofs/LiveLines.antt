@@ -1,16 +1,15 @@
 -- Lines of a totalizer leave every line that was live.
-use Rattle.std.proofs.Common.{◌≡◌, ℕ, ◌≤◌, false, Some, List, [], ◌∷◌, ◌++◌, refl, sym, subst, arith}
+use Rattle.std.proofs.Common.{◌≡◌, ℕ, false, List, [], ◌∷◌, ◌++◌, refl, sym, subst, arith}
 use Rattle.std.specs.List.{All}
-use Rattle.std.specs.FinMap.{get}
 use Rattle.std.proofs.lemmas.List.Elements.{All-head, All-tail}
-use Rattle.pb_lin.specs.Constraint.{ConstraintValue, IsVariable}
+use Rattle.pb_lin.specs.Constraint.{ConstraintValue}
 use Rattle.pb_lin.specs.Problem.{ProblemValue}
 use Rattle.scut_base.specs.Literal.{Literal}
 use Rattle.proof_laws.specs.State.{StateValue, start}
 use Rattle.proof_laws.specs.Replay.{IsReplay, Leads}
 use Rattle.proof_laws.specs.declared.line.Line.{Line}
 use Rattle.proof_laws.specs.declared.line.Line.TheVariants.{Def, Pol}
-use Rattle.proof_laws.proofs.Replays.{leads_further, replay_once}
+use Rattle.proof_laws.proofs.Replays.{leads_further}
 use Rattle.proof_rules.specs.Recording.{Snapshot}
 use Rattle.sum_outputs.specs.Totals.{IsTotalizerLine}
 use Rattle.sum_outputs.specs.Adding.{Continues, IsReached, IsReady}

@@ -1,13 +1,13 @@
 -- How the line below an objective goes on with a core.
-use Rattle.std.proofs.Common.{◌≡◌, ◌≢◌, ℕ, ◌+◌, ◌-◌, ◌*◌, ◌<◌, ◌≤◌, ◌==◌, zero, suc, Bool, true, false, cond, if◌then◌else◌, Some, List, [], ◌∷◌, ◌++◌, map, length, get_or, sum_by, refl, ap, sym, subst, ◌∙◌, arith, Ok, pos, ℤ, ◌+ℤ◌, ◌-ℤ◌}
+use Rattle.std.proofs.Common.{◌≡◌, ◌≢◌, ℕ, ◌+◌, ◌*◌, ◌<◌, ◌≤◌, ◌==◌, suc, Bool, true, false, if◌then◌else◌, Some, List, [], ◌∷◌, ◌++◌, map, length, get_or, refl, ap, sym, subst, ◌∙◌, arith, Ok, pos, ℤ, ◌+ℤ◌}
 use Rattle.std.specs.Prelude.{◌^◌, ◌≤ℤ◌, ◌↔◌, nat_lt}
-use Rattle.std.specs.List.{All, AllPairs}
+use Rattle.std.specs.List.{All}
 use Rattle.std.specs.FinMap.{get}
-use Rattle.std.proofs.lemmas.Bool.{cond-true, cond-false, eq-eqb, eqb-true, eqb-false, ne_eqb, ltb-true, ltb-false}
+use Rattle.std.proofs.lemmas.Bool.{ltb-true, ltb-false}
 use Rattle.std.proofs.lemmas.List.{length-map, length-append}
 use Rattle.std.proofs.Math.Nat.{mul-le-mul_left}
 use Rattle.std.proofs.lemmas.Int.{ints}
-use Rattle.std.proofs.lemmas.List.Elements.{All-nil, All-cons, All-append, All-map}
+use Rattle.std.proofs.lemmas.List.Elements.{All-append, All-map}
 use Rattle.std.proofs.lemmas.List.Sums.{sum_by-cons, sum_by-append}
 use Rattle.scut_base.specs.Literal.{Literal}
 use Rattle.scut_base.specs.Assignment.{lit_true}
@@ -15,20 +15,19 @@ use Rattle.pb_lin.specs.Constraint.{ConstraintValue, Covers, Holds, IsNormal, on
 use Rattle.pb_lin.specs.CostRow.{CostRowValue, row_cost}
 use Rattle.pb_lin.specs.Given.{Given}
 use Rattle.pb_lin.proofs.Ones.{AllPairs-map}
-use Rattle.pb_lin.proofs.OppositeTerms.{value-opposite, total-opposite}
+use Rattle.pb_lin.proofs.OppositeTerms.{value-opposite}
 use Rattle.cutting_planes.specs.Rules.{IsSum, multiplied}
 use Rattle.cutting_planes.specs.Stack.{size_fault, IsValueOn, Answer}
 use Rattle.cutting_planes.specs.declared.token.PolToken.{PolToken}
 use Rattle.cutting_planes.specs.declared.token.PolToken.TheVariants.{Id, Add, Mul}
 use Rattle.cutting_planes.proofs.Terms.{Terms, changed, total-multiplied, normal-multiplied}
-use Rattle.proof_laws.specs.Refusal.{line_or_none}
 use Rattle.proof_laws.proofs.NormalForms.{sum_exists}
 use Rattle.sum_outputs.proofs.Glue.{AreApart, all_true, bound, bound_within, value-le-total, none_true, apart_from_rising}
 use Rattle.totalizer.specs.Reforming.{IsLowerLine}
 use Rattle.core_boosting.specs.Counting.{OutputsFollow, counting, times}
 use Rattle.core_boosting.specs.Exchanging.{CanExchange, CanLower, HasGreatest, IsAbove, LowersOn, exchanged, lower_tokens}
 use Rattle.sum_outputs.proofs.Chains.{push_line, size_fine, step}
-use Rattle.core_boosting.proofs.Countings.{factor_fine, constraint_same, scaled, scaled_value, scaled_total}
+use Rattle.core_boosting.proofs.Countings.{factor_fine, constraint_same, scaled_total}
 use Rattle.core_boosting.proofs.Exchanges.{exchange_sums, pairs_append}
 
 -- ---- what a line says
@@ -133,6 +132,7 @@ module _ (given : Given) (row : CostRowValue) (offset : ℤ) (terms : Terms) (li
       if_times : (b : Bool) (n : ℕ) → (if b then n * w else 0) ≡ w * (if b then n else 0)
       if_times true n = omega arith
       if_times false n = omega arith
+
       value_times : (y : List Bool) (k : ℕ) (ts : Terms) → value y (map (changed (λ n. n * w)) ts) ≡ w * value y ts
       value_times y k [] = omega arith
       value_times y k (t ∷ ts) =
@@ -280,9 +280,9 @@ module _ (given : Given) (row : CostRowValue) (offset : ℤ) (terms : Terms) (li
       let sum = sum_exists can.before many can.normal many_normal sizes_fit in (
         sum.0,
         push_line given old can.before [] (Id line ∷ (times w ++ Add ∷ [])) (Ok sum.0) is
-        (push_line given line core (can.before ∷ []) (times w ++ Add ∷ []) (Ok sum.0) can.counts
-        (times_on (can.before ∷ []) (Add ∷ []) (Ok sum.0)
-        (step given Add (many ∷ can.before ∷ []) (sum.0 ∷ []) [] (Ok sum.0) (size_fine (size can.before + size many) sizes_fit) (sum.0, sum.1, refl) refl))),
+            (push_line given line core (can.before ∷ []) (times w ++ Add ∷ []) (Ok sum.0) can.counts
+            (times_on (can.before ∷ []) (Add ∷ []) (Ok sum.0)
+            (step given Add (many ∷ can.before ∷ []) (sum.0 ∷ []) [] (Ok sum.0) (size_fine (size can.before + size many) sizes_fit) (sum.0, sum.1, refl) refl))),
         lower_of_sum sum.0 sum.1,
       )
 

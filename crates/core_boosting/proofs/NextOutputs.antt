@@ -1,21 +1,19 @@
 -- The next output over a core's literals.
-use Rattle.std.proofs.Common.{◌≡◌, ◌⊎◌, ⊎_elim, ℕ, ◌+◌, ◌-◌, ◌*◌, ◌<◌, ◌≤◌, ◌==◌, Bool, true, false, not, Some, List, [], ◌∷◌, ◌++◌, map, length, get_or, sum_by, refl, ap, sym, subst, ◌∙◌, arith, append_assoc, ℤ, pos}
-use Rattle.std.specs.Prelude.{◌^◌, ◌≤ℤ◌, ◌<ℤ◌}
-use Rattle.std.specs.List.{All, AllPairs, Contains}
-use Rattle.std.specs.FinMap.{get}
+use Rattle.std.proofs.Common.{◌≡◌, ⊎_elim, ℕ, ◌+◌, ◌-◌, ◌<◌, ◌≤◌, ◌==◌, true, false, not, Some, List, [], ◌∷◌, ◌++◌, map, length, get_or, refl, ap, sym, subst, ◌∙◌, arith, append_assoc, ℤ, pos}
+use Rattle.std.specs.Prelude.{◌^◌, ◌<ℤ◌}
+use Rattle.std.specs.List.{All}
 use Rattle.std.proofs.lemmas.Bool.{cond-false, cases_lt, ne_eqb}
 use Rattle.std.proofs.lemmas.Int.{ints}
 use Rattle.std.proofs.lemmas.List.{get_or_append_left, get_or-append_right, length-append}
 use Rattle.std.proofs.lemmas.List.Elements.{All-nil, All-cons, All-append}
 use Rattle.std.proofs.lemmas.List.Sorted.{sum_by-IsPermutation}
 use Rattle.scut_base.specs.Literal.{Literal}
-use Rattle.pb_lin.specs.Constraint.{ConstraintValue, IsVariable, ones, opposite, term_value, total, value}
+use Rattle.pb_lin.specs.Constraint.{ConstraintValue, IsVariable, ones, opposite, term_value, total}
 use Rattle.pb_lin.specs.Problem.{ProblemValue}
 use Rattle.pb_lin.proofs.Unique.{unique}
 use Rattle.cutting_planes.proofs.Terms.{Terms}
 use Rattle.proof_laws.specs.State.{StateValue}
 use Rattle.proof_laws.specs.Steps.{reached_if, term_of}
-use Rattle.proof_laws.specs.Replay.{IsReplay}
 use Rattle.proof_laws.proofs.Ranges.{all_prefix}
 use Rattle.proof_rules.specs.Recording.{Snapshot}
 use Rattle.sum_outputs.specs.Adding.{Continues, IsReached, IsReady}

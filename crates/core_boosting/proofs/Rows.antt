@@ -1,11 +1,9 @@
 -- An objective in its own terms, to be boosted.
-use Rattle.std.proofs.Common.{◌≡◌, ℕ, ◌<◌, ◌≤◌, length, get_or, sym, ap, subst, ◌∙◌, arith, pos, ℤ, ◌+ℤ◌}
-use Rattle.std.specs.List.{All}
+use Rattle.std.proofs.Common.{◌≡◌, ℕ, ◌<◌, length, get_or, sym, ap, subst, ◌∙◌, arith, pos, ℤ, ◌+ℤ◌}
 use Rattle.pb_lin.specs.Constraint.{TermsUpTo, total}
 use Rattle.pb_lin.specs.CostRow.{CostRowValue, IsCostRow}
 use Rattle.pb_lin.specs.Problem.{ProblemValue, IsProblem}
 use Rattle.cutting_planes.proofs.Terms.{Terms}
-use Rattle.proof_laws.specs.State.{StateValue}
 use Rattle.proof_rules.specs.Recording.{Snapshot}
 use Rattle.sum_outputs.proofs.LaterStates.{replay_vars}
 use Rattle.totalizer.specs.Reforming.{IsOwnReform}

@@ -1,20 +1,13 @@
 -- Cores that are taken up, one after the other.
 use Rattle.std.proofs.Common.{◌≡◌, ℕ, Option, None, Some, Ok, refl}
 use Rattle.std.specs.Prelude.{MatchOption}
-use Rattle.std.specs.List.{All}
-use Rattle.pb_lin.specs.Constraint.{IsVariable}
-use Rattle.pb_lin.specs.CostRow.{CostRowValue}
-use Rattle.pb_lin.specs.Problem.{ProblemValue}
-use Rattle.proof_laws.specs.State.{StateValue}
-use Rattle.proof_laws.specs.Replay.{IsReplay}
 use Rattle.proof_rules.specs.Recording.{Snapshot}
-use Rattle.sum_outputs.specs.Adding.{Continues, IsReached}
+use Rattle.sum_outputs.specs.Adding.{Continues}
 use Rattle.totalizer.specs.declared.reform.Reform.{Reform}
 use Rattle.search_base.proofs.TurnLines.{own_law}
 use Rattle.core_boosting.specs.Boosting.{BoostsOn, MayBoost}
-use Rattle.core_boosting.specs.Exchanging.{IsExactly, IsOfRow, KeepsRow}
+use Rattle.core_boosting.specs.Exchanging.{IsOfRow, KeepsRow}
 use Rattle.core_boosting.proofs.Calls.{boosts_after, boosts_recorded, boosts_same}
-use Rattle.core_boosting.proofs.EarnedLines.{still_boosts}
 use Rattle.core_boosting.proofs.TakenUp.{exactly_kept}
 
 -- calls so far, and the objective in other terms

@@ -1,16 +1,15 @@
 -- A core that is taken up, and what it makes of an objective in other terms.
-use Rattle.std.proofs.Common.{◌≡◌, ⊎_elim, inr, ℕ, ◌+◌, ◌-◌, ◌*◌, ◌<◌, ◌≤◌, ◌==◌, Bool, true, false, if◌then◌else◌, Option, None, Some, List, [], ◌∷◌, ◌++◌, map, length, get_or, refl, ap, sym, subst, ◌∙◌, arith, Ok, ℤ, pos, ◌+ℤ◌}
-use Rattle.std.specs.Prelude.{◌^◌, ◌≤ℤ◌, ◌<ℤ◌, Contains, nat_lt}
-use Rattle.std.specs.List.{All, AllPairs}
+use Rattle.std.proofs.Common.{◌≡◌, inr, ℕ, ◌<◌, ◌≤◌, ◌==◌, Bool, true, false, if◌then◌else◌, None, Some, List, [], map, get_or, refl, ap, sym, subst, ◌∙◌, arith, pos, ◌+ℤ◌}
+use Rattle.std.specs.Prelude.{◌^◌, ◌<ℤ◌, Contains, nat_lt}
+use Rattle.std.specs.List.{All}
 use Rattle.std.specs.FinMap.{get}
 use Rattle.std.proofs.lemmas.Bool.{cond-false, eqb-true, ne_eqb}
 use Rattle.std.proofs.lemmas.Int.{ints}
 use Rattle.std.proofs.lemmas.List.{length-map}
 use Rattle.std.proofs.lemmas.List.Elements.{All-append, All-filter, All-map}
-use Rattle.std.proofs.Math.Nat.{mul-le-mul_left}
 use Rattle.scut_base.specs.Literal.{Literal}
-use Rattle.pb_lin.specs.Constraint.{ConstraintValue, Holds, IsNormal, IsVariable, literals, opposite, total, value}
-use Rattle.pb_lin.specs.CostRow.{CostRowValue, row_cost}
+use Rattle.pb_lin.specs.Constraint.{ConstraintValue, IsNormal, IsVariable, literals, opposite, total, value}
+use Rattle.pb_lin.specs.CostRow.{CostRowValue}
 use Rattle.pb_lin.specs.Problem.{ProblemValue}
 use Rattle.pb_lin.proofs.Ones.{rising-literals}
 use Rattle.cutting_planes.specs.declared.token.PolToken.{PolToken}
@@ -20,7 +19,7 @@ use Rattle.proof_laws.specs.Refusal.{given_in, line_or_none}
 use Rattle.proof_laws.specs.Replay.{IsReplay}
 use Rattle.proof_laws.proofs.Replays.{replay_once}
 use Rattle.proof_rules.specs.Recording.{Snapshot}
-use Rattle.sum_outputs.specs.Adding.{Continues, IsLater, IsOwn, IsReached, IsReady, KeptHold}
+use Rattle.sum_outputs.specs.Adding.{Continues, IsLater, IsOwn, IsReached, IsReady}
 use Rattle.sum_outputs.specs.Laws.{AreTokensOf}
 use Rattle.sum_outputs.specs.Totals.{AreWeights}
 use Rattle.sum_outputs.proofs.PolLines.{id_small}
@@ -37,7 +36,7 @@ use Rattle.search_base.proofs.TurnLines.{own_law, totalizer_lines}
 use Rattle.core_boosting.specs.declared.counting.Counted.{Counted}
 use Rattle.core_boosting.specs.Boosting.{HasCoreLine}
 use Rattle.core_boosting.specs.Counting.{CountsCore, HasCore, counting}
-use Rattle.core_boosting.specs.Exchanging.{AllWeigh, CanExchange, CanLower, DerivesOwn, IsExactly, IsOfRow, KeepsRow, LowersOn, MakesSome, MayExchange, exchanged, lower_tokens, lowered, remaining}
+use Rattle.core_boosting.specs.Exchanging.{AllWeigh, CanExchange, CanLower, DerivesOwn, IsExactly, IsOfRow, KeepsRow, LowersOn, MayExchange, exchanged, lower_tokens, lowered, remaining}
 use Rattle.core_boosting.proofs.Exchanges.{exchange_sums}
 use Rattle.core_boosting.proofs.Literals.{AreRising, clause_counted, no_more_than}
 use Rattle.core_boosting.proofs.Lowering.{greatest_stays, line_lowers, upper_stays}

@@ -1,19 +1,17 @@
 -- The tokens of the lines that boosting adds: a text can spell them, and they write no variables.
-use Rattle.std.proofs.Common.{◌≡◌, ◌≢◌, ℕ, ◌+◌, ◌<◌, ◌≤◌, ◌==◌, Bool, true, false, cond, if◌then◌else◌, None, Some, List, [], ◌∷◌, ◌++◌, refl, arith, pos, Ok}
+use Rattle.std.proofs.Common.{◌≡◌, ℕ, ◌+◌, ◌<◌, ◌≤◌, ◌==◌, Bool, true, false, if◌then◌else◌, None, [], ◌∷◌, ◌++◌, arith, pos, Ok}
 use Rattle.std.specs.Prelude.{◌^◌, nat_lt}
 use Rattle.std.specs.List.{All}
-use Rattle.std.specs.FinMap.{get}
 use Rattle.std.proofs.lemmas.Int.{ints}
 use Rattle.std.proofs.lemmas.List.Elements.{All-nil, All-cons, All-append}
 use Rattle.pb_lin.specs.Constraint.{ConstraintValue}
 use Rattle.cutting_planes.specs.Stack.{IsValueOn}
 use Rattle.cutting_planes.specs.declared.token.PolToken.{PolToken}
 use Rattle.cutting_planes.specs.declared.token.PolToken.TheVariants.{Id, Add, Mul, Div}
-use Rattle.proof_laws.specs.State.{StateValue, IsState}
+use Rattle.proof_laws.specs.State.{StateValue}
 use Rattle.proof_laws.specs.Refusal.{given_in, token_variables}
 use Rattle.proof_laws.specs.WellFormed.{IsToken}
 use Rattle.sum_outputs.specs.Laws.{AreTokensOf}
-use Rattle.sum_outputs.proofs.PolLines.{id_small}
 use Rattle.core_boosting.specs.Counting.{raised_tokens, times}
 use Rattle.core_boosting.specs.Exchanging.{lower_tokens}
 

@@ -1,5 +1,5 @@
 -- Objectives in other terms whose offsets are reached, and lines that are boosted.
-use Rattle.std.specs.Prelude.{◌≡◌, ◌⊎◌, ℕ, ◌<◌, ◌≤◌, ◌^◌, Bool, true, false, List, [], ◌++◌, length, slice_index_or, Some, All, Contains, ℤ, pos, ◌+ℤ◌, Result, IfErr}
+use Rattle.std.specs.Prelude.{◌≡◌, ◌⊎◌, ℕ, ◌<◌, ◌≤◌, ◌^◌, Bool, true, false, List, [], ◌++◌, length, slice_index_or, Some, All, Contains, pos, ◌+ℤ◌, Result, IfErr}
 use Rattle.std.specs.FinMap.{get}
 use Rattle.scut_base.specs.Literal.{Literal}
 use Rattle.scut_base.specs.Assignment.{lit_true}
@@ -11,7 +11,7 @@ use Rattle.proof_laws.specs.Refusal.{is_clause}
 use Rattle.proof_laws.specs.Earned.{IsBoosted, IsLeastValue}
 use Rattle.proof_laws.specs.declared.line.Line.{Line}
 use Rattle.proof_rules.specs.Recording.{Snapshot}
-use Rattle.oracle.specs.Solving.{AreEarned, IsSolution, IsWithin, Reaches}
+use Rattle.oracle.specs.Solving.{AreEarned, IsSolution, IsWithin}
 use Rattle.oracle.specs.declared.fault.OracleFault.{OracleFault}
 use Rattle.sum_outputs.specs.Adding.{IsReached, IsReady}
 use Rattle.totalizer.specs.declared.reform.Reform.{Reform}

@@ -92,10 +92,7 @@ fn lower_tokens(
 }
 
 // Records the constraint that these tokens make, and answers its id.
-pub(crate) fn derive<R: Recorder>(
-    rec: &mut R,
-    tokens: Items<PolToken>,
-) -> Result<u64, RecordFault>
+pub(crate) fn derive<R: Recorder>(rec: &mut R, tokens: Items<PolToken>) -> Result<u64, RecordFault>
     requires ready { IsReady (R.seen rec.old) }
     requires makes { MakesSome (R.seen rec.old) tokens }
     ensures recorded { IsRecorded (R.seen rec.old) (R.seen rec.new) result }

@@ -1,5 +1,5 @@
 -- An objective is boosted from its own terms.
-use Rattle.std.proofs.Common.{◌≡◌, ℕ, ◌<◌, List, length, get_or, refl, ap, sym, subst, ◌∙◌, arith}
+use Rattle.std.proofs.Common.{◌≡◌, ◌<◌, List, length, get_or, refl, ap, subst, ◌∙◌, arith}
 use Rattle.std.proofs.lemmas.List.{get_or_read}
 use Rattle.pb_lin.specs.CostRow.{CostRowValue}
 use Rattle.search_base.proofs.Turning.{goes_again}
@@ -22,8 +22,7 @@ take_up_cores-requires-clause-row g c =
     let there = c.requires.there in
     let short : c.args.objective < length c.costs.result.now = omega arith in
     let is : d ≡ get_or p.costs c.args.objective d =
-    get_or_read c.costs.result.now _ _ short c.index-costs-objective.is d ∙ ap (λ (rows : List CostRowValue). get_or rows c.args.objective d) c.costs.ensures in
-    (
+    get_or_read c.costs.result.now _ _ short c.index-costs-objective.is d ∙ ap (λ (rows : List CostRowValue). get_or rows c.args.objective d) c.costs.ensures in (
       get_or p.costs c.args.objective d,
       own_row a p c.args.objective d c.in_ok-reform.reform c.requires.problem c.vars-vars.ensures.problem there
           (subst (λ (row : CostRowValue). IsOwnReform row c.in_ok-reform.reform) is c.in_ok-reform.ensures),
@@ -44,8 +43,8 @@ returns-clause-reform g c =
     let there = c.requires.there in
     let short : c.args.objective < length c.costs.result.now = omega arith in
     λ d.
-        let is : c.index-costs-objective.result ≡ get_or p.costs c.args.objective d =
-        get_or_read c.costs.result.now _ _ short c.index-costs-objective.is d ∙ ap (λ (rows : List CostRowValue). get_or rows c.args.objective d) c.costs.ensures in
-        let own = own_row a p c.args.objective d c.in_ok-reform.reform c.requires.problem c.vars-vars.ensures.problem there
-        (subst (λ (row : CostRowValue). IsOwnReform row c.in_ok-reform.reform) is c.in_ok-reform.ensures) in
-        (c.in_ok-take_up_cores.ensures.row (get_or p.costs c.args.objective d) own).reform
+    let is : c.index-costs-objective.result ≡ get_or p.costs c.args.objective d =
+    get_or_read c.costs.result.now _ _ short c.index-costs-objective.is d ∙ ap (λ (rows : List CostRowValue). get_or rows c.args.objective d) c.costs.ensures in
+    let own = own_row a p c.args.objective d c.in_ok-reform.reform c.requires.problem c.vars-vars.ensures.problem there
+    (subst (λ (row : CostRowValue). IsOwnReform row c.in_ok-reform.reform) is c.in_ok-reform.ensures) in
+    (c.in_ok-take_up_cores.ensures.row (get_or p.costs c.args.objective d) own).reform

@@ -1,11 +1,11 @@
 -- All objectives are boosted.
-use Rattle.std.proofs.Common.{◌≡◌, ℕ, ◌+◌, ◌<◌, ◌≤◌, List, [], length, Ok, ap, refl, sym, subst, ◌∙◌, arith}
+use Rattle.std.proofs.Common.{◌≡◌, List, length, Ok, ap, sym, subst, ◌∙◌, arith}
 use Rattle.pb_lin.specs.CostRow.{CostRowValue}
 use Rattle.pb_lin.specs.Problem.{ProblemValue, IsProblem}
 use Rattle.proof_laws.specs.Earned.{IsBoosted}
 use Rattle.totalizer.specs.declared.reform.Reform.{Reform}
 use Rattle.search_base.specs.CostBounds.{AreReforms}
-use Rattle.core_boosting.specs.Boosting.{BoostsFirst, BoostsOn}
+use Rattle.core_boosting.specs.Boosting.{BoostsFirst}
 use Rattle.core_boosting.proofs.Boosts.{are_boosted, are_reforms, boosts_none, may_boost, still_prepared}
 use Rattle.core_boosting.proofs.Calls.{boosts_after, boosts_handed, boosts_ok, boosts_same}
 use Rattle.core_boosting.proofs.boosting.boost_all.Goals as goal

@@ -1,6 +1,5 @@
 -- What the oracle's answer says, and what it leaves.
-use Rattle.std.proofs.Common.{◌≡◌, inl, inr, ℕ, ◌<◌, ◌≤◌, Some, List, [], ap, refl, sym, subst, ◌∙◌, arith}
-use Rattle.scut_base.specs.Literal.{Literal}
+use Rattle.std.proofs.Common.{inl, inr, ap, refl, sym, subst, ◌∙◌, arith}
 use Rattle.pb_lin.specs.Problem.{ProblemValue}
 use Rattle.proof_laws.specs.State.{StateValue}
 use Rattle.proof_laws.specs.Replay.{IsReplay}
@@ -8,7 +7,7 @@ use Rattle.proof_laws.proofs.Replays.{replay_once}
 use Rattle.oracle.specs.Solving.{AreAssumptions, IsAnswer}
 use Rattle.oracle.specs.declared.answer.Answer.TheVariants.{Sat, Unsat}
 use Rattle.search_base.proofs.Turning.{goes_again}
-use Rattle.core_boosting.specs.Boosting.{EndsBoosting, HasCoreLine}
+use Rattle.core_boosting.specs.Boosting.{EndsBoosting}
 use Rattle.core_boosting.proofs.Calls.{boosts_asked, boosts_memory, boosts_refused, boosts_same, not_ended}
 use Rattle.core_boosting.proofs.CoreClauses.{core_line, denied, may_deny, no_core, reaches_offset, search_vars, some_of}
 use Rattle.core_boosting.proofs.cores.next_core.Goals as goal
@@ -17,10 +16,10 @@ pub returns-then-vars-gt-MOST_VARIABLES-clause-core : goal.returns-then-vars-gt-
 returns-then-vars-gt-MOST_VARIABLES-clause-core g c =
     let a = g.O.Recorder.seen c.args.oracle.now in
     λ s reached.
-        let same = ap (λ (u : StateValue). u.vars) (replay_once a.problem a.lines c.state.result.now s c.state.ensures.replays reached) in
-        let many = c.if-vars-gt-MOST_VARIABLES.true in
-        let value = c.vars.ensures.value in
-        inr (inl (omega arith))
+    let same = ap (λ (u : StateValue). u.vars) (replay_once a.problem a.lines c.state.result.now s c.state.ensures.replays reached) in
+    let many = c.if-vars-gt-MOST_VARIABLES.true in
+    let value = c.vars.ensures.value in
+    inr (inl (omega arith))
 
 pub returns-then-vars-gt-MOST_VARIABLES-clause-goes_on : goal.returns-then-vars-gt-MOST_VARIABLES-clause-goes_on
 returns-then-vars-gt-MOST_VARIABLES-clause-goes_on g c = boosts_same (g.O.Recorder.seen c.args.oracle.now) _ c.requires.may
@@ -97,11 +96,11 @@ returns-clause-core g c =
     rw c.in_ok-denials.ensures at rw c.as_slice.ensures at rw c.in-Unsat.is at call.answer in
     let one = some_of core.lits (λ e. let t = c.is_empty.ensures.1 e in let f = c.if-is_empty.false in cc) in
     λ s reached.
-        let again = subst (λ (p : ProblemValue). IsReplay p b.lines s) call.keeps.problem reached in
-        let same = search_vars a.problem a.lines b.lines c.state.result.now s call.lines c.state.ensures.replays again in
-        let few = c.if-vars-gt-MOST_VARIABLES.false in
-        let value = c.vars.ensures.value in
-        record { few = omega arith; core = core_line terms core.lits core.id s (answer s again) one.0 one.1 }
+    let again = subst (λ (p : ProblemValue). IsReplay p b.lines s) call.keeps.problem reached in
+    let same = search_vars a.problem a.lines b.lines c.state.result.now s call.lines c.state.ensures.replays again in
+    let few = c.if-vars-gt-MOST_VARIABLES.false in
+    let value = c.vars.ensures.value in
+    record { few = omega arith; core = core_line terms core.lits core.id s (answer s again) one.0 one.1 }
 
 pub returns-clause-goes_on : goal.returns-clause-goes_on
 returns-clause-goes_on g c =

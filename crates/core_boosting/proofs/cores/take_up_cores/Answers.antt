@@ -1,5 +1,5 @@
 -- Cores are taken up while there are some.
-use Rattle.std.proofs.Common.{◌≡◌, ℕ, List, Ok, sym, subst}
+use Rattle.std.proofs.Common.{sym, subst}
 use Rattle.std.specs.List.{All}
 use Rattle.pb_lin.specs.Constraint.{IsVariable}
 use Rattle.cutting_planes.proofs.Terms.{Terms}

@@ -1,14 +1,11 @@
 -- The line that counts one output more is made.
-use Rattle.std.proofs.Common.{◌≡◌, ℕ, ◌+◌, ◌++◌, ◌∷◌, [], List, map, length, sym, subst, ◌∙◌, ap, arith}
-use Rattle.scut_base.specs.Literal.{Literal}
+use Rattle.std.proofs.Common.{◌≡◌, ℕ, ◌+◌, ◌++◌, ◌∷◌, [], List, map, length, sym, subst, ◌∙◌, ap}
 use Rattle.pb_lin.specs.Constraint.{opposite}
-use Rattle.cutting_planes.specs.Stack.{IsValueOn}
 use Rattle.cutting_planes.specs.declared.token.PolToken.{PolToken}
-use Rattle.proof_laws.specs.State.{StateValue}
 use Rattle.sum_outputs.specs.Laws.{AreTokensOf}
 use Rattle.sum_outputs.proofs.LaterStates.{continues_again}
 use Rattle.search_base.proofs.Recordings.{memory_handed}
-use Rattle.core_boosting.specs.Counting.{HasNext, IsLiveNow, counting, raised_tokens}
+use Rattle.core_boosting.specs.Counting.{counting, raised_tokens}
 use Rattle.core_boosting.specs.Exchanging.{DerivesOwn}
 use Rattle.core_boosting.proofs.CountedLines.{count_tokens, count_value}
 use Rattle.core_boosting.proofs.counting.count_by.Goals as goal
@@ -51,5 +48,5 @@ returns-clause-line g c =
     subst (λ (ts : List PolToken). DerivesOwn a b ts c.in_ok-counted.field-0) is c.in_ok-counted.ensures.own in
     let ready = c.requires.ready in
     λ lits next t after.
-        (derives ready.state t (counting lits (map opposite (before.outputs ++ c.args.output ∷ []))) ready.reached after
-        (count_value a ready.state ready.reached lits before c.args.output c.args.lower_line next)).0
+    (derives ready.state t (counting lits (map opposite (before.outputs ++ c.args.output ∷ []))) ready.reached after
+    (count_value a ready.state ready.reached lits before c.args.output c.args.lower_line next)).0

@@ -1,10 +1,9 @@
 -- All outputs over a core's literals.
-use Rattle.std.proofs.Common.{◌≡◌, ℕ, ◌+◌, ◌<◌, List, [], length, sym, subst, arith}
+use Rattle.std.proofs.Common.{List, sym, subst, arith}
 use Rattle.scut_base.specs.Literal.{Literal}
 use Rattle.sum_outputs.proofs.LaterStates.{continues_again, handed_err}
 use Rattle.sum_outputs.proofs.OutputsLater.{way_ready}
 use Rattle.search_base.proofs.Recordings.{memory_handed}
-use Rattle.core_boosting.specs.declared.counting.Counted.{Counted}
 use Rattle.core_boosting.proofs.CoreCounts.{CountsTo, core_weights, counts_core, counts_first, counts_more, counts_own}
 use Rattle.core_boosting.proofs.counting.count_core.Goals as goal
 

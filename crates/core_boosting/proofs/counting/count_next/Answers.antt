@@ -1,7 +1,7 @@
 -- The next output, and the line that counts it.
 use mir.Val.{to_z}
 use mir.Syntax.{w64}
-use Rattle.std.proofs.Common.{◌≡◌, ℕ, ◌+◌, ◌<◌, ◌++◌, ◌∷◌, [], List, length, ap, ◌∙◌, arith, pos}
+use Rattle.std.proofs.Common.{◌≡◌, ℕ, ◌+◌, ◌++◌, ◌∷◌, [], length, ap, ◌∙◌, arith, pos}
 use Rattle.std.proofs.lemmas.Int.{to_z_pos}
 use Rattle.std.proofs.lemmas.Result.{on_ok_weaker}
 use Rattle.std.proofs.lemmas.List.{length-map}
@@ -55,9 +55,11 @@ count_by-requires-clause-next g c =
     let is_len = c.len.ensures in
     let call = c.in_ok-lit.ensures in
     let asked : to_z w64 (c.len.result + 2) ≡ pos (length before.outputs + 2) =
-    to_z_pos w64 (c.len.result + 2) (omega arith) ∙ ap (λ (k : ℕ). pos (k + 2)) is_len in
-    (lits, has_next a b c.requires.ready t u before lits so (omega arith) call.recorded.continues call.nodes
-    (to_z w64 (c.len.result + 2)) asked c.in_ok-lit.field-0 call.bound call.added c.in-At.lit c.in-At.lower_line c.in-At.is call.recorded.whole)
+    to_z_pos w64 (c.len.result + 2) (omega arith) ∙ ap (λ (k : ℕ). pos (k + 2)) is_len in (
+      lits,
+      has_next a b c.requires.ready t u before lits so (omega arith) call.recorded.continues call.nodes
+          (to_z w64 (c.len.result + 2)) asked c.in_ok-lit.field-0 call.bound call.added c.in-At.lit c.in-At.lower_line c.in-At.is call.recorded.whole,
+    )
 
 pub returns-clause-recorded : goal.returns-clause-recorded
 returns-clause-recorded g c =

@@ -1,8 +1,5 @@
 -- What the tokens make may be recorded, and stays.
-use Rattle.std.proofs.Common.{◌≡◌, ◌++◌, ◌∷◌, [], ℕ}
-use Rattle.std.specs.Prelude.{IfOk}
-use Rattle.std.proofs.lemmas.Result.{IfOk-weaker}
-use Rattle.proof_laws.specs.State.{StateValue}
+use Rattle.std.proofs.Common.{◌≡◌, ◌++◌, ◌∷◌, []}
 use Rattle.sum_outputs.proofs.PolLines.{pol_leaves, pol_may_be_added_law}
 use Rattle.search_base.proofs.Recordings.{if_on}
 use Rattle.proof_laws.specs.declared.line.Line.TheVariants.{Pol}

@@ -1,7 +1,6 @@
 -- The terms are exchanged, and the line goes with them.
-use Rattle.std.proofs.Common.{◌≡◌, ℕ, ◌+◌, ◌<◌, List, refl, ap, sym, subst, rules, arith, FitsSigned}
+use Rattle.std.proofs.Common.{◌≡◌, List, refl, ap, sym, subst, rules, arith, FitsSigned}
 use Rattle.std.specs.Int.{w64}
-use Rattle.scut_base.specs.Literal.{Literal}
 use Rattle.pb_lin.specs.Constraint.{total}
 use Rattle.cutting_planes.proofs.Terms.{Terms}
 use Rattle.cutting_planes.specs.declared.token.PolToken.{PolToken}
@@ -33,8 +32,8 @@ derive-requires-clause-makes g c =
     let w = c.args.weight in
     let is : c.in_ok-tokens.tokens ≡ lower_tokens r.lower_line c.args.counted.now.line w = rw c.in_ok-tokens.ensures.ok at c.lower_tokens.ensures in
     λ s reached state.
-        let made = makes_line a r c.args.lits.now c.args.counted.now w c.requires.may s reached state in
-        (made.0, subst (λ (ts : List PolToken). AreTokensOf s ts made.0) (sym is) made.1)
+    let made = makes_line a r c.args.lits.now c.args.counted.now w c.requires.may s reached state in
+    (made.0, subst (λ (ts : List PolToken). AreTokensOf s ts made.0) (sym is) made.1)
 
 pub overflow_cast-reform : goal.overflow_cast-reform
 overflow_cast-reform g c =

@@ -1,5 +1,5 @@
 -- A core is taken up.
-use Rattle.std.proofs.Common.{◌≡◌, List, sym, subst, ◌∙◌}
+use Rattle.std.proofs.Common.{List, sym, subst, ◌∙◌}
 use Rattle.std.specs.Prelude.{Contains}
 use Rattle.std.specs.List.{All}
 use Rattle.std.proofs.lemmas.Result.{on_ok_weaker}

@@ -1,11 +1,10 @@
 -- The literal at the place of its variable is the only one that it can be.
-use Rattle.std.proofs.Common.{◌≡◌, ◌≢◌, ◌<◌, ℕ, length, Bool, sym, arith, ap, subst, ◌∙◌}
+use Rattle.std.proofs.Common.{◌≢◌, ◌<◌, ℕ, length, Bool, sym, arith, ap, subst, ◌∙◌}
 use Rattle.std.proofs.Math.Bool.{beq}
 use Rattle.std.specs.List.{All}
 use Rattle.std.proofs.lemmas.List.{get_or_read}
 use Rattle.scut_base.specs.Literal.{Literal}
 use Rattle.pb_lin.specs.Place.{IsPlace}
-use Rattle.pb_lin.specs.Restriction.{is_among}
 use Rattle.pb_lin.proofs.Places.{none_at_place}
 use Rattle.pb_lin.proofs.Truths.{not_among}
 use Rattle.core_boosting.proofs.Literals.{among_at}
