@@ -2,3 +2,4 @@ pub mod ListedModels
 pub mod EndLines
 pub mod Boards
 pub mod PreparedLines
+pub mod BoostedFronts

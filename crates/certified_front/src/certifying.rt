@@ -8,9 +8,11 @@ ghost use Rattle.search_base.specs.CostBounds.{AreReforms};
 ghost use Rattle.search_base.specs.Laws.{IsPrepared};
 ghost use Rattle.certified_front.specs.Certified.{CoversLogged, IsEnding};
 ghost use Rattle.certified_front.specs.Planning.{FollowsPlan};
+ghost use Rattle.certified_front.specs.Stopping.{SearchesFront};
 
+use crate::boosting::front_boosted;
 use crate::preparing::prepare;
-use crate::searching::front_with;
+use crate::searching::front_over;
 use crate::{Found, Plan};
 use instance::Instance;
 use oracle::Oracle;
@@ -18,7 +20,7 @@ use p_minimal::PMinimal;
 use pb_lin::PbProblem;
 use proof_rules::RecordFault;
 use scut_base::NoMemory;
-use search_base::{Bounds, Search, own_reforms};
+use search_base::{Search, own_reforms};
 use std::alloc::Global;
 use sum_outputs::in_memory;
 use term_order::ordered;
@@ -52,7 +54,10 @@ pub fn certified_front<O: Oracle>(
 {
     match PMinimal::relaxed(alloc, problem) {
         Ok(mut search) => {
-            let plan = Plan { harden: false };
+            let plan = Plan {
+                harden: false,
+                boost: false,
+            };
             certified_front_by(alloc, oracle, problem, inst, plan, &mut search)
         }
         Err(NoMemory) => Err(RecordFault::NoMemory),
@@ -78,7 +83,8 @@ pub fn certified_front_by<O: Oracle, S: Search>(
     ensures ending { IfOk result
         (λ found. IsEnding (O.seen oracle.old).limit problem.now
         (O.seen oracle.new).lines found.ending) }
-    ensures planned { OnOk result (FollowsPlan plan problem.now (O.seen oracle.new).lines) }
+    ensures planned { IfOk result
+        (λ found. FollowsPlan plan problem.now (O.seen oracle.new).lines found.ending) }
     ensures whole { OnOk result ((O.seen oracle.new).broken ≡ false) }
     ensures failed { IsErrOf result RecordFault.Failed
         → Rose (O.seen oracle.old).faults (O.seen oracle.new).faults }
@@ -88,13 +94,34 @@ pub fn certified_front_by<O: Oracle, S: Search>(
     ensures around { KeepsSurroundings (O.seen oracle.old).around (O.seen oracle.new).around }
 {
     prepare(alloc, oracle, problem, plan)?;
+    if plan.boost {
+        front_boosted(alloc, oracle, problem, inst, search)
+    } else {
+        front_in_own_terms(alloc, oracle, problem, inst, search)
+    }
+}
+
+// Searches from prepared lines, over the objectives in their own terms.
+fn front_in_own_terms<O: Oracle, S: Search>(
+    alloc: Global,
+    oracle: &mut O,
+    problem: &PbProblem,
+    inst: &Instance,
+    search: &mut S,
+) -> Result<Found, RecordFault>
+    requires normal { IsNormalFormOf inst.now problem.now }
+    requires problem { (O.seen oracle.old).problem ≡ problem.now }
+    requires prepared { IsPrepared (O.seen oracle.old) }
+    requires serves { S.serves search.old problem.now }
+    ensures { SearchesFront inst.now problem.now (O.seen oracle.old) (O.seen oracle.new) result }
+{
     // Tells that a text can spell each line, for which the laws of the rule book are.
     let _state = oracle.state();
     // Tells that the problem is within its limits.
     let _vars = problem.vars();
     let own = in_memory(own_reforms(alloc, problem))?;
     let reforms = in_memory(ordered(alloc, problem, own))?;
-    front_by(alloc, oracle, problem, inst, reforms, search)
+    front_over(alloc, oracle, problem, inst, reforms, search)
 }
 
 /// Searches for the front of an instance by a search that serves its problem, from lines that were prepared,
@@ -129,6 +156,5 @@ pub fn front_by<O: Oracle, S: Search>(
     ensures begins { (more : List Line)
         × ((O.seen oracle.new).lines ≡ (O.seen oracle.old).lines ++ more) }
 {
-    let mut bounds = in_memory(Bounds::new(alloc, reforms))?;
-    front_with(alloc, oracle, problem, inst, &mut bounds, search)
+    front_over(alloc, oracle, problem, inst, reforms, search)
 }

@@ -6,6 +6,7 @@
 //! serves the problem, after what a plan asks for, and `front_by` from lines that were prepared.
 #![tactic(auto)]
 
+mod boosting;
 mod certifying;
 mod ending;
 mod preparing;

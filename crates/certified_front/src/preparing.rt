@@ -17,6 +17,8 @@ use std::alloc::Global;
 pub struct Plan {
     /// Whether literals that may as well be false are made false.
     pub harden: bool,
+    /// Whether lower bounds of all objectives are raised core by core.
+    pub boost: bool,
 }
 
 // Adds the lines that the plan asks for to an oracle without lines.

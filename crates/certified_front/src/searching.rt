@@ -8,7 +8,7 @@ ghost use Rattle.instance_normal.specs.NormalForm.{IsNormalFormOf};
 ghost use Rattle.proof_laws.specs.WellFormed.{IsWellFormed};
 ghost use Rattle.sum_outputs.specs.Adding.{IsReady};
 ghost use Rattle.search_base.specs.Boards.{IsBoard, IsModelPair};
-ghost use Rattle.search_base.specs.CostBounds.{FitBounds};
+ghost use Rattle.search_base.specs.CostBounds.{AreReforms, FitBounds};
 ghost use Rattle.search_base.specs.Good.{IsGood, KeepsBoard};
 ghost use Rattle.search_base.specs.Laws.{IsPrepared};
 ghost use Rattle.search_base.specs.Logged.{LogsNone, logged};
@@ -28,9 +28,30 @@ use scut_base::NoMemory;
 use search_base::{Board, Bounds, Search, beginning_is_good, logged_is_reached, run_search};
 use std::alloc::Global;
 use sum_outputs::in_memory;
+use totalizer::Reform;
 
-// Searches from prepared lines, on a board of its own.
-pub(crate) fn front_with<O: Oracle, S: Search>(
+// Searches from prepared lines, over objectives in other terms.
+pub(crate) fn front_over<O: Oracle, S: Search>(
+    alloc: Global,
+    oracle: &mut O,
+    problem: &PbProblem,
+    inst: &Instance,
+    reforms: Vec<Reform>,
+    search: &mut S,
+) -> Result<Found, RecordFault>
+    requires normal { IsNormalFormOf inst.now problem.now }
+    requires problem { (O.seen oracle.old).problem ≡ problem.now }
+    requires prepared { IsPrepared (O.seen oracle.old) }
+    requires reforms { AreReforms (O.seen oracle.old) reforms.items }
+    requires serves { S.serves search.old problem.now }
+    ensures { SearchesFront inst.now problem.now (O.seen oracle.old) (O.seen oracle.new) result }
+{
+    let mut bounds = in_memory(Bounds::new(alloc, reforms))?;
+    front_with(alloc, oracle, problem, inst, &mut bounds, search)
+}
+
+// The same, on a board of its own.
+fn front_with<O: Oracle, S: Search>(
     alloc: Global,
     oracle: &mut O,
     problem: &PbProblem,

@@ -116,7 +116,7 @@ module _ (old begun new : Option Files) (name header : List ℕ) (p : ProblemVal
   full_left : length lines ≡ 2 ^ 61 → IsFull old new p name version
   full_left full = record { proof = text; lines = lines; spelled = spelled; first = refl; full = full; replay = (s, kept.replay); files = whole (none_left full) }
 
-  logged : (i : InstanceValue) (limit : Option ℕ) (plan : Plan) (found : Found) → broken ≡ false → FollowsPlan plan p lines → CoversLogged i p lines found.entries.items → IsEnding limit p lines found.ending → IsLogged old new i p name version limit plan found
+  logged : (i : InstanceValue) (limit : Option ℕ) (plan : Plan) (found : Found) → broken ≡ false → FollowsPlan plan p lines found.ending → CoversLogged i p lines found.entries.items → IsEnding limit p lines found.ending → IsLogged old new i p name version limit plan found
   logged i limit plan found unbroken planned covers ending = record {
     proof = text;
     lines = lines;
@@ -128,7 +128,7 @@ module _ (old begun new : Option Files) (name header : List ℕ) (p : ProblemVal
     files = whole (log.whole unbroken);
   }
 
-  logged_by : (i : InstanceValue) (limit : Option ℕ) (plan : Plan) (r : Result Found RecordFault) → OnOk r (broken ≡ false) → OnOk r (FollowsPlan plan p lines) → IfOk r (λ found. CoversLogged i p lines found.entries.items) → IfOk r (λ found. IsEnding limit p lines found.ending)
+  logged_by : (i : InstanceValue) (limit : Option ℕ) (plan : Plan) (r : Result Found RecordFault) → OnOk r (broken ≡ false) → IfOk r (λ found. FollowsPlan plan p lines found.ending) → IfOk r (λ found. CoversLogged i p lines found.entries.items) → IfOk r (λ found. IsEnding limit p lines found.ending)
       → IfOk r (IsLogged old new i p name version limit plan)
   logged_by i limit plan (Ok found) unbroken planned covers ending = logged i limit plan found unbroken planned covers ending
   logged_by i limit plan (Err fault) unbroken planned covers ending = tt

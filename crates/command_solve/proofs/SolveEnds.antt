@@ -18,6 +18,7 @@ use Rattle.proof_rules.specs.declared.recorder.RecordFault.{RecordFault}
 use Rattle.proof_rules.specs.declared.recorder.RecordFault.TheVariants.{Failed, Full, NoMemory as RecordNoMemory}
 use Rattle.log_checker.specs.Accepted.{IsAccepted}
 use Rattle.log_checker.proofs.AcceptedFront.{entries_are_front}
+use Rattle.certified_front.specs.Planning.{FollowsPlan}
 use Rattle.certified_front.specs.Certified.{HasEnded, IsEnding}
 use Rattle.certified_front.specs.declared.ending.Ending.{Ending}
 use Rattle.certified_front.specs.declared.ending.Ending.TheVariants.{Complete as EndingComplete, Incomplete as EndingIncomplete}
@@ -122,7 +123,7 @@ module _ (a : SolveAsked) where
             proof = logged.proof;
             accepted = accepted ended;
             first = logged.first;
-            planned = logged.planned;
+            planned = subst (λ (e : Ending). FollowsPlan a.plan p logged.lines e) is logged.planned;
             listed = subst (λ (e : Ending). IsListed a.list (list_text (is_complete e) entries) (status_of (length entries) e) (with_log (view before) a logged.proof) after) is
                 (subst (λ (v : View). IsListed a.list (list_text (is_complete found.ending) entries) (status_of (length entries) found.ending) v after) mid_is listed);
           }

@@ -41,7 +41,7 @@ pub record IsLogged (old new : Option Files) (i : InstanceValue) (p : ProblemVal
   pub lines : List Line
   pub spelled : SpellsLog proof lines
   pub first : spelled.first ≡ first_of version p
-  pub planned : FollowsPlan plan p lines
+  pub planned : FollowsPlan plan p lines found.ending
   pub covers : CoversLogged i p lines found.entries.items
   pub ending : IsEnding limit p lines found.ending
   pub files : new ≡ with_file old log proof
@@ -66,7 +66,7 @@ IsLogStopped Failed old new p log version before after = IsTouched old new log (
 
 -- what is found covers what the recorder's lines log, which follow the plan; and why nothing was found
 pub record IsSearched (i : InstanceValue) (p : ProblemValue) (limit : Option ℕ) (plan : Plan) (a b : Snapshot) (result : Result Found RecordFault) : Type 0 where
-  pub planned : OnOk result (FollowsPlan plan p b.lines)
+  pub planned : IfOk result (λ found. FollowsPlan plan p b.lines found.ending)
   pub covers : IfOk result (λ found. CoversLogged i p b.lines found.entries.items)
   pub ending : IfOk result (λ found. IsEnding limit p b.lines found.ending)
   pub whole : OnOk result (b.broken ≡ false)

@@ -1,4 +1,4 @@
--- The answers of `solve IN LIST LOG [--search S] [--turns T] [--learn N] [--log-version V] [--harden]`, a record for each. None
+-- The answers of `solve IN LIST LOG [--search S] [--turns T] [--learn N] [--log-version V] [--harden] [--boost]`, a record for each. None
 -- of them tells which search it was.
 use Rattle.std.specs.Prelude.{◌≡◌, ◌↔◌, ◌⊎◌, ℕ, ◌^◌, true, false, List, ◌∷◌, ◌==◌, if◌then◌else◌, length, Option, Some}
 use Rattle.scut_base.specs.Files.{Files, content, with_file, IsTouched}
@@ -16,7 +16,7 @@ use Rattle.log_checker.specs.Accepted.{IsAccepted}
 use Rattle.certified_front.specs.Certified.{CoversLogged, IsEnding}
 use Rattle.certified_front.specs.Planning.{FollowsPlan}
 use Rattle.certified_front.specs.declared.ending.Ending.{Ending}
-use Rattle.certified_front.specs.declared.ending.Ending.TheVariants.{Incomplete as EndingIncomplete}
+use Rattle.certified_front.specs.declared.ending.Ending.TheVariants.{Complete as EndingComplete, Incomplete as EndingIncomplete}
 use Rattle.command_base.specs.Answering.{Call, Completes, appending, beginning, reading}
 use Rattle.command_base.specs.Causes.{HasText, IsRefused}
 use Rattle.command_base.specs.InputTable.{InputTable}
@@ -58,7 +58,7 @@ pub record IsFound (files : Option Files) (a : SolveAsked) (i : InstanceValue) (
   pub lines : List Line
   pub spelled : SpellsLog log lines
   pub first : spelled.first ≡ first_of a.version problem
-  pub planned : FollowsPlan a.plan problem lines
+  pub planned : FollowsPlan a.plan problem lines how
   pub covers : CoversLogged i problem lines entries
   pub ending : IsEnding a.limit problem lines how
 
@@ -81,7 +81,7 @@ pub record IsCertified (before after : View) (a : SolveAsked) (size : ℕ) : Typ
   pub proof : List ℕ
   pub accepted : IsAccepted instance (list_text true entries) proof
   pub first : accepted.proof.spelled.first ≡ first_of a.version accepted.problem
-  pub planned : FollowsPlan a.plan accepted.problem accepted.proof.lines
+  pub planned : FollowsPlan a.plan accepted.problem accepted.proof.lines EndingComplete
   pub listed : IsListed a.list (list_text true entries) (Complete size) (with_log before a proof) after
 
 -- Incomplete: N was given, LOG has earned so many learned clauses, and one more could follow; LIST has models that cover

@@ -1,4 +1,4 @@
--- The words of `solve IN LIST LOG [--search S] [--turns T] [--learn N] [--log-version V] [--harden]`.
+-- The words of `solve IN LIST LOG [--search S] [--turns T] [--learn N] [--log-version V] [--harden] [--boost]`.
 use Rattle.std.specs.Prelude.{ℕ, ◌^◌, ◌&&◌, not, nat_lt, if◌then◌else◌, List, codes, Option, Some, None}
 use Rattle.std.specs.Option.{option_and_then, option_map}
 use Rattle.std.specs.Str.{bytes_eq}
@@ -53,11 +53,11 @@ solve_options =
     (option_rule (codes "learn"))) (option_rule (codes "log-version"))
 
 abbrev pub solve_app : App
-solve_app = with_rule solve_options (flag_rule (codes "harden"))
+solve_app = with_rule (with_rule solve_options (flag_rule (codes "harden"))) (flag_rule (codes "boost"))
 
 -- what is done before the search
 abbrev pub plan_of_rows : List Row → Plan
-plan_of_rows rows = record { harden = is_set (codes "harden") rows }
+plan_of_rows rows = record { harden = is_set (codes "harden") rows; boost = is_set (codes "boost") rows }
 
 -- the search of this name
 abbrev pub search_named : List ℕ → Option SearchKind

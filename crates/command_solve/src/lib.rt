@@ -1,4 +1,4 @@
-//! The command `solve IN LIST LOG [--search S] [--turns T] [--learn N] [--log-version V] [--harden]`: the front of the
+//! The command `solve IN LIST LOG [--search S] [--turns T] [--learn N] [--log-version V] [--harden] [--boost]`: the front of the
 //! instance in the file IN by search, as a list in the file LIST, with a log in the file LOG.
 //!
 //! Its public contract: what it answers goes by its table (`SolveTable`), and what its words ask for is `solve_asked`. The
@@ -62,7 +62,8 @@ fn solve_words<'a>(alloc: Global) -> Result<clap::Command<'a>, NoMemory>
     ensures { IfOk result (λ c. app_of c ≡ solve_app) }
 {
     let command = option_words(alloc)?;
-    with_arg(command, flag(alloc, "harden"))
+    let command = with_arg(command, flag(alloc, "harden"))?;
+    with_arg(command, flag(alloc, "boost"))
 }
 
 // The command's files, and its options that have a value.
@@ -105,6 +106,7 @@ fn solve_of_matches<'a>(matches: &ArgMatches<'a>) -> Option<Solve<'a>>
         version: version_of(optional(matches, "log-version"))?,
         plan: Plan {
             harden: is_set(matches, "harden"),
+            boost: is_set(matches, "boost"),
         },
     })
 }

@@ -44,7 +44,7 @@ gen_in origin input = record { origin = origin; out = input }
 
 abbrev pub solve_in : (input list log : List ℕ) → SolveAsked
 solve_in input list log =
-    record { format = Mcnf; input = input; list = list; log = log; search = PMinimal; turns = None; limit = None; version = One; plan = record { harden = false } }
+    record { format = Mcnf; input = input; list = list; log = log; search = PMinimal; turns = None; limit = None; version = One; plan = record { harden = false; boost = false } }
 
 abbrev pub check_in : (input list log : List ℕ) → CheckAsked
 check_in input list log = record { format = Mcnf; input = input; list = list; log = log }

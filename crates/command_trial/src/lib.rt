@@ -185,7 +185,10 @@ fn solve_in<'a>(input: &'a str, list: &'a str, log: &'a str) -> Solve<'a>
         turns: None,
         limit: None,
         version: LogVersion::One,
-        plan: Plan { harden: false },
+        plan: Plan {
+            harden: false,
+            boost: false,
+        },
     }
 }
 

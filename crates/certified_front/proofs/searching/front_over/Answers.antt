@@ -1,6 +1,6 @@
 -- Bounds of reforms that serve fit.
 use Rattle.certified_front.proofs.Boards.{weights_of}
-use Rattle.certified_front.proofs.certifying.front_by.Goals as goal
+use Rattle.certified_front.proofs.searching.front_over.Goals as goal
 
 pub new-requires : goal.new-requires
 new-requires g c = weights_of (g.O.Recorder.seen c.args.oracle.now) c.args.reforms.items c.requires.prepared c.requires.reforms

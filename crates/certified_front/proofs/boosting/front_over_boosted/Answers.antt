@@ -1,0 +1,9 @@
+-- What was boosted stays so.
+use Rattle.certified_front.proofs.BoostedFronts.{boosted_at_end}
+use Rattle.certified_front.proofs.boosting.front_over_boosted.Goals as goal
+
+pub returns-clause-boosted : goal.returns-clause-boosted
+returns-clause-boosted g c =
+    let R = g.O.Recorder in
+    boosted_at_end c.boosted_stays.ensures c.args.problem.now (R.seen c.args.oracle.now) (R.seen c.front_over.new.oracle)
+    c.front_over.result c.requires.boosted c.front_over.ensures.stays
