@@ -1,5 +1,5 @@
 -- Objectives that are boosted, one after the other.
-use Rattle.std.proofs.Common.{◌≡◌, ◌⊎◌, inl, inr, ⊎_elim, ℕ, suc, ◌-◌, ◌<◌, ◌≤◌, false, List, [], ◌∷◌, ◌++◌, length, get_or, refl, ap, sym, subst, ◌∙◌, arith, pos, Ok}
+use Rattle.std.proofs.Common.{◌≡◌, ◌⊎◌, inl, inr, ⊎_elim, ℕ, suc, ◌-◌, ◌<◌, ◌≤◌, false, List, [], ◌∷◌, ◌++◌, length, get_or, refl, ap, sym, subst, ◌∙◌, arith, append-nil, pos, Ok}
 use Rattle.std.specs.List.{All, AllZip}
 use Rattle.std.proofs.lemmas.Bool.{cases_lt}
 use Rattle.std.proofs.lemmas.List.{get_or_append_left, get_or-append_right, get_or_default, length-append}
@@ -46,11 +46,7 @@ no_sol p (End id ∷ lines) none = All-cons (λ line. is_sol line ≡ false) (En
 -- lines that log nothing and lead to such a state are boosted
 boosted_here : (a : Snapshot) → IsPrepared a → (s : StateValue) → IsReached a s → HasBoosted a.problem s → IsBoosted a.problem a.lines
 boosted_here a prepared s reached has =
-    (a.lines, [], s, sym (nothing a.lines), no_sol a.problem a.lines prepared.none, reached, has)
-  where
-    nothing : (lines : List Line) → lines ++ [] ≡ lines
-    nothing [] = refl
-    nothing (l ∷ lines) = ap (λ (ls : List Line). l ∷ ls) (nothing lines)
+    (a.lines, [], s, sym (append-nil a.lines), no_sol a.problem a.lines prepared.none, reached, has)
 
 -- ---- what a call keeps
 

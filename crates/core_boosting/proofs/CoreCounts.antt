@@ -1,5 +1,5 @@
 -- The outputs over a core's literals, one after the other.
-use Rattle.std.proofs.Common.{◌≡◌, ℕ, ◌+◌, ◌-◌, ◌<◌, false, List, [], ◌∷◌, length, get_or, refl, ap, sym, subst, ◌∙◌, arith}
+use Rattle.std.proofs.Common.{◌≡◌, ℕ, ◌+◌, ◌-◌, ◌<◌, false, List, [], ◌∷◌, length, get_or, refl, ap, sym, subst, ◌∙◌, arith, append-nil}
 use Rattle.std.specs.Prelude.{Contains}
 use Rattle.std.specs.List.{All}
 use Rattle.std.proofs.lemmas.Int.{ints}
@@ -23,7 +23,8 @@ use Rattle.totalizer.specs.Totalizing.{Fits, HasVariables, IsBuilt, TotalizerVal
 use Rattle.totalizer.proofs.Roots.{root_is, some_nodes}
 use Rattle.core_boosting.specs.declared.counting.Counted.{Counted}
 use Rattle.core_boosting.specs.Counting.{AddsOutput, CountsCore, CountsNow, HasCore}
-use Rattle.core_boosting.proofs.Literals.{AreRising, literals_of_ones, nothing_more, ones_long, ones_weights, rising_rest}
+use Rattle.core_boosting.proofs.Countings.{scaled_literals}
+use Rattle.core_boosting.proofs.Literals.{AreRising, ones_long, ones_weights, rising_rest}
 
 -- after k - 1 outputs
 pub record CountsTo (a b : Snapshot) (lits : List Literal) (t : TotalizerValue) (c : Counted) (k : ℕ) : Type 0 where
@@ -69,8 +70,8 @@ module _ (a : Snapshot) (ready : IsReady a) (lits : List Literal) (id : ℕ) (co
       few = core.few;
       terms = built.terms;
       fits = fits a variables;
-      rising = subst AreRising (sym (nothing_more lits)) core.rising;
-      variables = λ s reached. subst (λ (ls : List Literal). All (λ l. IsVariable s.vars l.var) ls) (sym (nothing_more lits)) (core.variables s reached);
+      rising = subst AreRising (sym (append-nil lits)) core.rising;
+      variables = λ s reached. subst (λ (ls : List Literal). All (λ l. IsVariable s.vars l.var) ls) (sym (append-nil lits)) (core.variables s reached);
       sums = λ n l long there. absurd (none_there n l long there);
       bounds = λ i d short. absurd (omega arith);
       line = core.line;
@@ -83,7 +84,7 @@ module _ (a : Snapshot) (ready : IsReady a) (lits : List Literal) (id : ℕ) (co
 
 -- the literals are those of the totalizer's terms
 pub own_literals : (b : Snapshot) (lits : List Literal) (t : TotalizerValue) (c : Counted) → CountsNow b lits t c → lits ≡ literals (terms_of t)
-own_literals b lits t c so = sym (literals_of_ones lits) ∙ ap (λ (ts : Terms). literals ts) (sym so.terms)
+own_literals b lits t c so = sym (scaled_literals 1 lits) ∙ ap (λ (ts : Terms). literals ts) (sym so.terms)
 
 module _ (a b : Snapshot) (ready : IsReady a) (lits : List Literal) (t : TotalizerValue) (c : Counted) (k : ℕ) (counts : CountsTo a b lits t c k) where
   pub counts_own : CountsNow b (literals (terms_of t)) t c

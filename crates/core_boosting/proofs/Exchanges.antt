@@ -6,7 +6,7 @@ use Rattle.std.specs.List.{All, AllPairs, filter}
 use Rattle.std.proofs.lemmas.Bool.{cond-true, cond-false, eq-eqb, ne_eqb, ltb-false, and_left}
 use Rattle.std.proofs.lemmas.List.{get_or-map, length-map}
 use Rattle.std.proofs.lemmas.List.Elements.{All-head, All-tail, All-append, All-map, All-filter}
-use Rattle.std.proofs.lemmas.List.Kept.{AllPairs-filter}
+use Rattle.std.proofs.lemmas.List.Kept.{AllPairs-cons, AllPairs-filter}
 use Rattle.std.proofs.lemmas.List.Sums.{sum_by-cons, sum_by-append}
 use Rattle.scut_base.specs.Literal.{Literal}
 use Rattle.scut_base.specs.Assignment.{lit_true}
@@ -23,12 +23,6 @@ use Rattle.core_boosting.specs.Exchanging.{lowered, remaining, exchanged, CanExc
 
 -- ---- pairs
 
-pairs_cons : {X : Type 0} (R : X → X → Type 0) (x : X) (xs : List X) → All (R x) xs → AllPairs R xs → AllPairs R (x ∷ xs)
-pairs_cons R x xs head tail zero zero d before short = absurd (omega arith)
-pairs_cons R x xs head tail zero (suc j) d before short = head j d (omega arith)
-pairs_cons R x xs head tail (suc i) zero d before short = absurd (omega arith)
-pairs_cons R x xs head tail (suc i) (suc j) d before short = tail i j d (omega arith) (omega arith)
-
 pub pairs_head : {X : Type 0} (R : X → X → Type 0) (x : X) (xs : List X) → AllPairs R (x ∷ xs) → All (R x) xs
 pairs_head R x xs all k d short = all 0 (suc k) d (omega arith) (omega arith)
 
@@ -37,7 +31,7 @@ pairs_tail R x xs all i j d before short = all (suc i) (suc j) d (omega arith) (
 
 pub pairs_append : {X : Type 0} (R : X → X → Type 0) (xs ys : List X) → AllPairs R xs → AllPairs R ys → All (λ x. All (R x) ys) xs → AllPairs R (xs ++ ys)
 pairs_append {X} R [] ys left right both = right
-pairs_append {X} R (x ∷ xs) ys left right both = pairs_cons R x (xs ++ ys)
+pairs_append {X} R (x ∷ xs) ys left right both = AllPairs-cons R x (xs ++ ys)
     (All-append (R x) xs ys (pairs_head R x xs left) (All-head (λ z. All (R z) ys) x xs both))
     (pairs_append R xs ys (pairs_tail R x xs left) right (All-tail (λ z. All (R z) ys) x xs both))
 

@@ -1,5 +1,5 @@
 -- Lists of literals, and terms of the coefficient 1.
-use Rattle.std.proofs.Common.{◌≡◌, ◌≢◌, ℕ, ◌+◌, ◌<◌, ◌≤◌, ◌==◌, ◌&&◌, suc, Bool, true, false, List, [], ◌∷◌, ◌++◌, map, take, drop, length, get_or, refl, ap, sym, subst, ◌∙◌, arith}
+use Rattle.std.proofs.Common.{◌≡◌, ◌≢◌, ℕ, ◌+◌, ◌<◌, ◌≤◌, ◌==◌, ◌&&◌, suc, Bool, true, false, List, [], ◌∷◌, ◌++◌, map, take, drop, length, get_or, refl, ap, sym, subst, ◌∙◌, arith, append-nil}
 use Rattle.std.specs.Prelude.{◌^◌}
 use Rattle.std.specs.List.{All, AllPairs, list_all}
 use Rattle.std.proofs.Math.Bool.{beq}
@@ -94,21 +94,9 @@ no_more_than lits n some upto rising = let few = rising_few lits 0 n (omega arit
 
 -- ---- terms of the coefficient 1
 
-pub ones_append : (ls ms : List Literal) → ones (ls ++ ms) ≡ ones ls ++ ones ms
-ones_append [] ms = refl
-ones_append (l ∷ ls) ms = ap (λ (ts : Terms). (l, 1) ∷ ts) (ones_append ls ms)
-
 pub ones_long : (ls : List Literal) → length (ones ls) ≡ length ls
 ones_long [] = refl
 ones_long (l ∷ ls) = ap suc (ones_long ls)
-
-pub nothing_more : (ls : List Literal) → ls ++ [] ≡ ls
-nothing_more [] = refl
-nothing_more (l ∷ ls) = ap (λ (ms : List Literal). l ∷ ms) (nothing_more ls)
-
-pub literals_of_ones : (ls : List Literal) → literals (ones ls) ≡ ls
-literals_of_ones [] = refl
-literals_of_ones (l ∷ ls) = ap (λ (ms : List Literal). l ∷ ms) (literals_of_ones ls)
 
 are_ones : (terms : Terms) → list_all (λ t. t.1 == 1) terms ≡ true → AreOnes terms
 are_ones [] is = All-nil (λ t. t.1 ≡ 1)
@@ -122,7 +110,7 @@ clause_counted c is =
     let parts = and_parts (list_all (λ t. t.1 == 1) c.terms) (c.degree == 1) is in
     constraint_same c.terms (ones (literals c.terms ++ [])) c.degree 1
     (sym (terms_of-ones c.terms (are_ones c.terms parts.0)) ∙ terms_of-none (literals c.terms)
-    ∙ ap (λ (ls : List Literal). ones ls) (sym (nothing_more (literals c.terms))))
+    ∙ ap (λ (ls : List Literal). ones ls) (sym (append-nil (literals c.terms))))
     (eqb-true c.degree 1 parts.1)
 
 -- ---- sums of literals that rise
@@ -142,7 +130,7 @@ ones_normal lits degree rising some small = normal-ones lits degree rising (λ d
 pub ones_attain : (lits : List Literal) (n : ℕ) → AreWeights (ones lits) → n ≤ length lits → IsAttainable (ones lits) n
 ones_attain lits n weights most =
     let parts : ones lits ≡ ones (take n lits) ++ ones (drop n lits) =
-    ap (λ (ls : List Literal). ones ls) (sym (take-append-drop n lits)) ∙ ones_append (take n lits) (drop n lits) in
+    ap (λ (ls : List Literal). ones ls) (sym (take-append-drop n lits)) ∙ map-append (λ l. (l, 1)) (take n lits) (drop n lits) in
     let both : AreWeights (ones (take n lits) ++ ones (drop n lits)) = subst (λ (ts : Terms). AreWeights ts) parts weights in
     let all = scaled_total 1 (take n lits) in
     let long = length-take-le n lits most in

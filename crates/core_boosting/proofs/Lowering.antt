@@ -1,10 +1,10 @@
 -- How the line below an objective goes on with a core.
-use Rattle.std.proofs.Common.{◌≡◌, ◌≢◌, ℕ, ◌+◌, ◌*◌, ◌<◌, ◌≤◌, ◌==◌, suc, Bool, true, false, if◌then◌else◌, Some, List, [], ◌∷◌, ◌++◌, map, length, get_or, refl, ap, sym, subst, ◌∙◌, arith, Ok, pos, ℤ, ◌+ℤ◌}
+use Rattle.std.proofs.Common.{◌≡◌, ◌≢◌, ℕ, ◌+◌, ◌*◌, ◌<◌, ◌≤◌, ◌==◌, suc, Bool, true, false, if◌then◌else◌, Some, List, [], ◌∷◌, ◌++◌, map, length, get_or, refl, ap, sym, subst, ◌∙◌, arith, append-nil, Ok, pos, ℤ, ◌+ℤ◌}
 use Rattle.std.specs.Prelude.{◌^◌, ◌≤ℤ◌, ◌↔◌, nat_lt}
 use Rattle.std.specs.List.{All}
 use Rattle.std.specs.FinMap.{get}
 use Rattle.std.proofs.lemmas.Bool.{ltb-true, ltb-false}
-use Rattle.std.proofs.lemmas.List.{length-map, length-append}
+use Rattle.std.proofs.lemmas.List.{length-map, length-append, map-append}
 use Rattle.std.proofs.Math.Nat.{mul-le-mul_left}
 use Rattle.std.proofs.lemmas.Int.{ints}
 use Rattle.std.proofs.lemmas.List.Elements.{All-append, All-map}
@@ -117,11 +117,7 @@ module _ (given : Given) (row : CostRowValue) (offset : ℤ) (terms : Terms) (li
   many = multiplied w core
 
   core_value : (x : List Bool) → value x core.terms ≡ value x (ones lits) + value x (ones (map opposite outputs))
-  core_value x = ap (λ (ts : Terms). value x ts) (ones_append lits (map opposite outputs)) ∙ sum_by-append (term_value x) (ones lits) (ones (map opposite outputs))
-    where
-      ones_append : (ls ms : List Literal) → ones (ls ++ ms) ≡ ones ls ++ ones ms
-      ones_append [] ms = refl
-      ones_append (l ∷ ls) ms = ap (λ (ts : Terms). (l, 1) ∷ ts) (ones_append ls ms)
+  core_value x = ap (λ (ts : Terms). value x ts) (map-append (λ l. (l, 1)) lits (map opposite outputs)) ∙ sum_by-append (term_value x) (ones lits) (ones (map opposite outputs))
 
   core_degree : core.degree ≡ length lits
   core_degree = let fewer = ex.fewer in let long = length-map outputs opposite in omega arith
@@ -262,15 +258,11 @@ module _ (given : Given) (row : CostRowValue) (offset : ℤ) (terms : Terms) (li
   abbrev HasLine : List PolToken → Type 0
   HasLine tokens = (made : ConstraintValue) × IsValueOn given [] tokens (Ok made) × IsLowerLine row (offset +ℤ pos w) (exchanged lits w outputs terms) made
 
-  nothing_more : (ts : List PolToken) → ts ++ [] ≡ ts
-  nothing_more [] = refl
-  nothing_more (t ∷ ts) = ap (λ (us : List PolToken). t ∷ us) (nothing_more ts)
-
   -- with no line before
   alone : can.before ≡ record { terms = []; degree = 0 } → HasLine (Id line ∷ times w)
   alone is = (
     many,
-    push_line given line core [] (times w) (Ok many) can.counts (subst (λ (ts : List PolToken). IsValueOn given (core ∷ []) ts (Ok many)) (nothing_more (times w)) (times_on [] [] (Ok many) refl)),
+    push_line given line core [] (times w) (Ok many) can.counts (subst (λ (ts : List PolToken). IsValueOn given (core ∷ []) ts (Ok many)) (append-nil (times w)) (times_on [] [] (Ok many) refl)),
     lower_of_sum many (subst (λ (c : ConstraintValue). IsSum many c many) (sym is) (record { cancelled = 0; same = λ x. omega arith; degree = omega arith; normal = many_normal })),
   )
 
