@@ -109,7 +109,7 @@ fn cut_less(text: &[u8]) -> (Token, &[u8])
     }
 }
 
-// The sense of an objective's head, if the text goes on with one after its `m`, and what follows it.
+// The sense of a head that the text goes on with after its `m`, if it does, and what follows it.
 fn after_head(text: &[u8]) -> Option<(Sense, &[u8])>
     ensures { MatchOption result (BeginsNoHead text.entry.now)
         (λ r. text.entry.now ≡ after_m r.0 r.1.now) }
