@@ -24,9 +24,6 @@ use Rattle.mopb_reader.specs.declared.token.Token.TheVariants.{Literal as Litera
 pub below : (n m : ℕ) → n < m → nat_lt n m ≡ true
 below n m lt = grind (arith, nat_tests)
 
-pub not_below : (n m : ℕ) → m ≤ n → nat_lt n m ≡ false
-not_below n m le = grind (arith, nat_tests)
-
 -- what holds of a byte before tokens, whichever byte it is
 pub byte_cases : (P : List Lexeme → Type 0) (b : ℕ) (rest : List Lexeme) → (is_blank b ≡ true → P (Blank ∷ rest)) → (is_ascii_digit b ≡ true → P (with_digit b rest)) → (b ≡ 120 → P (with_x rest)) → (b ≡ 126 → P (with_tilde rest)) → (b ≡ 109 → P (with_m rest)) → (b ≡ 62 → P (with_greater rest)) → (b ≡ 60 → P (with_less rest)) → (b ≡ 43 → P (Sign false ∷ rest)) → (b ≡ 45 → P (Sign true ∷ rest)) → (b ≡ 61 → P (Relation Equal ∷ rest)) → (b ≡ 59 → P (Semicolon ∷ rest)) → P (Other b ∷ rest) → P (with_byte b rest)
 byte_cases P b rest blank digit x tilde m greater less plus minus equal semicolon other =

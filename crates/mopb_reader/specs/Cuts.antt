@@ -33,10 +33,14 @@ abbrev pub BeginsNoDigits : List Lexeme → Type 0
 BeginsNoDigits (Digits digits ∷ lexemes) = ⊥
 BeginsNoDigits lexemes = Unit {0}
 
--- the lexemes are digits of this value, at least 1, and those of the text after them
-abbrev pub HasVariable : List Lexeme → Option ℕ → List ℕ → Type 0
-HasVariable lexemes var rest =
-    (ds : List ℕ) × (lexemes ≡ Digits ds ∷ lexemes_of rest) × (var ≡ small_value ds)
+-- the text begins with these digits, and no digit follows them
+abbrev pub BeginsWithDigits : List ℕ → List ℕ → List ℕ → Type 0
+BeginsWithDigits text ds rest = lexemes_of text ≡ Digits ds ∷ lexemes_of rest
+
+-- the text begins with digits of this value, at least 1
+abbrev pub HasVariable : List ℕ → Option ℕ → List ℕ → Type 0
+HasVariable text var rest =
+    (ds : List ℕ) × BeginsWithDigits text ds rest × (var ≡ small_value ds)
     × (0 < natural_value ds)
 
 -- what follows the `m` of an objective's head
@@ -48,9 +52,9 @@ after_m Max rest = 97 ∷ 120 ∷ 58 ∷ rest
 abbrev pub BeginsNoHead : List ℕ → Type 0
 BeginsNoHead text = (sense : Sense) (rest : List ℕ) → text ≡ after_m sense rest → ⊥
 
--- an `x` before the lexemes stands alone
-abbrev pub LeavesX : List Lexeme → Type 0
-LeavesX lexemes = with_x lexemes ≡ Other 120 ∷ lexemes
+-- an `x` before the text stands alone
+abbrev pub LeavesX : List ℕ → Type 0
+LeavesX text = with_x (lexemes_of text) ≡ Other 120 ∷ lexemes_of text
 
 -- the text does not begin with this byte
 abbrev pub IsNotBefore : ℕ → List ℕ → Type 0

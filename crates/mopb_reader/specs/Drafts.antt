@@ -22,8 +22,8 @@ pub record IsDraft (d : Draft) : Type 0 where
   pub objectives : All (λ o. objective_magnitude o < 2 ^ 63) d.objectives
   pub rows : All (λ row. row_magnitude row < 2 ^ 63) d.linear
 
--- What the tokens left spell makes, after the draft, what all tokens spell: no objective stands after
--- a row.
+-- What the tokens left spell makes, after the draft, what all tokens spell: no objective stands
+-- after a row.
 abbrev pub GoesOn : List Token → List Token → Draft → Type 0
 GoesOn all left d = (objectives : List Objective) (rows : List Linear)
     → (d.linear ≢ [] → objectives ≡ []) → SpellsStatements objectives rows left

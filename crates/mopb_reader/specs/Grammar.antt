@@ -1,5 +1,5 @@
--- Which text spells which instance. Its tokens spell objectives, and then rows. What is spelled is seen
--- at the leading tokens; of what follows a predicate `P` is said.
+-- Which text spells which instance. Its tokens spell objectives, and then rows. What is spelled is
+-- seen at the leading tokens; of what follows a predicate `P` is said.
 use Rattle.std.specs.Prelude.{◌≡◌, ℕ, Bool, false, max, List, [], ◌∷◌, ℤ, pos, Some}
 use Rattle.scut_base.specs.Literal.{Literal as Lit}
 use Rattle.scut_base.specs.Number.{signed_value}

@@ -47,8 +47,8 @@ fault_after tokens progressed =
 abbrev pub fault_inside : Stream → Progress → Next → Option ReadFault
 fault_inside tokens p next = fault_after tokens (moved p p.rows next)
 
--- Where something was read, the first fault is the first one further on; where it was refused, it is
--- that with its line.
+-- Where something was read, the first fault is the first one further on; where it was refused, it
+-- is that with its line.
 abbrev pub Finds : {T : Type 0} → Option ReadFault → Result T PlaceFault → Stream
     → (T → Option ReadFault) → Type 0
 Finds first (Ok x) tokens further = first ≡ further x
@@ -68,7 +68,7 @@ Judges next (Err fault) place = next ≡ Err fault
 abbrev pub IsRoom : ℕ → ℕ → Type 0
 IsRoom room sum = room + sum + 1 ≡ 2 ^ 63
 
--- What is answered of a literal, a magnitude, a relation and a bound, at the places where they stand.
+-- What is answered of a literal, a magnitude, a relation and a bound, where they stand.
 abbrev pub JudgesLiteral : {T : Type 0} → Option Token → Result T PlaceFault → Type 0
 JudgesLiteral token result = (kind : Kind) (sum : ℕ)
     → Judges (after_taken (Coefficient kind sum) token) result (λ _. AfterTerm kind sum)
@@ -112,7 +112,8 @@ TermFound p kind sum next old new result = Finds (fault_inside old p next) resul
 abbrev pub FindsTerm : InstanceLimit → ℕ → Option Token → Stream → Stream
     → Result Term PlaceFault → Type 0
 FindsTerm limit room first old new result =
-    (kind : Kind) (sum : ℕ) (missing : BadKind) (p : Progress) → limit ≡ limit_of kind → IsRoom room sum → begins_term first ≡ true
+    (kind : Kind) (sum : ℕ) (missing : BadKind) (p : Progress) → limit ≡ limit_of kind
+    → IsRoom room sum → begins_term first ≡ true
     → TermFound p kind sum (begun_taken kind sum missing first) old new result
 
 -- the same after its sign

@@ -55,6 +55,11 @@ abbrev pub IsSoundTaken : Option Token → Type 0
 IsSoundTaken None = Unit {0}
 IsSoundTaken (Some token) = IsSound token
 
+-- the token is `of` what was answered, or of nothing
+abbrev pub IsOf : {X : Type 0} → (X → Token) → Option Token → Option X → Type 0
+IsOf {X} of token None = (x : X) → token ≡ Some (of x) → ⊥
+IsOf {X} of token (Some x) = token ≡ Some (of x)
+
 -- the token begins a literal, well spelled or not
 abbrev pub begins_literal : Option Token → Bool
 begins_literal (Some (Literal var neg)) = true

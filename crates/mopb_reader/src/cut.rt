@@ -6,7 +6,7 @@ ghost use Rattle.scut_base.specs.Number.{IsNatural};
 ghost use Rattle.instance.specs.declared.objective.Sense.{Sense};
 ghost use Rattle.mopb_reader.specs.Lexemes.{Other, Digits, is_blank, lexemes_of, with_x, with_tilde, with_m, with_greater, with_less};
 ghost use Rattle.mopb_reader.specs.Tokens.{small_value};
-ghost use Rattle.mopb_reader.specs.Cuts.{HasFront, HasVariable, BeginsNoDigits, BeginsNoHead, LeavesX, IsNotBefore, after_m};
+ghost use Rattle.mopb_reader.specs.Cuts.{HasFront, BeginsWithDigits, HasVariable, BeginsNoDigits, BeginsNoHead, LeavesX, IsNotBefore, after_m};
 
 use crate::token::Token;
 use instance::{MAX_MAGNITUDE, Rel, Sense};
@@ -109,7 +109,7 @@ fn cut_less(text: &[u8]) -> (Token, &[u8])
     }
 }
 
-// The sense of an objective's head, if the text goes on with one after its `m`, and what follows it.
+// The sense of a head that the text goes on with after its `m`, if it does, and what follows it.
 fn after_head(text: &[u8]) -> Option<(Sense, &[u8])>
     ensures { MatchOption result (BeginsNoHead text.entry.now)
         (λ r. text.entry.now ≡ after_m r.0 r.1.now) }
@@ -134,8 +134,8 @@ fn after_byte(text: &[u8], byte: u8) -> Option<&[u8]>
 
 // Digits of a value of at least 1, if the text begins with them, and what follows them.
 fn cut_variable(text: &[u8]) -> Option<(Option<u64>, &[u8])>
-    ensures { MatchOption result (LeavesX (lexemes_of text.entry.now))
-        (λ r. HasVariable (lexemes_of text.entry.now) r.0 r.1.now) }
+    ensures { MatchOption result (LeavesX text.entry.now)
+        (λ r. HasVariable text.entry.now r.0 r.1.now) }
 {
     let (digits, rest) = cut_digits(text);
     if digits.is_empty() {
@@ -151,7 +151,7 @@ fn cut_variable(text: &[u8]) -> Option<(Option<u64>, &[u8])>
 fn cut_digits(text: &[u8]) -> (&[u8], &[u8])
     ensures none { result.0.now ≡ [] → BeginsNoDigits (lexemes_of text.entry.now) }
     ensures some { 0 < length result.0.now
-        → lexemes_of text.entry.now ≡ Digits result.0.now ∷ lexemes_of result.1.now }
+        → BeginsWithDigits text.entry.now result.0.now result.1.now }
     ensures digits { 0 < length result.0.now → IsNatural result.0.now }
     ensures first { 0 < length text.entry.now
         → is_ascii_digit (slice_index text.entry.now 0) ≡ true → 0 < length result.0.now }

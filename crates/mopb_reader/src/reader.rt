@@ -15,9 +15,9 @@ use crate::tokens::Tokens;
 use instance::{Instance, ReadFault};
 use std::alloc::Global;
 
-/// Reads the instance that a text of fewer than 2^32 bytes spells. One pass over the tokens; nothing
-/// of the text is copied. A refusal names the first bad place or reached limit with its line, from
-/// 1.
+/// Reads the instance that a text of fewer than 2^32 bytes spells. One pass over the tokens;
+/// nothing of the text is copied. A refusal names the first bad place or reached limit with its
+/// line, counted from 1.
 pub fn read(alloc: Global, bytes: &[u8]) -> Result<Instance, ReadFault>
     requires { length bytes.now < 2 ^ 32 }
     ensures spelled { IfOk result (λ inst. Spells bytes.now inst) }

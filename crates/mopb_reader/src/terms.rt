@@ -11,8 +11,8 @@ use instance::{BadKind, InstanceLimit, MAX_MAGNITUDE, PlaceFault};
 use scut_base::{Items, Lit};
 use std::alloc::Global;
 
-/// Terms, the sum of their magnitudes, their largest variable, and the token after them, if there is
-/// one.
+/// Terms, the sum of their magnitudes, their largest variable, and the token after them, if there
+/// is one.
 #[derive(Drop)]
 pub struct Terms {
     pub items: Items<(i64, Lit)>,

@@ -1,8 +1,7 @@
 // A token.
-ghost use Rattle.std.specs.Prelude.{ℕ, Bool, ◌≡◌, Some, None, Option, MatchOption};
-ghost use Rattle.instance.specs.declared.row.Rel.{Rel};
+ghost use Rattle.std.specs.Prelude.{◌≡◌, Some};
 ghost use Rattle.mopb_reader.specs.declared.token.Token.TheVariants.{Sign, Number, Relation};
-ghost use Rattle.mopb_reader.specs.Streams.{begins_literal, begins_term, begins_row};
+ghost use Rattle.mopb_reader.specs.Streams.{IsOf, begins_literal, begins_term, begins_row};
 
 use instance::{Rel, Sense};
 
@@ -29,8 +28,7 @@ pub enum Token {
 
 /// Whether a token is a minus, if it is a sign.
 pub fn sign_of(token: Option<Token>) -> Option<bool>
-    ensures { MatchOption result ((minus : Bool) → token ≡ Some (Sign minus)
-        → ⊥) (λ minus. token ≡ Some (Sign minus)) }
+    ensures { IsOf Sign token result }
 {
     match token {
         Some(Token::Sign { minus }) => Some(minus),
@@ -40,8 +38,7 @@ pub fn sign_of(token: Option<Token>) -> Option<bool>
 
 /// The value of a token, if it is digits.
 pub fn number_of(token: Option<Token>) -> Option<Option<u64>>
-    ensures { MatchOption result ((value : Option ℕ) → token ≡ Some (Number value)
-        → ⊥) (λ value. token ≡ Some (Number value)) }
+    ensures { IsOf Number token result }
 {
     match token {
         Some(Token::Number { value }) => Some(value),
@@ -51,8 +48,7 @@ pub fn number_of(token: Option<Token>) -> Option<Option<u64>>
 
 /// The relation of a token, if it is one.
 pub fn relation_of(token: Option<Token>) -> Option<Rel>
-    ensures { MatchOption result ((rel : Rel) → token ≡ Some (Relation rel)
-        → ⊥) (λ rel. token ≡ Some (Relation rel)) }
+    ensures { IsOf Relation token result }
 {
     match token {
         Some(Token::Relation { rel }) => Some(rel),

@@ -8,8 +8,8 @@ use crate::lines::{first_line, skip_blanks};
 use crate::token::Token;
 use std::marker::Model;
 
-/// The tokens of a text that were not taken yet. Contracts see it as their list, with lines. It keeps
-/// the number of the line that it stands in.
+/// The tokens of a text that were not taken yet. Contracts see it as their list, with lines. It
+/// keeps the number of the line that it stands in.
 #[derive(Drop)]
 pub struct Tokens<'a> {
     line: &'a [u8],
