@@ -13,15 +13,16 @@ use proof_laws::Line;
 use scut_base::{Items, Lit};
 use std::alloc::Global;
 
-/// Makes literals of the problem false that no row wants to be true and whose falsity no objective minds: it adds exactly
-/// the lines `hardened` to an oracle that has none, and answers these literals, in rising order of their variables. Of a variable the
-/// positive literal goes first, and the other isn't tried where that one is made false.
+/// Makes literals of the problem false that no row wants to be true and whose falsity no objective minds: it adds
+/// exactly the lines `hardened` to an oracle that has none, and answers these literals, in rising order of their
+/// variables. Of a variable the positive literal goes first.
 ///
-/// `Failed` only where the recorder's count of faults rose, and `NoMemory` where memory was refused; then some first ones of the lines
-/// were added, and the oracle isn't used again. `Full` and `Spent` never come: there are fewer lines than variables, and nothing is learned.
+/// `Failed` only where the recorder's count of faults rose, and `NoMemory` where memory was refused; then some first
+/// ones of the lines were added, and the oracle isn't used again. `Full` and `Spent` never come: there are fewer
+/// lines than variables, or as many, and nothing is learned.
 ///
-/// Costs a pass over rows and objectives, and for each literal the length of its line: a proof for each row that has the
-/// opposite literal.
+/// Costs a pass over rows and objectives, and for each of these literals the length of its line: a proof for each row
+/// that has the opposite literal.
 pub fn harden<O: Oracle>(
     alloc: Global,
     oracle: &mut O,
