@@ -1,5 +1,6 @@
-//! Core-guided lower bounding of objectives before a search (Morgado, Dodaro and Marques-Silva 2014; Cortes, Lynce and
-//! Manquinho 2023): cores of an objective's literals raise its offset, and outputs over each core take its place.
+//! Core-guided lower bounding of objectives before a search (OLL: Andres, Kaufmann, Matheis and Schaub 2012; before a
+//! search for a front: Jabs, Berg and Järvisalo 2024): cores of an objective's literals raise its offset, and outputs over
+//! each core take its place.
 //!
 //! Its public contract: `boost` answers an objective in other terms whose offset some assignment reaches that satisfies
 //! the rows and every live clause; `boost_all` does so for each objective, after which the proof bounds each by its least
