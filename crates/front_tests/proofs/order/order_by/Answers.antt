@@ -6,7 +6,7 @@ use Rattle.proof_laws.specs.State.{StateValue, start}
 use Rattle.proof_laws.specs.declared.line.Line.{Line}
 use Rattle.sum_outputs.specs.Adding.{IsReached}
 use Rattle.sum_outputs.proofs.LaterStates.{replay_vars}
-use Rattle.portfolio_tests.proofs.order.order_by.Goals as goal
+use Rattle.front_tests.proofs.order.order_by.Goals as goal
 
 pub run_turns-ended-requires-clause-good : goal.run_turns-ended-requires-clause-good
 run_turns-ended-requires-clause-good g c =
