@@ -1,0 +1,17 @@
+pub mod Inside
+pub mod Grown
+pub mod Closed
+pub mod Named
+pub mod Idle
+pub mod Respelled
+pub mod Squeezed
+pub mod Helped
+pub mod Judged
+pub mod Replays
+pub mod Flat
+pub mod Taken
+pub mod With
+pub mod Proving
+pub mod Stepped
+pub mod Opened
+pub mod Lists
