@@ -1,8 +1,8 @@
 -- Where a partial assignment is closed, nothing follows.
-use Rattle.std.specs.Prelude.{◌≡◌, ℕ, ◌≤◌, Bool, Option, List, [], ◌∷◌, length, map, All, Contains}
+use Rattle.std.specs.Prelude.{◌≡◌, ℕ, ◌≤◌, Bool, Option, List, ◌∷◌, length, All}
 use Rattle.std.proofs.Common.{subst, sym}
 use Rattle.std.specs.FinMap.{entries}
-use Rattle.std.proofs.lemmas.List.Elements.{All-nil, All-cons, All-map, Contains-get_or}
+use Rattle.std.proofs.lemmas.List.Elements.{All-cons, All-map, Contains-get_or}
 use Rattle.scut_base.specs.Literal.{Literal}
 use Rattle.pb_lin.specs.Constraint.{ConstraintValue, UpTo, negation, opposite}
 use Rattle.pb_lin.specs.Propagation.{IsClosed}

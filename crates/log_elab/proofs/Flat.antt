@@ -1,14 +1,12 @@
 -- Trails of level 0.
-use Rattle.std.specs.Prelude.{◌≡◌, ◌≢◌, ℕ, ◌+◌, ◌<◌, ◌≤◌, Option, Some, None, List, [], ◌∷◌, ◌++◌, length, fold, take, All, slice_get, refl}
+use Rattle.std.specs.Prelude.{◌≡◌, ℕ, List, [], ◌∷◌, ◌++◌, fold, take, All, refl}
 use Rattle.std.proofs.Common.{zero, suc, sym, ◌∙◌, ap, subst, get_or, arith}
-use Rattle.std.specs.FinMap.{get}
 use Rattle.std.proofs.lemmas.List.Elements.{All-nil, All-cons, All-head, All-tail, All-append}
-use Rattle.std.proofs.lemmas.Option.{slice_get-get_or, none-some}
+use Rattle.std.proofs.lemmas.Option.{slice_get-get_or}
 use Rattle.pb_lin.specs.LineMap.{LineMap}
-use Rattle.pb_lin.specs.Constraint.{ConstraintValue}
 use Rattle.clause_prop.specs.declared.step.Step.{Step}
-use Rattle.clause_prop.specs.Steps.{TrailValue, cut, last_level}
-use Rattle.clause_prop.specs.Propagating.{Extends, AreForced, IsForcedStep}
+use Rattle.clause_prop.specs.Steps.{TrailValue, cut}
+use Rattle.clause_prop.specs.Propagating.{Extends, AreForced}
 use Rattle.cdcl_trail.specs.SearchTrail.{IsSearchTrail, IsUndecided}
 use Rattle.log_elab.specs.Elaborating.{IsFlat}
 

@@ -1,17 +1,15 @@
 -- Lines that conflict still do where more is known, and where a line more comes first.
-use Rattle.std.specs.Prelude.{◌≡◌, ◌≢◌, ◌⊎◌, ℕ, ◌+◌, ◌-◌, ◌<◌, ◌≤◌, ◌==◌, Bool, true, false, cond, not, ◌&&◌, if◌then◌else◌, Option, Some, None, option_map, List, [], ◌∷◌, length, map, fold, replicate, All, Contains, ℤ, pos, ◌<ℤ◌, ◌≤ℤ◌, int_lt, refl, Ok}
-use Rattle.std.proofs.Common.{zero, suc, sym, ◌∙◌, ap, subst, get_or, inl, inr, arith}
-use Rattle.std.specs.Option.{is_none}
-use Rattle.std.specs.List.{filter}
+use Rattle.std.specs.Prelude.{◌≡◌, ℕ, ◌-◌, ◌<◌, ◌≤◌, Bool, true, false, not, Option, Some, None, List, [], ◌∷◌, length, All, ℤ, pos, ◌<ℤ◌, ◌≤ℤ◌, int_lt, refl}
+use Rattle.std.proofs.Common.{sym, ◌∙◌, ap, get_or, inl, inr, arith}
 use Rattle.std.proofs.lemmas.Int.{ints}
-use Rattle.std.proofs.lemmas.Bool.{cases_eq, cases_lt, cases_order, cond-true, and_parts}
-use Rattle.std.proofs.lemmas.List.{get_or-set_same, get_or-set_other, length-set, get_or_default, get_or_past}
-use Rattle.std.proofs.lemmas.List.Elements.{All-head, All-tail, All-filter, All-weaker, filter_passes, Contains-append_right}
+use Rattle.std.proofs.lemmas.Bool.{cases_order}
+use Rattle.std.proofs.lemmas.List.{get_or_default}
+use Rattle.std.proofs.lemmas.List.Elements.{All-head, All-tail}
 use Rattle.scut_base.specs.Literal.{Literal}
 use Rattle.scut_base.specs.Assignment.{partial_truth}
 use Rattle.pb_lin.specs.Constraint.{ConstraintValue, IsMerged, UpTo, slack}
 use Rattle.pb_lin.specs.Propagation.{is_forced}
-use Rattle.hint_rup.specs.Propagation.{with_true, forced, Conflicts}
+use Rattle.hint_rup.specs.Propagation.{forced, Conflicts}
 use Rattle.hint_rup.proofs.Conflict.{conflicts_none, conflicts_here, conflicts_later, conflicts_cases}
 use Rattle.cdcl_analysis.proofs.Rows.{forced_true, more_forced as more_known}
 use Rattle.log_elab.proofs.Inside.{Values, IsInside, truth_inside, slack_less, false_violates, open_forced, forced_inside}

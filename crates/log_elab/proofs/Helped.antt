@@ -1,9 +1,9 @@
 -- What the rule book says of a line without hints, and what it says of the line with hints.
-use Rattle.std.specs.Prelude.{◌≡◌, ◌≢◌, ◌⊎◌, ℕ, ◌^◌, ◌<◌, Bool, true, false, not, nat_lt, Option, Some, None, option_map, List, [], ◌∷◌, pos, ◌<ℤ◌, refl, Result, Ok, Err}
-use Rattle.std.proofs.Common.{inl, inr, sym, ◌∙◌, subst, arith}
+use Rattle.std.specs.Prelude.{◌≡◌, ◌≢◌, ℕ, ◌^◌, Bool, true, false, not, nat_lt, Option, Some, None, option_map, List, [], ◌∷◌, refl, Result, Ok, Err}
+use Rattle.std.proofs.Common.{inl, inr, sym, ◌∙◌, arith}
 use Rattle.std.specs.List.{find}
 use Rattle.std.proofs.lemmas.Int.{ints}
-use Rattle.pb_lin.specs.Constraint.{ConstraintValue, negation, size, slack}
+use Rattle.pb_lin.specs.Constraint.{ConstraintValue, negation, size}
 use Rattle.pb_lin.specs.Problem.{ProblemValue}
 use Rattle.hint_rup.specs.Propagation.{forced, Conflicts}
 use Rattle.hint_rup.specs.declared.hint.Hint.{Hint}
@@ -16,7 +16,6 @@ use Rattle.proof_laws.specs.State.{StateValue}
 use Rattle.proof_laws.specs.Steps.{clause}
 use Rattle.proof_laws.specs.Refusal.{FirstOf, fault_unless, size_fault, range_fault, term_variables, is_clause, given_in, rup_fault, IsRupFault, IsHintsFault}
 use Rattle.proof_laws.specs.Legal.{IsRefused, IsLegal}
-use Rattle.proof_laws.specs.declared.line.Line.{Line}
 use Rattle.proof_laws.specs.declared.line.Line.TheVariants.{Rup, Learn}
 use Rattle.proof_laws.specs.declared.why.Why.{Why}
 use Rattle.proof_laws.specs.declared.why.Why.TheVariants.{RupOpen, AfterEnd, LogLong, NotClause, Overflow, VarRange}

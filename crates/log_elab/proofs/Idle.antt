@@ -1,9 +1,8 @@
 -- A line that was propagated is closed, and does nothing when it comes again.
-use Rattle.std.specs.Prelude.{◌≡◌, ◌≢◌, ◌⊎◌, ℕ, ◌+◌, ◌-◌, ◌<◌, ◌≤◌, Bool, true, false, not, ◌&&◌, if◌then◌else◌, Option, Some, None, option_map, List, [], ◌∷◌, length, sum_by, All, ℤ, pos, ◌-ℤ◌, ◌<ℤ◌, ◌≤ℤ◌, int_lt, refl}
+use Rattle.std.specs.Prelude.{◌≡◌, ◌⊎◌, ℕ, ◌-◌, ◌<◌, ◌≤◌, Bool, true, false, not, ◌&&◌, if◌then◌else◌, Option, Some, None, option_map, List, [], ◌∷◌, length, All, ℤ, pos, ◌-ℤ◌, ◌<ℤ◌, int_lt, refl}
 use Rattle.std.proofs.Common.{sym, ◌∙◌, ap, subst, get_or, inl, inr, arith}
 use Rattle.std.specs.Option.{is_none}
 use Rattle.std.specs.List.{filter}
-use Rattle.std.proofs.lemmas.Int.{ints}
 use Rattle.std.proofs.lemmas.Bool.{cases_eq, cases_lt, and_parts}
 use Rattle.std.proofs.lemmas.List.{get_or-set_same, get_or-set_other, get_or_past, get_or_default, length-set}
 use Rattle.std.proofs.lemmas.List.Elements.{All-head, All-tail, All-filter}
@@ -11,11 +10,11 @@ use Rattle.scut_base.specs.Literal.{Literal}
 use Rattle.scut_base.specs.Assignment.{partial_truth}
 use Rattle.scut_base.proofs.Lists.{sum_by_same_in}
 use Rattle.pb_lin.specs.Constraint.{ConstraintValue, IsMerged, unless_false, possible_value, slack}
-use Rattle.pb_lin.specs.Propagation.{is_forced, IsClosedUnder}
+use Rattle.pb_lin.specs.Propagation.{is_forced}
 use Rattle.hint_rup.specs.Propagation.{with_true, forced, Conflicts}
 use Rattle.hint_rup.proofs.ForcedLiterals.{with_all}
 use Rattle.hint_rup.proofs.Conflict.{conflicts_here, conflicts_later, conflicts_cases}
-use Rattle.log_elab.proofs.Inside.{Values, IsInside, truth_inside, forced_inside}
+use Rattle.log_elab.proofs.Inside.{Values, truth_inside, forced_inside}
 use Rattle.cdcl_analysis.proofs.Rows.{forced_true}
 use Rattle.log_elab.proofs.Grown.{IsPlain, Agrees, agrees_all, more_forced, length_forced, conflicts_grown}
 

@@ -1,18 +1,18 @@
 -- Propagation stays inside every closed partial assignment.
-use Rattle.std.specs.Prelude.{◌≡◌, ◌≢◌, ◌⊎◌, ℕ, ◌+◌, ◌-◌, ◌<◌, ◌≤◌, Bool, true, false, not, ◌&&◌, if◌then◌else◌, Option, Some, None, option_map, List, [], ◌∷◌, length, replicate, sum_by, All, Contains, ℤ, pos, ◌<ℤ◌, ◌≤ℤ◌, int_lt, refl}
+use Rattle.std.specs.Prelude.{◌≡◌, ◌≢◌, ◌⊎◌, ℕ, ◌+◌, ◌-◌, ◌<◌, ◌≤◌, Bool, true, false, not, if◌then◌else◌, Option, Some, None, option_map, List, [], ◌∷◌, length, replicate, sum_by, All, Contains, ℤ, pos, ◌<ℤ◌, ◌≤ℤ◌, int_lt, refl}
 use Rattle.std.proofs.Common.{sym, ◌∙◌, ap, subst, get_or, inl, inr, arith}
 use Rattle.std.specs.Option.{is_none}
 use Rattle.std.specs.List.{filter}
 use Rattle.std.proofs.lemmas.Int.{ints}
 use Rattle.std.proofs.lemmas.Bool.{cases_lt, and_parts, and_from}
 use Rattle.std.proofs.lemmas.List.{get_or-set_same, get_or-set_other, get_or_past, length-set}
-use Rattle.std.proofs.lemmas.List.Elements.{All-nil, All-cons, All-head, All-tail, All-weaker, All-contains}
+use Rattle.std.proofs.lemmas.List.Elements.{All-head, All-tail, All-weaker, All-contains}
 use Rattle.std.proofs.lemmas.List.Sums.{sum_by-le-sum_by}
 use Rattle.scut_base.specs.Literal.{Literal}
 use Rattle.scut_base.specs.Assignment.{partial_truth}
 use Rattle.scut_base.proofs.Lists.{all_filter_if, sum_gap}
 use Rattle.pb_lin.specs.Constraint.{ConstraintValue, unless_false, possible_value, slack}
-use Rattle.pb_lin.specs.Propagation.{is_forced, IsClosedUnder, IsClosed, ConflictsByPropagation}
+use Rattle.pb_lin.specs.Propagation.{is_forced, IsClosedUnder, IsClosed}
 use Rattle.hint_rup.specs.Propagation.{with_true, forced, Conflicts}
 use Rattle.hint_rup.proofs.ForcedLiterals.{with_all}
 use Rattle.hint_rup.proofs.Conflict.{conflicts_none, conflicts_cases}

@@ -1,18 +1,17 @@
 -- A line is loosely refused for one reason at most, or has one next state at most.
-use Rattle.std.specs.Prelude.{◌≡◌, ◌⊎◌, ◌^◌, not, nat_lt, List, [], ◌∷◌, Option, None, Some, refl}
+use Rattle.std.specs.Prelude.{◌≡◌, ◌^◌, not, nat_lt, [], ◌∷◌, Option, None, Some}
 use Rattle.std.proofs.Common.{sym, ◌∙◌, ⊎_elim}
 use Rattle.pb_lin.specs.Constraint.{ConstraintValue, negation, size}
 use Rattle.pb_lin.specs.Problem.{ProblemValue}
-use Rattle.hint_rup.specs.declared.hint.Hint.{Hint}
 use Rattle.proof_laws.specs.State.{StateValue}
-use Rattle.proof_laws.specs.Refusal.{FirstOf, fault_unless, size_fault, range_fault, written, is_clause, term_variables, IsFault}
-use Rattle.proof_laws.specs.Legal.{IsNext, Makes}
+use Rattle.proof_laws.specs.Refusal.{FirstOf, fault_unless, size_fault, range_fault, is_clause, term_variables, IsFault}
+use Rattle.proof_laws.specs.Legal.{Makes}
 use Rattle.proof_laws.specs.declared.line.Line.{Line}
 use Rattle.proof_laws.specs.declared.line.Line.TheVariants.{Pol, Rup, Learn, Def, Red, Dom, Sol, Del, Reduce, End}
 use Rattle.proof_laws.specs.declared.why.Why.{Why}
 use Rattle.proof_laws.specs.declared.why.Why.TheVariants.{RupOpen, AfterEnd, LogLong, NotClause}
 use Rattle.proof_laws.proofs.Unique.{judged_once_law}
-use Rattle.log_elab.specs.Loose.{IsLooseRupFault, IsOpenFault, IsLooseRuleFault, IsLooseFault, IsLooseNext, FollowsLoosely}
+use Rattle.log_elab.specs.Loose.{IsLooseRupFault, IsOpenFault, IsLooseRuleFault, IsLooseFault, FollowsLoosely}
 use Rattle.log_elab.specs.Laws.{JudgedLooselyOnce, LooselyJudgedOnce}
 
 abbrev Once : (Option Why → Type 0) → Type 0

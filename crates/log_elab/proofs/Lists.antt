@@ -1,5 +1,5 @@
 -- Lines that are elaborated one after another.
-use Rattle.std.specs.Prelude.{◌≡◌, List, [], ◌∷◌, Option, None, Some, refl}
+use Rattle.std.specs.Prelude.{◌≡◌, List, [], ◌∷◌, Option, None, Some}
 use Rattle.std.proofs.Common.{sym, ◌∙◌, subst}
 use Rattle.pb_lin.specs.Problem.{ProblemValue}
 use Rattle.proof_laws.specs.State.{StateValue, start}
@@ -8,14 +8,14 @@ use Rattle.proof_laws.specs.declared.line.Line.{Line}
 use Rattle.proof_laws.specs.declared.why.Why.{Why}
 use Rattle.log_elab.specs.Loose.{LeadsLoosely, AreElaborated}
 use Rattle.log_elab.specs.Reasons.{Elaborates}
-use Rattle.log_elab.specs.Laws.{ElaborationReplays, ElaborationsReplay}
+use Rattle.log_elab.specs.Laws.{ElaborationsReplay}
 use Rattle.log_elab.proofs.Judged.{judged_loosely_law}
 use Rattle.log_elab.proofs.Replays.{elaborated_next, leads}
 
 module _ (p : ProblemValue) where
   -- what was answered leads to the state
   led : (s : StateValue) (lines news : List Line) (t : StateValue) (refused : Option Why) → Elaborates p s lines news t refused → Leads p s news t
-  led s [] [] t refused is = is.1.0
+  led s [] [] t refused is = is.1
   led s [] (new ∷ news) t refused is = cc
   led s (line ∷ lines) [] t refused is = is.0
   led s (line ∷ lines) (new ∷ news) t refused is = (is.0, is.1.next, led is.0 lines news t refused is.2)
@@ -29,7 +29,7 @@ module _ (p : ProblemValue) where
 
   -- lines that lead loosely to a state are not refused, and lead to this one
   not_refused : (s : StateValue) (lines news : List Line) (t : StateValue) (refused : Option Why) → Elaborates p s lines news t refused → (u : StateValue) → LeadsLoosely p s lines u → (refused ≡ None) × (t ≡ u)
-  not_refused s [] news t refused is u loosely = (is.1.1, is.1.0 ∙ sym loosely)
+  not_refused s [] news t refused is u loosely = (is.2, is.1 ∙ sym loosely)
   not_refused s (line ∷ lines) [] t refused is u loosely = absurd ((judged_loosely_law p s line).not_both is.1.0 loosely.0 is.1.2 loosely.1)
   not_refused s (line ∷ lines) (new ∷ news) t refused is u loosely =
       let same : loosely.0 ≡ is.0 = (judged_loosely_law p s line).one_next loosely.0 is.0 loosely.1 (elaborated_next p s is.0 line new is.1.elaborated is.1.next) in

@@ -1,5 +1,5 @@
 -- The lines that hints name are among the live lines and the negation.
-use Rattle.std.specs.Prelude.{◌≡◌, ℕ, Bool, true, false, cond, Option, Some, None, List, [], ◌∷◌, map, replicate, All, Contains, Result, Ok, Err, refl}
+use Rattle.std.specs.Prelude.{◌≡◌, ℕ, Bool, true, false, cond, Option, Some, None, List, [], ◌∷◌, map, All, Contains, Result, Ok, Err, refl}
 use Rattle.std.proofs.Common.{sym, ◌∙◌, subst}
 use Rattle.std.specs.Ordering.{nat_cmp, eq_by_cmp}
 use Rattle.std.specs.FinMap.{get, entries, get-entries, find}
@@ -7,15 +7,13 @@ use Rattle.std.proofs.lemmas.List.Elements.{All-nil, All-cons}
 use Rattle.scut_base.proofs.Lists.{Contains-head, Contains-cons}
 use Rattle.pb_lin.specs.Constraint.{ConstraintValue, negation}
 use Rattle.pb_lin.specs.Given.{Given}
-use Rattle.hint_rup.specs.Propagation.{Conflicts}
-use Rattle.hint_rup.specs.Hints.{line_of, before, named, unnamed, IsReplayed}
+use Rattle.hint_rup.specs.Hints.{line_of, before, named, IsReplayed}
 use Rattle.hint_rup.specs.declared.hint.Hint.{Hint}
 use Rattle.hint_rup.specs.declared.hint.Hint.TheVariants.{Id, Negated, Denied}
 use Rattle.hint_rup.specs.declared.hint.RupFault.{RupFault}
 use Rattle.hint_rup.specs.declared.hint.RupFault.TheVariants.{NoSuchId, Open}
 use Rattle.proof_laws.specs.State.{StateValue}
 use Rattle.proof_laws.specs.Refusal.{given_in, rup_fault, IsHintsFault}
-use Rattle.proof_laws.specs.declared.why.Why.{Why}
 use Rattle.proof_laws.specs.declared.why.Why.TheVariants.{RupOpen}
 use Rattle.log_elab.specs.Loose.{live_lines, FollowsLoosely}
 use Rattle.log_elab.proofs.Inside.{hints_conflict_law}

@@ -20,7 +20,7 @@ use Rattle.proof_rules.specs.declared.fault.StepFault.TheVariants.{Refused as St
 use Rattle.cdcl_state.specs.Searching.{SearchValue}
 use Rattle.log_elab.specs.Loose.{is_unhinted, FollowsLoosely, IsElaborated, IsLooselyRefused, IsLooseNext}
 use Rattle.log_elab.proofs.Helped.{helped, refused_alike as goal_alike}
-use Rattle.log_elab.proofs.Replays.{plain_next, elaborated_next}
+use Rattle.log_elab.proofs.Replays.{elaborated_next}
 use Rattle.log_elab.specs.Adding.{open_goal, with_hints, gone_with}
 use Rattle.log_elab.specs.Elaborating.{IsFlat, IsKept, IsTaken}
 use Rattle.log_elab.specs.Reasons.{Proves, IsAdded}

@@ -1,15 +1,13 @@
 -- What hints over the stored lines prove, and what is closed for them.
-use Rattle.std.specs.Prelude.{◌≡◌, ◌≢◌, ◌⊎◌, ℕ, ◌+◌, ◌*◌, ◌^◌, ◌<◌, ◌≤◌, ◌==◌, Bool, true, false, cond, if◌then◌else◌, Option, Some, None, IsSome, IfSome, IfNone, List, [], ◌∷◌, length, map, replicate, All, Contains, refl}
-use Rattle.std.proofs.Common.{sym, ◌∙◌, ap, subst, get_or, inl, inr, arith}
+use Rattle.std.specs.Prelude.{◌≡◌, ℕ, ◌<◌, ◌==◌, Bool, true, false, if◌then◌else◌, Option, Some, None, IsSome, IfSome, IfNone, List, [], ◌∷◌, map, replicate, All, Contains, refl}
+use Rattle.std.proofs.Common.{sym, ◌∙◌, ap, subst, inl, inr, arith}
 use Rattle.std.specs.FinMap.{get, insert, entries, entries_sorted, get-entries}
 use Rattle.std.proofs.lemmas.Bool.{cases_eq}
-use Rattle.std.proofs.lemmas.Option.{none-some}
 use Rattle.std.proofs.lemmas.List.Elements.{All-nil, All-cons, All-head, All-tail, All-weaker, All-map, Contains-get_or}
 use Rattle.scut_base.proofs.Options.{if_some}
 use Rattle.pb_lin.specs.Constraint.{ConstraintValue, IsNormal, UpTo, negation}
-use Rattle.pb_lin.specs.Given.{Given}
 use Rattle.pb_lin.specs.LineMap.{LineMap}
-use Rattle.pb_lin.specs.Propagation.{IsClosed, IsClosedUnder}
+use Rattle.pb_lin.specs.Propagation.{IsClosedUnder}
 use Rattle.hint_rup.specs.Propagation.{Conflicts}
 use Rattle.hint_rup.specs.Hints.{line_of, before, named}
 use Rattle.hint_rup.specs.declared.hint.Hint.{Hint}

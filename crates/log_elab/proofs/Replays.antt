@@ -1,18 +1,18 @@
 -- Lines that are legal with hints are loosely legal without them, and lead to the same states.
-use Rattle.std.specs.Prelude.{◌≡◌, ◌⊎◌, ◌^◌, not, nat_lt, List, [], ◌∷◌, Option, None, Some, refl}
-use Rattle.std.proofs.Common.{inl, inr, subst, sym}
+use Rattle.std.specs.Prelude.{◌≡◌, ◌^◌, not, nat_lt, List, [], ◌∷◌, Option, None, Some, refl}
+use Rattle.std.proofs.Common.{inl, subst}
 use Rattle.pb_lin.specs.Constraint.{ConstraintValue, negation, size}
 use Rattle.pb_lin.specs.Problem.{ProblemValue}
 use Rattle.hint_rup.specs.declared.hint.Hint.{Hint}
 use Rattle.proof_laws.specs.State.{StateValue, start}
-use Rattle.proof_laws.specs.Refusal.{FirstOf, fault_unless, size_fault, range_fault, written, is_clause, IsRupFault, IsHintsFault, IsRuleFault, IsFault}
-use Rattle.proof_laws.specs.Legal.{IsNext, Makes}
-use Rattle.proof_laws.specs.Replay.{Leads, IsReplay}
+use Rattle.proof_laws.specs.Refusal.{FirstOf, fault_unless, size_fault, range_fault, written, is_clause, IsRupFault, IsHintsFault, IsRuleFault}
+use Rattle.proof_laws.specs.Legal.{IsNext}
+use Rattle.proof_laws.specs.Replay.{Leads}
 use Rattle.proof_laws.specs.declared.line.Line.{Line}
 use Rattle.proof_laws.specs.declared.line.Line.TheVariants.{Pol, Rup, Learn, Def, Red, Dom, Sol, Del, Reduce, End}
 use Rattle.proof_laws.specs.declared.why.Why.{Why}
 use Rattle.proof_laws.specs.declared.why.Why.TheVariants.{RupOpen, AfterEnd, LogLong, NotClause}
-use Rattle.log_elab.specs.Loose.{IsLooseRupFault, IsOpenFault, IsLooseRuleFault, IsLooseFault, IsLooseNext, LeadsLoosely, IsLooseReplay, IsElaborated, AreElaborated}
+use Rattle.log_elab.specs.Loose.{IsLooseRupFault, IsOpenFault, IsLooseRuleFault, IsLooseNext, LeadsLoosely, IsElaborated, AreElaborated}
 use Rattle.log_elab.specs.Laws.{ElaboratedReplayLoosely}
 use Rattle.log_elab.proofs.Named.{hints_follow}
 

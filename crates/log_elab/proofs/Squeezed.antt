@@ -1,14 +1,13 @@
 -- Hints without those that come again at once.
-use Rattle.std.specs.Prelude.{◌≡◌, ◌⊎◌, ℕ, ◌+◌, ◌<◌, ◌≤◌, ◌==◌, Bool, true, false, cond, if◌then◌else◌, Option, Some, None, List, [], ◌∷◌, length, replicate, All, Result, Ok, Err, refl}
+use Rattle.std.specs.Prelude.{◌≡◌, ℕ, ◌≤◌, Bool, true, false, if◌then◌else◌, Option, Some, None, List, [], ◌∷◌, length, replicate, Result, Ok, Err, refl}
 use Rattle.std.proofs.Common.{sym, ◌∙◌, ap, subst, inl, inr, arith}
 use Rattle.std.specs.FinMap.{get}
 use Rattle.std.proofs.lemmas.Bool.{eqb-true}
 use Rattle.std.proofs.lemmas.List.{length-replicate}
-use Rattle.std.proofs.lemmas.List.Elements.{All-nil, All-cons}
 use Rattle.pb_lin.specs.Constraint.{ConstraintValue, IsNormal, UpTo, negation}
 use Rattle.pb_lin.specs.Given.{Given}
 use Rattle.hint_rup.specs.Propagation.{forced, Conflicts}
-use Rattle.hint_rup.specs.Hints.{line_of, before, named, unnamed, IsReplayed}
+use Rattle.hint_rup.specs.Hints.{line_of, before, named, IsReplayed}
 use Rattle.hint_rup.specs.declared.hint.Hint.{Hint}
 use Rattle.hint_rup.specs.declared.hint.Hint.TheVariants.{Id as IdHint, Negated, Denied}
 use Rattle.hint_rup.specs.declared.hint.RupFault.{RupFault}

@@ -1,7 +1,7 @@
 -- Live lines that are taken up.
-use Rattle.std.specs.Prelude.{◌≡◌, ◌≢◌, ◌⊎◌, ℕ, ◌+◌, ◌<◌, ◌≤◌, Option, Some, None, Result, Ok, Err, OnOk, refl}
+use Rattle.std.specs.Prelude.{◌≡◌, ◌≢◌, ℕ, ◌+◌, Some, None, Result, Ok, Err, OnOk, refl}
 use Rattle.std.proofs.Common.{sym, ◌∙◌, ap, subst, inl, inr, arith}
-use Rattle.std.specs.FinMap.{get, insert, remove, empty, get-empty, get-remove}
+use Rattle.std.specs.FinMap.{get, insert, empty, get-empty}
 use Rattle.std.specs.Ordering.{nat_cmp, eq_by_cmp}
 use Rattle.std.specs.Cmp.{nat_cmp_total, unsigned_tied}
 use Rattle.std.proofs.lemmas.Bool.{cases_eq, cond-true, cond-false, eq-eqb, ne_eqb}
@@ -16,7 +16,7 @@ use Rattle.pb_lin.specs.Problem.{ProblemValue}
 use Rattle.clause_prop.specs.declared.step.Step.{Step}
 use Rattle.clause_prop.specs.Steps.{TrailValue}
 use Rattle.cdcl_state.specs.Searching.{SearchValue, no_lines}
-use Rattle.log_elab.specs.Elaborating.{IsFlat, IsKept, IsTaken}
+use Rattle.log_elab.specs.Elaborating.{IsKept, IsTaken}
 
 pub same_place : (lines : LineMap) (n i : ℕ) (c : ConstraintValue) → i ≡ n → get (insert lines n c) i ≡ Some c
 same_place lines n i c is = get-insert nat_cmp_total lines n c i ∙ cond-true (eq_by_cmp nat_cmp i n) (Some c) (get lines i) (unsigned_tied i n ∙ eq-eqb i n is)

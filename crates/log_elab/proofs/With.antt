@@ -1,6 +1,6 @@
 -- A line that is stored for a while.
-use Rattle.std.specs.Prelude.{◌≡◌, ◌≢◌, ℕ, ◌+◌, ◌<◌, ◌≤◌, Bool, Option, Some, None, Result, Ok, Err, IfOk, IfNone, List, [], ◌∷◌, ◌++◌, length, map, take, All, refl}
-use Rattle.std.proofs.Common.{sym, ◌∙◌, ap, subst, inl, inr, arith}
+use Rattle.std.specs.Prelude.{◌≡◌, ℕ, ◌≤◌, Option, Some, None, Result, Ok, Err, IfOk, IfNone, List}
+use Rattle.std.proofs.Common.{sym, ◌∙◌, ap, subst, inl, inr}
 use Rattle.std.specs.FinMap.{get, insert, remove, get-remove}
 use Rattle.std.specs.Ordering.{nat_cmp, eq_by_cmp}
 use Rattle.std.specs.Cmp.{nat_cmp_total, unsigned_tied}
@@ -10,13 +10,12 @@ use Rattle.scut_base.specs.Literal.{Literal}
 use Rattle.pb_lin.specs.Constraint.{ConstraintValue, UpTo, negation, opposite}
 use Rattle.pb_lin.specs.LineMap.{LineMap}
 use Rattle.hint_rup.specs.declared.hint.Hint.{Hint}
-use Rattle.clause_prop.specs.declared.step.Step.{Step}
-use Rattle.clause_prop.specs.Steps.{TrailValue, cut, partial, assigned}
+use Rattle.clause_prop.specs.Steps.{cut, partial}
 use Rattle.clause_prop.specs.Propagating.{Extends, IsClosedFor}
 use Rattle.clause_prop.proofs.Assigned.{length-assigned}
 use Rattle.cdcl_state.specs.Searching.{SearchValue}
 use Rattle.log_elab.specs.Elaborating.{HasClosed}
-use Rattle.log_elab.proofs.Taken.{same_place, other_place}
+use Rattle.log_elab.proofs.Taken.{other_place}
 
 pub negation_upto : (n : ℕ) (c d : ConstraintValue) → d ≡ negation c → UpTo n c → UpTo n d
 negation_upto n c d is upto = subst (UpTo n) (sym is) (All-map (λ t. t.0.var ≤ n) (λ (t : Literal × ℕ). (opposite t.0, t.1)) c.terms upto)

@@ -38,6 +38,6 @@ pub(crate) fn flat_trail_stays()
 
 /// Law: a decision is above level 0.
 pub(crate) fn flat_trail_is_undecided()
-    ensures undecided { (store : LineMap) (t : TrailValue) → IsSearchTrail store t → IsFlat t
+    ensures { (store : LineMap) (t : TrailValue) → IsSearchTrail store t → IsFlat t
         → IsUndecided t }
 {}

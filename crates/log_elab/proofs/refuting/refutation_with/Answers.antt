@@ -2,7 +2,7 @@ use Rattle.log_elab.proofs.With.{negation_upto, closed_with, lines_back}
 use Rattle.log_elab.proofs.refuting.refutation_with.Goals as goal
 
 pub take-requires-clause-undecided : goal.take-requires-clause-undecided
-take-requires-clause-undecided g c = c.flat_trail_is_undecided.ensures.undecided c.args.search.now.store c.args.search.now.trail c.level-level.ensures.search c.requires.flat
+take-requires-clause-undecided g c = c.flat_trail_is_undecided.ensures c.args.search.now.store c.args.search.now.trail c.level-level.ensures.search c.requires.flat
 
 pub take-requires-clause-variables : goal.take-requires-clause-variables
 take-requires-clause-variables g c = negation_upto c.args.search.now.trail.vars c.args.goal.now c.in_ok-negated.negated c.in_ok-negated.ensures c.requires.within
