@@ -14,7 +14,7 @@ use Rattle.log_elab.specs.Loose.{live_lines, FollowsLoosely}
 pub live_upto : (s : StateValue) → IsState s → All (UpTo s.vars) (live_lines s)
 live_upto s state = All-map (UpTo s.vars) (λ e. e.1) (entries s.live) (λ k d short. entries_hold (UpTo s.vars) s.live state.variables _ (Contains-get_or (entries s.live) k d short))
 
-negation_upto : (n : ℕ) (c : ConstraintValue) → UpTo n c → UpTo n (negation c)
+pub negation_upto : (n : ℕ) (c : ConstraintValue) → UpTo n c → UpTo n (negation c)
 negation_upto n c upto = All-map (λ t. t.0.var ≤ n) (λ (t : Literal × ℕ). (opposite t.0, t.1)) c.terms upto
 
 pub closed_law : (s : StateValue) (goal : ConstraintValue) (q : List (Option Bool)) → IsState s → length q ≡ s.vars → UpTo s.vars goal

@@ -1,6 +1,6 @@
 -- Trails of level 0.
 use Rattle.std.specs.Prelude.{◌≡◌, ℕ, List, [], ◌∷◌, ◌++◌, fold, take, All, refl}
-use Rattle.std.proofs.Common.{zero, suc, sym, ◌∙◌, ap, subst, get_or, arith}
+use Rattle.std.proofs.Common.{zero, suc, sym, ◌∙◌, subst, get_or, arith, append-nil, append_assoc}
 use Rattle.std.proofs.lemmas.List.Elements.{All-nil, All-cons, All-head, All-tail, All-append}
 use Rattle.std.proofs.lemmas.Option.{slice_get-get_or}
 use Rattle.pb_lin.specs.LineMap.{LineMap}
@@ -17,14 +17,6 @@ last_from : (base : ℕ) (steps : List Step) → base ≡ 0 → All AtZero steps
 last_from base [] low all = low
 last_from base (s ∷ steps) low all = last_from s.level steps (All-head AtZero s steps all) (All-tail AtZero s steps all)
 
-append_one : (xs : List Step) (y : Step) (ys : List Step) → (xs ++ y ∷ []) ++ ys ≡ xs ++ y ∷ ys
-append_one [] y ys = refl
-append_one (x ∷ xs) y ys = ap (λ (zs : List Step). x ∷ zs) (append_one xs y ys)
-
-append_none : (xs : List Step) → xs ++ [] ≡ xs
-append_none [] = refl
-append_none (x ∷ xs) = ap (λ (zs : List Step). x ∷ zs) (append_none xs)
-
 -- the steps that are forced, one after another
 flat_more : (store : LineMap) (n : ℕ) (old first more : List Step) → AreForced store n old (first ++ more) → All AtZero (old ++ first) → All AtZero more
 flat_more store n old first [] forced low = All-nil AtZero
@@ -32,17 +24,13 @@ flat_more store n old first (s ∷ more) forced low =
     let step = forced first s more refl in
     let zero_level : s.level ≡ 0 = step.level ∙ last_from 0 (old ++ first) refl low in
     All-cons AtZero s more zero_level
-    (flat_more store n old (first ++ s ∷ []) more (subst (AreForced store n old) (sym (append_one first s more)) forced)
-    (subst (All AtZero) (assoc old first s) (All-append AtZero (old ++ first) (s ∷ []) low (All-cons AtZero s [] zero_level (All-nil AtZero)))))
-  where
-    assoc : (xs ys : List Step) (y : Step) → (xs ++ ys) ++ y ∷ [] ≡ xs ++ (ys ++ y ∷ [])
-    assoc [] ys y = refl
-    assoc (x ∷ xs) ys y = ap (λ (zs : List Step). x ∷ zs) (assoc xs ys y)
+    (flat_more store n old (first ++ s ∷ []) more (subst (AreForced store n old) (sym (append_assoc first (s ∷ []) more)) forced)
+    (subst (All AtZero) (append_assoc old first (s ∷ [])) (All-append AtZero (old ++ first) (s ∷ []) low (All-cons AtZero s [] zero_level (All-nil AtZero)))))
 
 pub longer_law : (store : LineMap) (old new : TrailValue) → IsFlat old → Extends store old new → IsFlat new
 longer_law store old new flat extends =
     subst (All AtZero) (sym extends.is) (All-append AtZero old.steps extends.more flat
-    (flat_more store old.vars old.steps [] extends.more extends.forced (subst (All AtZero) (sym (append_none old.steps)) flat)))
+    (flat_more store old.vars old.steps [] extends.more extends.forced (subst (All AtZero) (sym (append-nil old.steps)) flat)))
 
 pub shorter_law : (t : TrailValue) (keep : ℕ) → IsFlat t → IsFlat (cut t keep)
 shorter_law t keep flat = front keep t.steps flat

@@ -34,7 +34,7 @@ pub record RefusedAlike (p : ProblemValue) (s : StateValue) (goal : ConstraintVa
   pub open_learn : IsRefused p s (Learn goal []) RupOpen → (FollowsLoosely s goal → ⊥) → IsLooselyRefused p s (Learn goal []) RupOpen
 
 -- a first fault that isn't this one
-abbrev IsOther : Why → Option Why → Type 0
+abbrev pub IsOther : Why → Option Why → Type 0
 IsOther why o = o ≡ Some why → ⊥
 
 -- where the first fault isn't the one that decides, it is none, and the rest decides
@@ -42,11 +42,11 @@ rest_mapped : (o : Option Why) (R S : Option Why → Type 0) (why : Why) (f : Op
 rest_mapped None R S why f other more is = more is
 rest_mapped (Some first) R S why f other more is = absurd (other (sym is))
 
-unless_other : (b : Bool) (first why : Why) → first ≢ why → IsOther why (fault_unless b first)
+pub unless_other : (b : Bool) (first why : Why) → first ≢ why → IsOther why (fault_unless b first)
 unless_other true first why differ is = cc
 unless_other false first why differ is = differ (let same : first ≡ why = cc in same)
 
-range_other : (o : Option ℕ) → IsOther RupOpen (option_map VarRange o)
+pub range_other : (o : Option ℕ) → IsOther RupOpen (option_map VarRange o)
 range_other None is = cc
 range_other (Some v) is = cc
 

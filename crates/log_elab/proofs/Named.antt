@@ -35,6 +35,12 @@ before_all : (P : ConstraintValue → Type 0) (o : Option ConstraintValue) (cs :
 before_all P None cs first rest = All-nil P
 before_all P (Some c) cs first rest = All-cons P c cs (first c refl) rest
 
+-- what all lines have that may be named, those that are named have
+pub named_all : (P : ConstraintValue → Type 0) (g : Given) (hints : List Hint) → ((h : Hint) (c : ConstraintValue) → line_of g h ≡ Some c → P c) → All P (named g hints)
+unfolding named
+named_all P g [] each = All-nil P
+named_all P g (h ∷ hints) each = before_all P (line_of g h) (named g hints) (each h) (named_all P g hints each)
+
 module _ (s : StateValue) (goal : ConstraintValue) where
   abbrev given : Given
   given = given_in s (Some (negation goal)) None
@@ -49,15 +55,10 @@ module _ (s : StateValue) (goal : ConstraintValue) where
       subst (λ (d : ConstraintValue). Contains all_lines d) same (Contains-head (negation goal) (live_lines s))
   line_among Denied c is = cc
 
-  named_among : (hints : List Hint) → All (Contains all_lines) (named given hints)
-  unfolding named
-  named_among [] = All-nil (Contains all_lines)
-  named_among (h ∷ hints) = before_all (Contains all_lines) (line_of given h) (named given hints) (line_among h) (named_among hints)
-
   by_answer : (hints : List Hint) (answer : Result (Unit {0}) RupFault) → IsReplayed s.vars (negation goal) given hints answer → None ≡ rup_fault RupOpen answer → FollowsLoosely s goal
   by_answer hints (Ok done) conflict none =
       hints_conflict_law s.vars (negation goal ∷ named given hints) all_lines
-      (All-cons (Contains all_lines) (negation goal) (named given hints) (Contains-head (negation goal) (live_lines s)) (named_among hints)) conflict
+      (All-cons (Contains all_lines) (negation goal) (named given hints) (Contains-head (negation goal) (live_lines s)) (named_all (Contains all_lines) given hints line_among)) conflict
   by_answer hints (Err (NoSuchId id)) conflict none = cc
   by_answer hints (Err Open) conflict none = cc
 

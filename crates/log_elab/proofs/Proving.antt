@@ -24,7 +24,7 @@ use Rattle.log_elab.proofs.Respelled.{stored_hints_law}
 use Rattle.log_elab.proofs.Squeezed.{squeezed_law}
 use Rattle.log_elab.specs.Elaborating.{HasClosed, IsTaken}
 use Rattle.log_elab.specs.Reasons.{Proves}
-use Rattle.log_elab.proofs.Taken.{same_place, other_place}
+use Rattle.cdcl_trail.proofs.Stores.{get_new, get_other}
 use Rattle.proof_laws.proofs.Entries.{entry_found}
 
 abbrev IsStoredId : LineMap → Hint → Type 0
@@ -82,14 +82,15 @@ module _ (s : StateValue) (state : IsState s) (goal : ConstraintValue) (store : 
 
   there_too : (id : ℕ) (c : ConstraintValue) → get (insert store s.next_id (negation goal)) id ≡ Some c → get (insert s.live s.next_id (negation goal)) id ≡ Some c
   there_too id c there = elim (cases_eq id s.next_id) [
-    | inl same ↦ same_place s.live s.next_id id (negation goal) same ∙ sym (same_place store s.next_id id (negation goal) same) ∙ there
-    | inr apart ↦ other_place s.live s.next_id id (negation goal) apart ∙ (taken.held id c (sym (other_place store s.next_id id (negation goal) apart) ∙ there)).1
+    | inl same ↦ ap (get (insert s.live s.next_id (negation goal))) same ∙ get_new s.live s.next_id (negation goal)
+        ∙ sym (ap (get (insert store s.next_id (negation goal))) same ∙ get_new store s.next_id (negation goal)) ∙ there
+    | inr apart ↦ get_other s.live s.next_id id (negation goal) apart ∙ (taken.held id c (sym (get_other store s.next_id id (negation goal) apart) ∙ there)).1
   ]
 
   both_small : (id : ℕ) (c : ConstraintValue) → get (insert store s.next_id (negation goal)) id ≡ Some c → IsId id
   both_small id c there = elim (cases_eq id s.next_id) [
     | inl same ↦ omega (arith, same, state.next_id, state.lines)
-    | inr apart ↦ live_small id c (sym (other_place store s.next_id id (negation goal) apart) ∙ there)
+    | inr apart ↦ live_small id c (sym (get_other store s.next_id id (negation goal) apart) ∙ there)
   ]
 
   -- hints over these and the negation
@@ -107,14 +108,14 @@ module _ (s : StateValue) (state : IsState s) (goal : ConstraintValue) (store : 
   pub closed_open : UpTo s.vars goal → HasClosed s.vars (insert store s.next_id (negation goal)) → FollowsLoosely s goal → ⊥
   closed_open upto closed =
       closed_law s goal closed.0 state closed.1 upto
-      (All-cons (IsClosedUnder closed.0) (negation goal) (live_lines s) (closed.2 s.next_id (negation goal) (same_place store s.next_id s.next_id (negation goal) refl))
+      (All-cons (IsClosedUnder closed.0) (negation goal) (live_lines s) (closed.2 s.next_id (negation goal) (get_new store s.next_id (negation goal)))
       (All-map (IsClosedUnder closed.0) (λ e. e.1) (entries s.live) (λ k d short. line_closed _ (Contains-get_or (entries s.live) k d short))))
     where
       line_closed : (e : ℕ × ConstraintValue) → Contains (entries s.live) e → IsClosedUnder closed.0 e.1
       line_closed e among =
           let there = get-entries s.live e.0 ∙ entry_found (entries s.live) (entries_sorted s.live) e among in
           let low : e.0 < s.next_id = (state.ids e.0 e.1 there).1 in
-          closed.2 e.0 e.1 (other_place store s.next_id e.0 (negation goal) (λ same. omega arith) ∙ taken.all e.0 e.1 low there)
+          closed.2 e.0 e.1 (get_other store s.next_id e.0 (negation goal) (λ same. omega arith) ∙ taken.all e.0 e.1 low there)
 
 -- ---- as the code has them
 

@@ -1,10 +1,10 @@
 -- Hints over a store in which the negation has an id of its own.
-use Rattle.std.specs.Prelude.{◌≡◌, ℕ, ◌<◌, ◌≤◌, ◌==◌, Bool, true, false, cond, if◌then◌else◌, Option, Some, None, List, [], ◌∷◌, map, replicate, All, refl, Ok}
+use Rattle.std.specs.Prelude.{◌≡◌, ℕ, ◌<◌, ◌==◌, Bool, true, false, cond, if◌then◌else◌, Option, Some, None, List, [], ◌∷◌, map, replicate, All, refl, Ok}
 use Rattle.std.proofs.Common.{sym, ◌∙◌, ap, subst, arith}
 use Rattle.std.specs.Cmp.{nat_cmp_total, unsigned_tied}
 use Rattle.std.specs.FinMap.{get, insert, get-insert}
 use Rattle.std.proofs.lemmas.List.{length-replicate}
-use Rattle.std.proofs.lemmas.List.Elements.{All-nil, All-cons, All-head, All-tail, All-map}
+use Rattle.std.proofs.lemmas.List.Elements.{All-head, All-tail, All-map}
 use Rattle.scut_base.specs.Literal.{Literal}
 use Rattle.pb_lin.specs.Constraint.{ConstraintValue, IsMerged, IsNormal, UpTo, negation, opposite, opposite_terms}
 use Rattle.pb_lin.proofs.Ones.{AllPairs-map}
@@ -19,6 +19,8 @@ use Rattle.proof_laws.specs.Refusal.{given_in, IsHintsFault}
 use Rattle.proof_laws.specs.declared.why.Why.TheVariants.{RupOpen}
 use Rattle.cdcl_trail.specs.Learning.{stored}
 use Rattle.log_elab.specs.Spelling.{respelled}
+use Rattle.log_elab.proofs.Closed.{negation_upto}
+use Rattle.log_elab.proofs.Named.{named_all}
 use Rattle.log_elab.proofs.Grown.{IsPlain, conflicts_after}
 
 abbrev IsIdHint : Hint → Type 0
@@ -52,16 +54,6 @@ module _ (s : StateValue) (negated : ConstraintValue) (id : ℕ) where
       ap (λ (o : Option ConstraintValue). before o (named (stored store) hints)) (same_line h (All-head IsIdHint h hints each))
       ∙ ap (before (line_of given (respelled id h))) (same_named hints (All-tail IsIdHint h hints each))
 
-before_all : (P : ConstraintValue → Type 0) (o : Option ConstraintValue) (cs : List ConstraintValue) → ((c : ConstraintValue) → o ≡ Some c → P c) → All P cs → All P (before o cs)
-before_all P None cs first rest = All-nil P
-before_all P (Some c) cs first rest = All-cons P c cs (first c refl) rest
-
--- what all lines have that may be named, those that are named have
-pub named_all : (P : ConstraintValue → Type 0) (g : Given) (hints : List Hint) → ((h : Hint) (c : ConstraintValue) → line_of g h ≡ Some c → P c) → All P (named g hints)
-unfolding named
-named_all P g [] each = All-nil P
-named_all P g (h ∷ hints) each = before_all P (line_of g h) (named g hints) (each h) (named_all P g hints each)
-
 opposites_merged : (terms : List (Literal × ℕ)) → IsMerged terms → IsMerged (opposite_terms terms)
 opposites_merged terms merged = record {
   positive = All-map (λ t. 0 < t.1) (λ (t : Literal × ℕ). (opposite t.0, t.1)) terms merged.positive;
@@ -72,7 +64,7 @@ opposites_merged terms merged = record {
 negation_plain : (n : ℕ) (c : ConstraintValue) → IsMerged c.terms → UpTo n c → IsPlain n (negation c)
 negation_plain n c merged upto = record {
   merged = opposites_merged c.terms merged;
-  upto = All-map (λ t. t.0.var ≤ n) (λ (t : Literal × ℕ). (opposite t.0, t.1)) c.terms upto;
+  upto = negation_upto n c upto;
 }
 
 module _ (s : StateValue) (goal : ConstraintValue) (id : ℕ) (state : IsState s) (normal : IsNormal goal.terms goal.degree) (upto : UpTo s.vars goal) where

@@ -19,7 +19,8 @@ use Rattle.proof_laws.specs.declared.why.Why.TheVariants.{RupOpen}
 use Rattle.log_elab.specs.Spelling.{same_hint, squeezed}
 use Rattle.log_elab.proofs.Grown.{IsPlain, length_forced}
 use Rattle.log_elab.proofs.Idle.{conflicts_once}
-use Rattle.log_elab.proofs.Respelled.{line_fine, named_all}
+use Rattle.log_elab.proofs.Respelled.{line_fine}
+use Rattle.log_elab.proofs.Named.{named_all}
 
 module _ (given : Given) where
   -- equal hints name one line

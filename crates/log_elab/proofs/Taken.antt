@@ -1,11 +1,9 @@
 -- Live lines that are taken up.
-use Rattle.std.specs.Prelude.{◌≡◌, ◌≢◌, ℕ, ◌+◌, Some, None, Result, Ok, Err, OnOk, refl}
+use Rattle.std.specs.Prelude.{◌≡◌, ℕ, ◌+◌, Some, None, Result, Ok, Err, OnOk, refl}
 use Rattle.std.proofs.Common.{sym, ◌∙◌, ap, subst, inl, inr, arith}
 use Rattle.std.specs.FinMap.{get, insert, empty, get-empty}
-use Rattle.std.specs.Ordering.{nat_cmp, eq_by_cmp}
-use Rattle.std.specs.Cmp.{nat_cmp_total, unsigned_tied}
-use Rattle.std.proofs.lemmas.Bool.{cases_eq, cond-true, cond-false, eq-eqb, ne_eqb}
-use Rattle.std.specs.FinMap.{get-insert}
+use Rattle.std.specs.Ordering.{nat_cmp}
+use Rattle.std.proofs.lemmas.Bool.{cases_eq}
 use Rattle.std.proofs.lemmas.Option.{none-some}
 use Rattle.pb_lin.specs.Constraint.{ConstraintValue}
 use Rattle.pb_lin.specs.LineMap.{LineMap}
@@ -15,14 +13,9 @@ use Rattle.std.proofs.lemmas.List.Elements.{All-nil}
 use Rattle.pb_lin.specs.Problem.{ProblemValue}
 use Rattle.clause_prop.specs.declared.step.Step.{Step}
 use Rattle.clause_prop.specs.Steps.{TrailValue}
+use Rattle.cdcl_trail.proofs.Stores.{get_new, get_other}
 use Rattle.cdcl_state.specs.Searching.{SearchValue, no_lines}
 use Rattle.log_elab.specs.Elaborating.{IsKept, IsTaken}
-
-pub same_place : (lines : LineMap) (n i : ℕ) (c : ConstraintValue) → i ≡ n → get (insert lines n c) i ≡ Some c
-same_place lines n i c is = get-insert nat_cmp_total lines n c i ∙ cond-true (eq_by_cmp nat_cmp i n) (Some c) (get lines i) (unsigned_tied i n ∙ eq-eqb i n is)
-
-pub other_place : (lines : LineMap) (n i : ℕ) (c : ConstraintValue) → i ≢ n → get (insert lines n c) i ≡ get lines i
-other_place lines n i c apart = get-insert nat_cmp_total lines n c i ∙ cond-false (eq_by_cmp nat_cmp i n) (Some c) (get lines i) (unsigned_tied i n ∙ ne_eqb i n apart)
 
 -- a line more
 pub taken_more : (live store : LineMap) (id : ℕ) (c : ConstraintValue) → get live id ≡ Some c → IsTaken live id store → IsTaken live (id + 1) (insert store id c)
@@ -32,8 +25,8 @@ taken_more live store id c there taken = record {
     | inr old ↦ (let one = taken.held i d old in (let low = one.0 in omega arith, one.1))
   ];
   all = λ i d less found. elim (cases_eq i id) [
-    | inl same ↦ same_place store id i c same ∙ sym (sym found ∙ ap (get live) same ∙ there)
-    | inr apart ↦ other_place store id i c apart ∙ taken.all i d (omega arith) found
+    | inl same ↦ ap (get (insert store id c)) same ∙ get_new store id c ∙ sym (sym found ∙ ap (get live) same ∙ there)
+    | inr apart ↦ get_other store id i c apart ∙ taken.all i d (omega arith) found
   ];
 }
 

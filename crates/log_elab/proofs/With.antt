@@ -1,13 +1,9 @@
 -- A line that is stored for a while.
-use Rattle.std.specs.Prelude.{◌≡◌, ℕ, ◌≤◌, Option, Some, None, Result, Ok, Err, IfOk, IfNone, List}
+use Rattle.std.specs.Prelude.{◌≡◌, ℕ, Option, Some, None, Result, Ok, Err, IfOk, IfNone, List}
 use Rattle.std.proofs.Common.{sym, ◌∙◌, ap, subst, inl, inr}
-use Rattle.std.specs.FinMap.{get, insert, remove, get-remove}
-use Rattle.std.specs.Ordering.{nat_cmp, eq_by_cmp}
-use Rattle.std.specs.Cmp.{nat_cmp_total, unsigned_tied}
-use Rattle.std.proofs.lemmas.Bool.{cases_eq, cond-true, cond-false, eq-eqb, ne_eqb}
-use Rattle.std.proofs.lemmas.List.Elements.{All-map}
-use Rattle.scut_base.specs.Literal.{Literal}
-use Rattle.pb_lin.specs.Constraint.{ConstraintValue, UpTo, negation, opposite}
+use Rattle.std.specs.FinMap.{get, insert, remove}
+use Rattle.std.proofs.lemmas.Bool.{cases_eq}
+use Rattle.pb_lin.specs.Constraint.{ConstraintValue, UpTo, negation}
 use Rattle.pb_lin.specs.LineMap.{LineMap}
 use Rattle.hint_rup.specs.declared.hint.Hint.{Hint}
 use Rattle.clause_prop.specs.Steps.{cut, partial}
@@ -15,10 +11,12 @@ use Rattle.clause_prop.specs.Propagating.{Extends, IsClosedFor}
 use Rattle.clause_prop.proofs.Assigned.{length-assigned}
 use Rattle.cdcl_state.specs.Searching.{SearchValue}
 use Rattle.log_elab.specs.Elaborating.{HasClosed}
-use Rattle.log_elab.proofs.Taken.{other_place}
+use Rattle.cdcl_trail.proofs.Stores.{get_other}
+use Rattle.clause_watch.proofs.WatchHold.{get_removed, get_kept}
+use Rattle.log_elab.proofs.Closed.{negation_upto}
 
-pub negation_upto : (n : ℕ) (c d : ConstraintValue) → d ≡ negation c → UpTo n c → UpTo n d
-negation_upto n c d is upto = subst (UpTo n) (sym is) (All-map (λ t. t.0.var ≤ n) (λ (t : Literal × ℕ). (opposite t.0, t.1)) c.terms upto)
+pub taken_upto : (n : ℕ) (c d : ConstraintValue) → d ≡ negation c → UpTo n c → UpTo n d
+taken_upto n c d is upto = subst (UpTo n) (sym is) (negation_upto n c upto)
 
 -- what is closed after the line was stored
 pub closed_with : {E : Type 0} (r : Result (Option (List Hint)) E) (old taken found : SearchValue) (id : ℕ) (c d : ConstraintValue) → taken ≡ record { store = insert old.store id c; trail = old.trail } → c ≡ d → found.store ≡ taken.store
@@ -35,8 +33,8 @@ pub lines_back : (old taken found cleared dropped : SearchValue) (id : ℕ) (c :
     → cleared ≡ record { store = found.store; trail = cut found.trail 0 } → dropped ≡ record { store = remove cleared.store id; trail = cleared.trail } → (i : ℕ) → get dropped.store i ≡ get old.store i
 lines_back old taken found cleared dropped id c free is store after last i =
     let kept : cleared.store ≡ insert old.store id c = ap (λ (v : SearchValue). v.store) after ∙ store ∙ ap (λ (v : SearchValue). v.store) is in
-    ap (λ (v : SearchValue). get v.store i) last ∙ ap (λ (m : LineMap). get (remove m id) i) kept ∙ get-remove nat_cmp_total (insert old.store id c) id i
+    ap (λ (v : SearchValue). get v.store i) last ∙ ap (λ (m : LineMap). get (remove m id) i) kept
     ∙ elim (cases_eq i id) [
-      | inl same ↦ cond-true (eq_by_cmp nat_cmp i id) None (get (insert old.store id c) i) (unsigned_tied i id ∙ eq-eqb i id same) ∙ sym (ap (get old.store) same ∙ free)
-      | inr apart ↦ cond-false (eq_by_cmp nat_cmp i id) None (get (insert old.store id c) i) (unsigned_tied i id ∙ ne_eqb i id apart) ∙ other_place old.store id i c apart
+      | inl same ↦ ap (get (remove (insert old.store id c) id)) same ∙ get_removed (insert old.store id c) id ∙ sym (ap (get old.store) same ∙ free)
+      | inr apart ↦ get_kept (insert old.store id c) id i apart ∙ get_other old.store id i c apart
     ]
