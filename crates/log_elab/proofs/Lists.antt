@@ -1,14 +1,14 @@
 -- Lines that are elaborated one after another.
-use Rattle.std.specs.Prelude.{◌≡◌, List, [], ◌∷◌, Option, None, Some}
+use Rattle.std.specs.Prelude.{◌≡◌, List, [], ◌∷◌, ◌++◌, Option, None, Some, refl}
 use Rattle.std.proofs.Common.{sym, ◌∙◌, subst}
 use Rattle.pb_lin.specs.Problem.{ProblemValue}
 use Rattle.proof_laws.specs.State.{StateValue, start}
 use Rattle.proof_laws.specs.Replay.{Leads}
 use Rattle.proof_laws.specs.declared.line.Line.{Line}
 use Rattle.proof_laws.specs.declared.why.Why.{Why}
-use Rattle.log_elab.specs.Loose.{LeadsLoosely, AreElaborated}
-use Rattle.log_elab.specs.Reasons.{Elaborates}
-use Rattle.log_elab.specs.Laws.{ElaborationsReplay}
+use Rattle.log_elab.specs.Loose.{IsLooselyRefused, LeadsLoosely, AreElaborated}
+use Rattle.log_elab.specs.Reasons.{IsAdded, Elaborates}
+use Rattle.log_elab.specs.Laws.{ElaborationsGoOn, ElaborationsReplay}
 use Rattle.log_elab.proofs.Judged.{judged_loosely_law}
 use Rattle.log_elab.proofs.Replays.{elaborated_next, leads}
 
@@ -34,6 +34,26 @@ module _ (p : ProblemValue) where
   not_refused s (line ∷ lines) (new ∷ news) t refused is u loosely =
       let same : loosely.0 ≡ is.0 = (judged_loosely_law p s line).one_next loosely.0 is.0 loosely.1 (elaborated_next p s is.0 line new is.1.elaborated is.1.next) in
       not_refused is.0 lines news t refused is.2 u (subst (λ (next : StateValue). LeadsLoosely p next lines u) same loosely.2)
+
+  -- one line more that is added
+  one_more : (s : StateValue) (lines news : List Line) (t : StateValue) (line new : Line) (u : StateValue) → Elaborates p s lines news t None → IsAdded p t line new u → Elaborates p s (lines ++ line ∷ []) (news ++ new ∷ []) u None
+  one_more s [] [] t line new u is added = (u, subst (λ (v : StateValue). IsAdded p v line new u) is.1 added, (refl, refl, refl))
+  one_more s [] (first ∷ news) t line new u is added = cc
+  one_more s (first ∷ lines) [] t line new u is added = cc
+  one_more s (first ∷ lines) (old ∷ news) t line new u is added = (is.0, is.1, one_more is.0 lines news t line new u is.2 added)
+
+  -- one that is refused, whatever follows
+  none_more : (s : StateValue) (lines news : List Line) (t : StateValue) (line : Line) (why : Why) (later : List Line) → Elaborates p s lines news t None → IsLooselyRefused p t line why → Elaborates p s (lines ++ line ∷ later) news t (Some why)
+  none_more s [] [] t line why later is refused = (is.1, (why, refl, subst (λ (v : StateValue). IsLooselyRefused p v line why) is.1 refused))
+  none_more s [] (first ∷ news) t line why later is refused = cc
+  none_more s (first ∷ lines) [] t line why later is refused = cc
+  none_more s (first ∷ lines) (old ∷ news) t line why later is refused = (is.0, is.1, none_more is.0 lines news t line why later is.2 refused)
+
+pub goes_on_law : ElaborationsGoOn
+goes_on_law p s lines news t line is = record {
+  added = λ new u added. one_more p s lines news t line new u is added;
+  refused = λ why later refused. none_more p s lines news t line why later is refused;
+}
 
 pub elaborations_law : ElaborationsReplay
 elaborations_law p lines news t refused is = record {

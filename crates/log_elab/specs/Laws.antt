@@ -1,5 +1,5 @@
 -- The laws of lines without hints, each as one statement.
-use Rattle.std.specs.Prelude.{◌≡◌, ℕ, List, replicate, All, Contains, Option, None}
+use Rattle.std.specs.Prelude.{◌≡◌, ℕ, List, [], ◌∷◌, ◌++◌, replicate, All, Contains, Option, None, Some}
 use Rattle.pb_lin.specs.Constraint.{ConstraintValue}
 use Rattle.pb_lin.specs.Problem.{ProblemValue}
 use Rattle.pb_lin.specs.Propagation.{ConflictsByPropagation}
@@ -9,7 +9,7 @@ use Rattle.proof_laws.specs.Replay.{IsReplay}
 use Rattle.proof_laws.specs.declared.line.Line.{Line}
 use Rattle.proof_laws.specs.declared.why.Why.{Why}
 use Rattle.log_elab.specs.Loose.{IsLooselyRefused, IsLooseNext, IsLooseReplay, AreElaborated}
-use Rattle.log_elab.specs.Reasons.{Elaborates}
+use Rattle.log_elab.specs.Reasons.{IsAdded, Elaborates}
 
 -- lines that conflict in an order, each propagated once, conflict by propagation, and so do more lines
 abbrev pub HintsConflictByPropagation : Type 0
@@ -41,3 +41,12 @@ pub record ElaborationReplays (p : ProblemValue) (lines news : List Line) (t : S
 abbrev pub ElaborationsReplay : Type 0
 ElaborationsReplay = (p : ProblemValue) (lines news : List Line) (t : StateValue) (refused : Option Why)
     → Elaborates p (start p) lines news t refused → ElaborationReplays p lines news t refused
+
+-- what becomes of lines that were elaborated from s to t, by the answer for the next one
+pub record ElaborationGoesOn (p : ProblemValue) (s : StateValue) (lines news : List Line) (t : StateValue) (line : Line) : Type 0 where
+  pub added : (new : Line) (u : StateValue) → IsAdded p t line new u → Elaborates p s (lines ++ line ∷ []) (news ++ new ∷ []) u None
+  pub refused : (why : Why) (later : List Line) → IsLooselyRefused p t line why → Elaborates p s (lines ++ line ∷ later) news t (Some why)
+
+abbrev pub ElaborationsGoOn : Type 0
+ElaborationsGoOn = (p : ProblemValue) (s : StateValue) (lines news : List Line) (t : StateValue) (line : Line)
+    → Elaborates p s lines news t None → ElaborationGoesOn p s lines news t line

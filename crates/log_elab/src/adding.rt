@@ -13,13 +13,13 @@ ghost use Rattle.log_elab.specs.Reasons.{IsAdded, IsLooseReason};
 use crate::fault::ElabFault;
 use crate::finding::hints_in;
 use crate::laws::flat_trail_stays;
+use cdcl_state::Search;
 use clause_prop::Propagator;
 use hint_rup::Hint;
 use pb_lin::{Constraint, PbProblem};
 use proof_laws::{Line, Why};
 use proof_rules::{ProofState, StepFault};
 use scut_base::{Duplicate, Items, NoMemory};
-use cdcl_state::Search;
 use std::alloc::Global;
 
 // Whether only hints are missing, if that.

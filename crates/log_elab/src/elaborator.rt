@@ -7,11 +7,11 @@ ghost use Rattle.log_elab.specs.Reasons.{IsAdded, IsLooseReason};
 
 use crate::adding::add_line;
 use crate::fault::ElabFault;
+use cdcl_state::Search;
 use pb_lin::PbProblem;
 use proof_laws::Line;
 use proof_rules::ProofState;
 use scut_base::{Duplicate, NoMemory};
-use cdcl_state::Search;
 use std::alloc::Global;
 use std::marker::Model;
 use watch_prop::WatchProp;

@@ -9,12 +9,12 @@ use crate::hints::spelled;
 use crate::laws::flat_trail_is_undecided;
 use crate::refuting::refutation_with;
 use crate::taking::take_lines;
+use cdcl_state::Search;
 use clause_prop::Propagator;
 use hint_rup::Hint;
 use pb_lin::Constraint;
 use proof_rules::ProofState;
 use scut_base::{Items, NoMemory};
-use cdcl_state::Search;
 use std::alloc::Global;
 
 /// Hints that prove a goal from the live lines, or `None` where it doesn't follow by propagation. Costs what follows from

@@ -5,7 +5,7 @@ ghost use Rattle.clause_prop.specs.Steps.{TrailValue, cut};
 ghost use Rattle.clause_prop.specs.Propagating.{Extends};
 ghost use Rattle.cdcl_trail.specs.SearchTrail.{IsSearchTrail, IsUndecided};
 ghost use Rattle.log_elab.specs.Elaborating.{IsFlat};
-ghost use Rattle.log_elab.specs.Laws.{ElaboratedReplayLoosely, ElaborationsReplay, HintsConflictByPropagation, LooselyJudgedOnce};
+ghost use Rattle.log_elab.specs.Laws.{ElaboratedReplayLoosely, ElaborationsGoOn, ElaborationsReplay, HintsConflictByPropagation, LooselyJudgedOnce};
 
 /// Law: lines that conflict, each propagated once in an order, conflict by propagation in any order, for propagation
 /// stays inside every closed partial assignment.
@@ -27,6 +27,11 @@ pub fn elaborated_lines_replay_loosely()
 /// was answered is the same lines but for hints, and a proof that reaches this state.
 pub fn elaborations_replay()
     ensures { ElaborationsReplay }
+{}
+
+/// Law: what was elaborated goes on with the next line, by what `Elaborator::add` answers for it.
+pub fn elaboration_goes_on()
+    ensures { ElaborationsGoOn }
 {}
 
 /// Law: what lines force where all steps are of level 0 is of level 0.

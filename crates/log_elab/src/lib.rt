@@ -18,6 +18,6 @@ mod taking;
 pub use elaborator::Elaborator;
 pub use fault::ElabFault;
 pub use laws::{
-    elaborated_lines_replay_loosely, elaborations_replay, hints_conflict_by_propagation,
-    line_is_judged_loosely_once,
+    elaborated_lines_replay_loosely, elaboration_goes_on, elaborations_replay,
+    hints_conflict_by_propagation, line_is_judged_loosely_once,
 };

@@ -7,11 +7,11 @@ ghost use Rattle.cdcl_trail.specs.Learning.{AreHints};
 ghost use Rattle.log_elab.specs.Elaborating.{HasClosed, IsFlat};
 
 use crate::laws::{flat_trail_is_undecided, flat_trail_stays};
+use cdcl_state::Search;
 use clause_prop::Propagator;
 use hint_rup::Hint;
 use pb_lin::{Constraint, LinFault};
 use scut_base::{Items, NoMemory};
-use cdcl_state::Search;
 use std::alloc::Global;
 
 /// What proves from the stored lines that nothing satisfies them, or `None` where nothing is left to

@@ -4,10 +4,10 @@ ghost use Rattle.std.specs.FinMap.{get};
 ghost use Rattle.log_elab.specs.Elaborating.{IsFlat, IsTaken};
 
 use crate::laws::flat_trail_is_undecided;
+use cdcl_state::Search;
 use clause_prop::Propagator;
 use proof_rules::ProofState;
 use scut_base::NoMemory;
-use cdcl_state::Search;
 
 /// Takes up the live lines from an id on, over as many variables. After `NoMemory` those below the id that
 /// `next` is then were taken up.
