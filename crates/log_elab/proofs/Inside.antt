@@ -59,7 +59,7 @@ open_worth (Some b) n is = cc
 lt_of_test : (x y : ℤ) → int_lt x y ≡ true → x <ℤ y
 lt_of_test x y is = grind (arith, ints)
 
-lt_test : (x y : ℤ) → x <ℤ y → int_lt x y ≡ true
+pub lt_test : (x y : ℤ) → x <ℤ y → int_lt x y ≡ true
 lt_test x y below = grind (arith, ints)
 
 module _ (p q : Values) (inside : IsInside p q) (c : ConstraintValue) where

@@ -5,6 +5,7 @@ pub mod Named
 pub mod Idle
 pub mod Respelled
 pub mod Squeezed
+pub mod Settled
 pub mod Helped
 pub mod Judged
 pub mod Replays

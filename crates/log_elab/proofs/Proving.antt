@@ -17,11 +17,12 @@ use Rattle.proof_laws.specs.WellFormed.{IsId, IsHint}
 use Rattle.cdcl_trail.specs.Learning.{AreHints, stored}
 use Rattle.cdcl_state.specs.Searching.{SearchValue}
 use Rattle.log_elab.specs.Loose.{live_lines, FollowsLoosely}
-use Rattle.log_elab.specs.Spelling.{respelled, same_hint, squeezed, spelled_hints}
+use Rattle.log_elab.specs.Spelling.{respelled, same_hint, squeezed, told, spelled_hints}
 use Rattle.log_elab.proofs.Closed.{closed_law}
 use Rattle.log_elab.proofs.Helped.{trivial_law}
 use Rattle.log_elab.proofs.Respelled.{stored_hints_law}
 use Rattle.log_elab.proofs.Squeezed.{squeezed_law}
+use Rattle.log_elab.proofs.Settled.{told_where, told_small}
 use Rattle.log_elab.specs.Elaborating.{HasClosed, IsTaken}
 use Rattle.log_elab.specs.Reasons.{Proves}
 use Rattle.cdcl_trail.proofs.Stores.{get_new, get_other}
@@ -94,14 +95,14 @@ module _ (s : StateValue) (state : IsState s) (goal : ConstraintValue) (store : 
   ]
 
   -- hints over these and the negation
-  pub both_prove : IsNormal goal.terms goal.degree → UpTo s.vars goal → (hints : List Hint) → AreHints (insert store s.next_id (negation goal)) s.vars [] hints → Proves s goal (spelled_hints s.next_id hints)
-  both_prove normal upto hints are =
+  pub both_prove : IsNormal goal.terms goal.degree → UpTo s.vars goal → (again : Bool) → (again ≡ false → goal.degree ≡ 1) → (hints : List Hint) → AreHints (insert store s.next_id (negation goal)) s.vars [] hints → Proves s goal (spelled_hints again s.next_id hints)
+  both_prove normal upto again one hints are =
       let same = same_named (insert store s.next_id (negation goal)) (insert s.live s.next_id (negation goal)) there_too hints are.ids in
       let found : Conflicts (replicate s.vars None) (named (stored (insert store s.next_id (negation goal))) hints) = trivial_law (replicate s.vars None) (named (stored (insert store s.next_id (negation goal))) hints) are.conflict in
       let fault = stored_hints_law s goal s.next_id hints state normal upto free (subst (Conflicts (replicate s.vars None)) same found) (is_id (insert store s.next_id (negation goal)) hints are.ids) in (
-        squeezed_law s goal (map (respelled s.next_id) hints) state normal upto fault,
-        squeezed_small Negated (map (respelled s.next_id) hints) (All-map IsHint (respelled s.next_id) hints
-            (All-weaker (IsStoredId (insert store s.next_id (negation goal))) (λ (h : Hint). IsHint (respelled s.next_id h)) (λ h one. respelled_small s.next_id h (hint_small (insert store s.next_id (negation goal)) both_small h one)) hints are.ids)),
+        squeezed_law s goal (told again (map (respelled s.next_id) hints)) state normal upto (told_where s goal again (map (respelled s.next_id) hints) state normal upto one fault),
+        squeezed_small Negated (told again (map (respelled s.next_id) hints)) (told_small again (map (respelled s.next_id) hints) (All-map IsHint (respelled s.next_id) hints
+            (All-weaker (IsStoredId (insert store s.next_id (negation goal))) (λ (h : Hint). IsHint (respelled s.next_id h)) (λ h one. respelled_small s.next_id h (hint_small (insert store s.next_id (negation goal)) both_small h one)) hints are.ids))),
       )
 
   -- where something is closed for these, the goal doesn't follow
@@ -127,11 +128,11 @@ module _ (s : StateValue) (state : IsState s) (goal : ConstraintValue) (next : �
   stored_all : IsTaken s.live s.next_id v.store
   stored_all = subst (λ (n : ℕ). IsTaken s.live n v.store) all taken
 
-  pub both_found : IsNormal goal.terms goal.degree → UpTo s.vars goal → (id : ℕ) (o : Option (List Hint)) (hints slice spelled : List Hint) → id ≡ s.next_id → o ≡ Some hints → IfSome o (AreHints (insert v.store id (negation goal)) v.trail.vars []) → slice ≡ hints → spelled ≡ spelled_hints id slice → Proves s goal spelled
-  both_found normal upto id o hints slice spelled here is given same told =
+  pub both_found : IsNormal goal.terms goal.degree → UpTo s.vars goal → (again : Bool) → (again ≡ false → goal.degree ≡ 1) → (id : ℕ) (o : Option (List Hint)) (hints slice spelled : List Hint) → id ≡ s.next_id → o ≡ Some hints → IfSome o (AreHints (insert v.store id (negation goal)) v.trail.vars []) → slice ≡ hints → spelled ≡ spelled_hints again id slice → Proves s goal spelled
+  both_found normal upto again one id o hints slice spelled here is given same is_told =
       let are = if_some (AreHints (insert v.store id (negation goal)) v.trail.vars []) o hints given is in
       let own : AreHints (insert v.store s.next_id (negation goal)) s.vars [] hints = subst (λ (n : ℕ). AreHints (insert v.store s.next_id (negation goal)) n [] hints) vars (subst (λ (i : ℕ). AreHints (insert v.store i (negation goal)) v.trail.vars [] hints) here are) in
-      subst (Proves s goal) (sym (told ∙ ap (spelled_hints id) same ∙ ap (λ (i : ℕ). spelled_hints i hints) here)) (both_prove s state goal v.store stored_all normal upto hints own)
+      subst (Proves s goal) (sym (is_told ∙ ap (spelled_hints again id) same ∙ ap (λ (i : ℕ). spelled_hints again i hints) here)) (both_prove s state goal v.store stored_all normal upto again one hints own)
 
   pub none_found : UpTo s.vars goal → (id : ℕ) (o : Option (List Hint)) → id ≡ s.next_id → o ≡ None → IfNone o (HasClosed v.trail.vars (insert v.store id (negation goal))) → FollowsLoosely s goal → ⊥
   none_found upto id o here is given =

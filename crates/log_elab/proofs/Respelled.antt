@@ -61,7 +61,7 @@ opposites_merged terms merged = record {
   rising = AllPairs-map (λ s t. s.0.var < t.0.var) (λ (t : Literal × ℕ). (opposite t.0, t.1)) (λ t. t) terms merged.rising;
 }
 
-negation_plain : (n : ℕ) (c : ConstraintValue) → IsMerged c.terms → UpTo n c → IsPlain n (negation c)
+pub negation_plain : (n : ℕ) (c : ConstraintValue) → IsMerged c.terms → UpTo n c → IsPlain n (negation c)
 negation_plain n c merged upto = record {
   merged = opposites_merged c.terms merged;
   upto = negation_upto n c upto;

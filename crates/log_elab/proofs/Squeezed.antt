@@ -24,7 +24,7 @@ use Rattle.log_elab.proofs.Named.{named_all}
 
 module _ (given : Given) where
   -- equal hints name one line
-  one_line : (g h : Hint) → same_hint g h ≡ true → line_of given g ≡ line_of given h
+  pub one_line : (g h : Hint) → same_hint g h ≡ true → line_of given g ≡ line_of given h
   one_line (IdHint i) (IdHint j) same = ap (get given.lines) (eqb-true i j same)
   one_line (IdHint i) Negated same = cc
   one_line (IdHint i) Denied same = cc
@@ -35,7 +35,7 @@ module _ (given : Given) where
   one_line Denied Negated same = cc
   one_line Denied Denied same = refl
 
-  named_more : (h : Hint) (hints : List Hint) (o : Option ConstraintValue) → line_of given h ≡ o → named given (h ∷ hints) ≡ before o (named given hints)
+  pub named_more : (h : Hint) (hints : List Hint) (o : Option ConstraintValue) → line_of given h ≡ o → named given (h ∷ hints) ≡ before o (named given hints)
   unfolding named
   named_more h hints o is = ap (λ (x : Option ConstraintValue). before x (named given hints)) is
 

@@ -1,5 +1,5 @@
 -- Hints as a line spells them.
-use Rattle.std.specs.Prelude.{ℕ, Bool, true, false, ◌==◌, if◌then◌else◌, List, [], ◌∷◌, map}
+use Rattle.std.specs.Prelude.{ℕ, Bool, true, false, not, ◌||◌, ◌==◌, if◌then◌else◌, List, [], ◌∷◌, map}
 use Rattle.hint_rup.specs.declared.hint.Hint.{Hint}
 use Rattle.hint_rup.specs.declared.hint.Hint.TheVariants.{Id as IdHint, Negated, Denied}
 
@@ -21,7 +21,12 @@ abbrev pub squeezed : Hint → List Hint → List Hint
 squeezed last [] = []
 squeezed last (h ∷ hints) = if same_hint last h then squeezed last hints else h ∷ squeezed h hints
 
--- The hints with the negation in place of this id, each once where it comes several times in turn. A replay begins with the
--- negation, so it isn't told at the front.
-abbrev pub spelled_hints : ℕ → List Hint → List Hint
-spelled_hints id hints = squeezed Negated (map (respelled id) hints)
+-- the hints, without those of the negation unless it may propagate again
+abbrev pub told : Bool → List Hint → List Hint
+told again [] = []
+told again (h ∷ hints) = if again || not (same_hint Negated h) then h ∷ told again hints else told again hints
+
+-- The hints with the negation in place of this id, where it may propagate again, and each once where it comes several times in
+-- turn. A replay begins with the negation, so it isn't told at the front.
+abbrev pub spelled_hints : Bool → ℕ → List Hint → List Hint
+spelled_hints again id hints = squeezed Negated (told again (map (respelled id) hints))

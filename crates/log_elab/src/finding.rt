@@ -1,5 +1,5 @@
 // Hints for a goal, beside a state.
-ghost use Rattle.std.specs.Prelude.{◌≡◌, ◌≤◌, ◌^◌, None, Some, IfOk, IfSome, IfNone, OnOk};
+ghost use Rattle.std.specs.Prelude.{◌≡◌, ◌≤◌, ◌^◌, false, None, Some, IfOk, IfSome, IfNone, OnOk};
 ghost use Rattle.pb_lin.specs.Constraint.{UpTo, negation, size};
 ghost use Rattle.log_elab.specs.Loose.{FollowsLoosely};
 ghost use Rattle.log_elab.specs.Elaborating.{IsKept};
@@ -39,9 +39,10 @@ pub(crate) fn hints_in<P: Propagator + Drop>(
     let _terms = goal.len();
     catch_up(search, state, next)?;
     let id = state.next_id();
+    let again = propagates_again(goal);
     match refutation_with(alloc, search, id, goal)? {
         Some(hints) => {
-            let spelled = spelled(alloc, hints.as_slice(), id)?;
+            let spelled = spelled(alloc, hints.as_slice(), id, again)?;
             Ok(Some(spelled))
         }
         None => Ok(None),
@@ -64,4 +65,12 @@ fn catch_up<P: Propagator + Drop>(
     let _level = search.level();
     search.grow(state.vars())?;
     take_lines(search, state, next)
+}
+
+// Whether the negation of a goal may propagate again, after it did at first. Where the goal's degree is 1, as
+// a clause's, the negation makes each of its literals true at once.
+fn propagates_again(goal: &Constraint) -> bool
+    ensures { result ≡ false → goal.now.degree ≡ 1 }
+{
+    goal.degree() != 1
 }
