@@ -50,7 +50,8 @@ impl LinearProgram {
         let from = row.saturating_mul(self.columns);
         let to = from.saturating_add(self.columns);
         if let Some(row) = self.table.get(from..to) {
-            self.pivot_row = Vec::from_slice(self.alloc, row)?;
+            self.pivot_row.clear();
+            self.pivot_row.extend_from_slice(row)?;
         }
         Ok(())
     }

@@ -4,7 +4,9 @@ ghost use Rattle.std.specs.Prelude.{◌≡◌};
 use crate::LinearProgram;
 use crate::entering::Leaving;
 use crate::pricing::add_costs;
+use crate::program::Entry;
 use crate::table::{number_at, range_of, value_of};
+use scut_base::NoMemory;
 
 // A number of at most this size is 0.
 const ZERO: f64 = 1e-13;
@@ -25,7 +27,7 @@ impl LinearProgram {
 
     // Puts the variable at this place into the basis for the one that leaves, which then stands at the end of
     // its range that it was beyond.
-    pub(crate) fn pivot(&mut self, leaving: &Leaving, place: usize)
+    pub(crate) fn pivot(&mut self, leaving: &Leaving, place: usize) -> Result<(), NoMemory>
         ensures { self.new ≡ self.old }
     {
         let divisor = number_at(self.pivot_row.as_slice(), place);
@@ -33,9 +35,27 @@ impl LinearProgram {
         self.move_by(place, by);
         self.divide_row(place, divisor);
         self.change_costs(place);
+        self.note_row()?;
         self.eliminate(leaving.row, place);
         self.exchange(leaving, place, by);
         self.pivots_since_built = self.pivots_since_built.saturating_add(1);
+        Ok(())
+    }
+
+    // Notes what isn't 0 in the row of the pivot.
+    fn note_row(&mut self) -> Result<(), NoMemory>
+        ensures { self.new ≡ self.old }
+    {
+        self.entries.clear();
+        for (place, number) in self.pivot_row.iter().enumerate() {
+            if *number != 0.0 {
+                self.entries.push(Entry {
+                    place,
+                    number: *number,
+                })?;
+            }
+        }
+        Ok(())
     }
 
     // How far the variable that leaves is from the end of its range that it is beyond.
@@ -84,12 +104,15 @@ impl LinearProgram {
         if self.columns == 0 {
             return;
         }
-        let solved = self.pivot_row.as_slice();
+        let solved = Solved {
+            numbers: self.pivot_row.as_slice(),
+            entries: self.entries.as_slice(),
+        };
         for (at, row) in self.table.chunks_exact_mut(self.columns).enumerate() {
             if at == pivot {
-                copy_row(row, solved);
+                copy_row(row, solved.numbers);
             } else {
-                put_into(row, solved, place);
+                put_into(row, &solved, place);
             }
         }
     }
@@ -125,14 +148,37 @@ fn copy_row(row: &mut [f64], from: &[f64]) {
     }
 }
 
-// Puts a solved row in the place of its variable.
-fn put_into(row: &mut [f64], solved: &[f64], place: usize) {
+// The row of a pivot, and what isn't 0 in it.
+#[derive(Clone, Copy)]
+struct Solved<'a> {
+    numbers: &'a [f64],
+    entries: &'a [Entry],
+}
+
+// Puts a solved row in the place of its variable: number by number, or where few of them aren't 0 these alone.
+fn put_into(row: &mut [f64], solved: &Solved<'_>, place: usize) {
     let factor = number_at(row, place);
     put_number(row, place, 0.0);
     if factor.abs() < ZERO {
         return;
     }
-    for (number, other) in row.iter_mut().zip(solved) {
+    if solved.entries.len() > solved.numbers.len() / 4 {
+        add_multiple(row, solved.numbers, factor);
+    } else {
+        add_entries(row, solved.entries, factor);
+    }
+}
+
+fn add_multiple(row: &mut [f64], numbers: &[f64], factor: f64) {
+    for (number, other) in row.iter_mut().zip(numbers) {
         *number += factor * *other;
+    }
+}
+
+fn add_entries(row: &mut [f64], entries: &[Entry], factor: f64) {
+    for entry in entries {
+        if let Some(number) = row.get_mut(entry.place) {
+            *number += factor * entry.number;
+        }
     }
 }

@@ -39,6 +39,13 @@ pub(crate) struct Nonbasic {
     pub(crate) is_at_upper: bool,
 }
 
+// A number other than 0 at a place of a row.
+#[derive(Clone, Copy, Debug)]
+pub(crate) struct Entry {
+    pub(crate) place: usize,
+    pub(crate) number: f64,
+}
+
 /// Rows over columns, each within a range, with a basis from which the next question starts. Contracts see
 /// its shape alone.
 #[derive(Debug, Drop)]
@@ -56,6 +63,8 @@ pub struct LinearProgram {
     pub(crate) nonbasic: Vec<Nonbasic>,
     // The row of the table that a pivot is in.
     pub(crate) pivot_row: Vec<f64>,
+    // What isn't 0 in that row, or where variables outside of the basis don't stand at 0.
+    pub(crate) entries: Vec<Entry>,
     pub(crate) pivots_since_built: u64,
     pub(crate) sequence: u32,
 }
@@ -86,6 +95,7 @@ impl LinearProgram {
             basic: Vec::new(alloc),
             nonbasic: Vec::new(alloc),
             pivot_row: Vec::new(alloc),
+            entries: Vec::new(alloc),
             pivots_since_built: 0,
             sequence: 1,
         })

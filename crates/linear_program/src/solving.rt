@@ -35,10 +35,10 @@ impl LinearProgram {
     {
         self.refresh()?;
         self.price(weights);
-        self.evaluate();
+        self.evaluate()?;
         for pivots in 0..budget {
             if pivots % 50 == 49 {
-                self.evaluate();
+                self.evaluate()?;
             }
             if let Some(answer) = self.step()? {
                 return Ok(Solved { pivots, answer });
@@ -62,7 +62,7 @@ impl LinearProgram {
         self.take_row(leaving.row)?;
         match self.entering(&leaving) {
             Some(place) => {
-                self.pivot(&leaving, place);
+                self.pivot(&leaving, place)?;
                 Ok(None)
             }
             None => {

@@ -1,7 +1,7 @@
 // The table of a linear program, and where its variables stand.
 ghost use Rattle.std.specs.Prelude.{◌≡◌};
 
-use crate::program::{Basic, Nonbasic};
+use crate::program::{Basic, Entry, Nonbasic};
 use crate::{LinearProgram, Range};
 use scut_base::NoMemory;
 use std::alloc::Global;
@@ -32,16 +32,32 @@ impl LinearProgram {
     }
 
     // The value of each variable in the basis.
-    pub(crate) fn evaluate(&mut self)
+    pub(crate) fn evaluate(&mut self) -> Result<(), NoMemory>
         ensures { self.new ≡ self.old }
     {
         if self.columns == 0 {
-            return;
+            return Ok(());
         }
+        self.note_values()?;
         let rows = self.table.chunks_exact(self.columns);
         for (basic, row) in self.basic.iter_mut().zip(rows) {
-            basic.value = row_value(row, self.nonbasic.as_slice(), self.ranges.as_slice());
+            basic.value = row_value(row, self.entries.as_slice());
         }
+        Ok(())
+    }
+
+    // Notes where variables outside of the basis stand, but for those at 0.
+    fn note_values(&mut self) -> Result<(), NoMemory>
+        ensures { self.new ≡ self.old }
+    {
+        self.entries.clear();
+        for (place, nonbasic) in self.nonbasic.iter().enumerate() {
+            let number = value_of(self.ranges.as_slice(), nonbasic);
+            if number != 0.0 {
+                self.entries.push(Entry { place, number })?;
+            }
+        }
+        Ok(())
     }
 }
 
@@ -70,14 +86,11 @@ fn all_columns(alloc: Global, columns: usize) -> Result<Vec<Nonbasic>, NoMemory>
     Ok(nonbasic)
 }
 
-// The sum of a row of the table.
-fn row_value(row: &[f64], nonbasic: &[Nonbasic], ranges: &[Range]) -> f64 {
+// The sum of a row of the table, where its variables have these values.
+fn row_value(row: &[f64], values: &[Entry]) -> f64 {
     let mut sum = 0.0;
-    for (coefficient, variable) in row.iter().zip(nonbasic) {
-        let at = value_of(ranges, variable);
-        if at != 0.0 {
-            sum += *coefficient * at;
-        }
+    for value in values {
+        sum += number_at(row, value.place) * value.number;
     }
     sum
 }

@@ -20,14 +20,15 @@ pub(crate) fn may_count(row: &Constraint) -> bool {
     !row.is_clause() && row.len() >= 2 && row.len() <= MOST_TERMS && row.degree() > 0
 }
 
-// The number `k`, where a totalizer of "at least `k`" is small, and there is room for it; the room is taken then.
+// The number `k`, where a totalizer of "at least `k`" says more than the row's literals do by themselves, is small, and there
+// is room for it; the room is taken then.
 pub(crate) fn taken_room(terms: &[(Lit, u64)], k: u128, room: &mut u64) -> Option<i64>
     ensures { IfSome result (λ n. total terms.now < 2 ^ 63) }
 {
     let sum = total_of(terms)?;
     let least = i64::try_from(k).ok()?;
     let lines = estimate(terms.len() as u64, sum, least.unsigned_abs());
-    if sum > MOST_SUM || lines > MOST_LINES_OF_ONE || lines > *room {
+    if least < 2 || sum > MOST_SUM || lines > MOST_LINES_OF_ONE || lines > *room {
         return None;
     }
     *room -= lines;
