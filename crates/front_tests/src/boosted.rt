@@ -35,8 +35,14 @@ fn offsets<O: Oracle>(alloc: Global, oracle: &mut O, problem: &PbProblem) -> Res
     Ok(text)
 }
 
+// A text is shorter.
+const LONGEST: usize = 1000;
+
 // The same for a new solver. The call of this number of its recorder fails; none has the number 0.
 fn boosted(alloc: Global, text: &str, failing: u64) -> Result<String, Fail> {
+    if text.len() > LONGEST {
+        return Err(Fail::new("the text is too long"));
+    }
     let Ok(inst) = read(alloc, text.as_bytes()) else {
         return Err(Fail::new("no instance"));
     };
