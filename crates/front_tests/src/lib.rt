@@ -1,8 +1,8 @@
-//! Tests of what searches for fronts stand on: the order of turns, and the boosting of objectives over a recorder that
-//! fails, which no clause tells. It has nothing but tests.
+//! Tests of what searches for fronts stand on, where no clause tells: the order of turns, and that hardening and boosting
+//! answer, and hand on a recorder's fault. It has nothing but tests.
 #![tactic(auto)]
 
 #[cfg(test)]
-mod boosted;
-#[cfg(test)]
 mod order;
+#[cfg(test)]
+mod prepared;

@@ -1,4 +1,4 @@
-//! Tests of the crates of a search: that propagators, solvers, totalizers and hardening succeed where there is memory, what they
+//! Tests of the crates of a search: that propagators, solvers and totalizers succeed where there is memory, what they
 //! answer on small problems that are worked out by hand, that two propagators force the same, and what no clause says,
 //! how long they take. It has nothing but tests.
 #![tactic(auto)]
@@ -9,8 +9,6 @@ mod binary;
 mod chain;
 #[cfg(test)]
 mod fixture;
-#[cfg(test)]
-mod hardened;
 #[cfg(test)]
 mod numbers;
 #[cfg(test)]
