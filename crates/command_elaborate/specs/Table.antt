@@ -140,20 +140,21 @@ ElaborateTable a status before after = InputTable a.format a.input status before
 
 -- ---- where it completes
 
--- IN spells an instance, and LOG is no larger than it may be and spells lines of which none is loosely refused
+-- the lines lead loosely to some state
+abbrev pub IsLooseProof : ProblemValue → List Line → Type 0
+IsLooseProof p lines = (t : StateValue) × IsLooseReplay p lines t
+
+-- IN spells an instance, and LOG is no larger than it may be and spells lines of which none is loosely refused over its normal form
 pub record AreElaborable (a : ElaborateAsked) (files : Option Files) : Type 0 where
   pub text : List ℕ
   pub there : content files a.input ≡ Some text
   pub instance : InstanceValue
   pub spelled : IsTextOf a.format instance text
-  pub problem : ProblemValue
-  pub normal : IsNormalFormOf instance problem
   pub logged : List ℕ
   pub log_there : content files a.log ≡ Some logged
   pub lines : List Line
   pub log_spelled : IsLogOf lines logged
-  pub state : StateValue
-  pub loosely : IsLooseReplay problem lines state
+  pub loosely : (i : InstanceValue) (p : ProblemValue) → IsTextOf a.format i text → IsNormalFormOf i p → IsLooseProof p lines
 
 -- Where that is so and no own call failed, the log is elaborated, unless memory is wanted.
 abbrev pub ElaborateCompletes : ElaborateAsked → Status → World → World → Type 0
