@@ -1,6 +1,6 @@
 -- A log file whose lines are elaborated into another file.
 use Rattle.std.proofs.Common.{◌≡◌, ◌≢◌, ◌⊎◌, inl, inr, ⊎_elim, ℕ, zero, suc, ◌+◌, ◌<◌, ◌≤◌, ◌^◌, ◌-◌, Option, Some, List, [], ◌∷◌, ◌++◌, length, take, drop, refl, sym, ap, subst, ◌∙◌, arith}
-use Rattle.std.specs.Prelude.{IfErr, None, OnOk, Result, Ok, Err}
+use Rattle.std.specs.Prelude.{IfErr, OnOk, Result, Ok, Err}
 use Rattle.std.proofs.lemmas.List.{append-nil, append_assoc, length-append, length-take, take-append-drop, take-take, take_all}
 use Rattle.scut_base.specs.Files.{Files, content, with_appended, with_file, IsPrefixOf, IsReadAt, IsTold, IsTouched}
 use Rattle.scut_base.specs.Faults.{Faults, NoneFell, ReadingFailed, Rose, WritingFailed, count}
@@ -18,10 +18,10 @@ use Rattle.proof_lines.specs.LineText.{printed}
 use Rattle.proof_lines.specs.declared.spelling.Spelling.{Spelling}
 use Rattle.proof_lines.specs.declared.spelling.Spelling.TheVariants.{Plain}
 use Rattle.proof_text.specs.LogFile.{IsNotBegun}
-use Rattle.proof_text.specs.LogText.{BeginsWith, HoldsNoFurtherLine, IsHeaderPart, IsSyntaxAt, SpellsLog}
+use Rattle.proof_text.specs.LogText.{BeginsWith, HoldsNoFurtherLine, IsSyntaxAt}
 use Rattle.proof_text.specs.Reading.{HasGiven}
 use Rattle.proof_text.specs.Recorders.{IsPutPartly, without_file}
-use Rattle.proof_text.specs.Versions.{header_line, header_text, log_text}
+use Rattle.proof_text.specs.Versions.{header_line, header_text}
 use Rattle.proof_text.specs.Writing.{WriterValue, new_writer, writer_after}
 use Rattle.proof_text.proofs.LogFiles.{others_same, without-with}
 use Rattle.proof_text.proofs.Logs.{log_text_push}

@@ -82,7 +82,10 @@ fn elaborate_of_matches<'a>(matches: &ArgMatches<'a>) -> Option<Elaborate<'a>>
 }
 
 /// The command that the words ask for, of which the first is `elaborate`; `None` exactly where clap or the names refuse them.
-pub fn read_elaborate<'a>(alloc: Global, words: &'a [String]) -> Result<Option<Elaborate<'a>>, NoMemory>
+pub fn read_elaborate<'a>(
+    alloc: Global,
+    words: &'a [String],
+) -> Result<Option<Elaborate<'a>>, NoMemory>
     ensures { IfOk result (λ found. found ≡ elaborate_asked (map string_bytes words.entry.now)) }
 {
     let command = elaborate_words(alloc)?;

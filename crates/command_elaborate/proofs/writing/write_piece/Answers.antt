@@ -55,7 +55,7 @@ returns-in-Ok-write_lines-clause-copied g c = λ p copied.
     let short : c.in-Ok.n ≤ length into = omega (arith, c.in-Ok.ensures.bound) in
     let within : c.args.at + c.in-Ok.n < 2 ^ 62 = search rules in
     let underway = fed_underway files log p e w c.args.at c.in-Ok.n into copied read short within (g.H.Shelf.world c.read_at.new.self).files c.feed.new.self c.in-Ok.ensures.files
-        (c.in-Ok-feed.ensures p copied.bytes so.lines so.news so.underway.given) in
+    (c.in-Ok-feed.ensures p copied.bytes so.lines so.news so.underway.given) in
     let others = c.in-Ok-write_lines.ensures.beside.others ∙ ap (λ (f : Option Files). without_file f w.name) c.in-Ok.ensures.files in
     piece_copied files log p e w c.args.at c.in-Ok.n into copied read short within (g.H.Shelf.world c.write_lines.new.shelf).files c.write_lines.new.lines c.write_lines.new.writer others c.requires.other (g.H.Shelf.world c.args.shelf.now).faults (g.H.Shelf.world c.write_lines.new.shelf).faults
     (c.in-Ok-write_lines.ensures.written p (copied.bytes ++ take c.in-Ok.n into) so.lines so.news underway)
@@ -72,7 +72,7 @@ returns-in-Err-write_lines-clause-copied g c = λ p copied.
     let short : c.in-Ok.n ≤ length into = omega (arith, c.in-Ok.ensures.bound) in
     let within : c.args.at + c.in-Ok.n < 2 ^ 62 = search rules in
     let underway = fed_underway files log p e w c.args.at c.in-Ok.n into copied read short within (g.H.Shelf.world c.read_at.new.self).files c.feed.new.self c.in-Ok.ensures.files
-        (c.in-Ok-feed.ensures p copied.bytes so.lines so.news so.underway.given) in
+    (c.in-Ok-feed.ensures p copied.bytes so.lines so.news so.underway.given) in
     let beside = c.in-Err-write_lines.ensures.beside in
     let others = beside.others ∙ ap (λ (f : Option Files). without_file f w.name) c.in-Ok.ensures.files in
     let before = (g.H.Shelf.world c.args.shelf.now).faults in
