@@ -20,11 +20,11 @@ ghost use Rattle.scuttle_cli.specs.Requests.{CheckOf, FrontOf, GenOf, SolveOf, T
 use crate::names::{CommandName, command_in};
 use command_base::{Status, run_and_warn, warn_of};
 use command_check::read_check;
+use command_elaborate::read_elaborate;
 use command_front::read_front;
 use command_gen::read_gen;
 use command_solve::read_solve;
 use command_trial::read_trial;
-use command_elaborate::read_elaborate;
 use command_trim::read_trim;
 use command_upgrade::read_upgrade;
 use scut_base::{Shelf, ShelfFault};
