@@ -15,7 +15,7 @@ ghost use Rattle.command_elaborate.specs.Words.{elaborate_asked};
 ghost use Rattle.command_trim.specs.Words.{trim_asked};
 ghost use Rattle.command_upgrade.specs.Words.{upgrade_asked};
 ghost use Rattle.scuttle_cli.specs.Answers.{CompletesOf, HasUsage, TableOf, own_calls};
-ghost use Rattle.scuttle_cli.specs.Requests.{CheckOf, FrontOf, GenOf, SolveOf, TrialOf, TrimOf, UpgradeOf, request_of};
+ghost use Rattle.scuttle_cli.specs.Requests.{CheckOf, ElaborateOf, FrontOf, GenOf, SolveOf, TrialOf, TrimOf, UpgradeOf, request_of};
 
 use crate::names::{CommandName, command_in};
 use command_base::{Status, run_and_warn, warn_of};
