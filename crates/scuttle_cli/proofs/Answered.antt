@@ -23,6 +23,7 @@ use Rattle.command_check.specs.Table.{CheckTable}
 use Rattle.command_check.proofs.Completing.{check_completes}
 use Rattle.command_check.proofs.CheckEnds.{nothing_done as check_not_done}
 use Rattle.command_upgrade.proofs.Completing.{upgrade_completes}
+use Rattle.command_elaborate.proofs.Completing.{elaborate_completes}
 use Rattle.command_trim.proofs.Completing.{trim_completes}
 use Rattle.command_gen.specs.Table.{GenTable}
 use Rattle.command_gen.proofs.Completing.{gen_completes}
@@ -31,7 +32,7 @@ use Rattle.command_trial.specs.Table.{TrialTable}
 use Rattle.command_trial.proofs.Completing.{trial_completes}
 use Rattle.command_trial.proofs.TrialEnds.{nothing_done as trial_not_done}
 use Rattle.scuttle_cli.specs.Answers.{CompletesOf, HasUsage, TableOf, own_calls}
-use Rattle.scuttle_cli.specs.Requests.{CheckOf, FrontOf, GenOf, Request, SolveOf, TrialOf, TrimOf, UpgradeOf, command_in, request_by, request_of}
+use Rattle.scuttle_cli.specs.Requests.{CheckOf, ElaborateOf, FrontOf, GenOf, Request, SolveOf, TrialOf, TrimOf, UpgradeOf, command_in, request_by, request_of}
 use Rattle.scuttle_cli.specs.declared.names.CommandName.{CommandName}
 
 -- what is answered by what was asked for
@@ -52,6 +53,7 @@ no_memory_row (Some (FrontOf a)) before after same = front_not_done a (view befo
 no_memory_row (Some (SolveOf a)) before after same = inl same
 no_memory_row (Some (CheckOf a)) before after same = check_not_done a (view before) (view after) same
 no_memory_row (Some (UpgradeOf a)) before after same = inl same
+no_memory_row (Some (ElaborateOf a)) before after same = inl same
 no_memory_row (Some (TrimOf a)) before after same = inl same
 no_memory_row (Some (GenOf a)) before after same = gen_not_done a (view before) (view after) same
 no_memory_row (Some (TrialOf a)) before after same = trial_not_done a (view before) (view after) same
@@ -84,6 +86,7 @@ completes (Some (FrontOf a)) status before after was = front_completes a status 
 completes (Some (SolveOf a)) status before after was = solve_completes a status before after was
 completes (Some (CheckOf a)) status before after was = check_completes a status before after was
 completes (Some (UpgradeOf a)) status before after was = upgrade_completes a status before after was
+completes (Some (ElaborateOf a)) status before after was = elaborate_completes a status before after was
 completes (Some (TrimOf a)) status before after was = trim_completes a status before after was
 completes (Some (GenOf a)) status before after was = gen_completes a status before after was
 completes (Some (TrialOf a)) status before after was = trial_completes a status before after was
@@ -106,6 +109,7 @@ has_usage (Some (FrontOf a)) before after row = row
 has_usage (Some (SolveOf a)) before after row = row.cause
 has_usage (Some (CheckOf a)) before after row = row
 has_usage (Some (UpgradeOf a)) before after row = row
+has_usage (Some (ElaborateOf a)) before after row = row
 has_usage (Some (TrimOf a)) before after row = row
 has_usage (Some (GenOf a)) before after row = row
 has_usage (Some (TrialOf a)) before after row = row

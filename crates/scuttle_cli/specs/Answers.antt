@@ -10,10 +10,11 @@ use Rattle.command_front.specs.Table.{FrontCompletes, FrontTable, front_calls}
 use Rattle.command_solve.specs.Table.{HasOtherObjectives, SolveCompletes, SolveTable, solve_calls}
 use Rattle.command_check.specs.Table.{CheckCompletes, CheckTable, check_calls}
 use Rattle.command_upgrade.specs.Table.{UpgradeCompletes, UpgradeTable, upgrade_calls}
+use Rattle.command_elaborate.specs.Table.{ElaborateCompletes, ElaborateTable, elaborate_calls}
 use Rattle.command_trim.specs.Table.{TrimCompletes, TrimTable, trim_calls}
 use Rattle.command_gen.specs.Table.{GenCompletes, GenTable, gen_calls}
 use Rattle.command_trial.specs.Table.{IsUntold, TrialCompletes, TrialTable, trial_calls}
-use Rattle.scuttle_cli.specs.Requests.{Request, FrontOf, SolveOf, CheckOf, UpgradeOf, TrimOf, GenOf, TrialOf}
+use Rattle.scuttle_cli.specs.Requests.{Request, FrontOf, SolveOf, CheckOf, UpgradeOf, ElaborateOf, TrimOf, GenOf, TrialOf}
 
 -- an equation for each command
 
@@ -23,6 +24,7 @@ TableOf (Some (FrontOf a)) = FrontTable a
 TableOf (Some (SolveOf a)) = SolveTable a
 TableOf (Some (CheckOf a)) = CheckTable a
 TableOf (Some (UpgradeOf a)) = UpgradeTable a
+TableOf (Some (ElaborateOf a)) = ElaborateTable a
 TableOf (Some (TrimOf a)) = TrimTable a
 TableOf (Some (GenOf a)) = GenTable a
 TableOf (Some (TrialOf a)) = TrialTable a
@@ -33,6 +35,7 @@ own_calls (Some (FrontOf a)) = front_calls a
 own_calls (Some (SolveOf a)) = solve_calls a
 own_calls (Some (CheckOf a)) = check_calls a
 own_calls (Some (UpgradeOf a)) = upgrade_calls a
+own_calls (Some (ElaborateOf a)) = elaborate_calls a
 own_calls (Some (TrimOf a)) = trim_calls a
 own_calls (Some (GenOf a)) = gen_calls a
 own_calls (Some (TrialOf a)) = trial_calls a
@@ -43,6 +46,7 @@ CompletesOf (Some (FrontOf a)) status before after = FrontCompletes a status bef
 CompletesOf (Some (SolveOf a)) status before after = SolveCompletes a status before after
 CompletesOf (Some (CheckOf a)) status before after = CheckCompletes a status before after
 CompletesOf (Some (UpgradeOf a)) status before after = UpgradeCompletes a status before after
+CompletesOf (Some (ElaborateOf a)) status before after = ElaborateCompletes a status before after
 CompletesOf (Some (TrimOf a)) status before after = TrimCompletes a status before after
 CompletesOf (Some (GenOf a)) status before after = GenCompletes a status before after
 CompletesOf (Some (TrialOf a)) status before after = TrialCompletes a status before after

@@ -6,11 +6,12 @@ use Rattle.command_front.specs.Words.{FrontAsked, front_asked}
 use Rattle.command_solve.specs.Words.{SolveAsked, solve_asked}
 use Rattle.command_check.specs.Words.{CheckAsked, check_asked}
 use Rattle.command_upgrade.specs.Words.{UpgradeAsked, upgrade_asked}
+use Rattle.command_elaborate.specs.Words.{ElaborateAsked, elaborate_asked}
 use Rattle.command_trim.specs.Words.{TrimAsked, trim_asked}
 use Rattle.command_gen.specs.Words.{GenAsked, gen_asked}
 use Rattle.command_trial.specs.Words.{TrialAsked, trial_asked}
 use Rattle.scuttle_cli.specs.declared.names.CommandName.{CommandName}
-use Rattle.scuttle_cli.specs.declared.names.CommandName.TheVariants.{Front, Solve, Check, Upgrade, Trim, Gen, Trial}
+use Rattle.scuttle_cli.specs.declared.names.CommandName.TheVariants.{Front, Solve, Check, Upgrade, Elaborate, Trim, Gen, Trial}
 
 -- a command with its files and options
 pub data Request : Type 0 where
@@ -18,6 +19,7 @@ pub data Request : Type 0 where
   SolveOf : (asked : SolveAsked) → Request
   CheckOf : (asked : CheckAsked) → Request
   UpgradeOf : (asked : UpgradeAsked) → Request
+  ElaborateOf : (asked : ElaborateAsked) → Request
   TrimOf : (asked : TrimAsked) → Request
   GenOf : (asked : GenAsked) → Request
   TrialOf : (asked : TrialAsked) → Request
@@ -29,9 +31,10 @@ command_named word =
     else (if bytes_eq word (codes "solve") then Some Solve
     else (if bytes_eq word (codes "check") then Some Check
     else (if bytes_eq word (codes "upgrade") then Some Upgrade
+    else (if bytes_eq word (codes "elaborate") then Some Elaborate
     else (if bytes_eq word (codes "trim") then Some Trim
     else (if bytes_eq word (codes "gen") then Some Gen
-    else (if bytes_eq word (codes "trial") then Some Trial else None))))))
+    else (if bytes_eq word (codes "trial") then Some Trial else None)))))))
 
 -- the command that the first word names
 abbrev pub command_in : List (List ℕ) → Option CommandName
@@ -45,6 +48,7 @@ request_by (Some Front) words = option_map FrontOf (front_asked words)
 request_by (Some Solve) words = option_map SolveOf (solve_asked words)
 request_by (Some Check) words = option_map CheckOf (check_asked words)
 request_by (Some Upgrade) words = option_map UpgradeOf (upgrade_asked words)
+request_by (Some Elaborate) words = option_map ElaborateOf (elaborate_asked words)
 request_by (Some Trim) words = option_map TrimOf (trim_asked words)
 request_by (Some Gen) words = option_map GenOf (gen_asked words)
 request_by (Some Trial) words = option_map TrialOf (trial_asked words)

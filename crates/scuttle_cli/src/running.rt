@@ -11,14 +11,16 @@ ghost use Rattle.command_front.specs.Words.{front_asked};
 ghost use Rattle.command_gen.specs.Words.{gen_asked};
 ghost use Rattle.command_solve.specs.Words.{solve_asked};
 ghost use Rattle.command_trial.specs.Words.{trial_asked};
+ghost use Rattle.command_elaborate.specs.Words.{elaborate_asked};
 ghost use Rattle.command_trim.specs.Words.{trim_asked};
 ghost use Rattle.command_upgrade.specs.Words.{upgrade_asked};
 ghost use Rattle.scuttle_cli.specs.Answers.{CompletesOf, HasUsage, TableOf, own_calls};
-ghost use Rattle.scuttle_cli.specs.Requests.{CheckOf, FrontOf, GenOf, SolveOf, TrialOf, TrimOf, UpgradeOf, request_of};
+ghost use Rattle.scuttle_cli.specs.Requests.{CheckOf, ElaborateOf, FrontOf, GenOf, SolveOf, TrialOf, TrimOf, UpgradeOf, request_of};
 
 use crate::names::{CommandName, command_in};
 use command_base::{Status, run_and_warn, warn_of};
 use command_check::read_check;
+use command_elaborate::read_elaborate;
 use command_front::read_front;
 use command_gen::read_gen;
 use command_solve::read_solve;
@@ -64,6 +66,7 @@ fn run_named<H: Shelf>(
         Some(CommandName::Solve) => run_solve(alloc, words, shelf),
         Some(CommandName::Check) => run_check(alloc, words, shelf),
         Some(CommandName::Upgrade) => run_upgrade(alloc, words, shelf),
+        Some(CommandName::Elaborate) => run_elaborate(alloc, words, shelf),
         Some(CommandName::Trim) => run_trim(alloc, words, shelf),
         Some(CommandName::Gen) => run_gen(alloc, words, shelf),
         Some(CommandName::Trial) => run_trial(alloc, words, shelf),
@@ -145,6 +148,26 @@ fn run_upgrade<H: Shelf>(
         (H.world shelf.new) result.1 }
 {
     match read_upgrade(alloc, words) {
+        Ok(Some(command)) => run_and_warn(alloc, &command, shelf),
+        Ok(None) => not_run(alloc, Status::Usage, shelf),
+        Err(_) => not_run(alloc, Status::NoMemory, shelf),
+    }
+}
+
+// The command `elaborate`.
+fn run_elaborate<H: Shelf>(
+    alloc: Global,
+    words: &[String],
+    shelf: &mut H,
+) -> (Status, Result<(), ShelfFault>)
+    ensures answered { Answered
+        (TableOf (option_map ElaborateOf (elaborate_asked (map string_bytes words.now))))
+        (own_calls (option_map ElaborateOf (elaborate_asked (map string_bytes words.now)))) result.0
+        (H.world shelf.old) (H.world shelf.new) }
+    ensures warned { IsWarned (warning_text result.0) (H.world shelf.old)
+        (H.world shelf.new) result.1 }
+{
+    match read_elaborate(alloc, words) {
         Ok(Some(command)) => run_and_warn(alloc, &command, shelf),
         Ok(None) => not_run(alloc, Status::Usage, shelf),
         Err(_) => not_run(alloc, Status::NoMemory, shelf),

@@ -1,6 +1,6 @@
 use Rattle.std.proofs.Common.{map, string_bytes}
 use Rattle.std.specs.Prelude.{None, Some}
-use Rattle.scuttle_cli.specs.declared.names.CommandName.TheVariants.{Front, Solve, Check, Upgrade, Trim, Gen, Trial}
+use Rattle.scuttle_cli.specs.declared.names.CommandName.TheVariants.{Front, Solve, Check, Upgrade, Elaborate, Trim, Gen, Trial}
 use Rattle.scuttle_cli.proofs.Answered.{no_request, was_named}
 use Rattle.scuttle_cli.proofs.running.run_named.Goals as goal
 
@@ -19,6 +19,10 @@ returns-in-Some-Check-clause-answered g c =
 pub returns-in-Some-Upgrade-clause-answered : goal.returns-in-Some-Upgrade-clause-answered
 returns-in-Some-Upgrade-clause-answered g c =
     was_named (Some Upgrade) (map string_bytes c.args.words.now) _ _ _ (rw c.in-Some-Upgrade.field-0-is at c.in-Some-Upgrade.ensures) c.run_upgrade.ensures.answered
+
+pub returns-in-Some-Elaborate-clause-answered : goal.returns-in-Some-Elaborate-clause-answered
+returns-in-Some-Elaborate-clause-answered g c =
+    was_named (Some Elaborate) (map string_bytes c.args.words.now) _ _ _ (rw c.in-Some-Elaborate.field-0-is at c.in-Some-Elaborate.ensures) c.run_elaborate.ensures.answered
 
 pub returns-in-Some-Trim-clause-answered : goal.returns-in-Some-Trim-clause-answered
 returns-in-Some-Trim-clause-answered g c =

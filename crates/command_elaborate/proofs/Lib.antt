@@ -1,0 +1,4 @@
+pub mod Answering
+pub mod NewLogs
+pub mod ElaborateEnds
+pub mod Completing
