@@ -7,3 +7,4 @@ pub mod Closing
 pub mod TopLevel
 pub mod Collecting
 pub mod Outcomes
+pub mod Listed

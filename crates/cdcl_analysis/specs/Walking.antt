@@ -1,5 +1,5 @@
 -- The walk back over a trail: its marks, and what the hints that it has found so far prove.
-use Rattle.std.specs.Prelude.{◌≡◌, ◌≢◌, ℕ, ◌<◌, ◌≤◌, ◌⊎◌, Bool, true, false, not, nat_eq, [], Option, Some, List, length, slice_index_or, All, AllPairs, Contains, IsSome}
+use Rattle.std.specs.Prelude.{◌≡◌, ◌≢◌, ℕ, ◌<◌, ◌≤◌, ◌⊎◌, Bool, true, false, not, nat_eq, [], ◌++◌, Option, Some, List, length, slice_index_or, All, AllPairs, Contains, IsSome}
 use Rattle.std.specs.FinMap.{get}
 use Rattle.scut_base.specs.Literal.{Literal}
 use Rattle.scut_base.specs.Assignment.{partial_truth}
@@ -57,6 +57,16 @@ pub record AreMarks (n : ℕ) (marks : List Bool) (places : List ℕ) : Type 0 w
 -- every mark stays
 abbrev pub IsMore : List Bool → List Bool → Type 0
 IsMore marks more = (p : ℕ) → is_marked marks p ≡ true → is_marked more p ≡ true
+
+-- the new list is the old one, and then more
+abbrev pub IsLonger : List ℕ → List ℕ → Type 0
+IsLonger old new = (rest : List ℕ) × (new ≡ old ++ rest)
+
+-- the greatest of the places before `end`, and what is left of those before it
+pub record IsNextPlace (places : List ℕ) (end : ℕ) (left : List ℕ) (place : ℕ) : Type 0 where
+  pub before : place < end
+  pub greatest : (p : ℕ) → Contains places p → p < end → p ≤ place
+  pub others : (p : ℕ) → Contains places p → p < place → Contains left p
 
 -- Marks on the first n places. The places in the list are those that were seen: those that are marked, and those whose marks were taken off.
 pub record AreSeen (n : ℕ) (marks seen : List Bool) (places : List ℕ) : Type 0 where

@@ -11,6 +11,7 @@ mod lesson;
 mod marks;
 mod minimising;
 mod outcome;
+mod places;
 mod reach;
 mod walk;
 

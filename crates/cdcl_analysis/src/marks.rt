@@ -6,7 +6,7 @@ ghost use Rattle.pb_lin.specs.Constraint.{UpTo, literals, opposite};
 ghost use Rattle.clause_prop.specs.declared.step.Step.{Step};
 ghost use Rattle.clause_prop.specs.Propagating.{IsConflict};
 ghost use Rattle.cdcl_trail.specs.SearchTrail.{AreLines, IsSearchTrail, IsStepAt};
-ghost use Rattle.cdcl_analysis.specs.Walking.{AreMarks, AreUnresolved, HasSeen, IsAbove, IsClosing, IsMarkedBefore, IsMarking, IsMore, IsUnmarked, is_marked, is_resolved, spare};
+ghost use Rattle.cdcl_analysis.specs.Walking.{AreMarks, AreUnresolved, HasSeen, IsAbove, IsClosing, IsLonger, IsMarkedBefore, IsMarking, IsMore, IsUnmarked, is_marked, is_resolved, spare};
 
 use crate::reach::Reach;
 use clause_prop::{ClauseStore, Step, Trail};
@@ -78,6 +78,7 @@ impl Marks {
         ensures are { (n : ℕ) → AreMarks n self.old.seen.items self.old.places
             → n ≤ length self.old.seen.items → place < n
             → AreMarks n self.new.seen.items self.new.places }
+        ensures longer { IsLonger self.old.places self.new.places }
         ensures more { IsMore self.old.seen.items self.new.seen.items }
         ensures room { length self.new.seen.items ≡ length self.old.seen.items }
         ensures seen { OnOk result (is_marked self.new.seen.items place ≡ true) }
@@ -97,6 +98,7 @@ impl Marks {
         requires from_one { 0 < lit.var }
         requires upto { lit.var ≤ trail.now.vars }
         ensures walk { IsMarking trail.now reach self.new }
+        ensures longer { IsLonger self.old.places self.new.places }
         ensures more { IsMore self.old.on.items self.new.on.items }
         ensures room { length self.new.on.items ≡ length self.old.on.items }
         ensures falls { self.new.least ≤ self.old.least }
@@ -132,6 +134,7 @@ impl Marks {
         requires walk { IsMarking trail.now reach self.old }
         requires upto { UpTo trail.now.vars line.now }
         ensures walk { IsMarking trail.now reach self.new }
+        ensures longer { IsLonger self.old.places self.new.places }
         ensures more { IsMore self.old.on.items self.new.on.items }
         ensures room { length self.new.on.items ≡ length self.old.on.items }
         ensures falls { self.new.least ≤ self.old.least }
@@ -147,7 +150,7 @@ impl Marks {
 
     // Resolves the step at the place, where it is marked and the walk resolves such steps: marks what
     // made its line force it, and puts the line to the hints.
-    fn step_back(
+    pub(crate) fn step_back(
         &mut self,
         store: &ClauseStore,
         trail: &Trail,
@@ -162,6 +165,7 @@ impl Marks {
         requires within { place < length trail.now.steps }
         ensures walk { IsMarking trail.now reach self.new }
         ensures room { length self.new.on.items ≡ length self.old.on.items }
+        ensures longer { IsLonger self.old.places self.new.places }
         ensures falls { self.new.least ≤ self.old.least }
         ensures closing { OnOk result ((given : List Literal)
             → IsClosing store.now trail.now reach self.old.on.items (place + 1) given
@@ -186,6 +190,36 @@ impl Marks {
 
     // Resolves the marked steps before the place `end`, back to the least of them, or before it.
     fn walk_back(
+        &mut self,
+        alloc: Global,
+        store: &ClauseStore,
+        trail: &Trail,
+        reach: Reach,
+        end: u64,
+        hints: &mut Vec<Hint>,
+    ) -> Result<(), NoMemory>
+        requires walk { IsMarking trail.now reach self.old }
+        requires lines { AreLines trail.now.vars store.now }
+        requires search { IsSearchTrail store.now trail.now }
+        requires after { self.old.least + spare reach ≤ end }
+        requires within { end ≤ length trail.now.steps }
+        ensures walk { IsMarking trail.now reach self.new }
+        ensures room { length self.new.on.items ≡ length self.old.on.items }
+        ensures after { self.new.least + spare reach ≤ end }
+        ensures closing { OnOk result ((given : List Literal)
+            → IsClosing store.now trail.now reach self.old.on.items end given
+            (reverse hints.old.items)
+            → IsClosing store.now trail.now reach self.new.on.items (self.new.least + spare reach)
+            given (reverse hints.new.items)) }
+    {
+        match reach {
+            Reach::Level(_) => self.scan_back(store, trail, reach, end, hints),
+            Reach::Decisions => self.resolve_marked(alloc, store, trail, end, hints),
+        }
+    }
+
+    // The same, step by step: costs all steps from the least of them on.
+    fn scan_back(
         &mut self,
         store: &ClauseStore,
         trail: &Trail,
@@ -247,7 +281,7 @@ impl Marks {
         self.mark_all(trail, reach, trail.len(), line)?;
         let mut hints = Vec::new(alloc);
         hints.push(Hint::Id(conflict))?;
-        self.walk_back(store, trail, reach, trail.len(), &mut hints)?;
+        self.walk_back(alloc, store, trail, reach, trail.len(), &mut hints)?;
         Ok(hints)
     }
 
@@ -282,7 +316,7 @@ impl Marks {
         let mut hints = Vec::new(alloc);
         hints.push(Hint::Id(id))?;
         self.mark_all(trail, reach, place, line)?;
-        self.walk_back(store, trail, reach, place, &mut hints)?;
+        self.walk_back(alloc, store, trail, reach, place, &mut hints)?;
         hints.reverse();
         Ok(Items::from_vec(hints))
     }

@@ -87,8 +87,8 @@ impl Walk {
     }
 
     /// Who is to blame for a literal that is false by a step that a line forces. Costs the lines of the
-    /// steps that led to that, the steps between them, and a sort of the literals. It may be called
-    /// again after `NoMemory`.
+    /// steps that led to that, and a sort of these and of the literals. It may be called again after
+    /// `NoMemory`.
     pub fn blame(&mut self, store: &ClauseStore, trail: &Trail, lit: Lit) -> Result<Blame, NoMemory>
         requires room { trail.now.vars ≤ self.old }
         requires lines { AreLines trail.now.vars store.now }
@@ -105,7 +105,7 @@ impl Walk {
     }
 
     /// What proves from a conflict, where nothing is decided, that nothing satisfies the lines. Costs
-    /// the lines of the steps that led to it, and the steps between them. It may be called again after
+    /// the lines of the steps that led to it, and a sort of these steps. It may be called again after
     /// `NoMemory`.
     pub fn refute(
         &mut self,

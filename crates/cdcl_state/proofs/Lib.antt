@@ -4,3 +4,4 @@ pub mod PutBack
 pub mod Waits
 pub mod InStep
 pub mod Learns
+pub mod ForcedBy

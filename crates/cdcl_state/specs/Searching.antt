@@ -1,5 +1,5 @@
 -- What is in step throughout a search: stored lines, a trail, what waits to be decided.
-use Rattle.std.specs.Prelude.{◌≡◌, ℕ, ◌<◌, ◌≤◌, ◌^◌, List, [], length}
+use Rattle.std.specs.Prelude.{◌≡◌, ◌≢◌, ℕ, ◌<◌, ◌≤◌, ◌^◌, List, [], length}
 use Rattle.std.specs.FinMap.{empty}
 use Rattle.scut_base.specs.Literal.{Literal}
 use Rattle.pb_lin.specs.LineMap.{LineMap}
@@ -52,3 +52,7 @@ pub record IsLevelOf (t : TrailValue) (l : Literal) (level : ℕ) : Type 0 where
   pub there : IsStepAt t place step
   pub variable : step.lit.var ≡ l.var
   pub is : step.level ≡ level
+
+-- no step of the literal before place `end` was forced by the line of this id
+abbrev pub IsNotForcedBefore : TrailValue → ℕ → ℕ → Literal → Type 0
+IsNotForcedBefore t end id l = (p : ℕ) (s : Step) → p < end → IsStepAt t p s → s.lit ≡ l → s.reason ≢ id

@@ -13,7 +13,7 @@ ghost use Rattle.cdcl_trail.specs.Learning.{AreHints, asserted};
 ghost use Rattle.cdcl_analysis.specs.Analysis.{IsLesson, IsBlame, IsForcedFalse};
 ghost use Rattle.cdcl_state.specs.Searching.{no_lines, IsBackTo, IsLevelOf, IsReadyToLearn};
 
-use crate::steps::{assignment_of, push_decision};
+use crate::steps::{assignment_of, first_forced, push_decision};
 use crate::waiting::{bump_all, put_back};
 use cdcl_analysis::{Blame, Lesson, Walk};
 use cdcl_order::VariableOrder;
@@ -160,6 +160,20 @@ impl<P: Propagator + Drop> Search<P> {
         dropped_line_keeps_search();
         self.store.drop_id(id);
         self.propagator.dropped(&self.store, id);
+    }
+
+    /// Lets go of a line, and of the steps from the first one on that it forced. Costs its literals and the steps that
+    /// go, and takes no memory.
+    pub fn forget(&mut self, id: u64)
+        ensures store { self.new.store ≡ remove self.old.store id }
+        ensures trail { (keep : ℕ) × (self.new.trail ≡ cut self.old.trail keep) }
+    {
+        let Some(line) = self.store.get(id) else {
+            return;
+        };
+        let keep = first_forced(&self.trail, line, id);
+        self.cut(keep);
+        self.drop_line(id);
     }
 
     /// Cuts the trail to its steps up to the level. Costs the steps that go, and takes no memory.

@@ -6,7 +6,7 @@ use Rattle.std.proofs.lemmas.Bool.{cases_eq}
 use Rattle.pb_lin.specs.Constraint.{ConstraintValue, UpTo, negation}
 use Rattle.pb_lin.specs.LineMap.{LineMap}
 use Rattle.hint_rup.specs.declared.hint.Hint.{Hint}
-use Rattle.clause_prop.specs.Steps.{cut, partial}
+use Rattle.clause_prop.specs.Steps.{partial}
 use Rattle.clause_prop.specs.Propagating.{Extends, IsClosedFor}
 use Rattle.clause_prop.proofs.Assigned.{length-assigned}
 use Rattle.cdcl_state.specs.Searching.{SearchValue}
@@ -28,12 +28,12 @@ closed_with (Ok None) old taken found id c d is same store extends closed =
     let vars : found.trail.vars ≡ old.trail.vars = extends.vars ∙ ap (λ (v : SearchValue). v.trail.vars) is in
     (partial found.trail, length-assigned found.trail.vars found.trail.steps ∙ vars, λ i e there. closed i e (ap (λ (m : LineMap). get m i) lines ∙ there))
 
--- the lines after it was dropped
-pub lines_back : (old taken found cleared dropped : SearchValue) (id : ℕ) (c : ConstraintValue) → get old.store id ≡ None → taken ≡ record { store = insert old.store id c; trail = old.trail } → found.store ≡ taken.store
-    → cleared ≡ record { store = found.store; trail = cut found.trail 0 } → dropped ≡ record { store = remove cleared.store id; trail = cleared.trail } → (i : ℕ) → get dropped.store i ≡ get old.store i
-lines_back old taken found cleared dropped id c free is store after last i =
-    let kept : cleared.store ≡ insert old.store id c = ap (λ (v : SearchValue). v.store) after ∙ store ∙ ap (λ (v : SearchValue). v.store) is in
-    ap (λ (v : SearchValue). get v.store i) last ∙ ap (λ (m : LineMap). get (remove m id) i) kept
+-- the lines after it was let go of
+pub lines_back : (old taken found left : SearchValue) (id : ℕ) (c : ConstraintValue) → get old.store id ≡ None → taken ≡ record { store = insert old.store id c; trail = old.trail } → found.store ≡ taken.store
+    → left.store ≡ remove found.store id → (i : ℕ) → get left.store i ≡ get old.store i
+lines_back old taken found left id c free is store last i =
+    let kept : found.store ≡ insert old.store id c = store ∙ ap (λ (v : SearchValue). v.store) is in
+    ap (λ (m : LineMap). get m i) last ∙ ap (λ (m : LineMap). get (remove m id) i) kept
     ∙ elim (cases_eq i id) [
       | inl same ↦ ap (get (remove (insert old.store id c) id)) same ∙ get_removed (insert old.store id c) id ∙ sym (ap (get old.store) same ∙ free)
       | inr apart ↦ get_kept (insert old.store id c) id i apart ∙ get_other old.store id i c apart

@@ -1,5 +1,5 @@
 // Lines that are added, beside a state.
-ghost use Rattle.std.specs.Prelude.{◌≡◌, ◌≢◌, true, false, [], None, Some, fold, IfOk, IfErr, MatchOption, OnOk, OnErr};
+ghost use Rattle.std.specs.Prelude.{◌≡◌, ◌≢◌, true, false, None, Some, fold, IfOk, IfErr, MatchOption, OnOk, OnErr};
 ghost use Rattle.std.specs.FinMap.{remove};
 ghost use Rattle.proof_laws.specs.State.{Fits};
 ghost use Rattle.proof_laws.specs.WellFormed.{IsWellFormed};
@@ -134,7 +134,6 @@ fn let_go<P: Propagator + Drop>(search: &mut Search<P>, line: &Line)
     ensures vars { search.new.trail.vars ≡ search.old.trail.vars }
     ensures flat { IsFlat search.new.trail }
 {
-    flat_trail_stays();
     match line {
         Line::Del { ids } => drop_all(search, ids.as_slice()),
         Line::Reduce { ids } => drop_all(search, ids.as_slice()),
@@ -142,14 +141,15 @@ fn let_go<P: Propagator + Drop>(search: &mut Search<P>, line: &Line)
     }
 }
 
-// Drops the lines of these ids. Nothing stays on the trail then, since they may be reasons.
+// Lets go of the lines of these ids, and of what they forced.
 fn drop_all<P: Propagator + Drop>(search: &mut Search<P>, ids: &[u64])
+    requires flat { IsFlat search.old.trail }
     ensures store { search.new.store ≡ fold remove search.old.store ids.now }
     ensures vars { search.new.trail.vars ≡ search.old.trail.vars }
-    ensures none { search.new.trail.steps ≡ [] }
+    ensures flat { IsFlat search.new.trail }
 {
-    search.clear();
+    flat_trail_stays();
     for id in ids {
-        search.drop_line(*id);
+        search.forget(*id);
     }
 }

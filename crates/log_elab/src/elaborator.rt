@@ -17,8 +17,8 @@ use std::marker::Model;
 use watch_prop::WatchProp;
 
 /// A proof that is stepped line by line, with hints found for lines that have none. Contracts see the
-/// problem and the state. Besides it keeps the live lines once more, for propagation; a line without
-/// hints costs what follows from them and its negation.
+/// problem and the state. Besides it keeps the live lines once more, for propagation, with what follows from
+/// them alone; a line without hints costs what follows from its negation too.
 #[derive(Debug, Drop)]
 pub struct Elaborator {
     alloc: Global,

@@ -6,7 +6,7 @@ ghost use Rattle.log_elab.specs.Elaborating.{IsKept};
 ghost use Rattle.log_elab.specs.Reasons.{Proves};
 
 use crate::hints::spelled;
-use crate::laws::flat_trail_is_undecided;
+use crate::laws::{flat_trail_is_undecided, flat_trail_stays};
 use crate::refuting::refutation_with;
 use crate::taking::take_lines;
 use cdcl_state::Search;
@@ -18,7 +18,7 @@ use scut_base::{Items, NoMemory};
 use std::alloc::Global;
 
 /// Hints that prove a goal from the live lines, or `None` where it doesn't follow by propagation. Costs what follows from
-/// the live lines and the negation of the goal.
+/// them and the negation of the goal, beyond what follows from the live lines and was found before.
 pub(crate) fn hints_in<P: Propagator + Drop>(
     alloc: Global,
     search: &mut Search<P>,
@@ -49,7 +49,8 @@ pub(crate) fn hints_in<P: Propagator + Drop>(
     }
 }
 
-// Has the search hold all live lines, over the state's variables.
+// Has the search hold all live lines, over the state's variables, and what they force. That stays on the trail from one goal
+// to the next.
 fn catch_up<P: Propagator + Drop>(
     search: &mut Search<P>,
     state: &ProofState,
@@ -60,11 +61,14 @@ fn catch_up<P: Propagator + Drop>(
     ensures all { OnOk result (next.new ≡ state.now.next_id) }
     ensures vars { OnOk result (search.new.trail.vars ≡ state.now.vars) }
 {
+    flat_trail_stays();
     flat_trail_is_undecided();
     // Tells that the trail is one of a search.
     let _level = search.level();
     search.grow(state.vars())?;
-    take_lines(search, state, next)
+    take_lines(search, state, next)?;
+    let _conflict = search.propagate()?;
+    Ok(())
 }
 
 // Whether the negation of a goal may propagate again, after it did at first. Where the goal's degree is 1, as

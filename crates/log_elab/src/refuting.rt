@@ -43,7 +43,7 @@ pub(crate) fn refutation<P: Propagator + Drop>(
 }
 
 /// The same with the negation of a goal besides, for which this id is free. Afterwards the lines are as they were, and
-/// the trail has no steps.
+/// on the trail are the steps before the first one that the negation forced.
 pub(crate) fn refutation_with<P: Propagator + Drop>(
     alloc: Global,
     search: &mut Search<P>,
@@ -70,8 +70,7 @@ pub(crate) fn refutation_with<P: Propagator + Drop>(
     let negated = negation_of(alloc, goal)?;
     search.take(id, &negated)?;
     let found = refutation(search);
-    search.clear();
-    search.drop_line(id);
+    search.forget(id);
     found
 }
 

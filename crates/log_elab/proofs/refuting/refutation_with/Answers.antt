@@ -11,4 +11,4 @@ pub returns-clause-closed : goal.returns-clause-closed
 returns-clause-closed g c = closed_with c.refutation-found.result c.args.search.now c.take.new.self c.refutation-found.new.search c.args.id c.in_ok-negated.negated _ c.in_ok-take.ensures.ok c.in_ok-negated.ensures c.refutation-found.ensures.store c.refutation-found.ensures.extends c.refutation-found.ensures.closed
 
 pub returns-clause-store : goal.returns-clause-store
-returns-clause-store g c = lines_back c.args.search.now c.take.new.self c.refutation-found.new.search c.clear.new.self c.drop_line.new.self c.args.id c.in_ok-negated.negated c.requires.fresh c.in_ok-take.ensures.ok c.refutation-found.ensures.store c.clear.ensures c.drop_line.ensures
+returns-clause-store g c = lines_back c.args.search.now c.take.new.self c.refutation-found.new.search c.forget.new.self c.args.id c.in_ok-negated.negated c.requires.fresh c.in_ok-take.ensures.ok c.refutation-found.ensures.store c.forget.ensures.store

@@ -3,6 +3,7 @@ use Rattle.std.proofs.Common.{◌∙◌, arith}
 use Rattle.std.proofs.lemmas.List.Elements.{All-map}
 use Rattle.scut_base.specs.Literal.{Literal}
 use Rattle.pb_lin.specs.Constraint.{literals}
+use Rattle.cdcl_analysis.proofs.Listed.{longer_more}
 use Rattle.cdcl_analysis.proofs.Marking.{marked_step, marked_all, read_one}
 use Rattle.cdcl_analysis.proofs.marks.Marks.mark_all.Goals as goal
 
@@ -23,6 +24,7 @@ loop-lit-preserved c =
     let done = c.in_ok-mark.ensures in
     record {
       walk = done.walk;
+      longer = longer_more c.args.self.now.places c.loop-lit.self.places c.mark.new.self.places c.loop-lit.invariant.longer done.longer;
       more = λ p on. done.more p (c.loop-lit.invariant.more p on);
       room = done.room ∙ c.loop-lit.invariant.room;
       falls = omega (arith, done.falls, c.loop-lit.invariant.falls);
@@ -33,3 +35,6 @@ loop-lit-preserved c =
 pub returns-clause-marked : goal.returns-clause-marked
 returns-clause-marked c =
     marked_all c.args.trail.now c.loop-lit.self.on.items c.args.end (literals c.args.line.now.terms) c.literals-lit-items.result.now c.loop-lit.lit-index c.literals-lit-items.ensures.value c.loop-lit-test.false c.loop-lit.invariant.marked
+
+pub returns-in_err-mark-clause-longer : goal.returns-in_err-mark-clause-longer
+returns-in_err-mark-clause-longer c = longer_more c.args.self.now.places c.loop-lit.self.places c.mark.new.self.places c.loop-lit.invariant.longer c.in_err-mark.ensures.longer

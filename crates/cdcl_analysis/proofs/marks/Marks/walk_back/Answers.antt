@@ -1,25 +1,12 @@
-use Rattle.std.specs.Prelude.{◌≡◌, ◌+◌, ◌-◌, ◌<◌, ℕ, reverse}
-use Rattle.std.proofs.Common.{◌∙◌, sym, subst, arith}
+use Rattle.std.specs.Prelude.{◌+◌, List, OnOk, reverse}
+use Rattle.std.proofs.Common.{sym, subst}
+use Rattle.scut_base.specs.Literal.{Literal}
+use Rattle.cdcl_analysis.specs.declared.reach.Reach.{Reach}
 use Rattle.cdcl_analysis.specs.Walking.{IsClosing, spare}
 use Rattle.cdcl_analysis.proofs.marks.Marks.walk_back.Goals as goal
 
-pub back-preserved : goal.back-preserved
-back-preserved c =
-    let done = c.in_ok-step_back.ensures in
-    let before = c.back.invariant in
-    let left : c.back.self.least + spare c.args.reach < c.back.place = omega (arith, c.back-test.true, c.spare-spare.ensures) in
-    let next : c.back.place - 1 + 1 ≡ c.back.place = omega (arith, left) in
-    record {
-      walk = done.walk;
-      room = done.room ∙ before.room;
-      falls = omega (arith, done.falls, before.falls);
-      after = omega (arith, left, done.falls);
-      within = omega (arith, before.within);
-      closing = λ given start. done.closing given (subst (λ (n : ℕ). IsClosing c.args.store.now c.args.trail.now c.args.reach c.back.self.on.items n given (reverse c.back.hints.items)) (sym next) (before.closing given start));
-    }
-
-pub returns-clause-closing : goal.returns-clause-closing
-returns-clause-closing c =
-    let before = c.back.invariant in
-    let end : c.back.place ≡ c.back.self.least + spare c.args.reach = omega (arith, c.back-test.false, c.spare-spare.ensures, before.after) in
-    λ given start. subst (λ (n : ℕ). IsClosing c.args.store.now c.args.trail.now c.args.reach c.back.self.on.items n given (reverse c.back.hints.items)) end (before.closing given start)
+pub returns-in-Decisions-clause-closing : goal.returns-in-Decisions-clause-closing
+returns-in-Decisions-clause-closing c =
+    let done = c.resolve_marked.new.self in
+    subst (λ (r : Reach). OnOk c.resolve_marked.result ((given : List Literal) → IsClosing c.args.store.now c.args.trail.now r c.args.self.now.on.items c.args.end given (reverse c.args.hints.now.items) → IsClosing c.args.store.now c.args.trail.now r done.on.items (done.least + spare r) given (reverse c.resolve_marked.new.hints.items)))
+    (sym c.in-Decisions.is) c.resolve_marked.ensures.closing

@@ -2,7 +2,7 @@ use Rattle.std.proofs.Common.{◌≡◌, ◌+◌, ◌≤◌, List, length}
 use Rattle.std.specs.Prelude.{reverse}
 use Rattle.scut_base.specs.Literal.{Literal}
 use Rattle.cdcl_analysis.specs.Walking.{IsClosing, IsWalk, spare}
-use Rattle.cdcl_analysis.proofs.marks.Marks.walk_back.Given as goal
+use Rattle.cdcl_analysis.proofs.marks.Marks.scan_back.Given as goal
 
 abbrev pub invariant-back : goal.invariant-back
 invariant-back l = record {
