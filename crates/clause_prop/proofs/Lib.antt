@@ -4,3 +4,4 @@ pub mod Extensions
 pub mod Forcing
 pub mod Visits
 pub mod Passes
+pub mod TruthTable

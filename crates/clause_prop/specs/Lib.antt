@@ -5,5 +5,6 @@ pub use Rattle.pb_lin.specs.Propagation
 pub use Rattle.pb_lin.specs.LineMap
 pub mod Steps
 pub mod Tables
+pub mod Truths
 pub mod Propagating
 pub mod LineKinds

@@ -13,6 +13,7 @@ mod propagator;
 mod step;
 mod store;
 mod trail;
+mod truth;
 
 pub use code::literal_code;
 pub use line::{is_forced, possible, push_forced};

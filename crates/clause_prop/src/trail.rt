@@ -5,7 +5,8 @@ ghost use Rattle.clause_prop.specs.declared.step.Step.{Step};
 ghost use Rattle.clause_prop.specs.Steps.{AreSteps, IsPlaceOf, with_step, cut, partial, last_level};
 ghost use Rattle.clause_prop.specs.Tables.{AreTables};
 
-use crate::Step;
+use crate::truth::{Truth, codes_upto, set_truths};
+use crate::{Step, literal_code};
 use scut_base::{Lit, NoMemory};
 use std::alloc::Global;
 use std::marker::Model;
@@ -16,6 +17,8 @@ use std::marker::Model;
 #[derive(Debug, Drop)]
 pub struct Trail {
     values: Vec<Option<bool>>,
+    // By the code of a literal, so that a look at a literal is one load.
+    truths: Vec<Truth>,
     // By variable the place of its step, where it has one.
     places: Vec<u64>,
     // Its first `count` are the trail; there is room for a step of each variable.
@@ -27,12 +30,14 @@ impl Model for Trail {
     ghost use Rattle.std.specs.Prelude.{length, take};
     ghost use Rattle.clause_prop.specs.Steps.{TrailValue};
     ghost use Rattle.clause_prop.specs.Tables.{AreTables};
+    ghost use Rattle.clause_prop.specs.Truths.{AreTruths};
 
     ghost Value = { TrailValue };
 
     ghost view = { λ t. record { vars = length t.values.items; steps = take t.count t.steps.items } };
 
-    ghost invariant = { λ t. AreTables t.values.items t.places.items t.steps.items t.count };
+    ghost invariant = { λ t. AreTables t.values.items t.places.items t.steps.items t.count
+        × AreTruths t.values.items t.truths.items };
 }
 
 impl Trail {
@@ -40,8 +45,10 @@ impl Trail {
     pub fn new(alloc: Global, vars: u64) -> Result<Trail, NoMemory>
         ensures { IfOk result (λ t. t ≡ record { vars = vars; steps = [] }) }
     {
+        let codes = codes_upto(vars as usize)?;
         Ok(Trail {
             values: vec![in alloc; None; vars as usize]?,
+            truths: vec![in alloc; Truth::Open; codes]?,
             places: vec![in alloc; 0; vars as usize]?,
             steps: vec![in alloc; no_step(); vars as usize]?,
             count: 0,
@@ -57,8 +64,10 @@ impl Trail {
     {
         let vars = vars as usize;
         if self.values.len() < vars {
+            let codes = codes_upto(vars)?;
             lengthen(&mut self.steps, vars, no_step())?;
             lengthen(&mut self.places, vars, 0)?;
+            lengthen(&mut self.truths, codes, Truth::Open)?;
             lengthen(&mut self.values, vars, None)?;
         }
         Ok(())
@@ -95,9 +104,11 @@ impl Trail {
         ensures value { result ≡ partial_truth (partial self.now) lit }
         ensures steps { AreSteps self.now.vars self.now.steps }
     {
-        match self.values[(lit.var() - 1) as usize] {
-            Some(value) => Some(value != lit.is_neg()),
-            None => None,
+        let _from_one = lit.var();
+        match self.truths[literal_code(lit)] {
+            Truth::Open => None,
+            Truth::True => Some(true),
+            Truth::False => Some(false),
         }
     }
 
@@ -132,6 +143,7 @@ impl Trail {
     {
         let at = (step.lit.var() - 1) as usize;
         self.values[at] = Some(!step.lit.is_neg());
+        set_truths(&mut self.truths, step.lit, Truth::True, Truth::False);
         self.places[at] = self.count as u64;
         self.steps[self.count] = step;
         self.count += 1;
@@ -154,6 +166,7 @@ impl Trail {
         self.count -= 1;
         let lit = self.steps[self.count].lit;
         self.values[(lit.var() - 1) as usize] = None;
+        set_truths(&mut self.truths, lit, Truth::Open, Truth::Open);
     }
 }
 
