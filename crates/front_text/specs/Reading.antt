@@ -1,4 +1,4 @@
--- What the private functions of the reader answer. No public contract stands on it.
+-- What a reader of a text answers that goes from its first byte to its last; no contract of a whole list stands on it.
 use Rattle.std.specs.Prelude.{◌≡◌, ℕ, ◌-◌, ◌+◌, ◌^◌, ◌<◌, min, Bool, true, false, ◌==◌, ◌||◌, List, [], ◌∷◌, ◌++◌, All, length, ℤ, Option, None, Some, Result, Ok, Err}
 use Rattle.std.specs.List.{flat_map}
 use Rattle.std.specs.Fmt.{signed_decimal}

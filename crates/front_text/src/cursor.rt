@@ -7,7 +7,7 @@ use std::marker::Model;
 
 /// What is left of a text. Contracts see it as these bytes.
 #[derive(Drop)]
-pub(crate) struct Cursor<'a> {
+pub struct Cursor<'a> {
     rest: &'a [u8],
 }
 
@@ -21,21 +21,21 @@ impl<'a> Model for Cursor<'a> {
 
 impl<'a> Cursor<'a> {
     /// All of a text.
-    pub(crate) fn new(text: &'a [u8]) -> Cursor<'a>
+    pub fn new(text: &'a [u8]) -> Cursor<'a>
         ensures { result ≡ text.entry.now }
     {
         Cursor { rest: text }
     }
 
     /// Whether nothing is left.
-    pub(crate) fn is_at_end(&self) -> bool
+    pub fn is_at_end(&self) -> bool
         ensures { IsTrue result ↔ (self.now ≡ []) }
     {
         self.rest.is_empty()
     }
 
     /// Takes these bytes where the rest begins with them, and else nothing.
-    pub(crate) fn skip(&mut self, text: &[u8]) -> bool
+    pub fn skip(&mut self, text: &[u8]) -> bool
         ensures { Skips text.now self.old self.new result }
     {
         match self.rest.strip_prefix(text) {
@@ -48,7 +48,7 @@ impl<'a> Cursor<'a> {
     }
 
     /// Takes the bytes before the first space or line feed.
-    pub(crate) fn take_word(&mut self) -> &'a [u8]
+    pub fn take_word(&mut self) -> &'a [u8]
         ensures { IsWord result.now self.old self.new }
     {
         let text = self.rest;

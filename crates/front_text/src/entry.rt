@@ -14,7 +14,7 @@ use std::alloc::Global;
 
 /// Why the lines of an entry were not read.
 #[derive(Clone, Copy)]
-pub(crate) enum LineFault {
+pub enum LineFault {
     /// The text begins with no such line.
     Wrong,
     /// Memory was refused.
@@ -93,8 +93,9 @@ fn cost_of(word: &[u8]) -> Option<i64>
     Some(cost)
 }
 
-// Takes a line of literals, of which the k-th is of variable k.
-fn read_model(alloc: Global, cursor: &mut Cursor<'_>) -> Result<Assignment, LineFault>
+/// Takes a line of literals, of which the k-th is of variable k. `Wrong` exactly where the rest begins with no such line; after a
+/// fault some of the rest may be taken. Takes memory for the values of the model, twice.
+pub fn read_model(alloc: Global, cursor: &mut Cursor<'_>) -> Result<Assignment, LineFault>
     ensures { Reads model_line (λ _. Unit {0}) cursor.old cursor.new result }
 {
     if !cursor.skip(b"v") {

@@ -37,8 +37,8 @@ fn read_kind(cursor: &mut Cursor<'_>) -> Option<bool>
     None
 }
 
-// The count that digits with no leading zero spell.
-fn count_of(digits: &[u8]) -> Option<u64>
+/// The count that digits with no leading zero spell; one above 2^64 - 1 stands as that, which no text reaches.
+pub fn count_of(digits: &[u8]) -> Option<u64>
     ensures { IsCountOf digits.now result }
 {
     if digits.len() > 1 && digits[0] == b'0' {

@@ -100,8 +100,8 @@ fn append_costs(text: &mut Vec<u8>, costs: &[i64]) -> Result<(), NoMemory>
     Ok(())
 }
 
-// Puts a line of literals at the end of a text.
-fn append_model(text: &mut Vec<u8>, model: &[bool]) -> Result<(), NoMemory>
+/// Puts a model's line of literals at the end of a text. Where memory is refused a part of it may stand there.
+pub fn append_model(text: &mut Vec<u8>, model: &[bool]) -> Result<(), NoMemory>
     ensures { OnOk result (text.new.items ≡ text.old.items ++ model_line model.now) }
 {
     let mut buffer = Buffer::new();
