@@ -23,8 +23,9 @@ fn are_comparable(objectives: &[Objective], one: &CostVec, other: &CostVec) -> b
     weakly_dominates(objectives, one, other) || weakly_dominates(objectives, other, one)
 }
 
-// Whether each number is as good as the other's, for vectors of any lengths.
-fn weakly_dominates(objectives: &[Objective], one: &[i64], other: &[i64]) -> bool
+/// Whether each number is as good as the other's, by the sense of its objective. Vectors of another length than the objectives'
+/// dominate nothing.
+pub fn weakly_dominates(objectives: &[Objective], one: &[i64], other: &[i64]) -> bool
     ensures { result ≡ weakly_dominates objectives.now one.now other.now }
 {
     if one.len() != objectives.len() || other.len() != objectives.len() {

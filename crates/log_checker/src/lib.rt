@@ -15,6 +15,7 @@ mod laws;
 mod list;
 
 pub use checker::Checker;
+pub use dominance::weakly_dominates;
 pub use fault::{CheckFault, ListWhy};
 pub use judging::judge_line;
 pub use laws::{

@@ -1,13 +1,13 @@
 // Judging the models of an entry.
 ghost use Rattle.std.specs.Prelude.{◌≡◌, ◌↔◌, ◌⊎◌, List, Bool, Contains, IsTrue, MatchBool, MatchOption, All, OnOk, IfOk, IfErr};
-ghost use Rattle.instance.specs.ParetoFront.{is_as_good, weakly_dominates};
 ghost use Rattle.representatives.specs.Judged.{HasWrongCount, IsFaultOf, IsModelFault};
 ghost use Rattle.representatives.specs.ModelFaults.{IsModelsFault};
 ghost use Rattle.representatives.specs.Representatives.{AreDifferent, AreServing, Serves};
 
 use crate::{RepsFault, RepsWhy};
 use front_set::CostVec;
-use instance::{Instance, Objective, Sense};
+use instance::Instance;
+use log_checker::weakly_dominates;
 use models_text::Reps;
 use scut_base::{Assignment, Items, NoMemory};
 use std::alloc::Global;
@@ -101,28 +101,4 @@ fn is_new(
 {
     let values = Items::from_vec(Vec::from_slice(alloc, model.as_slice())?);
     Ok(seen.insert(values)?)
-}
-
-// Whether each number is as good as the other's, for vectors of any lengths.
-fn weakly_dominates(objectives: &[Objective], one: &[i64], other: &[i64]) -> bool
-    ensures { result ≡ weakly_dominates objectives.now one.now other.now }
-{
-    if one.len() != objectives.len() || other.len() != objectives.len() {
-        return false;
-    }
-    for i in 0..objectives.len() {
-        if !is_as_good(objectives[i].sense, one[i], other[i]) {
-            return false;
-        }
-    }
-    true
-}
-
-fn is_as_good(sense: Sense, one: i64, other: i64) -> bool
-    ensures { result ≡ is_as_good sense one other }
-{
-    match sense {
-        Sense::Min => one <= other,
-        Sense::Max => one >= other,
-    }
 }
