@@ -104,6 +104,7 @@ impl Trail {
         ensures value { result ≡ partial_truth (partial self.now) lit }
         ensures steps { AreSteps self.now.vars self.now.steps }
     {
+        // Tells that variables count from 1.
         let _from_one = lit.var();
         match self.truths[literal_code(lit)] {
             Truth::Open => None,

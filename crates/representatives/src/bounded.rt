@@ -27,6 +27,7 @@ pub fn bounded_problem(
     requires long { All (λ a. length a ≡ inst.now.vars) list.now }
     ensures { IfOk result (IsBounded problem.now (problem_vector inst.now vec.now) list.now) }
 {
+    // Tells that the instance is within its limits.
     let _limits = inst.vars();
     let numbers = inst.problem_vector(alloc, vec)?;
     let rows = bounded_rows(alloc, problem, numbers.as_slice(), list)?;
