@@ -1,4 +1,3 @@
-pub mod LearnLimits
 pub mod SearchedLogs
 pub mod ListEnds
 pub mod SolveEnds

@@ -1,153 +1,45 @@
 -- What a search leaves in its log.
-use Rattle.std.proofs.Common.{◌≡◌, ◌≢◌, inl, inr, ⊎_elim, ℕ, ◌<◌, ◌^◌, Bool, true, false, None, Some, List, [], ◌++◌, length, refl, sym, ap, subst, ◌∙◌, arith, append-nil}
-use Rattle.std.specs.Prelude.{Option, Result, Ok, Err, IfOk, IfErr, IsErrOf, OnOk, nat_lt}
-use Rattle.std.specs.Ordering.{nat_cmp, eq_by_cmp}
-use Rattle.std.specs.Cmp.Lexicographic.{slice_cmp}
-use Rattle.std.specs.FinMap.{insert, same_map, slice_cmp-IsAntisymmetric, nat_cmp-IsAntisymmetric}
-use Rattle.std.proofs.lemmas.Bool.{ltb-true}
-use Rattle.std.proofs.lemmas.Cmp.{nat_list_cmp_total}
-use Rattle.std.proofs.lemmas.Option.{none-some}
-use Rattle.std.proofs.Math.Bool.{true≢false}
-use Rattle.scut_base.specs.Files.{Files, content, with_file, IsTold, IsTouched}
-use Rattle.scut_base.specs.Faults.{Faults, NoneFell, Rose, WritingFailed, count}
-use Rattle.scut_base.specs.declared.shelf.ShelfCall.TheVariants.{Append}
+use Rattle.std.proofs.Common.{◌≡◌, ℕ, ◌^◌, Bool, false, List, length, refl}
+use Rattle.std.specs.Prelude.{Option, Result, Ok, Err, IfOk, IfErr, IsErrOf, OnOk}
+use Rattle.scut_base.specs.Files.{Files, with_file}
+use Rattle.scut_base.specs.Faults.{Faults, NoneFell}
 use Rattle.scut_base.specs.World.{World}
-use Rattle.scut_base.proofs.FileLaws.{content-same, content-other, tied_is, tied_same, with_file-untold}
 use Rattle.instance.specs.Shape.{InstanceValue}
 use Rattle.pb_lin.specs.Problem.{ProblemValue}
 use Rattle.proof_laws.specs.State.{StateValue}
 use Rattle.proof_laws.specs.declared.line.Line.{Line}
-use Rattle.proof_laws.specs.declared.why.Why.TheVariants.{LogLong}
-use Rattle.proof_laws.proofs.Derivations.{unless_none}
-use Rattle.proof_laws.proofs.NextCovers.{legal_parts}
-use Rattle.proof_laws.proofs.Replays.{replay_lines}
 use Rattle.proof_rules.specs.declared.recorder.RecordFault.{RecordFault}
-use Rattle.proof_rules.specs.declared.recorder.RecordFault.TheVariants.{Failed, Full, NoMemory}
-use Rattle.proof_text.specs.LogFile.{Held, IsLogFile, IsNotBegun, IsPartOfNext}
-use Rattle.proof_text.specs.Versions.{first_of, log_text, version_number}
-use Rattle.proof_text.specs.declared.version.LogVersion.{LogVersion}
-use Rattle.proof_text.specs.declared.version.LogVersion.TheVariants.{One, Two}
-use Rattle.proof_text.specs.LogText.{SpellsLog}
+use Rattle.proof_rules.specs.declared.recorder.RecordFault.TheVariants.{Failed, Full}
+use Rattle.proof_text.specs.LogFile.{Held, IsLogFile}
+use Rattle.proof_text.specs.LogParts.{IsLogStopped}
 use Rattle.proof_text.specs.Recorders.{IsKept, file_seen, without_file}
-use Rattle.proof_text.proofs.LogFiles.{others_same}
+use Rattle.proof_text.specs.declared.version.LogVersion.{LogVersion}
+use Rattle.proof_text.proofs.LogLeft.{kept_here, log_here, others_here, spelled, stopped_here, text, whole}
 use Rattle.certified_front.specs.Certified.{CoversLogged, IsEnding}
 use Rattle.certified_front.specs.Planning.{FollowsPlan}
 use Rattle.certified_front.specs.declared.ending.Found.{Found}
 use Rattle.certified_front.specs.declared.preparing.Plan.{Plan}
-use Rattle.command_base.proofs.Answered.{rose_at_last}
-use Rattle.command_solve.specs.Logging.{IsFull, IsLogStopped, IsLogged, IsPartOfLog, IsSearched}
-
--- ---- one file alone has changed
-
-module _ (name header bytes : List ℕ) where
-  by_tie : (m n : Files) → without_file (Some n) name ≡ without_file (with_file (Some m) name header) name → content (Some n) name ≡ Some bytes
-      → (q : List ℕ) (b : Bool) → eq_by_cmp (slice_cmp nat_cmp) q name ≡ b → content (Some n) q ≡ content (with_file (Some m) name bytes) q
-  by_tie m n others there q true tied =
-      let is : q ≡ name = tied_is q name tied in
-      ap (content (Some n)) is ∙ there ∙ sym (content-same (Some m) name bytes tt) ∙ sym (ap (content (with_file (Some m) name bytes)) is)
-  by_tie m n others there q false tied =
-      let other : q ≢ name = λ e. true≢false (sym (tied_same name) ∙ ap (λ (r : List ℕ). eq_by_cmp (slice_cmp nat_cmp) r name) (sym e) ∙ tied) in
-      others_same (Some n) (with_file (Some m) name header) name q others other ∙ content-other (Some m) name header q other ∙ sym (content-other (Some m) name bytes q other)
-
-  same_files : (m n : Files) → ((q : List ℕ) → content (Some n) q ≡ content (with_file (Some m) name bytes) q) → Some n ≡ with_file (Some m) name bytes
-  unfolding content with_file
-  same_files m n same = ap Some (same_map nat_list_cmp_total (slice_cmp-IsAntisymmetric nat_cmp-IsAntisymmetric) n (insert m name bytes) same)
-
-  none_from_none : (n : Files) → without_file (Some n) name ≡ without_file (with_file None name header) name → ⊥
-  unfolding with_file without_file
-  none_from_none n e = none-some _ (sym e)
-
-  some_from_some : (m : Files) → without_file None name ≡ without_file (with_file (Some m) name header) name → ⊥
-  unfolding with_file without_file
-  some_from_some m e = none-some _ e
-
-  only_this : (old new : Option Files) → without_file new name ≡ without_file (with_file old name header) name → (IsTold new → content new name ≡ Some bytes) → new ≡ with_file old name bytes
-  only_this None None others there = sym (with_file-untold name bytes)
-  only_this None (Some n) others there = absurd (none_from_none n others)
-  only_this (Some m) None others there = absurd (some_from_some m others)
-  only_this (Some m) (Some n) others there = same_files m n (λ q. by_tie m n others (there tt) q (eq_by_cmp (slice_cmp nat_cmp) q name) refl)
-
--- ---- the log
-
-touched_part : (old new : Option Files) (name : List ℕ) (p : ProblemValue) (version : LogVersion) → IsNotBegun old new name (first_of version p) → IsTouched old new name (IsPartOfLog version p)
-touched_part old new name p version (inl same) = inl same
-touched_part old new name p version (inr put) = inr (put.0, inl put.1, put.2)
-
--- no line is legal after 2^61
-none_follows : (p : ProblemValue) (version : LogVersion) (lines : List Line) (part : List ℕ) → length lines ≡ 2 ^ 61 → IsPartOfNext p (first_of version p) lines part → ⊥
-none_follows p version lines part full next =
-    let parts = legal_parts p next.state next.line next.legal in
-    let short : next.state.lines < 2 ^ 61 = ltb-true next.state.lines (2 ^ 61) (unless_none (nat_lt next.state.lines (2 ^ 61)) LogLong parts.short) in
-    let count = replay_lines p lines next.state next.replay in
-    omega (arith, full, short, count)
+use Rattle.command_solve.specs.Logging.{IsLogged, IsSearched}
 
 -- a log that was begun anew, over other files that stayed
 module _ (old begun new : Option Files) (name header : List ℕ) (p : ProblemValue) (version : LogVersion) (lines : List Line) (s : StateValue) (broken : Bool)
     (is : begun ≡ with_file old name header) (others : without_file new name ≡ without_file begun name) (log : IsLogFile new name p version lines broken) (kept : IsKept p lines s) where
-  abbrev text : List ℕ
-  text = log_text (first_of version p) lines
-
-  written : new ≡ with_file old name (text ++ log.part)
-  written = only_this name header (text ++ log.part) old new (others ∙ ap (λ (f : Option Files). without_file f name) is) log.file
-
-  whole : log.part ≡ [] → new ≡ with_file old name text
-  whole none = written ∙ ap (λ (part : List ℕ). with_file old name (text ++ part)) none ∙ ap (with_file old name) (append-nil text)
-
-  part_left : IsTouched old new name (IsPartOfLog version p)
-  part_left = inr (
-    text ++ log.part,
-    inr (record {
-      lines = lines;
-      part = log.part;
-      begins = record { first = first_of version p; version = log.first; formed = kept.formed; fit = log.fit; is = refl };
-      first = refl;
-      replay = (s, kept.replay);
-      next = log.next;
-    }),
-    written,
-  )
-
-  abbrev spelled : SpellsLog text lines
-  spelled = record { first = first_of version p; version = log.first; formed = kept.formed; fit = log.fit; is = sym (append-nil text) }
-
-  none_left : length lines ≡ 2 ^ 61 → log.part ≡ []
-  none_left full = ⊎_elim (λ none. none) (λ next. absurd (none_follows p version lines log.part full next)) log.next
-
-  full_left : length lines ≡ 2 ^ 61 → IsFull old new p name version
-  full_left full = record { proof = text; lines = lines; spelled = spelled; first = refl; full = full; replay = (s, kept.replay); files = whole (none_left full) }
-
   logged : (i : InstanceValue) (limit : Option ℕ) (plan : Plan) (found : Found) → broken ≡ false → FollowsPlan plan p lines found.ending → CoversLogged i p lines found.entries.items → IsEnding limit p lines found.ending → IsLogged old new i p name version limit plan found
   logged i limit plan found unbroken planned covers ending = record {
-    proof = text;
+    proof = text old begun new name header p version lines s broken is others log kept;
     lines = lines;
-    spelled = spelled;
+    spelled = spelled old begun new name header p version lines s broken is others log kept;
     first = refl;
     planned = planned;
     covers = covers;
     ending = ending;
-    files = whole (log.whole unbroken);
+    files = whole old begun new name header p version lines s broken is others log kept (log.whole unbroken);
   }
 
   logged_by : (i : InstanceValue) (limit : Option ℕ) (plan : Plan) (r : Result Found RecordFault) → OnOk r (broken ≡ false) → IfOk r (λ found. FollowsPlan plan p lines found.ending) → IfOk r (λ found. CoversLogged i p lines found.entries.items) → IfOk r (λ found. IsEnding limit p lines found.ending)
       → IfOk r (IsLogged old new i p name version limit plan)
   logged_by i limit plan (Ok found) unbroken planned covers ending = logged i limit plan found unbroken planned covers ending
   logged_by i limit plan (Err fault) unbroken planned covers ending = tt
-
-  stopped_by : (before after : Faults) (r : Result Found RecordFault) → (IsErrOf r Failed → WritingFailed before after name) → (IsErrOf r Full → length lines ≡ 2 ^ 61)
-      → IfErr r (λ fault. IsLogStopped fault old new p name version before after)
-  stopped_by before after (Ok found) failed full = tt
-  stopped_by before after (Err Failed) failed full = (part_left, failed refl)
-  stopped_by before after (Err Full) failed full = full_left (full refl)
-  stopped_by before after (Err NoMemory) failed full = part_left
-
--- ---- the recorder, as it was begun and as it was handed back
-
--- a version by its number
-same_version : (v w : LogVersion) → Some (version_number v) ≡ Some (version_number w) → v ≡ w
-same_version One One is = refl
-same_version Two Two is = refl
-same_version One Two is = cc
-same_version Two One is = cc
 
 module _ {H : Type 0} (world : H → World) (old : Option Files) (name header : List ℕ) (p : ProblemValue) (version : LogVersion) (first last : Held H) (end : H)
     (i : InstanceValue) (limit : Option ℕ) (plan : Plan) (r : Result Found RecordFault)
@@ -156,44 +48,16 @@ module _ {H : Type 0} (world : H → World) (old : Option Files) (name header : 
     (same : end ≡ last.shelf.now)
     (log : IsLogFile (world end).files last.name last.problem last.version last.lines last.broken) (kept : IsKept last.problem last.lines last.state)
     (searched : IsSearched i p limit plan (file_seen world first) (file_seen world last) r) where
-  names : last.name ≡ name
-  names = searched.around.name ∙ named
-
-  problems : last.problem ≡ p
-  problems = searched.problem ∙ of_problem
-
-  versions : last.version ≡ version
-  versions = same_version last.version first.version searched.around.version ∙ of_version
-
-  log_here : IsLogFile (world end).files name p version last.lines last.broken
-  log_here = subst (λ (n : List ℕ). IsLogFile (world end).files n p version last.lines last.broken) names
-      (subst (λ (q : ProblemValue). IsLogFile (world end).files last.name q version last.lines last.broken) problems
-      (subst (λ (v : LogVersion). IsLogFile (world end).files last.name last.problem v last.lines last.broken) versions log))
-
-  kept_here : IsKept p last.lines last.state
-  kept_here = subst (λ (q : ProblemValue). IsKept q last.lines last.state) problems kept
-
-  others_here : without_file (world end).files name ≡ without_file (world first.shelf.now).files name
-  others_here = ap (λ (h : H). without_file (world h).files name) same
-      ∙ sym (ap (without_file (world last.shelf.now).files) names)
-      ∙ searched.around.others
-      ∙ ap (without_file (world first.shelf.now).files) named
-
   pub found_left : IfOk r (IsLogged old (world end).files i p name version limit plan)
-  found_left = logged_by old (world first.shelf.now).files (world end).files name header p version last.lines last.state last.broken begun others_here log_here kept_here i limit plan r searched.whole searched.planned searched.covers searched.ending
-
-  rose_here : (began : Faults) → NoneFell began (world first.shelf.now).faults → Rose (count (world first.shelf.now).faults Append first.name) (count (world last.shelf.now).faults Append last.name) → WritingFailed began (world end).faults name
-  rose_here began later rose = inr (rose_at_last _ _ _ (later Append name)
-      (subst (λ (h : H). Rose (count (world first.shelf.now).faults Append name) (count (world h).faults Append name)) (sym same)
-      (subst (λ (n : List ℕ). Rose (count (world first.shelf.now).faults Append name) (count (world last.shelf.now).faults Append n)) names
-      (subst (λ (n : List ℕ). Rose (count (world first.shelf.now).faults Append n) (count (world last.shelf.now).faults Append last.name)) named rose))))
+  found_left = logged_by old (world first.shelf.now).files (world end).files name header p version last.lines last.state last.broken begun
+      (others_here world old name header p version first last end named of_problem of_version begun same log kept searched.problem searched.around)
+      (log_here world old name header p version first last end named of_problem of_version begun same log kept searched.problem searched.around)
+      (kept_here world old name header p version first last end named of_problem of_version begun same log kept searched.problem searched.around)
+      i limit plan r searched.whole searched.planned searched.covers searched.ending
 
   pub stopped_left : (began : Faults) → NoneFell began (world first.shelf.now).faults → IfErr r (λ fault. IsLogStopped fault old (world end).files p name version began (world end).faults)
-  stopped_left began later = stopped_by old (world first.shelf.now).files (world end).files name header p version last.lines last.state last.broken begun others_here log_here kept_here began (world end).faults r
-      (λ e. rose_here began later (searched.failed e)) searched.full
-
--- the log wasn't begun
-pub not_begun : (old new : Option Files) (name : List ℕ) (p : ProblemValue) (version : LogVersion) (before after : Faults) (fault : RecordFault) → IsNotBegun old new name (first_of version p) → (fault ≡ Failed → WritingFailed before after name) → fault ≢ Full → IsLogStopped fault old new p name version before after
-not_begun old new name p version before after Failed touched rose other = (touched_part old new name p version touched, rose refl)
-not_begun old new name p version before after Full touched rose other = absurd (other refl)
-not_begun old new name p version before after NoMemory touched rose other = touched_part old new name p version touched
+  stopped_left began later = by r searched.failed searched.full
+    where
+      by : (s : Result Found RecordFault) → (IsErrOf s Failed → _) → (IsErrOf s Full → length last.lines ≡ 2 ^ 61) → IfErr s (λ fault. IsLogStopped fault old (world end).files p name version began (world end).faults)
+      by (Ok found) failed full = tt
+      by (Err fault) failed full = stopped_here world old name header p version first last end named of_problem of_version begun same log kept searched.problem searched.around began later fault (λ e. failed e) (λ e. full e)

@@ -26,7 +26,7 @@ use Rattle.command_base.specs.Views.{View}
 use Rattle.command_base.specs.declared.status.Status.{Status}
 use Rattle.command_base.specs.declared.status.Status.TheVariants.{Complete, Incomplete, Usage, LogFull, NoMemory, ShelfFailed}
 use Rattle.command_solve.specs.Listing.{IsListPartlySaid, IsListUnsaid, IsListed, is_complete, list_calls}
-use Rattle.command_solve.specs.Logging.{IsFull, IsPartOfLog}
+use Rattle.proof_text.specs.LogParts.{IsFull, IsPartOfLog}
 use Rattle.command_solve.specs.TurnDigits.{takes}
 use Rattle.command_solve.specs.Words.{SolveAsked}
 

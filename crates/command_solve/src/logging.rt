@@ -2,7 +2,8 @@
 ghost use Rattle.std.specs.Prelude.{◌≡◌, [], false, IfOk, IfErr};
 ghost use Rattle.scut_base.specs.Faults.{NoneFell};
 ghost use Rattle.instance_normal.specs.NormalForm.{IsNormalFormOf};
-ghost use Rattle.command_solve.specs.Logging.{IsLogStopped, IsLogged, IsSearched};
+ghost use Rattle.proof_text.specs.LogParts.{IsLogStopped};
+ghost use Rattle.command_solve.specs.Logging.{IsLogged, IsSearched};
 
 use cdcl_core::{NoRoom, Solver};
 use certified_front::{Found, Plan, certified_front_by};

@@ -20,7 +20,7 @@ use Rattle.command_base.proofs.Readable.{readable}
 use Rattle.command_gen.specs.Table.{GenTable, IsGenerated, gen_calls}
 use Rattle.command_gen.proofs.GenEnds.{nothing_done as gen_not_done}
 use Rattle.proof_text.specs.declared.version.LogVersion.TheVariants.{One}
-use Rattle.command_solve.specs.Logging.{IsFull}
+use Rattle.proof_text.specs.LogParts.{IsFull}
 use Rattle.command_solve.specs.Table.{IsCertified, IsLogFull, SolveTable, solve_calls}
 use Rattle.command_check.specs.Table.{CheckTable, check_calls}
 use Rattle.command_trial.specs.Table.{IsTriedFull, IsTriedPartly, TrialTable, goes_on, trial_calls}

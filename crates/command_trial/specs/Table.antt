@@ -20,7 +20,7 @@ use Rattle.command_base.specs.declared.status.Status.TheVariants.{Done, Complete
 use Rattle.command_gen.specs.Origin.{instance_from, text_from}
 use Rattle.command_gen.specs.Table.{IsCutShort, IsGenerated}
 use Rattle.proof_text.specs.declared.version.LogVersion.TheVariants.{One}
-use Rattle.command_solve.specs.Logging.{IsFull}
+use Rattle.proof_text.specs.LogParts.{IsFull}
 use Rattle.command_solve.specs.Table.{IsCertified, IsSolvedPartly}
 use Rattle.command_check.specs.Table.{IsCutOff}
 use Rattle.command_trial.specs.Words.{TrialAsked, check_part, gen_part, instance_name, list_name, log_name, solve_part}

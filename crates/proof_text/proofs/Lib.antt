@@ -8,3 +8,4 @@ pub mod Replaying
 pub mod LogFiles
 pub mod Lengths
 pub mod OneFile
+pub mod LogLeft

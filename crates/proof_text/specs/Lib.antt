@@ -4,5 +4,6 @@ pub mod LogText
 pub mod Reading
 pub mod Cutting
 pub mod LogFile
+pub mod LogParts
 pub mod Recorders
 pub mod Writing
