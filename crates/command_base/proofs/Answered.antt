@@ -10,7 +10,7 @@ use Rattle.instance.specs.declared.fault.BadKind.{BadKind}
 use Rattle.instance.specs.declared.fault.InstanceLimit.{InstanceLimit}
 use Rattle.instance.specs.declared.fault.InstanceLimit.TheVariants.{Bytes}
 use Rattle.instance.specs.declared.fault.ReadFault.TheVariants.{Bad, Limit}
-use Rattle.command_base.specs.Answering.{Answered, Call, CallRose, OwnRose, reading}
+use Rattle.command_base.specs.Answering.{Answered, Call, CallRose, CallOf, EachOf, OwnRose, reading}
 use Rattle.command_base.specs.Causes.{IsRefused}
 use Rattle.command_base.specs.InstanceFile.{HasFault}
 use Rattle.command_base.specs.Statuses.{status_of_shelf}
@@ -31,9 +31,13 @@ rose_at_last a b c earlier rose = omega arith
 pub own_rose : (own : List Call) (call : Call) (before now : Faults) → Contains own call → CallRose before now call → OwnRose own before now
 own_rose own call before now there rose = (there.0, call, there.1, there.2, rose)
 
+call_rose_at_last : (call : Call) (before mid now : Faults) → NoneFell before mid → CallRose mid now call → CallRose before now call
+call_rose_at_last (CallOf kind name) before mid now later rose = rose_at_last _ _ _ (later kind name) rose
+call_rose_at_last (EachOf kind names) before mid now later rose = (rose.0, rose_at_last _ _ _ (later kind (names rose.0)) rose.1)
+
 -- what rose later rose since before
 pub own_rose_at_last : (own : List Call) (before mid now : Faults) → NoneFell before mid → OwnRose own mid now → OwnRose own before now
-own_rose_at_last own before mid now later (k, call, short, is, rose) = (k, call, short, is, rose_at_last _ _ _ (later call.kind call.name) rose)
+own_rose_at_last own before mid now later (k, call, short, is, rose) = (k, call, short, is, call_rose_at_last call before mid now later rose)
 
 -- ---- a part of a run that reads comes first
 

@@ -8,3 +8,4 @@ pub mod Answered
 pub mod Readable
 pub mod CheckerLaws
 pub mod ListSizes
+pub mod NumberWords

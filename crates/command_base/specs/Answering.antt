@@ -10,26 +10,38 @@ use Rattle.command_base.specs.Views.{View, view}
 use Rattle.command_base.specs.declared.status.Status.{Status}
 use Rattle.command_base.specs.declared.status.Status.TheVariants.{NoMemory, ShelfFailed, Usage}
 
--- a kind of call of a shelf, and the name of its file; that of `say` is the empty text
-pub record Call : Type 0 where
-  pub kind : ShelfCall
-  pub name : List ℕ
+-- calls of a shelf
+pub data Call : Type 0 where
+  -- of this kind, for the file of this name; that of `say` is the empty text
+  CallOf : (kind : ShelfCall) → (name : List ℕ) → Call
+  -- of this kind, for each of the files of these names, which have numbers
+  EachOf : (kind : ShelfCall) → (names : ℕ → List ℕ) → Call
 
 abbrev pub reading : List ℕ → Call
-reading name = record { kind = Read; name = name }
+reading name = CallOf Read name
+
+abbrev pub reading_each : (ℕ → List ℕ) → Call
+reading_each names = EachOf Read names
 
 abbrev pub beginning : List ℕ → Call
-beginning name = record { kind = Begin; name = name }
+beginning name = CallOf Begin name
+
+abbrev pub beginning_each : (ℕ → List ℕ) → Call
+beginning_each names = EachOf Begin names
 
 abbrev pub appending : List ℕ → Call
-appending name = record { kind = Append; name = name }
+appending name = CallOf Append name
+
+abbrev pub appending_each : (ℕ → List ℕ) → Call
+appending_each names = EachOf Append names
 
 abbrev pub saying : Call
-saying = record { kind = Say; name = [] }
+saying = CallOf Say []
 
--- the count of a call rose
+-- the count of the call rose, or that of one of them
 abbrev pub CallRose : Faults → Faults → Call → Type 0
-CallRose before now call = Rose (count before call.kind call.name) (count now call.kind call.name)
+CallRose before now (CallOf kind name) = Rose (count before kind name) (count now kind name)
+CallRose before now (EachOf kind names) = (n : ℕ) × Rose (count before kind (names n)) (count now kind (names n))
 
 -- the count of one of these calls rose
 abbrev pub OwnRose : List Call → Faults → Faults → Type 0

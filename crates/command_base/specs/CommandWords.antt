@@ -1,7 +1,8 @@
 -- What `clap` makes of the words of a command.
-use Rattle.std.specs.Prelude.{Bool, true, List, [], ◌∷◌, codes, Option, Some, None, unwrap_or}
+use Rattle.std.specs.Prelude.{ℕ, ◌&&◌, not, nat_lt, if◌then◌else◌, Bool, true, List, [], ◌∷◌, codes, Option, Some, None, unwrap_or}
 use Rattle.std.specs.Option.{option_eq}
 use Rattle.std.specs.Str.{bytes_eq}
+use Rattle.scut_base.specs.Number.{is_natural, natural_value}
 use Rattle.clap.specs.Kinds.{Kinds}
 use Rattle.clap.specs.Words.{App, Row, Rule, Text, fault_of, first_of, matches_of, new_rule}
 use Rattle.clap.specs.declared.builder.ArgAction.TheVariants.{Set, SetTrue}
@@ -35,3 +36,7 @@ value_of id rows = unwrap_or (first_of id rows) []
 -- whether a flag is set
 abbrev pub is_set : Text → List Row → Bool
 is_set id rows = option_eq bytes_eq (first_of id rows) (Some (codes "true"))
+
+-- the number of a text, where it is one from 1 to this
+abbrev pub number_up_to : ℕ → List ℕ → Option ℕ
+number_up_to most text = if is_natural text && (nat_lt 0 (natural_value text) && not (nat_lt most (natural_value text))) then Some (natural_value text) else None

@@ -12,10 +12,10 @@ use Rattle.instance.specs.declared.fault.InstanceLimit.{InstanceLimit}
 use Rattle.instance.specs.declared.fault.InstanceLimit.TheVariants.{Bytes, Vars, Weights, Row, Objectives}
 use Rattle.log_checker.specs.declared.fault.CheckFault.{CheckFault}
 use Rattle.log_checker.specs.declared.fault.CheckFault.TheVariants.{Refused as LineRefused, ListRefused, NoMemory as CheckNoMemory}
-use Rattle.command_base.specs.Refusals.{list_why_name, why_text}
+use Rattle.command_base.specs.Refusals.{list_why_name, reps_why_text, why_text}
 use Rattle.scut_base.specs.World.{World}
 use Rattle.command_base.specs.declared.status.Status.{Status}
-use Rattle.command_base.specs.declared.status.Status.TheVariants.{Done, Complete, Incomplete, Trimmed, Models, Accepted, Refused, Usage, BadInput, TooLarge, LogFull, NoMemory, ShelfFailed}
+use Rattle.command_base.specs.declared.status.Status.TheVariants.{Done, Complete, Incomplete, Trimmed, Models, Accepted, Refused, ModelsRefused, Usage, BadInput, TooLarge, LogFull, NoMemory, ShelfFailed}
 
 -- the line that is said of each status; nothing is said of what is warned
 abbrev pub said_of : Status → List ℕ
@@ -64,6 +64,7 @@ check_warning CheckNoMemory = codes "scuttle: no memory" ++ newline ∷ []
 -- the line that is warned of each status; nothing is warned of what is said
 abbrev pub warning_text : Status → List ℕ
 warning_text (Refused fault) = check_warning fault
+warning_text (ModelsRefused entry why) = place_warning (codes "models entry") entry (reps_why_text why)
 warning_text Usage = codes "scuttle: usage" ++ newline ∷ []
 warning_text (BadInput line kind) = place_warning (codes "line") line (kind_name kind)
 warning_text (TooLarge line which) = place_warning (codes "line") line (codes "too large: " ++ limit_name which)

@@ -1,4 +1,4 @@
--- How it is warned why a list or a log is refused.
+-- How it is warned why a list, a log or models are refused.
 use Rattle.std.specs.Prelude.{ℕ, List, [], ◌∷◌, ◌++◌, codes}
 use Rattle.std.specs.Fmt.{decimal}
 use Rattle.scut_base.specs.Bytes.{space}
@@ -6,6 +6,8 @@ use Rattle.proof_laws.specs.declared.why.Why.{Why}
 use Rattle.proof_laws.specs.declared.why.Why.TheVariants.{Syntax, NoSuchId, VarRange, NotFresh, Overflow, Stack, BadFactor, RupOpen, GoalOpen, GoalMissing, SolRow, CutOpen, NotClause, NotContradiction, AfterEnd, NoEnd, Uncovered, LogLong}
 use Rattle.proof_lines.specs.LineText.{goal_word}
 use Rattle.proof_lines.specs.declared.spelling.Spelling.TheVariants.{Plain}
+use Rattle.representatives.specs.declared.fault.RepsWhy.{RepsWhy}
+use Rattle.representatives.specs.declared.fault.RepsWhy.TheVariants.{Syntax as RepsSyntax, Count, NotModel as RepsNotModel, Costs as RepsCosts, Repeated, Log}
 use Rattle.log_checker.specs.declared.fault.ListWhy.{ListWhy}
 use Rattle.log_checker.specs.declared.fault.ListWhy.TheVariants.{Syntax as ListSyntax, NotModel, Costs, Order, Comparable, NotComplete}
 
@@ -55,3 +57,12 @@ why_value why = []
 -- `CutOpen 1`, `GoalMissing c`, `Syntax`
 abbrev pub why_text : Why → List ℕ
 why_text why = why_name why ++ why_value why
+
+-- what is wrong with the models of an entry, or with their log
+abbrev pub reps_why_text : RepsWhy → List ℕ
+reps_why_text RepsSyntax = codes "Syntax"
+reps_why_text Count = codes "Count"
+reps_why_text RepsNotModel = codes "NotModel"
+reps_why_text RepsCosts = codes "Costs"
+reps_why_text Repeated = codes "Repeated"
+reps_why_text (Log line why) = codes "log line " ++ decimal line ++ codes ": " ++ why_text why

@@ -5,7 +5,7 @@ use Rattle.scut_base.specs.declared.shelf.ShelfFault.TheVariants.{Failed, NoMemo
 use Rattle.proof_rules.specs.declared.recorder.RecordFault.{RecordFault}
 use Rattle.proof_rules.specs.declared.recorder.RecordFault.TheVariants.{Failed as RecordFailed, Full as RecordFull, NoMemory as RecordNoMemory}
 use Rattle.command_base.specs.declared.status.Status.{Status}
-use Rattle.command_base.specs.declared.status.Status.TheVariants.{Done, Complete, Incomplete, Trimmed, Models, Accepted, Refused, Usage, BadInput, TooLarge, LogFull, NoMemory, ShelfFailed}
+use Rattle.command_base.specs.declared.status.Status.TheVariants.{Done, Complete, Incomplete, Trimmed, Models, Accepted, Refused, ModelsRefused, Usage, BadInput, TooLarge, LogFull, NoMemory, ShelfFailed}
 
 -- the number with which the program ends
 abbrev pub status_number : Status → ℕ
@@ -16,6 +16,7 @@ status_number (Trimmed kept total) = 0
 status_number (Models entries) = 0
 status_number Accepted = 0
 status_number (Refused fault) = 11
+status_number (ModelsRefused entry why) = 11
 status_number Usage = 64
 status_number (BadInput line kind) = 65
 status_number (TooLarge line which) = 66

@@ -30,4 +30,4 @@ pub use messages::{say_of, warn_of};
 pub use status::Status;
 pub use stops::{InputStop, ListStop, LogStop};
 pub use whole_file::{PIECE, read_whole, write_lines, zeros};
-pub use words::{file, flag, is_set, option, optional, read_by, value, with_arg};
+pub use words::{file, flag, is_set, number_up_to, option, optional, read_by, value, with_arg};

@@ -7,7 +7,7 @@ ghost use Rattle.std.specs.Fmt.{decimal};
 ghost use Rattle.command_base.specs.Messages.{check_warning, kind_name, limit_name, place_warning, said_of, warning_text};
 
 use crate::Status;
-use crate::refusals::{list_why_name, why_text};
+use crate::refusals::{list_why_name, reps_why_text, why_text};
 use instance::{BadKind, InstanceLimit};
 use itoa::Buffer;
 use log_checker::CheckFault;
@@ -104,6 +104,9 @@ fn warning_text(alloc: Global, status: Status) -> Result<Items<u8>, NoMemory>
 {
     match status {
         Status::Refused(fault) => check_warning(alloc, fault),
+        Status::ModelsRefused { entry, why } => {
+            place_warning(alloc, "models entry", entry, &reps_why_text(alloc, why)?)
+        }
         Status::Usage => plain_line(alloc, "scuttle: usage\n"),
         Status::BadInput { line, kind } => {
             place_warning(alloc, "line", line, kind_name(kind).as_bytes())

@@ -1,14 +1,15 @@
-// How it is warned why a list or a log is refused.
-ghost use Rattle.std.specs.Prelude.{◌≡◌, ◌++◌, ◌∷◌, IfOk, OnOk};
+// How it is warned why a list, a log or models are refused.
+ghost use Rattle.std.specs.Prelude.{◌≡◌, ◌++◌, ◌∷◌, codes, IfOk, OnOk};
 ghost use Rattle.std.specs.Fmt.{decimal};
 ghost use Rattle.scut_base.specs.Bytes.{space};
 ghost use Rattle.proof_lines.specs.LineText.{goal_word};
 ghost use Rattle.proof_lines.specs.declared.spelling.Spelling.TheVariants.{Plain};
-ghost use Rattle.command_base.specs.Refusals.{list_why_name, why_name, why_text, why_value};
+ghost use Rattle.command_base.specs.Refusals.{list_why_name, reps_why_text, why_name, why_text, why_value};
 
 use itoa::Buffer;
 use log_checker::ListWhy;
 use proof_laws::{Goal, Why};
+use representatives::RepsWhy;
 use scut_base::NoMemory;
 use std::alloc::Global;
 
@@ -24,6 +25,38 @@ pub fn list_why_name(why: ListWhy) -> &'static str
         ListWhy::Comparable => "Comparable",
         ListWhy::NotComplete => "NotComplete",
     }
+}
+
+/// What is wrong with the models of an entry, or with the log that is to show that they are all.
+pub fn reps_why_text(alloc: Global, why: RepsWhy) -> Result<Vec<u8>, NoMemory>
+    ensures { IfOk result (λ text. text.items ≡ reps_why_text why) }
+{
+    match why {
+        RepsWhy::Syntax => named(alloc, "Syntax"),
+        RepsWhy::Count => named(alloc, "Count"),
+        RepsWhy::NotModel => named(alloc, "NotModel"),
+        RepsWhy::Costs => named(alloc, "Costs"),
+        RepsWhy::Repeated => named(alloc, "Repeated"),
+        RepsWhy::Log { line, why } => log_line_text(alloc, line, why),
+    }
+}
+
+fn named(alloc: Global, name: &str) -> Result<Vec<u8>, NoMemory>
+    ensures { IfOk result (λ text. text.items ≡ name.now) }
+{
+    Ok(Vec::from_slice(alloc, name.as_bytes())?)
+}
+
+// `log line n: why`
+fn log_line_text(alloc: Global, line: u64, why: Why) -> Result<Vec<u8>, NoMemory>
+    ensures { IfOk result (λ text.
+        text.items ≡ codes "log line " ++ decimal line ++ codes ": " ++ why_text why) }
+{
+    let mut text = Vec::from_slice(alloc, b"log line ")?;
+    text.extend_from_slice(Buffer::new().format(line).as_bytes())?;
+    text.extend_from_slice(b": ")?;
+    text.extend_from_slice(&why_text(alloc, why)?)?;
+    Ok(text)
 }
 
 /// Why a line of a log is refused: a name, and its number or its goal where it has one.

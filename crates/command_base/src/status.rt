@@ -5,6 +5,7 @@ ghost use Rattle.command_base.specs.Statuses.{status_number};
 use instance::{BadKind, InstanceLimit};
 use log_checker::CheckFault;
 use proof_rules::RecordFault;
+use representatives::RepsWhy;
 use scut_base::{NoMemory, ShelfFault};
 
 /// How a run ends.
@@ -24,6 +25,8 @@ pub enum Status {
     Accepted,
     /// The list or the log isn't accepted.
     Refused(CheckFault),
+    /// The models by entries aren't accepted; entry 0 stands for the whole.
+    ModelsRefused { entry: u64, why: RepsWhy },
     /// The words are no command.
     Usage,
     /// The instance file isn't in its grammar.
@@ -50,7 +53,7 @@ impl Status {
             | Status::Models { .. }
             | Status::Accepted => 0,
             Status::Incomplete { .. } => 10,
-            Status::Refused(_) => 11,
+            Status::Refused(_) | Status::ModelsRefused { .. } => 11,
             Status::Usage => 64,
             Status::BadInput { .. } => 65,
             Status::TooLarge { .. } => 66,

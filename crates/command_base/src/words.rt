@@ -1,11 +1,11 @@
 // The words of a command, by `clap`.
 ghost use Rattle.std.specs.Prelude.{◌≡◌, IfOk, false, true, map, option_map, string_bytes};
 ghost use Rattle.clap.specs.Words.{app_of, rule_of, with_rule, rows_of, found_of, first_of, is_simple_and_free};
-ghost use Rattle.command_base.specs.CommandWords.{rows_by, value_of, is_set, file_rule, option_rule, flag_rule};
+ghost use Rattle.command_base.specs.CommandWords.{rows_by, value_of, is_set, file_rule, number_up_to, option_rule, flag_rule};
 
 use clap::error::ErrorKind;
 use clap::{Arg, ArgAction, ArgMatches, Command};
-use scut_base::NoMemory;
+use scut_base::{NoMemory, read_u64};
 use std::alloc::Global;
 
 /// A required file name.
@@ -85,5 +85,20 @@ pub fn is_set(matches: &ArgMatches<'_>, id: &str) -> bool
     match optional(matches, id) {
         Some(text) => text == "true",
         None => false,
+    }
+}
+
+/// The number of a text, where it is one from 1 to `most`.
+pub fn number_up_to(most: u64, text: &str) -> Option<u64>
+    ensures { result ≡ number_up_to most text.now }
+{
+    match read_u64(text.as_bytes()) {
+        Ok(number) => {
+            if number > 0 && number <= most {
+                return Some(number);
+            }
+            None
+        }
+        Err(_) => None,
     }
 }

@@ -9,7 +9,7 @@ use Rattle.command_base.specs.Causes.{HasText}
 use Rattle.command_base.specs.InstanceFile.{IsTextOf}
 use Rattle.command_base.specs.Views.{view}
 use Rattle.command_base.specs.declared.status.Status.{Status}
-use Rattle.command_base.specs.declared.status.Status.TheVariants.{Done, Complete, Incomplete, Trimmed, Models, LogFull, Accepted, Refused, Usage, BadInput, TooLarge, NoMemory, ShelfFailed}
+use Rattle.command_base.specs.declared.status.Status.TheVariants.{Done, Complete, Incomplete, Trimmed, Models, LogFull, Accepted, Refused, ModelsRefused, Usage, BadInput, TooLarge, NoMemory, ShelfFailed}
 use Rattle.command_base.proofs.InstanceFiles.{one_in}
 use Rattle.command_base.proofs.Readable.{of_text, readable}
 use Rattle.command_solve.specs.Table.{HasOtherObjectives, HasSearch, IsSearchEnd, IsSolveEnd, IsSpelled, SolveCompletes, SolveTable, solve_calls}
@@ -64,3 +64,4 @@ solve_completes a status before after answered spelled quiet memory = by status 
     by (Models count) was cause other = absurd was
     by Accepted was cause other = absurd was
     by (Refused fault) was cause other = absurd was
+    by (ModelsRefused entry why) was cause other = absurd was

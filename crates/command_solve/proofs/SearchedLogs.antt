@@ -1,8 +1,8 @@
 -- What a search leaves in its log.
-use Rattle.std.proofs.Common.{◌≡◌, ℕ, ◌^◌, Bool, false, List, length, refl}
+use Rattle.std.proofs.Common.{◌≡◌, ℕ, ◌^◌, Bool, false, List, length, refl, ap}
 use Rattle.std.specs.Prelude.{Option, Result, Ok, Err, IfOk, IfErr, IsErrOf, OnOk}
 use Rattle.scut_base.specs.Files.{Files, with_file}
-use Rattle.scut_base.specs.Faults.{Faults, NoneFell}
+use Rattle.scut_base.specs.Faults.{Faults, NoneFell, Rose}
 use Rattle.scut_base.specs.World.{World}
 use Rattle.instance.specs.Shape.{InstanceValue}
 use Rattle.pb_lin.specs.Problem.{ProblemValue}
@@ -58,6 +58,6 @@ module _ {H : Type 0} (world : H → World) (old : Option Files) (name header : 
   pub stopped_left : (began : Faults) → NoneFell began (world first.shelf.now).faults → IfErr r (λ fault. IsLogStopped fault old (world end).files p name version began (world end).faults)
   stopped_left began later = by r searched.failed searched.full
     where
-      by : (s : Result Found RecordFault) → (IsErrOf s Failed → _) → (IsErrOf s Full → length last.lines ≡ 2 ^ 61) → IfErr s (λ fault. IsLogStopped fault old (world end).files p name version began (world end).faults)
+      by : (s : Result Found RecordFault) → (IsErrOf s Failed → Rose (file_seen world first).faults (file_seen world last).faults) → (IsErrOf s Full → length last.lines ≡ 2 ^ 61) → IfErr s (λ fault. IsLogStopped fault old (world end).files p name version began (world end).faults)
       by (Ok found) failed full = tt
-      by (Err fault) failed full = stopped_here world old name header p version first last end named of_problem of_version begun same log kept searched.problem searched.around began later fault (λ e. failed e) (λ e. full e)
+      by (Err fault) failed full = stopped_here world old name header p version first last end named of_problem of_version begun same log kept searched.problem searched.around began later fault (λ e. failed (ap Err e)) (λ e. full (ap Err e))

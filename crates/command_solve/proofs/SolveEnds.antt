@@ -27,11 +27,12 @@ use Rattle.command_base.specs.Answering.{Answered, appending, beginning, reading
 use Rattle.command_base.specs.Statuses.{status_of_recording}
 use Rattle.command_base.specs.Views.{View, view}
 use Rattle.command_base.specs.declared.status.Status.{Status}
-use Rattle.command_base.specs.declared.status.Status.TheVariants.{Done, Complete, Incomplete, Trimmed, Models, LogFull, Accepted, Refused, Usage, BadInput, TooLarge, NoMemory, ShelfFailed}
+use Rattle.command_base.specs.declared.status.Status.TheVariants.{Done, Complete, Incomplete, Trimmed, Models, LogFull, Accepted, Refused, ModelsRefused, Usage, BadInput, TooLarge, NoMemory, ShelfFailed}
 use Rattle.command_base.proofs.Answered.{TakesInput, ended, own_rose, own_rose_at_last}
 use Rattle.command_base.proofs.ListSizes.{size_zero}
 use Rattle.command_solve.specs.Listing.{IsListed, ListTable, is_complete, list_calls, status_of}
-use Rattle.command_solve.specs.Logging.{IsLogStopped, IsLogged}
+use Rattle.proof_text.specs.LogParts.{IsLogStopped}
+use Rattle.command_solve.specs.Logging.{IsLogged}
 use Rattle.command_solve.specs.Table.{IsCertified, IsFound, IsListTouched, IsProblemOf, IsUnfinished, SolveTable, solve_calls, with_log}
 use Rattle.command_solve.specs.Words.{SolveAsked}
 
@@ -170,6 +171,7 @@ module _ (a : SolveAsked) where
       row after (Models count) listed = done after (Models count) listed
       row after Accepted listed = done after Accepted listed
       row after (Refused fault) listed = done after (Refused fault) listed
+      row after (ModelsRefused entry why) listed = done after (ModelsRefused entry why) listed
       row after Usage listed = done after Usage listed
       row after (BadInput line kind) listed = done after (BadInput line kind) listed
       row after (TooLarge line which) listed = done after (TooLarge line which) listed

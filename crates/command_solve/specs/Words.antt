@@ -1,13 +1,12 @@
 -- The words of `solve IN LIST LOG [--search S] [--turns T] [--learn N] [--log-version V] [--harden] [--boost]`.
-use Rattle.std.specs.Prelude.{ℕ, ◌^◌, ◌&&◌, not, nat_lt, if◌then◌else◌, List, codes, Option, Some, None}
+use Rattle.std.specs.Prelude.{ℕ, ◌^◌, if◌then◌else◌, List, codes, Option, Some, None}
 use Rattle.std.specs.Option.{option_and_then, option_map}
 use Rattle.std.specs.Str.{bytes_eq}
-use Rattle.scut_base.specs.Number.{is_natural, natural_value}
 use Rattle.clap.specs.Words.{App, Row, first_of, new_app, with_rule}
 use Rattle.proof_text.specs.declared.version.LogVersion.{LogVersion}
 use Rattle.proof_text.specs.declared.version.LogVersion.TheVariants.{One, Two}
 use Rattle.certified_front.specs.declared.preparing.Plan.{Plan}
-use Rattle.command_base.specs.CommandWords.{file_rule, flag_rule, is_set, option_rule, rows_by, value_of}
+use Rattle.command_base.specs.CommandWords.{file_rule, flag_rule, is_set, number_up_to, option_rule, rows_by, value_of}
 use Rattle.command_base.specs.InstanceFile.{format_of_three}
 use Rattle.command_base.specs.declared.instance_file.Format.{Format}
 use Rattle.command_solve.specs.TurnDigits.{turns_fit}
@@ -72,14 +71,10 @@ abbrev pub search_of : Option (List ℕ) → Option SearchKind
 search_of None = Some PMinimal
 search_of (Some name) = search_named name
 
--- N of `--learn N`: a number from 1 to 2^62
-abbrev pub number_in : List ℕ → Option ℕ
-number_in text = if is_natural text && (nat_lt 0 (natural_value text) && not (nat_lt (2 ^ 62) (natural_value text))) then Some (natural_value text) else None
-
--- the limit, where one is given
+-- N of `--learn N`, where one is given: a number from 1 to 2^62
 abbrev pub limit_of : Option (List ℕ) → Option (Option ℕ)
 limit_of None = Some None
-limit_of (Some text) = option_map (λ n. let limit : Option ℕ = Some n in limit) (number_in text)
+limit_of (Some text) = option_map (λ n. let limit : Option ℕ = Some n in limit) (number_up_to (2 ^ 62) text)
 
 -- the version of this number
 abbrev pub version_named : List ℕ → Option LogVersion

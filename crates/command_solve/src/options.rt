@@ -2,10 +2,10 @@
 ghost use Rattle.std.specs.Prelude.{◌≡◌, option_map};
 ghost use Rattle.std.specs.List.{list_all};
 ghost use Rattle.command_solve.specs.TurnDigits.{are_turns, has_third, is_in_turns, is_turn, takes, turns_fit};
-ghost use Rattle.command_solve.specs.Words.{limit_of, number_in, search_named, search_of, search_with, version_named, version_of};
+ghost use Rattle.command_solve.specs.Words.{limit_of, search_named, search_of, search_with, version_named, version_of};
 
+use command_base::number_up_to;
 use proof_text::LogVersion;
-use scut_base::read_u64;
 
 /// A search for the front.
 #[derive(Clone, Copy, Debug, PartialEq, Eq)]
@@ -125,23 +125,8 @@ pub(crate) fn limit_of(text: Option<&str>) -> Option<Option<u64>>
     ensures { result ≡ limit_of (option_map (λ s. s.now) text.entry) }
 {
     match text {
-        Some(text) => Some(Some(number_in(text)?)),
+        Some(text) => Some(Some(number_up_to(1 << 62, text)?)),
         None => Some(None),
-    }
-}
-
-// A number from 1 to 2^62.
-fn number_in(text: &str) -> Option<u64>
-    ensures { result ≡ number_in text.now }
-{
-    match read_u64(text.as_bytes()) {
-        Ok(limit) => {
-            if limit > 0 && limit <= 1 << 62 {
-                return Some(limit);
-            }
-            None
-        }
-        Err(_) => None,
     }
 }
 

@@ -1,6 +1,7 @@
 use Rattle.std.proofs.Common.{rules, subst}
 use Rattle.std.specs.Prelude.{IfOk, IfErr}
-use Rattle.command_solve.specs.Logging.{IsLogStopped, IsLogged}
+use Rattle.proof_text.specs.LogParts.{IsLogStopped}
+use Rattle.command_solve.specs.Logging.{IsLogged}
 use Rattle.command_solve.proofs.SearchedLogs.{found_left, stopped_left}
 use Rattle.command_solve.proofs.logging.search_with_log.Goals as goal
 
