@@ -1,0 +1,15 @@
+pub use Rattle.front_set.specs.ListText
+pub use Rattle.instance.specs.ParetoFront
+pub use Rattle.log_checker.specs.Accepted
+pub use Rattle.log_checker.specs.LogFaults
+pub use Rattle.models_text.specs.ModelsText
+pub use Rattle.representatives.specs.Representatives
+pub use Rattle.representatives.specs.Bounded
+pub use Rattle.representatives.specs.Judged
+pub use Rattle.command_base.specs.Answering
+pub use Rattle.command_base.specs.Messages
+pub use Rattle.command_base.specs.Views
+pub mod Words
+pub mod Entries
+pub mod Table
+pub mod Judging

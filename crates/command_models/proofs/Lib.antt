@@ -1,0 +1,9 @@
+pub mod LogNames
+pub mod Touching
+pub mod Gathered
+pub mod OneMore
+pub mod Texts
+pub mod TextEnds
+pub mod ModelsEnds
+pub mod Completing
+pub mod Acceptable

@@ -1,0 +1,4 @@
+pub mod SearchStates
+pub mod Refutations
+pub mod Searches
+pub mod FurtherModels

@@ -1,0 +1,62 @@
+-- What a search for one model of a problem leaves.
+use Rattle.std.specs.Prelude.{◌≡◌, ◌≤◌, ◌^◌, ℕ, Bool, true, false, List, [], length, take, Option, Some, None, Result, IfOk, IsErrOf, OnOk}
+use Rattle.std.specs.FinMap.{get}
+use Rattle.scut_base.specs.Faults.{Rose}
+use Rattle.scut_base.specs.Files.{Files, IsTouched, with_file}
+use Rattle.pb_lin.specs.Problem.{ProblemValue, IsProblemModel}
+use Rattle.proof_laws.specs.State.{StateValue}
+use Rattle.proof_laws.specs.Replay.{IsReplay}
+use Rattle.proof_laws.specs.declared.line.Line.{Line}
+use Rattle.proof_laws.specs.declared.line.Line.TheVariants.{End}
+use Rattle.proof_rules.specs.Recording.{KeepsSurroundings, Snapshot}
+use Rattle.proof_rules.specs.declared.recorder.RecordFault.{RecordFault}
+use Rattle.proof_rules.specs.declared.recorder.RecordFault.TheVariants.{Failed, Full}
+use Rattle.proof_text.specs.LogParts.{IsPartOfLog}
+use Rattle.proof_text.specs.declared.version.LogVersion.TheVariants.{One}
+use Rattle.log_checker.specs.Accepted.{IsEndedProof}
+use Rattle.oracle.specs.Solving.{AddsSearchLines, Reaches}
+
+-- ---- the file
+
+-- the log is an ended proof that logs nothing
+abbrev pub IsRefuted : Option Files → Option Files → List ℕ → ProblemValue → Type 0
+IsRefuted old new name p = (log : List ℕ) × IsEndedProof p [] log × (new ≡ with_file old name log)
+
+-- an assignment that is a model where it is cut to the problem's variables; or none, and the log shows it
+abbrev pub IsSought : Option Files → Option Files → List ℕ → ProblemValue → Option (List Bool) → Type 0
+IsSought old new name p (Some a) = (p.vars ≤ length a) × IsProblemModel p (take p.vars a)
+IsSought old new name p None = IsRefuted old new name p
+
+-- the log was not begun, or is a part of one
+abbrev pub IsBegunAnew : Option Files → Option Files → List ℕ → ProblemValue → Type 0
+IsBegunAnew old new name p = IsTouched old new name (IsPartOfLog One p)
+
+-- ---- any recorder
+
+-- the lines lead to an end, and log nothing
+abbrev pub HasEnded : ProblemValue → List Line → Type 0
+HasEnded p lines = (s : StateValue) × IsReplay p lines s × (s.ended ≡ true) × (s.sols ≡ [])
+
+-- an assignment that is a model where it is cut to the problem's variables; or none, and the lines show that there is none
+abbrev pub IsFound : ProblemValue → List Line → Option (List Bool) → Type 0
+IsFound p lines (Some a) = (p.vars ≤ length a) × IsProblemModel p (take p.vars a)
+IsFound p lines None = HasEnded p lines
+
+-- what is found, and why nothing was; what stands around the recorder stays
+pub record Seeks (p : ProblemValue) (a b : Snapshot) (result : Result (Option (List Bool)) RecordFault) : Type 0 where
+  pub found : IfOk result (IsFound p b.lines)
+  pub whole : OnOk result (b.broken ≡ false)
+  pub failed : IsErrOf result Failed → Rose a.faults b.faults
+  pub full : IsErrOf result Full → length b.lines ≡ 2 ^ 61
+  pub problem : b.problem ≡ a.problem
+  pub around : KeepsSurroundings a.around b.around
+
+-- nothing but lines of a search was recorded, and more may be
+pub record HasSearched (a : Snapshot) : Type 0 where
+  pub whole : a.broken ≡ false
+  pub lines : AddsSearchLines a.problem [] a.lines
+
+-- the line ends the proof, by a live line `0 >= 1`
+abbrev pub EndsBy : Snapshot → Line → Type 0
+EndsBy a (End id) = Reaches a.problem a.lines (λ s. get s.live id ≡ Some (record { terms = []; degree = 1 }))
+EndsBy a line = ⊥
