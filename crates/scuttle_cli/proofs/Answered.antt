@@ -12,7 +12,7 @@ use Rattle.command_base.specs.Answering.{Answered, UsageTable}
 use Rattle.command_base.specs.Messages.{IsWarned}
 use Rattle.command_base.specs.Views.{view}
 use Rattle.command_base.specs.declared.status.Status.{Status}
-use Rattle.command_base.specs.declared.status.Status.TheVariants.{Done, Complete, Incomplete, Trimmed, Models, LogFull, Accepted, Refused, Usage, BadInput, TooLarge, NoMemory, ShelfFailed}
+use Rattle.command_base.specs.declared.status.Status.TheVariants.{Done, Complete, Incomplete, Trimmed, Models, LogFull, Accepted, Refused, ModelsRefused, Usage, BadInput, TooLarge, NoMemory, ShelfFailed}
 use Rattle.command_base.proofs.Answered.{ended}
 use Rattle.command_front.specs.Table.{FrontTable}
 use Rattle.command_front.proofs.Completing.{front_completes}
@@ -25,6 +25,9 @@ use Rattle.command_check.proofs.CheckEnds.{nothing_done as check_not_done}
 use Rattle.command_upgrade.proofs.Completing.{upgrade_completes}
 use Rattle.command_elaborate.proofs.Completing.{elaborate_completes}
 use Rattle.command_trim.proofs.Completing.{trim_completes}
+use Rattle.command_models.proofs.Completing.{models_completes}
+use Rattle.command_check_models.proofs.Completing.{check_models_completes}
+use Rattle.command_check_models.proofs.ModelsEnds.{nothing_done as check_models_not_done}
 use Rattle.command_gen.specs.Table.{GenTable}
 use Rattle.command_gen.proofs.Completing.{gen_completes}
 use Rattle.command_gen.proofs.GenEnds.{nothing_done as gen_not_done}
@@ -32,7 +35,7 @@ use Rattle.command_trial.specs.Table.{TrialTable}
 use Rattle.command_trial.proofs.Completing.{trial_completes}
 use Rattle.command_trial.proofs.TrialEnds.{nothing_done as trial_not_done}
 use Rattle.scuttle_cli.specs.Answers.{CompletesOf, HasUsage, TableOf, own_calls}
-use Rattle.scuttle_cli.specs.Requests.{CheckOf, ElaborateOf, FrontOf, GenOf, Request, SolveOf, TrialOf, TrimOf, UpgradeOf, command_in, request_by, request_of}
+use Rattle.scuttle_cli.specs.Requests.{CheckModelsOf, CheckOf, ElaborateOf, FrontOf, GenOf, ModelsOf, Request, SolveOf, TrialOf, TrimOf, UpgradeOf, command_in, request_by, request_of}
 use Rattle.scuttle_cli.specs.declared.names.CommandName.{CommandName}
 
 -- what is answered by what was asked for
@@ -55,6 +58,8 @@ no_memory_row (Some (CheckOf a)) before after same = check_not_done a (view befo
 no_memory_row (Some (UpgradeOf a)) before after same = inl same
 no_memory_row (Some (ElaborateOf a)) before after same = inl same
 no_memory_row (Some (TrimOf a)) before after same = inl same
+no_memory_row (Some (ModelsOf a)) before after same = inl same
+no_memory_row (Some (CheckModelsOf a)) before after same = check_models_not_done a (view before) (view after) same
 no_memory_row (Some (GenOf a)) before after same = gen_not_done a (view before) (view after) same
 no_memory_row (Some (TrialOf a)) before after same = trial_not_done a (view before) (view after) same
 
@@ -88,6 +93,8 @@ completes (Some (CheckOf a)) status before after was = check_completes a status 
 completes (Some (UpgradeOf a)) status before after was = upgrade_completes a status before after was
 completes (Some (ElaborateOf a)) status before after was = elaborate_completes a status before after was
 completes (Some (TrimOf a)) status before after was = trim_completes a status before after was
+completes (Some (ModelsOf a)) status before after was = models_completes a status before after was
+completes (Some (CheckModelsOf a)) status before after was = check_models_completes a status before after was
 completes (Some (GenOf a)) status before after was = gen_completes a status before after was
 completes (Some (TrialOf a)) status before after was = trial_completes a status before after was
 
@@ -111,6 +118,8 @@ has_usage (Some (CheckOf a)) before after row = row
 has_usage (Some (UpgradeOf a)) before after row = row
 has_usage (Some (ElaborateOf a)) before after row = row
 has_usage (Some (TrimOf a)) before after row = row
+has_usage (Some (ModelsOf a)) before after row = row
+has_usage (Some (CheckModelsOf a)) before after row = row
 has_usage (Some (GenOf a)) before after row = row
 has_usage (Some (TrialOf a)) before after row = row
 

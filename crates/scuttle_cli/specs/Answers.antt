@@ -12,9 +12,11 @@ use Rattle.command_check.specs.Table.{CheckCompletes, CheckTable, check_calls}
 use Rattle.command_upgrade.specs.Table.{UpgradeCompletes, UpgradeTable, upgrade_calls}
 use Rattle.command_elaborate.specs.Table.{ElaborateCompletes, ElaborateTable, elaborate_calls}
 use Rattle.command_trim.specs.Table.{TrimCompletes, TrimTable, trim_calls}
+use Rattle.command_models.specs.Table.{ModelsCompletes, ModelsTable, models_calls}
+use Rattle.command_check_models.specs.Table.{CheckModelsCompletes, CheckModelsTable, check_models_calls}
 use Rattle.command_gen.specs.Table.{GenCompletes, GenTable, gen_calls}
 use Rattle.command_trial.specs.Table.{IsUntold, TrialCompletes, TrialTable, trial_calls}
-use Rattle.scuttle_cli.specs.Requests.{Request, FrontOf, SolveOf, CheckOf, UpgradeOf, ElaborateOf, TrimOf, GenOf, TrialOf}
+use Rattle.scuttle_cli.specs.Requests.{Request, FrontOf, SolveOf, CheckOf, UpgradeOf, ElaborateOf, TrimOf, ModelsOf, CheckModelsOf, GenOf, TrialOf}
 
 -- an equation for each command
 
@@ -26,6 +28,8 @@ TableOf (Some (CheckOf a)) = CheckTable a
 TableOf (Some (UpgradeOf a)) = UpgradeTable a
 TableOf (Some (ElaborateOf a)) = ElaborateTable a
 TableOf (Some (TrimOf a)) = TrimTable a
+TableOf (Some (ModelsOf a)) = ModelsTable a
+TableOf (Some (CheckModelsOf a)) = CheckModelsTable a
 TableOf (Some (GenOf a)) = GenTable a
 TableOf (Some (TrialOf a)) = TrialTable a
 
@@ -37,6 +41,8 @@ own_calls (Some (CheckOf a)) = check_calls a
 own_calls (Some (UpgradeOf a)) = upgrade_calls a
 own_calls (Some (ElaborateOf a)) = elaborate_calls a
 own_calls (Some (TrimOf a)) = trim_calls a
+own_calls (Some (ModelsOf a)) = models_calls a
+own_calls (Some (CheckModelsOf a)) = check_models_calls a
 own_calls (Some (GenOf a)) = gen_calls a
 own_calls (Some (TrialOf a)) = trial_calls a
 
@@ -48,6 +54,8 @@ CompletesOf (Some (CheckOf a)) status before after = CheckCompletes a status bef
 CompletesOf (Some (UpgradeOf a)) status before after = UpgradeCompletes a status before after
 CompletesOf (Some (ElaborateOf a)) status before after = ElaborateCompletes a status before after
 CompletesOf (Some (TrimOf a)) status before after = TrimCompletes a status before after
+CompletesOf (Some (ModelsOf a)) status before after = ModelsCompletes a status before after
+CompletesOf (Some (CheckModelsOf a)) status before after = CheckModelsCompletes a status before after
 CompletesOf (Some (GenOf a)) status before after = GenCompletes a status before after
 CompletesOf (Some (TrialOf a)) status before after = TrialCompletes a status before after
 

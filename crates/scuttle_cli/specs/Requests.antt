@@ -8,10 +8,12 @@ use Rattle.command_check.specs.Words.{CheckAsked, check_asked}
 use Rattle.command_upgrade.specs.Words.{UpgradeAsked, upgrade_asked}
 use Rattle.command_elaborate.specs.Words.{ElaborateAsked, elaborate_asked}
 use Rattle.command_trim.specs.Words.{TrimAsked, trim_asked}
+use Rattle.command_check_models.specs.Words.{ModelsAsked, check_models_asked}
+use Rattle.command_models.specs.Words.{models_asked}
 use Rattle.command_gen.specs.Words.{GenAsked, gen_asked}
 use Rattle.command_trial.specs.Words.{TrialAsked, trial_asked}
 use Rattle.scuttle_cli.specs.declared.names.CommandName.{CommandName}
-use Rattle.scuttle_cli.specs.declared.names.CommandName.TheVariants.{Front, Solve, Check, Upgrade, Elaborate, Trim, Gen, Trial}
+use Rattle.scuttle_cli.specs.declared.names.CommandName.TheVariants.{Front, Solve, Check, Upgrade, Elaborate, Trim, Models, CheckModels, Gen, Trial}
 
 -- a command with its files and options
 pub data Request : Type 0 where
@@ -21,6 +23,8 @@ pub data Request : Type 0 where
   UpgradeOf : (asked : UpgradeAsked) → Request
   ElaborateOf : (asked : ElaborateAsked) → Request
   TrimOf : (asked : TrimAsked) → Request
+  ModelsOf : (asked : ModelsAsked) → Request
+  CheckModelsOf : (asked : ModelsAsked) → Request
   GenOf : (asked : GenAsked) → Request
   TrialOf : (asked : TrialAsked) → Request
 
@@ -33,8 +37,10 @@ command_named word =
     else (if bytes_eq word (codes "upgrade") then Some Upgrade
     else (if bytes_eq word (codes "elaborate") then Some Elaborate
     else (if bytes_eq word (codes "trim") then Some Trim
+    else (if bytes_eq word (codes "models") then Some Models
+    else (if bytes_eq word (codes "check-models") then Some CheckModels
     else (if bytes_eq word (codes "gen") then Some Gen
-    else (if bytes_eq word (codes "trial") then Some Trial else None)))))))
+    else (if bytes_eq word (codes "trial") then Some Trial else None)))))))))
 
 -- the command that the first word names
 abbrev pub command_in : List (List ℕ) → Option CommandName
@@ -50,6 +56,8 @@ request_by (Some Check) words = option_map CheckOf (check_asked words)
 request_by (Some Upgrade) words = option_map UpgradeOf (upgrade_asked words)
 request_by (Some Elaborate) words = option_map ElaborateOf (elaborate_asked words)
 request_by (Some Trim) words = option_map TrimOf (trim_asked words)
+request_by (Some Models) words = option_map ModelsOf (models_asked words)
+request_by (Some CheckModels) words = option_map CheckModelsOf (check_models_asked words)
 request_by (Some Gen) words = option_map GenOf (gen_asked words)
 request_by (Some Trial) words = option_map TrialOf (trial_asked words)
 

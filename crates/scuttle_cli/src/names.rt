@@ -11,6 +11,8 @@ pub enum CommandName {
     Upgrade,
     Elaborate,
     Trim,
+    Models,
+    CheckModels,
     Gen,
     Trial,
 }
@@ -36,6 +38,8 @@ fn command_named(word: &str) -> Option<CommandName>
         "upgrade" => Some(CommandName::Upgrade),
         "elaborate" => Some(CommandName::Elaborate),
         "trim" => Some(CommandName::Trim),
+        "models" => Some(CommandName::Models),
+        "check-models" => Some(CommandName::CheckModels),
         "gen" => Some(CommandName::Gen),
         "trial" => Some(CommandName::Trial),
         _ => None,

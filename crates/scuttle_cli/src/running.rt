@@ -13,16 +13,21 @@ ghost use Rattle.command_solve.specs.Words.{solve_asked};
 ghost use Rattle.command_trial.specs.Words.{trial_asked};
 ghost use Rattle.command_elaborate.specs.Words.{elaborate_asked};
 ghost use Rattle.command_trim.specs.Words.{trim_asked};
+ghost use Rattle.command_models.specs.Words.{models_asked};
+ghost use Rattle.command_check_models.specs.Words.{check_models_asked};
 ghost use Rattle.command_upgrade.specs.Words.{upgrade_asked};
 ghost use Rattle.scuttle_cli.specs.Answers.{CompletesOf, HasUsage, TableOf, own_calls};
-ghost use Rattle.scuttle_cli.specs.Requests.{CheckOf, ElaborateOf, FrontOf, GenOf, SolveOf, TrialOf, TrimOf, UpgradeOf, request_of};
+ghost use Rattle.scuttle_cli.specs.Requests.{CheckModelsOf, CheckOf, ElaborateOf, FrontOf, GenOf, ModelsOf};
+ghost use Rattle.scuttle_cli.specs.Requests.{SolveOf, TrialOf, TrimOf, UpgradeOf, request_of};
 
 use crate::names::{CommandName, command_in};
 use command_base::{Status, run_and_warn, warn_of};
 use command_check::read_check;
+use command_check_models::read_check_models;
 use command_elaborate::read_elaborate;
 use command_front::read_front;
 use command_gen::read_gen;
+use command_models::read_models;
 use command_solve::read_solve;
 use command_trial::read_trial;
 use command_trim::read_trim;
@@ -68,6 +73,8 @@ fn run_named<H: Shelf>(
         Some(CommandName::Upgrade) => run_upgrade(alloc, words, shelf),
         Some(CommandName::Elaborate) => run_elaborate(alloc, words, shelf),
         Some(CommandName::Trim) => run_trim(alloc, words, shelf),
+        Some(CommandName::Models) => run_models(alloc, words, shelf),
+        Some(CommandName::CheckModels) => run_check_models(alloc, words, shelf),
         Some(CommandName::Gen) => run_gen(alloc, words, shelf),
         Some(CommandName::Trial) => run_trial(alloc, words, shelf),
         None => not_run(alloc, Status::Usage, shelf),
@@ -188,6 +195,46 @@ fn run_trim<H: Shelf>(
         (H.world shelf.new) result.1 }
 {
     match read_trim(alloc, words) {
+        Ok(Some(command)) => run_and_warn(alloc, &command, shelf),
+        Ok(None) => not_run(alloc, Status::Usage, shelf),
+        Err(_) => not_run(alloc, Status::NoMemory, shelf),
+    }
+}
+
+// The command `models`.
+fn run_models<H: Shelf>(
+    alloc: Global,
+    words: &[String],
+    shelf: &mut H,
+) -> (Status, Result<(), ShelfFault>)
+    ensures answered { Answered
+        (TableOf (option_map ModelsOf (models_asked (map string_bytes words.now))))
+        (own_calls (option_map ModelsOf (models_asked (map string_bytes words.now)))) result.0
+        (H.world shelf.old) (H.world shelf.new) }
+    ensures warned { IsWarned (warning_text result.0) (H.world shelf.old)
+        (H.world shelf.new) result.1 }
+{
+    match read_models(alloc, words) {
+        Ok(Some(command)) => run_and_warn(alloc, &command, shelf),
+        Ok(None) => not_run(alloc, Status::Usage, shelf),
+        Err(_) => not_run(alloc, Status::NoMemory, shelf),
+    }
+}
+
+// The command `check-models`.
+fn run_check_models<H: Shelf>(
+    alloc: Global,
+    words: &[String],
+    shelf: &mut H,
+) -> (Status, Result<(), ShelfFault>)
+    ensures answered { Answered
+        (TableOf (option_map CheckModelsOf (check_models_asked (map string_bytes words.now))))
+        (own_calls (option_map CheckModelsOf (check_models_asked (map string_bytes words.now)))) result.0
+        (H.world shelf.old) (H.world shelf.new) }
+    ensures warned { IsWarned (warning_text result.0) (H.world shelf.old)
+        (H.world shelf.new) result.1 }
+{
+    match read_check_models(alloc, words) {
         Ok(Some(command)) => run_and_warn(alloc, &command, shelf),
         Ok(None) => not_run(alloc, Status::Usage, shelf),
         Err(_) => not_run(alloc, Status::NoMemory, shelf),

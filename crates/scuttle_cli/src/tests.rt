@@ -20,28 +20,48 @@ const CHECK: &str = "check a.mcnf a.list a.log";
 const LOG: &str =
     "scuttle proof version 1\nsol ~x1 x2 : ~x2 : 0 0\nsol x1 ~x2 : ~x1 : 0 0\nrup >= 1 : 2 3 1\nend 4\n";
 
+// A model of each entry of the list, and the logs that show that there is no other.
+const MODELS: &str = "models a.mcnf a.list 2 m";
+
+const CHECK_MODELS: &str = "check-models a.mcnf a.list 2 m";
+
+static MODELS_FILES: [(&str, &str); 3] = [
+    (
+        "m.models",
+        "s MODELS 2\ne ALL 1\nv -1 2 0\ne ALL 1\nv 1 -2 0\n",
+    ),
+    (
+        "m.1.log",
+        "scuttle proof version 1\nrup >= 1 : 2 1 4\nend 5\n",
+    ),
+    (
+        "m.2.log",
+        "scuttle proof version 1\nrup >= 1 : 3 1 4\nend 5\n",
+    ),
+];
+
 const FAULT: &str = "scuttle: file fault\n";
 
-// The words; the call that fails, and the how manyth of its kind; the number; the list, or that there
-// is none; what is warned.
-static FAULTS: [(&str, ShelfCall, u64, u8, &str, &str); 17] = [
-    (FRONT, ShelfCall::Read, 1, 74, "none", FAULT),
+// The words; the call of which each of the first so many fails in turn; the number; the list, or that there is
+// none; what is warned.
+type Row = (&'static str, ShelfCall, u64, u8, &'static str, &'static str);
+
+static FAULTS: [Row; 15] = [
     (FRONT, ShelfCall::Read, 2, 74, "none", FAULT),
     (FRONT, ShelfCall::Begin, 1, 74, "none", FAULT),
     (FRONT, ShelfCall::Say, 1, 74, LIST, FAULT),
-    (SOLVE, ShelfCall::Read, 1, 74, "none", FAULT),
     (SOLVE, ShelfCall::Read, 2, 74, "none", FAULT),
-    (SOLVE, ShelfCall::Begin, 1, 74, "none", FAULT),
     (SOLVE, ShelfCall::Begin, 2, 74, "none", FAULT),
     (SOLVE, ShelfCall::Say, 1, 74, LIST, FAULT),
     ("frobnicate", ShelfCall::Warn, 1, 64, "none", ""),
-    (CHECK, ShelfCall::Read, 1, 74, LIST, FAULT),
-    (CHECK, ShelfCall::Read, 2, 74, LIST, FAULT),
-    (CHECK, ShelfCall::Read, 3, 74, LIST, FAULT),
-    (CHECK, ShelfCall::Read, 4, 74, LIST, FAULT),
-    (CHECK, ShelfCall::Read, 5, 74, LIST, FAULT),
     (CHECK, ShelfCall::Read, 6, 74, LIST, FAULT),
     (CHECK, ShelfCall::Say, 1, 74, LIST, FAULT),
+    (MODELS, ShelfCall::Read, 4, 74, LIST, FAULT),
+    (MODELS, ShelfCall::Begin, 5, 74, LIST, FAULT),
+    (MODELS, ShelfCall::Append, 9, 74, LIST, FAULT),
+    (MODELS, ShelfCall::Say, 1, 74, LIST, FAULT),
+    (CHECK_MODELS, ShelfCall::Read, 10, 74, LIST, FAULT),
+    (CHECK_MODELS, ShelfCall::Say, 1, 74, LIST, FAULT),
 ];
 
 // A command line, and the call that fails on the shelf that it runs over; a call of number 0 is none.
@@ -70,9 +90,14 @@ fn number_of(alloc: Global, line: &str, shelf: &mut MemShelf) -> Result<u8, Allo
 fn shelf_for(alloc: Global, case: &Case<'_>) -> Result<MemShelf, Fail> {
     let mut shelf = MemShelf::cutting(alloc, &[case.fault])?;
     shelf.put("a.mcnf", INPUT.as_bytes())?;
-    if case.line == CHECK {
+    if case.line == CHECK || case.line == MODELS || case.line == CHECK_MODELS {
         shelf.put("a.list", LIST.as_bytes())?;
         shelf.put("a.log", LOG.as_bytes())?;
+    }
+    if case.line == CHECK_MODELS {
+        for (name, text) in MODELS_FILES.iter() {
+            shelf.put(*name, text.as_bytes())?;
+        }
     }
     Ok(shelf)
 }
@@ -105,23 +130,28 @@ fn failed(
     Ok(shelf)
 }
 
-#[test]
-fn a_call_that_fails_is_answered(rt: HostRuntime) -> Result<(), Fail> {
-    let alloc = rt.alloc();
-    for (line, call, n, number, list, warned) in FAULTS.iter() {
+// Runs the command line of a row once for each call that is to fail.
+fn each_call_fails(rt: &impl Abort, alloc: Global, row: &Row) -> Result<(), Fail> {
+    let (line, call, calls, ends, list, warned) = row;
+    for before in 0..*calls {
+        let number = before.saturating_add(1);
         let fault = PlannedFault {
             call: *call,
-            number: *n,
+            number,
             bytes: 0,
         };
         let case = Case { line: *line, fault };
-        let shelf = failed(&rt, alloc, &case, *number, *warned)?;
-        expect(
-            &rt,
-            &case,
-            shelf.get("a.list").unwrap_or(b"none"),
-            list.as_bytes(),
-        )?;
+        let shelf = failed(rt, alloc, &case, *ends, *warned)?;
+        let found = shelf.get("a.list").unwrap_or(b"none");
+        expect(rt, &case, found, list.as_bytes())?;
+    }
+    Ok(())
+}
+
+#[test]
+fn a_call_that_fails_is_answered(rt: HostRuntime) -> Result<(), Fail> {
+    for row in FAULTS.iter() {
+        each_call_fails(&rt, rt.alloc(), row)?;
     }
     Ok(())
 }

@@ -1,6 +1,6 @@
 use Rattle.std.proofs.Common.{map, string_bytes}
 use Rattle.std.specs.Prelude.{None, Some}
-use Rattle.scuttle_cli.specs.declared.names.CommandName.TheVariants.{Front, Solve, Check, Upgrade, Elaborate, Trim, Gen, Trial}
+use Rattle.scuttle_cli.specs.declared.names.CommandName.TheVariants.{Front, Solve, Check, Upgrade, Elaborate, Trim, Models, CheckModels, Gen, Trial}
 use Rattle.scuttle_cli.proofs.Answered.{no_request, was_named}
 use Rattle.scuttle_cli.proofs.running.run_named.Goals as goal
 
@@ -27,6 +27,14 @@ returns-in-Some-Elaborate-clause-answered g c =
 pub returns-in-Some-Trim-clause-answered : goal.returns-in-Some-Trim-clause-answered
 returns-in-Some-Trim-clause-answered g c =
     was_named (Some Trim) (map string_bytes c.args.words.now) _ _ _ (rw c.in-Some-Trim.field-0-is at c.in-Some-Trim.ensures) c.run_trim.ensures.answered
+
+pub returns-in-Some-Models-clause-answered : goal.returns-in-Some-Models-clause-answered
+returns-in-Some-Models-clause-answered g c =
+    was_named (Some Models) (map string_bytes c.args.words.now) _ _ _ (rw c.in-Some-Models.field-0-is at c.in-Some-Models.ensures) c.run_models.ensures.answered
+
+pub returns-in-Some-CheckModels-clause-answered : goal.returns-in-Some-CheckModels-clause-answered
+returns-in-Some-CheckModels-clause-answered g c =
+    was_named (Some CheckModels) (map string_bytes c.args.words.now) _ _ _ (rw c.in-Some-CheckModels.field-0-is at c.in-Some-CheckModels.ensures) c.run_check_models.ensures.answered
 
 pub returns-in-Some-Gen-clause-answered : goal.returns-in-Some-Gen-clause-answered
 returns-in-Some-Gen-clause-answered g c =
