@@ -23,6 +23,8 @@ Objective = namedtuple('Objective', 'sense terms softs offset')
 Instance = namedtuple('Instance', 'variables objectives')
 Entry = namedtuple('Entry', 'costs model')
 Listing = namedtuple('Listing', 'complete entries')
+# The plans of an entry, and whether they are to be all.
+Choice = namedtuple('Choice', 'all models')
 # Names by number, from 1; a number that has none isn't there.
 Names = namedtuple('Names', 'variables objectives')
 
@@ -180,6 +182,32 @@ def read_list(path):
     if len(lines) > 2 * len(entries) + 1:
         raise Malformed(path, 2 * len(entries) + 2, 'more follows than the %d entries' % len(entries))
     return Listing(head.group(1) == 'COMPLETE', entries)
+
+
+def read_models(path, variables):
+    """The models of a list's entries, whole, of so many variables."""
+    lines = list(lines_of(path))
+    head = re.fullmatch(r's MODELS (\d+)', lines[0][1]) if lines else None
+    if not head:
+        raise Malformed(path, 1, 'this is no text of models: its first line is `s MODELS n`')
+    choices, at = [], 1
+    for _ in range(int(head.group(1))):
+        number, line = lines[at] if at < len(lines) else (at + 1, '')
+        kind = re.fullmatch(r'e (ALL|FIRST) (\d+)', line)
+        if not kind:
+            raise Malformed(path, number, "an entry's first line is `e ALL m` or `e FIRST m`")
+        models = []
+        for k in range(at + 1, at + 1 + int(kind.group(2))):
+            number, line = lines[k] if k < len(lines) else (k + 1, '')
+            model = numbers_of(path, number, line, 'v')
+            if model[-1:] != [0] or [abs(literal) for literal in model[:-1]] != list(range(1, variables + 1)):
+                raise Malformed(path, number, 'a model is the literals 1 or -1, 2 or -2, .. of all variables in order, and 0')
+            models.append(model[:-1])
+        choices.append(Choice(kind.group(1) == 'ALL', models))
+        at += 1 + len(models)
+    if len(lines) > at:
+        raise Malformed(path, at + 1, 'more follows than the %d entries' % len(choices))
+    return choices
 
 
 def numbers_of(path, number, line, first):
