@@ -14,7 +14,8 @@ use Rattle.representative_search.specs.Gathered.{IsFullSearch, IsGatherStop}
 use Rattle.command_base.proofs.Answered.{rose_at_last}
 use Rattle.command_check_models.specs.Words.{ModelsAsked, log_name}
 use Rattle.command_check_models.proofs.OneEntry.{around, upto}
-use Rattle.command_models.specs.Gathering.{AreGathered, AreLogsTouched, HasFullLog, IsCause, IsEntryGathered, IsEntryStop, IsGatheringStop, IsLogTouched, LogFailed}
+use Rattle.command_models.specs.Gathering.{AreGathered, AreLogsTouched, IsCause, IsEntryGathered, IsEntryStop, IsGatheringStop, IsLogTouched, LogFailed}
+use Rattle.command_models.specs.Table.{HasFullLog, IsEntryOf}
 use Rattle.command_models.proofs.Gathered.{gathered_more, touched_more, touched_whole}
 use Rattle.command_models.proofs.Touching.{written_at}
 
@@ -43,10 +44,13 @@ module _ (a : ModelsAsked) (i : InstanceValue) (p : ProblemValue) (old mid new :
       rose (inl begun) = inl (rose_at_last _ _ _ (fell _ (log_name a.base (k + 1))) begun)
       rose (inr more) = inr (rose_at_last _ _ _ (fell _ (log_name a.base (k + 1))) more)
 
-      full : IsFullSearch mid.files new.files (log_name a.base (k + 1)) p (problem_vector i e.costs) → HasFullLog new.files a i p
-      full (list, q, bounded, is) = (k + 1, e, λ told. (is.proof, written_at mid.files new.files (log_name a.base (k + 1)) is.proof is.files told, (list, q, bounded, (is.lines, is.spelled, is.full, is.replay))))
+      numbered : IsEntryOf entries (k + 1) e
+      numbered = (take k entries, drop (k + 1) entries, around entries k e within e_is, omega (arith, count))
 
-      by : (f : RecordFault) → IsGatherStop f mid.files new.files (log_name a.base (k + 1)) p (problem_vector i e.costs) mid.faults new.faults → IsCause f new.files a i p (LogFailed a old.faults new.faults)
+      full : IsFullSearch mid.files new.files (log_name a.base (k + 1)) p (problem_vector i e.costs) → HasFullLog new.files a i p entries
+      full (list, q, bounded, is) = (k + 1, e, numbered, λ told. (is.proof, written_at mid.files new.files (log_name a.base (k + 1)) is.proof is.files told, (list, q, bounded, (is.lines, is.spelled, is.full, is.replay))))
+
+      by : (f : RecordFault) → IsGatherStop f mid.files new.files (log_name a.base (k + 1)) p (problem_vector i e.costs) mid.faults new.faults → IsCause f new.files a i p entries (LogFailed a old.faults new.faults)
       by Failed failed = (k + 1, rose failed)
       by Full is = full is
       by NoMemory memory = tt

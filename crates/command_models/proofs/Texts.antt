@@ -87,5 +87,6 @@ module _ (a : ModelsAsked) (i : InstanceValue) (p : ProblemValue) (entries : Lis
       reps = reps;
       text = λ now. written_at mid new (models_name a.base) (models_text reps) is now;
       each = right_stays 1 entries reps (omega arith) was.each;
+      logs = logs_stay 1 entries (omega arith) was.touched.logs;
       others = record { told = told; others = λ name other none. other_kept mid new (models_name a.base) P touched name other ∙ was.touched.others name none };
     }

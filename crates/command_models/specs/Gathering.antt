@@ -11,10 +11,9 @@ use Rattle.proof_rules.specs.declared.recorder.RecordFault.{RecordFault}
 use Rattle.proof_rules.specs.declared.recorder.RecordFault.TheVariants.{Failed, Full, NoMemory}
 use Rattle.representatives.specs.Representatives.{AreReps}
 use Rattle.representative_search.specs.Gathered.{IsGatherStop, IsPartOfSearch, ListsAll}
-use Rattle.command_base.specs.Causes.{HasText}
 use Rattle.command_check_models.specs.Entries.{AreRightFrom}
 use Rattle.command_check_models.specs.Words.{ModelsAsked, log_name, models_name}
-use Rattle.command_models.specs.Table.{AreTouched, IsFullLog, IsLogOf, LogsTouchedFrom}
+use Rattle.command_models.specs.Table.{AreTouched, HasFullLog, IsLogOf, LogsTouchedFrom}
 
 -- ---- one entry
 
@@ -46,25 +45,21 @@ pub record AreGathered (old new : Option Files) (a : ModelsAsked) (i : InstanceV
   pub each : AreRightFrom new a i p 1 entries reps
   pub touched : AreLogsTouched old new a i p entries
 
--- some log is full
-abbrev pub HasFullLog : Option Files → ModelsAsked → InstanceValue → ProblemValue → Type 0
-HasFullLog files a i p = (n : ℕ) × (e : Entry) × HasText files (log_name a.base n) (IsFullLog p (problem_vector i e.costs))
-
 -- a count of the calls that write a log rose
 abbrev pub LogFailed : ModelsAsked → Faults → Faults → Type 0
 LogFailed a before after = (n : ℕ) × WritingFailed before after (log_name a.base n)
 
 -- why the entries' models aren't gathered
-abbrev pub IsCause : RecordFault → Option Files → ModelsAsked → InstanceValue → ProblemValue → (Failure : Type 0) → Type 0
-IsCause Failed new a i p Failure = Failure
-IsCause Full new a i p Failure = HasFullLog new a i p
-IsCause NoMemory new a i p Failure = Unit {0}
+abbrev pub IsCause : RecordFault → Option Files → ModelsAsked → InstanceValue → ProblemValue → List Entry → (Failure : Type 0) → Type 0
+IsCause Failed new a i p entries Failure = Failure
+IsCause Full new a i p entries Failure = HasFullLog new a i p entries
+IsCause NoMemory new a i p entries Failure = Unit {0}
 
 pub record IsGatheringStop (fault : RecordFault) (old new : Option Files) (a : ModelsAsked) (i : InstanceValue) (p : ProblemValue) (entries : List Entry) (before after : Faults) : Type 0 where
-  pub cause : IsCause fault new a i p (LogFailed a before after)
+  pub cause : IsCause fault new a i p entries (LogFailed a before after)
   pub touched : AreLogsTouched old new a i p entries
 
 -- the same of writing their text besides
 pub record IsWritingStop (fault : RecordFault) (old new : Option Files) (a : ModelsAsked) (i : InstanceValue) (p : ProblemValue) (entries : List Entry) (before after : Faults) : Type 0 where
-  pub cause : IsCause fault new a i p (LogFailed a before after ⊎ WritingFailed before after (models_name a.base))
+  pub cause : IsCause fault new a i p entries (LogFailed a before after ⊎ WritingFailed before after (models_name a.base))
   pub touched : AreTouched old new a i p entries

@@ -1,5 +1,5 @@
 -- The answers of `models IN LIST K BASE`, a record for each.
-use Rattle.std.specs.Prelude.{◌≡◌, ◌≢◌, ◌↔◌, ◌⊎◌, ℕ, ◌+◌, ◌<◌, ◌≤◌, ◌^◌, true, List, [], ◌∷◌, length, Option, Some, ℤ}
+use Rattle.std.specs.Prelude.{◌≡◌, ◌≢◌, ◌↔◌, ◌⊎◌, ℕ, ◌+◌, ◌<◌, ◌≤◌, ◌^◌, true, List, [], ◌∷◌, ◌++◌, length, Option, Some, ℤ}
 use Rattle.std.specs.List.{AllZip}
 use Rattle.scut_base.specs.Files.{Files, content, followed, IsPartlyFollowed, IsPrefixOf, IsTold}
 use Rattle.scut_base.specs.World.{World}
@@ -66,11 +66,12 @@ pub record OfEntries (files : Option Files) (a : ModelsAsked) (P : InstanceValue
   pub holds : P instance problem entries
 
 -- The text of all models was written, and the models of each entry are representatives of its vector, as many as are asked for or all; and
--- the log of these shows it.
+-- the log of these shows it. Each other log is as before, or a part of one.
 pub record AreWritten (before after : Option Files) (a : ModelsAsked) (i : InstanceValue) (p : ProblemValue) (entries : List Entry) : Type 0 where
   pub reps : List Reps
   pub text : IsWhole after (models_name a.base) (models_text reps)
   pub each : AreRightFrom after a i p 1 entries reps
+  pub logs : LogsTouchedFrom before after a i p 1 entries
   pub others : KeepsOthers a (length entries) before after
 
 -- Models: so it is of as many entries.
@@ -107,10 +108,17 @@ AreListedPartly before after a = (after ≡ before) ⊎ (AreLeft before after a 
 abbrev pub IsFullLog : ProblemValue → List ℤ → List ℕ → Type 0
 IsFullLog p us bytes = OfBounded p us (λ q. (lines : List Line) × SpellsLog bytes lines × (length lines ≡ 2 ^ 61) × ((s : StateValue) × IsReplay q lines s))
 
--- LogFull: one of the logs holds the header and 2^61 lines, each legal where it stands.
+-- entry e has this number, from 1 on
+abbrev pub IsEntryOf : List Entry → ℕ → Entry → Type 0
+IsEntryOf entries n e = (first : List Entry) × (later : List Entry) × (entries ≡ first ++ e ∷ later) × (length first + 1 ≡ n)
+
+-- the log of some entry is full
+abbrev pub HasFullLog : Option Files → ModelsAsked → InstanceValue → ProblemValue → List Entry → Type 0
+HasFullLog files a i p entries = (n : ℕ) × (e : Entry) × IsEntryOf entries n e × HasText files (log_name a.base n) (IsFullLog p (problem_vector i e.costs))
+
+-- LogFull: the log of an entry holds the header and 2^61 lines, each legal where it stands.
 pub record IsLogFull (before after : View) (a : ModelsAsked) : Type 0 where
-  pub touched : OfEntries before.files a (λ i p entries. AreTouched before.files after.files a i p entries
-      × ((n : ℕ) × (e : Entry) × HasText after.files (log_name a.base n) (IsFullLog p (problem_vector i e.costs))))
+  pub touched : OfEntries before.files a (λ i p entries. AreTouched before.files after.files a i p entries × HasFullLog after.files a i p entries)
   pub said : after.said ≡ before.said
 
 -- The table.
