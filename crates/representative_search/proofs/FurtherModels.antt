@@ -1,13 +1,11 @@
 -- Models that are found one after the other: each search begins the log anew.
-use Rattle.std.proofs.Common.{◌≡◌, ◌≢◌, inl, inr, ℕ, ◌+◌, Bool, None, Some, List, [], ◌∷◌, ◌++◌, sym, ap, subst, ◌∙◌}
+use Rattle.std.proofs.Common.{◌≡◌, ◌≢◌, ℕ, Bool, None, Some, List, [], ◌∷◌, ◌++◌, sym, subst, ◌∙◌}
 use Rattle.std.specs.Prelude.{All, Contains, Option, Result, Ok, Err, IfOk, ℤ}
 use Rattle.std.proofs.lemmas.List.{get_or_default}
 use Rattle.std.proofs.lemmas.List.Elements.{All-push}
 use Rattle.std.proofs.lemmas.List.Quantifiers.{all_pairs_push}
-use Rattle.scut_base.specs.Files.{Files, IsTouched, with_file}
-use Rattle.scut_base.specs.Faults.{Faults, NoneFell, WritingFailed}
-use Rattle.scut_base.specs.declared.shelf.ShelfCall.TheVariants.{Append, Begin}
-use Rattle.scut_base.proofs.FileLaws.{with_file-twice}
+use Rattle.scut_base.specs.Files.{Files, IsTouched}
+use Rattle.scut_base.specs.Faults.{Faults, NoneFell}
 use Rattle.instance.specs.Shape.{InstanceValue}
 use Rattle.instance.specs.ParetoFront.{problem_vector}
 use Rattle.pb_lin.specs.Problem.{ProblemValue}
@@ -18,7 +16,7 @@ use Rattle.representatives.specs.Laws.{AreGiven, BoundedModelServes, EndedLogLis
 use Rattle.representatives.specs.Representatives.{AreDifferent, Serves}
 use Rattle.representative_search.specs.Further.{IsCutModel, IsFurther}
 use Rattle.representative_search.specs.Gathered.{IsFullSearch, IsGatherStop, ListsAll}
-use Rattle.representative_search.proofs.Searches.{rose_since}
+use Rattle.representative_search.proofs.BegunAnew.{again, full_anew, writing_since}
 
 -- ---- a model of the bounded problem
 
@@ -33,38 +31,11 @@ module _ (old new : Option Files) (name : List ℕ) (i : InstanceValue) (p q : P
 
 -- ---- one search after another
 
--- the file that is begun anew is the same file
-again : (old mid new : Option Files) (name bytes : List ℕ) (P : List ℕ → Type 0) → IsTouched old mid name P → new ≡ with_file mid name bytes → new ≡ with_file old name bytes
-again old mid new name bytes P (inl same) is = is ∙ ap (λ (f : Option Files). with_file f name bytes) same
-again old mid new name bytes P (inr put) is = is ∙ ap (λ (f : Option Files). with_file f name bytes) put.2 ∙ with_file-twice old name put.0 bytes
-
-pub touched_twice : (old mid new : Option Files) (name : List ℕ) (P : List ℕ → Type 0) → IsTouched old mid name P → IsTouched mid new name P → IsTouched old new name P
-touched_twice old mid new name P first (inl same) = subst (λ (f : Option Files). IsTouched old f name P) (sym same) first
-touched_twice old mid new name P first (inr put) = inr (put.0, put.1, again old mid new name put.0 P first put.2)
-
 pub lists_again : (old mid new : Option Files) (name : List ℕ) (p : ProblemValue) (us : List ℤ) (models : List (List Bool)) (P : List ℕ → Type 0) → IsTouched old mid name P → ListsAll mid new name p us models → ListsAll old new name p us models
 lists_again old mid new name p us models P first lists = (lists.0, lists.1, again old mid new name lists.0 P first lists.2)
 
 full_again : (old mid new : Option Files) (name : List ℕ) (p : ProblemValue) (us : List ℤ) (P : List ℕ → Type 0) → IsTouched old mid name P → IsFullSearch mid new name p us → IsFullSearch old new name p us
-full_again old mid new name p us P first found =
-    let full = found.3 in (
-      found.0,
-      found.1,
-      found.2,
-      record {
-        proof = full.proof;
-        lines = full.lines;
-        spelled = full.spelled;
-        first = full.first;
-        full = full.full;
-        replay = full.replay;
-        files = again old mid new name full.proof P first full.files;
-      },
-    )
-
-writing_since : (before mid after : Faults) (name : List ℕ) → NoneFell before mid → WritingFailed mid after name → WritingFailed before after name
-writing_since before mid after name later (inl rose) = inl (rose_since _ _ _ (later Begin name) rose)
-writing_since before mid after name later (inr rose) = inr (rose_since _ _ _ (later Append name) rose)
+full_again old mid new name p us P first (list, q, bounded, full) = (list, q, bounded, full_anew old mid new name P first q full)
 
 pub stop_again : (old mid new : Option Files) (name : List ℕ) (p : ProblemValue) (us : List ℤ) (before between after : Faults) (fault : RecordFault) (P : List ℕ → Type 0) → IsTouched old mid name P → NoneFell before between
     → IsGatherStop fault mid new name p us between after → IsGatherStop fault old new name p us before after

@@ -1,3 +1,4 @@
+pub mod BegunAnew
 pub mod SearchStates
 pub mod Refutations
 pub mod Searches

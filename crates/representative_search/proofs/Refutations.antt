@@ -18,9 +18,8 @@ use Rattle.proof_laws.specs.declared.why.Why.{Why}
 use Rattle.proof_laws.specs.declared.why.Why.TheVariants.{AfterEnd, LogLong}
 use Rattle.proof_laws.proofs.Replays.{replay_before}
 use Rattle.proof_rules.specs.Recording.{Snapshot, MayBeAdded}
-use Rattle.oracle.specs.Solving.{AddsSearchLines, IsClauseAgainst, IsCore, Reaches}
-use Rattle.representative_search.specs.Seeking.{EndsBy, HasEnded}
-use Rattle.representative_search.proofs.SearchStates.{searched_alike}
+use Rattle.oracle.specs.Solving.{IsClauseAgainst, IsCore, Reaches}
+use Rattle.representative_search.specs.Seeking.{EndsBy, HasEnded, IsOpen}
 
 -- "0 >= 1"
 abbrev contradiction : ConstraintValue
@@ -73,10 +72,8 @@ end_follows p s id live true short running = cc
 end_follows p s id live false true running = inl (end_rule p s id live)
 end_follows p s id live false false running = inr refl
 
-may_end : (p : ProblemValue) (lines : List Line) (id : ℕ) → AddsSearchLines p [] lines → Reaches p lines (λ s. get s.live id ≡ Some contradiction) → MayBeAdded p lines (End id)
-may_end p lines id searched line s reached =
-    let alike = searched_alike p lines s searched reached in
-    end_follows p s id (line s reached) s.ended (nat_lt s.lines (2 ^ 61)) alike.ended
+may_end : (a : Snapshot) (id : ℕ) → IsOpen a → Reaches a.problem a.lines (λ s. get s.live id ≡ Some contradiction) → MayBeAdded a.problem a.lines (End id)
+may_end a id running line s reached = end_follows a.problem s id (line s reached) s.ended (nat_lt s.lines (2 ^ 61)) (running.state s reached).0
 
 -- which line it is
 end_line : (a : Snapshot) (line : Line) → EndsBy a line
@@ -84,26 +81,25 @@ end_line : (a : Snapshot) (line : Line) → EndsBy a line
 end_line a (End id) is = (id, refl, is)
 end_line a line is = absurd is
 
-pub may_end_by : (a : Snapshot) (line : Line) → AddsSearchLines a.problem [] a.lines → EndsBy a line → MayBeAdded a.problem a.lines line
-may_end_by a line searched is =
+pub may_end_by : (a : Snapshot) (line : Line) → IsOpen a → EndsBy a line → MayBeAdded a.problem a.lines line
+may_end_by a line running is =
     let end = end_line a line is in
-    subst (λ (l : Line). MayBeAdded a.problem a.lines l) (sym end.1) (may_end a.problem a.lines end.0 searched end.2)
+    subst (λ (l : Line). MayBeAdded a.problem a.lines l) (sym end.1) (may_end a end.0 running end.2)
 
 -- ---- after it
 
-with_end_line : (p : ProblemValue) (lines : List Line) (id : ℕ) (s t : StateValue) → AddsSearchLines p [] lines → IsReplay p lines s → IsReplay p (lines ++ End id ∷ []) t → (t.ended ≡ true) × (t.sols ≡ [])
-with_end_line p lines id s t searched before after =
-    let next = replay_before p lines (End id) s t before after in
+with_end_line : (a : Snapshot) (id : ℕ) (s t : StateValue) → IsOpen a → IsReplay a.problem a.lines s → IsReplay a.problem (a.lines ++ End id ∷ []) t → (t.ended ≡ true) × (t.sols ≡ [])
+with_end_line a id s t running before after =
+    let next = replay_before a.problem a.lines (End id) s t before after in
     let made : t ≡ with_end s = next.makes in
-    let alike = searched_alike p lines s searched before in
-    (ap (λ (u : StateValue). u.ended) made, ap (λ (u : StateValue). u.sols) made ∙ alike.sols)
+    (ap (λ (u : StateValue). u.ended) made, ap (λ (u : StateValue). u.sols) made ∙ (running.state s before).1)
 
-pub ended_after : (a b : Snapshot) (line : Line) (s t : StateValue) → AddsSearchLines a.problem [] a.lines → EndsBy a line → b.lines ≡ a.lines ++ line ∷ [] → b.problem ≡ a.problem
+pub ended_after : (a b : Snapshot) (line : Line) (s t : StateValue) → IsOpen a → EndsBy a line → b.lines ≡ a.lines ++ line ∷ [] → b.problem ≡ a.problem
     → IsReplay a.problem a.lines s → IsReplay b.problem b.lines t → HasEnded a.problem b.lines
-ended_after a b line s t searched is added problem before after =
+ended_after a b line s t running is added problem before after =
     let end = end_line a line is in
     let lines : b.lines ≡ a.lines ++ End end.0 ∷ [] = added ∙ ap (λ (l : Line). a.lines ++ l ∷ []) end.1 in
     let reached : IsReplay a.problem b.lines t = subst (λ (p : ProblemValue). IsReplay p b.lines t) problem after in
     let there : IsReplay a.problem (a.lines ++ End end.0 ∷ []) t = subst (λ (ls : List Line). IsReplay a.problem ls t) lines reached in
-    let last = with_end_line a.problem a.lines end.0 s t searched before there in
+    let last = with_end_line a end.0 s t running before there in
     (t, reached, last.0, last.1)

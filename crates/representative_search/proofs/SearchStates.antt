@@ -1,13 +1,19 @@
--- The states that lines of a search reach: nothing is earned or learned before the first, and none ends the proof or logs a model.
-use Rattle.std.proofs.Common.{◌≡◌, ◌≤◌, Bool, List, [], ◌∷◌, ◌++◌, length, take, refl, sym, ap, subst, ◌∙◌, arith, append_assoc}
+-- The states that lines of a search, or of a relaxation, reach: nothing is earned before the first, and none ends the proof or logs a model.
+use Rattle.std.proofs.Common.{◌≡◌, ◌≤◌, Bool, false, List, [], ◌∷◌, ◌++◌, length, take, refl, sym, ap, subst, ◌∙◌, arith, append_assoc}
+use Rattle.std.specs.Prelude.{All}
 use Rattle.std.proofs.lemmas.List.{take_all}
+use Rattle.std.proofs.lemmas.List.Elements.{All-head, All-tail}
 use Rattle.pb_lin.specs.Problem.{ProblemValue, IsProblemModel}
 use Rattle.proof_laws.specs.State.{StateValue, start}
 use Rattle.proof_laws.specs.Legal.{Makes}
 use Rattle.proof_laws.specs.Replay.{Leads, IsReplay}
 use Rattle.proof_laws.specs.declared.line.Line.{Line}
 use Rattle.proof_laws.specs.declared.line.Line.TheVariants.{Pol, Rup, Learn, Def, Red, Dom, Sol, Del, Reduce, End}
+use Rattle.proof_rules.specs.Recording.{Snapshot}
+use Rattle.sum_outputs.specs.Adding.{Continues, IsReady}
+use Rattle.sum_outputs.specs.Totals.{IsTotalizerLine}
 use Rattle.oracle.specs.Solving.{AddsSearchLines, AreEarned, IsSearchLine, IsSolution, Reaches}
+use Rattle.representative_search.specs.Seeking.{HasSearched, IsOpen}
 
 -- ---- before any line
 
@@ -68,13 +74,60 @@ lines_alike p old (line ∷ more) s t kinds leads =
 pub searched_alike : (p : ProblemValue) (lines : List Line) (t : StateValue) → AddsSearchLines p [] lines → IsReplay p lines t → IsAlike (start p) t
 searched_alike p lines t searched reached = lines_alike p [] searched.more (start p) t searched.kinds (subst (λ (ls : List Line). IsReplay p ls t) searched.is reached)
 
+-- so a line that ends the proof may follow
+pub searched_open : (a : Snapshot) → HasSearched a → IsOpen a
+searched_open a searched = record {
+  whole = searched.whole;
+  state = λ s reached. let alike = searched_alike a.problem a.lines s searched.lines reached in (alike.ended, alike.sols);
+}
+
+-- ---- lines of a relaxation
+
+-- whether the proof has ended, and the logged vectors, stay
+abbrev StaysOpen : StateValue → StateValue → Type 0
+StaysOpen s t = (t.ended ≡ s.ended) × (t.sols ≡ s.sols)
+
+same_open : (s t u : StateValue) → t ≡ u → StaysOpen s u → StaysOpen s t
+same_open s t u is stays = subst (StaysOpen s) (sym is) stays
+
+totalizer_stays : (p : ProblemValue) (line : Line) (s t : StateValue) → IsTotalizerLine line → Makes p s line t → StaysOpen s t
+totalizer_stays p (Def var sum) s t kind is = same_open s t _ is (refl, refl)
+totalizer_stays p (Pol tokens) s t kind is = same_open s t _ is.2 (refl, refl)
+totalizer_stays p line s t kind is = absurd kind
+
+totalizers_stay : (p : ProblemValue) (more : List Line) (s t : StateValue) → All IsTotalizerLine more → Leads p s more t → StaysOpen s t
+totalizers_stay p [] s t kinds leads = same_open s t s leads (refl, refl)
+totalizers_stay p (line ∷ more) s t kinds leads =
+    let one = totalizer_stays p line s leads.0 (All-head IsTotalizerLine line more kinds) leads.1.makes in
+    let rest = totalizers_stay p more leads.0 t (All-tail IsTotalizerLine line more kinds) leads.2 in
+    (rest.0 ∙ one.0, rest.1 ∙ one.1)
+
+-- so a line that ends the proof may follow these too
+pub relaxed_open : (a b : Snapshot) → a.lines ≡ [] → Continues a b → b.broken ≡ false → IsOpen b
+relaxed_open a b none on unbroken = record { whole = unbroken; state = λ s reached. totalizers_stay b.problem on.more (start b.problem) s on.kinds (subst (λ (ls : List Line). IsReplay b.problem ls s) lines reached) }
+  where
+    lines : b.lines ≡ on.more
+    lines = on.lines ∙ ap (λ (ls : List Line). ls ++ on.more) none
+
+-- no lines may be followed by any
+pub none_ready : (a : Snapshot) (s : StateValue) → a.lines ≡ [] → a.broken ≡ false → IsReplay a.problem a.lines s → IsReady a
+none_ready a s none unbroken reached = record {
+  whole = unbroken;
+  state = s;
+  reached = reached;
+  unended = ap (λ (t : StateValue). t.ended) (subst (λ (ls : List Line). IsReplay a.problem ls s) none reached);
+}
+
 -- ---- a model
+
+pub whole_found : (p : ProblemValue) (a : List Bool) → IsProblemModel p a → (p.vars ≤ length a) × IsProblemModel p (take p.vars a)
+whole_found p a is =
+    let long : length a ≡ p.vars = is.variables in
+    let whole : take p.vars a ≡ a = take_all p.vars a (omega arith) in
+    (omega arith, subst (IsProblemModel p) (sym whole) is)
 
 pub model_found : (p : ProblemValue) (lines : List Line) (t : StateValue) (a : List Bool) → AddsSearchLines p [] lines → IsReplay p lines t → Reaches p lines (IsSolution p [] a)
     → (p.vars ≤ length a) × IsProblemModel p (take p.vars a)
 model_found p lines t a searched reached solution =
     let is = solution t reached in
-    let alike = searched_alike p lines t searched reached in
-    let long : length a ≡ p.vars = is.variables ∙ alike.vars in
-    let whole : take p.vars a ≡ a = take_all p.vars a (omega arith) in
-    (omega arith, subst (IsProblemModel p) (sym whole) (record { variables = long; rows = is.rows }))
+    whole_found p a (record { variables = is.variables ∙ (searched_alike p lines t searched reached).vars; rows = is.rows })

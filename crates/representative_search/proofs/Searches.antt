@@ -1,5 +1,5 @@
 -- What a search over a recorder answers, and what it leaves in its file.
-use Rattle.std.proofs.Common.{◌≡◌, ℕ, ◌≤◌, ◌^◌, Bool, false, None, Some, List, [], length, refl, sym, ap, subst, arith}
+use Rattle.std.proofs.Common.{◌≡◌, ℕ, ◌^◌, Bool, false, None, Some, List, [], length, refl, sym, ap, subst, ◌∙◌}
 use Rattle.std.specs.Prelude.{All, Option, Result, Ok, Err, IfOk, IfErr, IsErrOf, OnOk, ℤ}
 use Rattle.std.proofs.lemmas.List.Elements.{All-nil}
 use Rattle.scut_base.specs.Files.{Files, with_file}
@@ -8,83 +8,141 @@ use Rattle.scut_base.specs.World.{World}
 use Rattle.pb_lin.specs.Problem.{ProblemValue}
 use Rattle.proof_laws.specs.State.{StateValue}
 use Rattle.proof_laws.specs.declared.line.Line.{Line}
-use Rattle.proof_rules.specs.Recording.{CountsLater, KeepsRecorder, KeepsSurroundings, Snapshot, Surroundings}
+use Rattle.proof_rules.specs.Recording.{KeepsRecorder, Snapshot}
 use Rattle.proof_rules.specs.declared.recorder.RecordFault.{RecordFault}
-use Rattle.proof_rules.specs.declared.recorder.RecordFault.TheVariants.{Failed, Full}
+use Rattle.proof_rules.specs.declared.recorder.RecordFault.TheVariants.{Failed, Full, NoMemory}
 use Rattle.proof_text.specs.LogFile.{Held, IsLogFile}
 use Rattle.proof_text.specs.LogParts.{IsLogStopped}
 use Rattle.proof_text.specs.Recorders.{IsKept, file_seen, without_file}
 use Rattle.proof_text.specs.declared.version.LogVersion.TheVariants.{One}
 use Rattle.proof_text.proofs.LogLeft.{kept_here, log_here, others_here, part_left, spelled, stopped_here, text, whole}
 use Rattle.log_checker.specs.Accepted.{IsCovered}
-use Rattle.representative_search.specs.Seeking.{HasEnded, IsBegunAnew, IsFound, IsSought, Seeks}
+use Rattle.sum_outputs.specs.Adding.{Continues, IsFaultAt}
+use Rattle.sum_outputs.proofs.LaterStates.{around_again, around_twice}
+use Rattle.representative_search.specs.Seeking.{HasEnded, IsBegunAnew, IsFound, IsRefuted, IsRelaxed, IsSought, Leaves, WhereKnown}
+use Rattle.representative_search.specs.declared.relaxing.Relaxed.{Relaxed}
+use Rattle.representative_search.specs.declared.relaxing.Relaxed.TheVariants.{Known, Unknown}
+use Rattle.representative_search.proofs.BegunAnew.{rose_since}
 
 -- ---- recorders
 
-counts_again : (c : Option Faults) → CountsLater c c
-counts_again None = refl
-counts_again (Some f) = λ call name. omega arith
+-- something was found at once, or after one line
+pub found_now : {A : Type 0} (Found : List Line → A → Type 0) (a : Snapshot) (x : A) → a.broken ≡ false → Found a.lines x → Leaves Found a a (Ok x)
+found_now Found a x unbroken found = record { found = found; whole = unbroken; failed = λ e. cc; full = λ e. cc; problem = refl; around = around_again a.around }
 
-around_again : (a : Surroundings) → KeepsSurroundings a a
-around_again a = record { shelf = refl; name = refl; version = refl; others = refl; said = refl; warned = refl; counts = counts_again a.counts }
+pub found_next : {A : Type 0} (Found : List Line → A → Type 0) (a b : Snapshot) (x : A) → KeepsRecorder a b → b.broken ≡ false → Found b.lines x → Leaves Found a b (Ok x)
+found_next Found a b x keeps unbroken found = record { found = found; whole = unbroken; failed = λ e. cc; full = λ e. cc; problem = keeps.problem; around = keeps.around }
 
-pub rose_since : (a b c : ℕ) → a ≤ b → Rose b c → Rose a c
-rose_since a b c earlier rose = omega arith
+-- what is found says something else besides
+pub found_so : {A B : Type 0} (F : List Line → A → Type 0) (G : List Line → B → Type 0) (a b : Snapshot) (x : A) (y : B) → Leaves F a b (Ok x) → (F b.lines x → G b.lines y) → Leaves G a b (Ok y)
+found_so F G a b x y leaves so = record { found = so leaves.found; whole = leaves.whole; failed = λ e. cc; full = λ e. cc; problem = leaves.problem; around = leaves.around }
 
--- ---- what a search answers
+-- a fault is handed on
+pub fault_so : {A B : Type 0} (F : List Line → A → Type 0) (G : List Line → B → Type 0) (a b : Snapshot) (f : RecordFault) → Leaves F a b (Err f) → Leaves G a b (Err f)
+fault_so F G a b f leaves = record {
+  found = tt;
+  whole = leaves.whole;
+  failed = λ e. leaves.failed (ap Err (err_is f Failed e));
+  full = λ e. leaves.full (ap Err (err_is f Full e));
+  problem = leaves.problem;
+  around = leaves.around;
+}
+  where
+    err_is : {T : Type 0} (f g : RecordFault) → IsErrOf {T = T} (Err f) g → f ≡ g
+    err_is f g e = cc
 
-pub seeks_model : (p : ProblemValue) (a : Snapshot) (x : List Bool) → a.broken ≡ false → IsFound p a.lines (Some x) → Seeks p a a (Ok (Some x))
-seeks_model p a x unbroken found = record { found = found; whole = unbroken; failed = λ e. cc; full = λ e. cc; problem = refl; around = around_again a.around }
+-- ---- after lines of a relaxation
 
-pub seeks_end : (p : ProblemValue) (a b : Snapshot) → KeepsRecorder a b → b.broken ≡ false → HasEnded p b.lines → Seeks p a b (Ok None)
-seeks_end p a b keeps unbroken ended = record { found = ended; whole = unbroken; failed = λ e. cc; full = λ e. cc; problem = keeps.problem; around = keeps.around }
+module _ {A : Type 0} (Found : List Line → A → Type 0) (a b : Snapshot) (on : Continues a b) where
+  -- and then
+  pub leaves_after : (c : Snapshot) (r : Result A RecordFault) → Leaves Found b c r → Leaves Found a c r
+  leaves_after c r leaves = record {
+    found = leaves.found;
+    whole = leaves.whole;
+    failed = λ e. rose_since a.faults b.faults c.faults on.later (leaves.failed e);
+    full = leaves.full;
+    problem = leaves.problem ∙ on.problem;
+    around = around_twice a.around b.around c.around on.around leaves.around;
+  }
+
+  -- something is found
+  pub found_after : (x : A) → b.broken ≡ false → Found b.lines x → Leaves Found a b (Ok x)
+  found_after x unbroken found = leaves_after b (Ok x) (found_now Found b x unbroken found)
+
+  -- they ended by a fault
+  pub fault_after : (f : RecordFault) → IsFaultAt a b f → OnOk {T = A} (Err f) (b.broken ≡ false) → Leaves Found a b (Err f)
+  fault_after f is unbroken = by f is
+    where
+      by : (f : RecordFault) → IsFaultAt a b f → Leaves Found a b (Err f)
+      by Failed is = record { found = tt; whole = tt; failed = λ e. is; full = λ e. cc; problem = on.problem; around = on.around }
+      by Full is = record { found = tt; whole = tt; failed = λ e. cc; full = λ e. is.0; problem = on.problem; around = on.around }
+      by NoMemory is = record { found = tt; whole = tt; failed = λ e. cc; full = λ e. cc; problem = on.problem; around = on.around }
+
+-- the proof ended after them
+pub ended_so : {A : Type 0} (p : ProblemValue) (a b c : Snapshot) → a.problem ≡ p → Continues a b → (r : Result A RecordFault) (x : A) → r ≡ Ok x → Leaves (λ lines _. HasEnded b.problem lines) b c r → Leaves (IsRelaxed p) a c (Ok (Known None))
+ended_so {A = A} p a b c of_problem on r x is leaves = leaves_after (IsRelaxed p) a b on c (Ok (Known None)) (found_so (λ lines _. HasEnded b.problem lines) (IsRelaxed p) b c x (Known None) now (λ ended. subst (λ (q : ProblemValue). HasEnded q c.lines) (on.problem ∙ of_problem) ended))
+  where
+    now : Leaves (λ lines _. HasEnded b.problem lines) b c (Ok x)
+    now = subst (λ (s : Result A RecordFault). Leaves (λ lines _. HasEnded b.problem lines) b c s) is leaves
 
 -- ---- the file
+
+-- what is known of the problem
+pub known_left : (old new : Option Files) (name : List ℕ) (p : ProblemValue) (lines : List Line) (found : Option (List Bool)) → (HasEnded p lines → IsRefuted old new name p) → IsFound p lines found → IsSought old new name p found
+known_left old new name p lines (Some a) refuted is = is
+known_left old new name p lines None refuted is = refuted is
+
+pub told_left : (old new : Option Files) (name : List ℕ) (p : ProblemValue) (lines : List Line) (told : Relaxed) → (HasEnded p lines → IsRefuted old new name p) → IsRelaxed p lines told → WhereKnown told (IsSought old new name p)
+told_left old new name p lines (Known found) refuted is = known_left old new name p lines found refuted is
+told_left old new name p lines Unknown refuted is = tt
 
 -- a log that was begun anew, over other files that stayed
 module _ (old begun new : Option Files) (name header : List ℕ) (p : ProblemValue) (lines : List Line) (s : StateValue) (broken : Bool)
     (is : begun ≡ with_file old name header) (others : without_file new name ≡ without_file begun name) (log : IsLogFile new name p One lines broken) (kept : IsKept p lines s) where
-  sought_by : (r : Result (Option (List Bool)) RecordFault) → OnOk r (broken ≡ false) → IfOk r (IsFound p lines) → IfOk r (IsSought old new name p)
-  sought_by (Ok (Some a)) unbroken found = found
-  sought_by (Ok None) unbroken found = (
+  refuted_by : broken ≡ false → HasEnded p lines → IsRefuted old new name p
+  refuted_by unbroken ended = (
     text old begun new name header p One lines s broken is others log kept,
     record {
       lines = lines;
       spelled = spelled old begun new name header p One lines s broken is others log kept;
-      state = found.0;
-      replay = found.1;
-      ended = found.2;
-      covered = subst (λ (vs : List (List ℤ)). All (IsCovered []) vs) (sym found.3) (All-nil (IsCovered []));
+      state = ended.0;
+      replay = ended.1;
+      ended = ended.2;
+      covered = subst (λ (vs : List (List ℤ)). All (IsCovered []) vs) (sym ended.3) (All-nil (IsCovered []));
     },
     whole old begun new name header p One lines s broken is others log kept (log.whole unbroken),
   )
-  sought_by (Err fault) unbroken found = tt
 
 module _ {H : Type 0} (world : H → World) (old : Option Files) (name header : List ℕ) (p : ProblemValue) (first last : Held H) (end : H)
-    (r : Result (Option (List Bool)) RecordFault)
+    {A : Type 0} (Found : List Line → A → Type 0) (r : Result A RecordFault)
     (named : first.name ≡ name) (of_problem : first.problem ≡ p) (of_version : first.version ≡ One)
     (begun : (world first.shelf.now).files ≡ with_file old name header)
     (same : end ≡ last.shelf.now)
     (log : IsLogFile (world end).files last.name last.problem last.version last.lines last.broken) (kept : IsKept last.problem last.lines last.state)
-    (seeks : Seeks p (file_seen world first) (file_seen world last) r) where
+    (leaves : Leaves Found (file_seen world first) (file_seen world last) r) where
   here_others : without_file (world end).files name ≡ without_file (world first.shelf.now).files name
-  here_others = others_here world old name header p One first last end named of_problem of_version begun same log kept seeks.problem seeks.around
+  here_others = others_here world old name header p One first last end named of_problem of_version begun same log kept leaves.problem leaves.around
 
   here_log : IsLogFile (world end).files name p One last.lines last.broken
-  here_log = log_here world old name header p One first last end named of_problem of_version begun same log kept seeks.problem seeks.around
+  here_log = log_here world old name header p One first last end named of_problem of_version begun same log kept leaves.problem leaves.around
 
   here_kept : IsKept p last.lines last.state
-  here_kept = kept_here world old name header p One first last end named of_problem of_version begun same log kept seeks.problem seeks.around
+  here_kept = kept_here world old name header p One first last end named of_problem of_version begun same log kept leaves.problem leaves.around
 
-  pub sought_left : IfOk r (IsSought old (world end).files name p)
-  sought_left = sought_by old (world first.shelf.now).files (world end).files name header p last.lines last.state last.broken begun here_others here_log here_kept r seeks.whole seeks.found
+  -- what was found, of the file
+  pub found_left : (Left : A → Type 0) → ((x : A) → (HasEnded p last.lines → IsRefuted old (world end).files name p) → Found last.lines x → Left x) → IfOk r Left
+  found_left Left so = by r leaves.whole leaves.found
+    where
+      by : (s : Result A RecordFault) → OnOk s (last.broken ≡ false) → IfOk s (Found last.lines) → IfOk s Left
+      by (Ok x) unbroken is = so x (refuted_by old (world first.shelf.now).files (world end).files name header p last.lines last.state last.broken begun here_others here_log here_kept unbroken) is
+      by (Err fault) unbroken is = tt
 
   pub touched_left : IsBegunAnew old (world end).files name p
   touched_left = part_left old (world first.shelf.now).files (world end).files name header p One last.lines last.state last.broken begun here_others here_log here_kept
 
-  stopped_by_fault : (s : Result (Option (List Bool)) RecordFault) → (IsErrOf s Failed → Rose (file_seen world first).faults (file_seen world last).faults) → (IsErrOf s Full → length last.lines ≡ 2 ^ 61) → (began : Faults) → NoneFell began (world first.shelf.now).faults → IfErr s (λ fault. IsLogStopped fault old (world end).files p name One began (world end).faults)
-  stopped_by_fault (Ok found) failed full began later = tt
-  stopped_by_fault (Err fault) failed full began later = stopped_here world old name header p One first last end named of_problem of_version begun same log kept seeks.problem seeks.around began later fault (λ e. failed (ap (λ (f : RecordFault). Err f) e)) (λ e. full (ap (λ (f : RecordFault). Err f) e))
-
   pub stopped_left : (began : Faults) → NoneFell began (world first.shelf.now).faults → IfErr r (λ fault. IsLogStopped fault old (world end).files p name One began (world end).faults)
-  stopped_left began later = stopped_by_fault r seeks.failed seeks.full began later
+  stopped_left began later = by r leaves.failed leaves.full
+    where
+      by : (s : Result A RecordFault) → (IsErrOf s Failed → Rose (file_seen world first).faults (file_seen world last).faults) → (IsErrOf s Full → length last.lines ≡ 2 ^ 61) → IfErr s (λ fault. IsLogStopped fault old (world end).files p name One began (world end).faults)
+      by (Ok x) failed full = tt
+      by (Err fault) failed full = stopped_here world old name header p One first last end named of_problem of_version begun same log kept leaves.problem leaves.around began later fault (λ e. failed (ap (λ (f : RecordFault). Err f) e)) (λ e. full (ap (λ (f : RecordFault). Err f) e))

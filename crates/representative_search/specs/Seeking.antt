@@ -15,6 +15,8 @@ use Rattle.proof_text.specs.LogParts.{IsPartOfLog}
 use Rattle.proof_text.specs.declared.version.LogVersion.TheVariants.{One}
 use Rattle.log_checker.specs.Accepted.{IsEndedProof}
 use Rattle.oracle.specs.Solving.{AddsSearchLines, Reaches}
+use Rattle.representative_search.specs.declared.relaxing.Relaxed.{Relaxed}
+use Rattle.representative_search.specs.declared.relaxing.Relaxed.TheVariants.{Known, Unknown}
 
 -- ---- the file
 
@@ -31,6 +33,11 @@ IsSought old new name p None = IsRefuted old new name p
 abbrev pub IsBegunAnew : Option Files → Option Files → List ℕ → ProblemValue → Type 0
 IsBegunAnew old new name p = IsTouched old new name (IsPartOfLog One p)
 
+-- P holds of what a relaxation tells, if it tells anything
+abbrev pub WhereKnown : Relaxed → (Option (List Bool) → Type 0) → Type 0
+WhereKnown (Known found) P = P found
+WhereKnown Unknown P = Unit {0}
+
 -- ---- any recorder
 
 -- the lines lead to an end, and log nothing
@@ -42,9 +49,13 @@ abbrev pub IsFound : ProblemValue → List Line → Option (List Bool) → Type 
 IsFound p lines (Some a) = (p.vars ≤ length a) × IsProblemModel p (take p.vars a)
 IsFound p lines None = HasEnded p lines
 
+-- the same of what a relaxation tells
+abbrev pub IsRelaxed : ProblemValue → List Line → Relaxed → Type 0
+IsRelaxed p lines told = WhereKnown told (IsFound p lines)
+
 -- what is found, and why nothing was; what stands around the recorder stays
-pub record Seeks (p : ProblemValue) (a b : Snapshot) (result : Result (Option (List Bool)) RecordFault) : Type 0 where
-  pub found : IfOk result (IsFound p b.lines)
+pub record Leaves {A : Type 0} (Found : List Line → A → Type 0) (a b : Snapshot) (result : Result A RecordFault) : Type 0 where
+  pub found : IfOk result (Found b.lines)
   pub whole : OnOk result (b.broken ≡ false)
   pub failed : IsErrOf result Failed → Rose a.faults b.faults
   pub full : IsErrOf result Full → length b.lines ≡ 2 ^ 61
@@ -55,6 +66,11 @@ pub record Seeks (p : ProblemValue) (a b : Snapshot) (result : Result (Option (L
 pub record HasSearched (a : Snapshot) : Type 0 where
   pub whole : a.broken ≡ false
   pub lines : AddsSearchLines a.problem [] a.lines
+
+-- a line that ends the proof may be added, and the proof logs nothing
+pub record IsOpen (a : Snapshot) : Type 0 where
+  pub whole : a.broken ≡ false
+  pub state : Reaches a.problem a.lines (λ s. (s.ended ≡ false) × (s.sols ≡ []))
 
 -- the line ends the proof, by a live line `0 >= 1`
 abbrev pub EndsBy : Snapshot → Line → Type 0

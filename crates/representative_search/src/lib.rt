@@ -4,7 +4,9 @@
 //! all; the log that it leaves shows the latter. It begins the log anew for each model.
 #![tactic(auto)]
 
+mod ending;
 mod gathering;
+mod relaxing;
 mod seeking;
 
 pub use gathering::gather;

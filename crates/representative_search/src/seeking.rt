@@ -1,25 +1,49 @@
 // A search for one model of a problem, whose proof goes to a file.
-ghost use Rattle.std.specs.Prelude.{◌≡◌, Some, None, false, [], IfOk, IfErr};
-ghost use Rattle.std.specs.FinMap.{get};
+ghost use Rattle.std.specs.Prelude.{◌≡◌, None, false, [], IfOk, IfErr};
 ghost use Rattle.scut_base.specs.Faults.{NoneFell};
-ghost use Rattle.proof_laws.specs.WellFormed.{IsWellFormed};
 ghost use Rattle.proof_text.specs.LogParts.{IsLogStopped};
 ghost use Rattle.proof_text.specs.declared.version.LogVersion.TheVariants.{One};
-ghost use Rattle.oracle.specs.Solving.{IsAnswer, Reaches};
-ghost use Rattle.representative_search.specs.Seeking.{EndsBy, HasSearched, IsBegunAnew, IsSought, Seeks};
+ghost use Rattle.oracle.specs.Solving.{IsAnswer};
+ghost use Rattle.representative_search.specs.Seeking.{HasSearched, IsBegunAnew, IsFound, IsSought, Leaves};
 
+use crate::ending::end_proof;
+use crate::relaxing::{Relaxed, relax};
 use cdcl_core::{NoRoom, Solver};
 use oracle::{Answer, Oracle, OracleFault};
 use pb_lin::PbProblem;
-use proof_laws::Line;
 use proof_rules::{RecordFault, Recorder};
 use proof_text::FileRecorder;
 use scut_base::{Assignment, Shelf};
 use std::alloc::Global;
 use watch_prop::WatchProp;
 
-// A model of the problem, or none, and then the log is an ended proof of that, which logs nothing. The log is begun anew.
-pub(crate) fn seek_model<'a, H: Shelf>(
+// A model of the problem, or none, and then the log is an ended proof of that, which logs nothing: by its linear relaxation, and where
+// that doesn't tell, by a solver. The log is begun anew.
+pub(crate) fn seek_model<H: Shelf>(
+    alloc: Global,
+    shelf: &mut H,
+    name: &str,
+    problem: &PbProblem,
+) -> Result<Option<Assignment>, RecordFault>
+    ensures sought { IfOk result (IsSought (H.world shelf.old).files (H.world shelf.new).files
+        name.now problem.now) }
+    ensures touched { IsBegunAnew (H.world shelf.old).files (H.world shelf.new).files
+        name.now problem.now }
+    ensures stop { IfErr result (λ fault. IsLogStopped fault (H.world shelf.old).files
+        (H.world shelf.new).files problem.now name.now One
+        (H.world shelf.old).faults (H.world shelf.new).faults) }
+    ensures said { (H.world shelf.new).said ≡ (H.world shelf.old).said }
+    ensures warned { (H.world shelf.new).warned ≡ (H.world shelf.old).warned }
+    ensures later { NoneFell (H.world shelf.old).faults (H.world shelf.new).faults }
+{
+    match relax(alloc, shelf, name, problem)? {
+        Relaxed::Known(found) => Ok(found),
+        Relaxed::Unknown => search(alloc, shelf, name, problem),
+    }
+}
+
+// The same by a solver alone.
+fn search<'a, H: Shelf>(
     alloc: Global,
     shelf: &'a mut H,
     name: &'a str,
@@ -54,7 +78,7 @@ fn seek_over<R: Recorder + Drop>(
     requires problem { (R.seen recorder).problem ≡ problem.now }
     requires begun { (R.seen recorder).lines ≡ [] }
     requires whole { (R.seen recorder).broken ≡ false }
-    ensures { Seeks problem.now (R.seen recorder) (R.seen result.1) result.0 }
+    ensures { Leaves (IsFound problem.now) (R.seen recorder) (R.seen result.1) result.0 }
 {
     let mut solver = match Solver::new(alloc, recorder, WatchProp::new(alloc), problem, None) {
         Ok(solver) => solver,
@@ -72,7 +96,8 @@ fn seek_by<O: Oracle>(oracle: &mut O) -> Result<Option<Assignment>, RecordFault>
     requires begun { (O.seen oracle.old).lines ≡ [] }
     requires whole { (O.seen oracle.old).broken ≡ false }
     requires unlimited { (O.seen oracle.old).limit ≡ None }
-    ensures { Seeks (O.seen oracle.old).problem (O.seen oracle.old) (O.seen oracle.new) result }
+    ensures { Leaves (IsFound (O.seen oracle.old).problem)
+        (O.seen oracle.old) (O.seen oracle.new) result }
 {
     // Tells that no lines reach a state.
     let _state = oracle.state();
@@ -89,7 +114,8 @@ fn seek_by<O: Oracle>(oracle: &mut O) -> Result<Option<Assignment>, RecordFault>
 fn take_answer<O: Oracle>(oracle: &mut O, answer: Answer) -> Result<Option<Assignment>, RecordFault>
     requires searched { HasSearched (O.seen oracle.old) }
     requires answer { IsAnswer (O.seen oracle.old).problem (O.seen oracle.old).lines [] answer }
-    ensures { Seeks (O.seen oracle.old).problem (O.seen oracle.old) (O.seen oracle.new) result }
+    ensures { Leaves (IsFound (O.seen oracle.old).problem)
+        (O.seen oracle.old) (O.seen oracle.new) result }
 {
     match answer {
         Answer::Sat(model) => {
@@ -97,33 +123,9 @@ fn take_answer<O: Oracle>(oracle: &mut O, answer: Answer) -> Result<Option<Assig
             let _state = oracle.state();
             Ok(Some(model))
         }
-        Answer::Unsat(core) => end_proof(oracle, core.id),
+        Answer::Unsat(core) => {
+            end_proof(oracle, core.id)?;
+            Ok(None)
+        }
     }
-}
-
-// Ends the proof by a live line `0 >= 1`.
-fn end_proof<O: Oracle>(oracle: &mut O, id: u64) -> Result<Option<Assignment>, RecordFault>
-    requires searched { HasSearched (O.seen oracle.old) }
-    requires line { Reaches (O.seen oracle.old).problem (O.seen oracle.old).lines
-        (λ s. get s.live id ≡ Some (record { terms = []; degree = 1 })) }
-    ensures { Seeks (O.seen oracle.old).problem (O.seen oracle.old) (O.seen oracle.new) result }
-{
-    // Tells that ids are below the next one.
-    let _vars = oracle.state().vars();
-    end_by(oracle, &Line::End { id })
-}
-
-// Ends the proof by this line, which its caller owns.
-fn end_by<O: Oracle>(oracle: &mut O, line: &Line) -> Result<Option<Assignment>, RecordFault>
-    requires searched { HasSearched (O.seen oracle.old) }
-    requires formed { IsWellFormed line.now }
-    requires line { EndsBy (O.seen oracle.old) line.now }
-    ensures { Seeks (O.seen oracle.old).problem (O.seen oracle.old) (O.seen oracle.new) result }
-{
-    // Tells that the lines reach a state.
-    let _before = oracle.state();
-    oracle.add_line(line)?;
-    // And that they still do.
-    let _after = oracle.state();
-    Ok(None)
 }

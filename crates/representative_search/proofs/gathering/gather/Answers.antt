@@ -3,7 +3,8 @@ use Rattle.std.proofs.Common.{◌≡◌, ◌+◌, ◌∷◌, [], length, ap, ◌
 use Rattle.std.proofs.lemmas.Result.{err_from_is_err_and}
 use Rattle.instance.specs.ParetoFront.{problem_vector}
 use Rattle.representative_search.specs.Gathered.{IsPartOfSearch}
-use Rattle.representative_search.proofs.FurtherModels.{lists_again, more_gathered, stop_again, touched_twice}
+use Rattle.representative_search.proofs.BegunAnew.{touched_twice}
+use Rattle.representative_search.proofs.FurtherModels.{lists_again, more_gathered, stop_again}
 use Rattle.representative_search.proofs.gathering.gather.Goals as goal
 
 pub returns-in_err-model-clause-stop : goal.returns-in_err-model-clause-stop

@@ -1,33 +1,20 @@
--- What the recorder answered, of the file that it leaves.
-use Rattle.std.proofs.Common.{rules, subst}
-use Rattle.std.specs.Prelude.{IfOk, IfErr}
-use Rattle.proof_text.specs.LogParts.{IsLogStopped}
-use Rattle.proof_text.specs.declared.version.LogVersion.TheVariants.{One}
-use Rattle.representative_search.specs.Seeking.{IsBegunAnew, IsSought}
-use Rattle.representative_search.proofs.Searches.{sought_left, stopped_left, touched_left}
+-- The solver begins the log anew, after the relaxation.
+use Rattle.representative_search.proofs.BegunAnew.{begun_anew, searched_anew, stopped_anew}
 use Rattle.representative_search.proofs.seeking.seek_model.Goals as goal
 
-pub returns-clause-sought : goal.returns-clause-sought
-returns-clause-sought g c =
+pub returns-in-Unknown-clause-sought : goal.returns-in-Unknown-clause-sought
+returns-in-Unknown-clause-sought g c =
     let world = g.H.Shelf.world in
-    let r = c.seek_over-sought.result in
-    subst (λ h. IfOk r.0 (IsSought (world c.args.shelf.now).files (world h).files c.args.name.now c.args.problem.now)) (search rules)
-    (sought_left world (world c.args.shelf.now).files c.args.name.now _ c.args.problem.now c.in-Ok.recorder r.1 c.finish-shelf.result.now r.0
-    c.in-Ok.ensures.name c.in-Ok.ensures.problem c.in-Ok.ensures.version c.in-Ok.ensures.begun c.finish-shelf.ensures.same c.finish-shelf.ensures.log c.finish-shelf.ensures.kept c.seek_over-sought.ensures)
+    searched_anew (world c.args.shelf.now).files (world c.relax.new.shelf).files (world c.search.new.shelf).files c.args.name.now c.args.problem.now c.relax.ensures.touched
+    c.search.result c.search.ensures.sought
 
-pub returns-clause-touched : goal.returns-clause-touched
-returns-clause-touched g c =
+pub returns-in-Unknown-clause-touched : goal.returns-in-Unknown-clause-touched
+returns-in-Unknown-clause-touched g c =
     let world = g.H.Shelf.world in
-    let r = c.seek_over-sought.result in
-    subst (λ h. IsBegunAnew (world c.args.shelf.now).files (world h).files c.args.name.now c.args.problem.now) (search rules)
-    (touched_left world (world c.args.shelf.now).files c.args.name.now _ c.args.problem.now c.in-Ok.recorder r.1 c.finish-shelf.result.now r.0
-    c.in-Ok.ensures.name c.in-Ok.ensures.problem c.in-Ok.ensures.version c.in-Ok.ensures.begun c.finish-shelf.ensures.same c.finish-shelf.ensures.log c.finish-shelf.ensures.kept c.seek_over-sought.ensures)
+    begun_anew (world c.args.shelf.now).files (world c.relax.new.shelf).files (world c.search.new.shelf).files c.args.name.now c.args.problem.now c.relax.ensures.touched c.search.ensures.touched
 
-pub returns-clause-stop : goal.returns-clause-stop
-returns-clause-stop g c =
+pub returns-in-Unknown-clause-stop : goal.returns-in-Unknown-clause-stop
+returns-in-Unknown-clause-stop g c =
     let world = g.H.Shelf.world in
-    let r = c.seek_over-sought.result in
-    subst (λ h. IfErr r.0 (λ fault. IsLogStopped fault (world c.args.shelf.now).files (world h).files c.args.problem.now c.args.name.now One (world c.args.shelf.now).faults (world h).faults)) (search rules)
-    (stopped_left world (world c.args.shelf.now).files c.args.name.now _ c.args.problem.now c.in-Ok.recorder r.1 c.finish-shelf.result.now r.0
-    c.in-Ok.ensures.name c.in-Ok.ensures.problem c.in-Ok.ensures.version c.in-Ok.ensures.begun c.finish-shelf.ensures.same c.finish-shelf.ensures.log c.finish-shelf.ensures.kept c.seek_over-sought.ensures
-    (world c.args.shelf.now).faults c.in-Ok.ensures.later)
+    stopped_anew (world c.args.shelf.now).files (world c.relax.new.shelf).files (world c.search.new.shelf).files c.args.name.now c.args.problem.now c.relax.ensures.touched
+    (world c.args.shelf.now).faults (world c.relax.new.shelf).faults (world c.search.new.shelf).faults c.relax.ensures.later c.search.result c.search.ensures.stop

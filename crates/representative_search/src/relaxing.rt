@@ -1,0 +1,122 @@
+// What the linear relaxation of a problem tells of its models; the proof goes to a file.
+ghost use Rattle.std.specs.Prelude.{◌≡◌, ◌↔◌, false, [], length, All, IfOk, IfErr, IfSome, IsTrue};
+ghost use Rattle.scut_base.specs.Faults.{NoneFell};
+ghost use Rattle.pb_lin.specs.Constraint.{Holds, UpTo};
+ghost use Rattle.pb_lin.specs.Problem.{IsProblemModel};
+ghost use Rattle.proof_text.specs.LogParts.{IsLogStopped};
+ghost use Rattle.proof_text.specs.declared.version.LogVersion.TheVariants.{One};
+ghost use Rattle.sum_outputs.specs.Adding.{IsReady, IsRecorded};
+ghost use Rattle.linear_search.specs.Replies.{IsReply};
+ghost use Rattle.representative_search.specs.Seeking.{IsBegunAnew, IsRelaxed, IsSought, Leaves, WhereKnown};
+
+use crate::ending::end_proof;
+use linear_search::{LinearSearch, Reply};
+use pb_lin::{Constraint, PbProblem};
+use proof_rules::{RecordFault, Recorder};
+use proof_text::FileRecorder;
+use scut_base::{Assignment, Lit, NoMemory, Shelf};
+use std::alloc::Global;
+
+// What may be lost on a question that stays open is a quarter of this: pivots times rows times columns.
+const PURSE: u64 = 200_000_000;
+
+// What a relaxation tells.
+#[derive(Debug, Drop)]
+pub(crate) enum Relaxed {
+    // A model, or that there is none.
+    Known(Option<Assignment>),
+    // Nothing.
+    Unknown,
+}
+
+// A model of the problem by its linear relaxation, or none, and then the log is an ended proof of that, which logs nothing; or nothing
+// is known. The log is begun anew.
+pub(crate) fn relax<'a, H: Shelf>(
+    alloc: Global,
+    shelf: &'a mut H,
+    name: &'a str,
+    problem: &PbProblem,
+) -> Result<Relaxed, RecordFault>
+    ensures told { IfOk result (λ told. WhereKnown told (IsSought (H.world shelf.old).files
+        (H.world shelf.new).files name.now problem.now)) }
+    ensures touched { IsBegunAnew (H.world shelf.old).files (H.world shelf.new).files
+        name.now problem.now }
+    ensures stop { IfErr result (λ fault. IsLogStopped fault (H.world shelf.old).files
+        (H.world shelf.new).files problem.now name.now One
+        (H.world shelf.old).faults (H.world shelf.new).faults) }
+    ensures said { (H.world shelf.new).said ≡ (H.world shelf.old).said }
+    ensures warned { (H.world shelf.new).warned ≡ (H.world shelf.old).warned }
+    ensures later { NoneFell (H.world shelf.old).faults (H.world shelf.new).faults }
+{
+    let mut recorder = match FileRecorder::new(alloc, shelf, name, problem) {
+        Ok(recorder) => recorder,
+        Err(refused) => return Err(refused.fault),
+    };
+    let told = relax_over(alloc, problem, &mut recorder);
+    let _shelf = recorder.finish();
+    told
+}
+
+// Asks the relaxation over a recorder without lines, and ends the proof where it tells that there is no model.
+fn relax_over<R: Recorder>(
+    alloc: Global,
+    problem: &PbProblem,
+    rec: &mut R,
+) -> Result<Relaxed, RecordFault>
+    requires problem { (R.seen rec.old).problem ≡ problem.now }
+    requires begun { (R.seen rec.old).lines ≡ [] }
+    requires whole { (R.seen rec.old).broken ≡ false }
+    ensures { Leaves (IsRelaxed problem.now) (R.seen rec.old) (R.seen rec.new) result }
+{
+    // Tells that no lines reach a state.
+    let _state = rec.state();
+    match ask(alloc, problem, rec)? {
+        Reply::Closed(core) => {
+            end_proof(rec, core.id)?;
+            Ok(Relaxed::Known(None))
+        }
+        Reply::Model(lits) => match model_of(alloc, problem, lits.as_slice())? {
+            Some(model) => Ok(Relaxed::Known(Some(model))),
+            None => Ok(Relaxed::Unknown),
+        },
+        Reply::Unknown => Ok(Relaxed::Unknown),
+    }
+}
+
+// What the relaxation answers where nothing is assumed.
+fn ask<R: Recorder>(alloc: Global, problem: &PbProblem, rec: &mut R) -> Result<Reply, RecordFault>
+    requires ready { IsReady (R.seen rec.old) }
+    ensures recorded { IsRecorded (R.seen rec.old) (R.seen rec.new) result }
+    ensures reply { IfOk result (IsReply (R.seen rec.new) []) }
+{
+    let mut search = LinearSearch::new(alloc, problem, PURSE)?;
+    search.ask(rec, &[], &[])
+}
+
+// The assignment that makes these literals true and all other variables false, where it is a model of the problem.
+fn model_of(
+    alloc: Global,
+    problem: &PbProblem,
+    lits: &[Lit],
+) -> Result<Option<Assignment>, NoMemory>
+    ensures { IfOk result (λ model. IfSome model (IsProblemModel problem.now)) }
+{
+    let mut values = Assignment::new(alloc, problem.vars())?;
+    for lit in lits {
+        if lit.var() <= problem.vars() {
+            values.set(*lit);
+        }
+    }
+    if all_hold(problem.rows(), &values) {
+        return Ok(Some(values));
+    }
+    Ok(None)
+}
+
+// Whether the assignment makes all of them true.
+fn all_hold(rows: &[Constraint], a: &Assignment) -> bool
+    requires { All (UpTo (length a.now)) rows.now }
+    ensures { IsTrue result ↔ All (Holds a.now) rows.now }
+{
+    rows.iter().all(|row| row.holds(a))
+}
