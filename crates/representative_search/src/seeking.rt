@@ -23,7 +23,7 @@ pub(crate) fn seek_model<'a, H: Shelf>(
     alloc: Global,
     shelf: &'a mut H,
     name: &'a str,
-    problem: &PbProblem,
+    problem: &'a PbProblem,
 ) -> Result<Option<Assignment>, RecordFault>
     ensures sought { IfOk result (IsSought (H.world shelf.old).files (H.world shelf.new).files
         name.now problem.now) }
