@@ -2,31 +2,48 @@
 ghost use Rattle.std.specs.Prelude.{List, ◌≡◌, ◌≢◌, ◌^◌, ◌++◌, ◌∷◌, [], length, map, IfOk, IfSome, OnOk, OnErr, MatchBool};
 ghost use Rattle.proof_laws.specs.State.{IsState};
 ghost use Rattle.proof_laws.specs.declared.line.Line.{Line};
-ghost use Rattle.proof_text.specs.KeptLines.{hint_of, line_of};
+ghost use Rattle.scut_base.specs.LiteralCode.{literal_of};
+ghost use Rattle.proof_text.specs.KeptLines.{IsProofOf, hint_of, line_of, literals_from};
 
 use crate::keeping::MAX_LINES;
 use hint_rup::Hint;
 use pb_lin::Constraint;
 use proof_laws::Line;
 use proof_rules::ProofState;
-use scut_base::{Duplicate, Items, NoMemory};
+use scut_base::{Duplicate, Items, Lit, NoMemory, boxed};
 use std::alloc::Global;
 use std::marker::Model;
 
 // The number of the hint of id 0.
 const FIRST_ID: u32 = 2;
 
+/// A clause with its hints, in 4 bytes for each literal and for each hint.
+#[derive(Debug, Drop)]
+pub(crate) struct ShortProof {
+    pub(crate) codes: Items<u32>,
+    pub(crate) numbers: Items<u32>,
+}
+
 /// A line as it is kept.
 #[derive(Debug, Drop)]
 pub(crate) enum KeptLine {
-    /// A learned line, with a number for each hint, which takes a quarter of the hint's room.
+    /// A learned clause.
     Learned {
-        goal: Constraint,
-        numbers: Items<u32>,
+        proof: ShortProof,
+    },
+    /// An implied clause.
+    Implied {
+        proof: ShortProof,
+    },
+    /// A model by its values.
+    Logged {
+        values: Items<bool>,
+        cut: Items<Lit>,
+        rows: Items<u64>,
     },
     /// Any line.
     Whole {
-        line: Line,
+        line: Box<Line>,
     },
 }
 
@@ -90,27 +107,77 @@ fn kept_copy(alloc: Global, line: &Line) -> Result<KeptLine, NoMemory>
     ensures { IfOk result (λ kept. line_of kept ≡ line.now) }
 {
     match line {
-        Line::Learn { goal, hints } => learned_copy(alloc, goal, hints),
-        _ => Ok(KeptLine::Whole {
-            line: line.copy(alloc)?,
-        }),
+        Line::Learn { goal, hints } => match short_proof(alloc, goal, hints.as_slice())? {
+            Some(proof) => Ok(KeptLine::Learned { proof }),
+            None => whole_copy(alloc, line),
+        },
+        Line::Rup { goal, hints } => match short_proof(alloc, goal, hints.as_slice())? {
+            Some(proof) => Ok(KeptLine::Implied { proof }),
+            None => whole_copy(alloc, line),
+        },
+        Line::Sol { model, cut, rows } => match values_of(alloc, model.as_slice())? {
+            Some(values) => Ok(KeptLine::Logged {
+                values,
+                cut: cut.copy(alloc)?,
+                rows: rows.copy(alloc)?,
+            }),
+            None => whole_copy(alloc, line),
+        },
+        _ => whole_copy(alloc, line),
     }
 }
 
-// A copy of a learned line of this goal and these hints.
-fn learned_copy(alloc: Global, goal: &Constraint, hints: &Items<Hint>) -> Result<KeptLine, NoMemory>
-    ensures { IfOk result (λ kept. line_of kept ≡ Line.Learn goal.now hints.now) }
+// A copy of any line.
+fn whole_copy(alloc: Global, line: &Line) -> Result<KeptLine, NoMemory>
+    ensures { IfOk result (λ kept. line_of kept ≡ line.now) }
 {
-    let goal = goal.copy(alloc)?;
-    match numbers_of(alloc, hints.as_slice())? {
-        Some(numbers) => Ok(KeptLine::Learned { goal, numbers }),
-        None => Ok(KeptLine::Whole {
-            line: Line::Learn {
-                goal,
-                hints: hints.copy(alloc)?,
-            },
-        }),
+    let line = boxed(alloc, line.copy(alloc)?)?;
+    Ok(KeptLine::Whole { line })
+}
+
+// A clause with its hints, or none where it is no clause or a number is too large.
+fn short_proof(
+    alloc: Global,
+    goal: &Constraint,
+    hints: &[Hint],
+) -> Result<Option<ShortProof>, NoMemory>
+    ensures { IfOk result (λ found. IfSome found (IsProofOf goal.now hints.now)) }
+{
+    if !goal.is_clause() {
+        return Ok(None);
     }
+    let Some(codes) = codes_of(alloc, goal.literals())? else {
+        return Ok(None);
+    };
+    let Some(numbers) = numbers_of(alloc, hints)? else {
+        return Ok(None);
+    };
+    Ok(Some(ShortProof { codes, numbers }))
+}
+
+// The codes of these literals, or none where a variable is too large for them.
+fn codes_of(alloc: Global, lits: &[Lit]) -> Result<Option<Items<u32>>, NoMemory>
+    ensures { IfOk result (λ found. IfSome found (λ codes. map literal_of codes ≡ lits.now)) }
+{
+    let mut codes = Items::with_capacity(alloc, lits.len())?;
+    for lit in lits {
+        match code_of(*lit) {
+            Some(code) => codes.push(code)?,
+            None => return Ok(None),
+        }
+    }
+    Ok(Some(codes))
+}
+
+// Twice a literal's variable, plus 1 for a negation, or none where the variable is too large.
+fn code_of(lit: Lit) -> Option<u32>
+    ensures { IfSome result (λ code. literal_of code ≡ lit) }
+{
+    let var = lit.var();
+    if var > u64::from(u32::MAX / 2) {
+        return None;
+    }
+    Some(2 * var as u32 + u32::from(lit.is_neg()))
 }
 
 // The numbers of these hints, or none where an id is too large for them.
@@ -141,4 +208,20 @@ fn number_of(hint: Hint) -> Option<u32>
             Some(id as u32 + FIRST_ID)
         }
     }
+}
+
+// The values of the variables from 1 on in these literals, or none where they are of others.
+fn values_of(alloc: Global, model: &[Lit]) -> Result<Option<Items<bool>>, NoMemory>
+    ensures { IfOk result (λ found. IfSome found (λ values. literals_from 1 values ≡ model.now)) }
+{
+    let mut values = Items::with_capacity(alloc, model.len())?;
+    let mut var = 0;
+    for lit in model {
+        var += 1;
+        if lit.var() != var {
+            return Ok(None);
+        }
+        values.push(!lit.is_neg())?;
+    }
+    Ok(Some(values))
 }
