@@ -55,7 +55,7 @@ pub struct Watches {
     // By id the slot of its clause.
     index: SlotTable,
     lists: Vec<Row<Entry>>,
-    ends: Vec<usize>,
+    ends: Vec<u32>,
 }
 
 impl Watches {
@@ -186,7 +186,8 @@ impl Watches {
                 Visit::Conflict(id) => return Ok(Some(id)),
             }
         }
-        self.ends.push(trail.len() as usize)?;
+        let end = short_number(trail.len() as usize)?;
+        self.ends.push(end)?;
         Ok(None)
     }
 
