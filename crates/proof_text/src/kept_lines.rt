@@ -1,11 +1,12 @@
 // The lines of a proof in little room, since a recorder keeps all of them to its end.
-ghost use Rattle.std.specs.Prelude.{List, ◌≡◌, ◌≢◌, ◌^◌, ◌++◌, ◌∷◌, [], length, map, IfOk, IfSome, OnOk, OnErr, MatchBool};
+ghost use Rattle.std.specs.Prelude.{List, ◌≡◌, ◌≢◌, ◌<◌, ◌^◌, ◌++◌, ◌∷◌, [], length, map, pos, IfOk, IfSome, OnOk, OnErr, MatchBool};
 ghost use Rattle.proof_laws.specs.State.{IsState};
 ghost use Rattle.proof_laws.specs.declared.line.Line.{Line};
 ghost use Rattle.scut_base.specs.LiteralCode.{literal_of};
-ghost use Rattle.proof_text.specs.KeptLines.{IsProofOf, hint_of, line_of, literals_from};
+ghost use Rattle.proof_text.specs.KeptLines.{IsModelOf, IsProofOf, hint_of, line_of, literals_from, token_by, token_of};
 
 use crate::keeping::MAX_LINES;
+use cutting_planes::PolToken;
 use hint_rup::Hint;
 use pb_lin::Constraint;
 use proof_laws::Line;
@@ -24,27 +25,27 @@ pub(crate) struct ShortProof {
     pub(crate) numbers: Items<u32>,
 }
 
+/// A model by its values.
+#[derive(Debug, Drop)]
+pub(crate) struct ShortModel {
+    pub(crate) values: Items<bool>,
+    pub(crate) cut: Items<Lit>,
+    pub(crate) rows: Items<u64>,
+}
+
 /// A line as it is kept.
 #[derive(Debug, Drop)]
 pub(crate) enum KeptLine {
     /// A learned clause.
-    Learned {
-        proof: ShortProof,
-    },
+    Learned { proof: ShortProof },
     /// An implied clause.
-    Implied {
-        proof: ShortProof,
-    },
-    /// A model by its values.
-    Logged {
-        values: Items<bool>,
-        cut: Items<Lit>,
-        rows: Items<u64>,
-    },
+    Implied { proof: ShortProof },
+    /// A combination of lines, with a number for each token, which takes an eighth of the token's room.
+    Combined { numbers: Items<u32> },
+    /// A logged model.
+    Logged { model: Box<ShortModel> },
     /// Any line.
-    Whole {
-        line: Box<Line>,
-    },
+    Whole { line: Box<Line> },
 }
 
 /// Lines that are put at the end one by one, and not read again. Contracts see the list of them.
@@ -115,12 +116,12 @@ fn kept_copy(alloc: Global, line: &Line) -> Result<KeptLine, NoMemory>
             Some(proof) => Ok(KeptLine::Implied { proof }),
             None => whole_copy(alloc, line),
         },
-        Line::Sol { model, cut, rows } => match values_of(alloc, model.as_slice())? {
-            Some(values) => Ok(KeptLine::Logged {
-                values,
-                cut: cut.copy(alloc)?,
-                rows: rows.copy(alloc)?,
-            }),
+        Line::Pol { tokens } => match token_numbers(alloc, tokens.as_slice())? {
+            Some(numbers) => Ok(KeptLine::Combined { numbers }),
+            None => whole_copy(alloc, line),
+        },
+        Line::Sol { model, cut, rows } => match short_model(alloc, model, cut, rows)? {
+            Some(model) => Ok(KeptLine::Logged { model }),
             None => whole_copy(alloc, line),
         },
         _ => whole_copy(alloc, line),
@@ -133,6 +134,26 @@ fn whole_copy(alloc: Global, line: &Line) -> Result<KeptLine, NoMemory>
 {
     let line = boxed(alloc, line.copy(alloc)?)?;
     Ok(KeptLine::Whole { line })
+}
+
+// A model with its cut and rows, or none where its literals aren't those of the variables in order.
+fn short_model(
+    alloc: Global,
+    model: &Items<Lit>,
+    cut: &Items<Lit>,
+    rows: &Items<u64>,
+) -> Result<Option<Box<ShortModel>>, NoMemory>
+    ensures { IfOk result (λ found. IfSome found (λ kept. IsModelOf model.now cut.now rows.now kept.value)) }
+{
+    let Some(values) = values_of(alloc, model.as_slice())? else {
+        return Ok(None);
+    };
+    let model = ShortModel {
+        values,
+        cut: cut.copy(alloc)?,
+        rows: rows.copy(alloc)?,
+    };
+    Ok(Some(boxed(alloc, model)?))
 }
 
 // A clause with its hints, or none where it is no clause or a number is too large.
@@ -208,6 +229,57 @@ fn number_of(hint: Hint) -> Option<u32>
             Some(id as u32 + FIRST_ID)
         }
     }
+}
+
+// The numbers of these tokens, or none where one has none.
+fn token_numbers(alloc: Global, tokens: &[PolToken]) -> Result<Option<Items<u32>>, NoMemory>
+    ensures { IfOk result (λ found. IfSome found (λ numbers. map token_of numbers ≡ tokens.now)) }
+{
+    let mut numbers = Items::with_capacity(alloc, tokens.len())?;
+    for token in tokens {
+        match token_number(*token) {
+            Some(number) => numbers.push(number)?,
+            None => return Ok(None),
+        }
+    }
+    Ok(Some(numbers))
+}
+
+// The number of a token, or none where what it names is too large, or it names what is to be proved.
+fn token_number(token: PolToken) -> Option<u32>
+    ensures { IfSome result (λ number. token_of number ≡ token) }
+{
+    match token {
+        PolToken::Id(id) => joined(0, id),
+        PolToken::Add => joined(1, 0),
+        PolToken::Saturate => joined(2, 0),
+        PolToken::Mul(by) => joined(3, small_positive(by)?),
+        PolToken::Div(by) => joined(4, small_positive(by)?),
+        PolToken::Weaken(var) => joined(5, var),
+        PolToken::Axiom(lit) => joined(6, u64::from(code_of(lit)?)),
+        PolToken::Negated | PolToken::Denied => None,
+    }
+}
+
+// The number of a kind of token with this number, or none where that is too large.
+fn joined(kind: u32, number: u64) -> Option<u32>
+    requires { kind < 8 }
+    ensures { IfSome result (λ n. token_of n ≡ token_by kind number) }
+{
+    if number > u64::from(u32::MAX / 8) {
+        return None;
+    }
+    Some(number as u32 * 8 + kind)
+}
+
+// A number that isn't below 0 and isn't large, for `joined`.
+fn small_positive(number: i128) -> Option<u64>
+    ensures { IfSome result (λ n. pos n ≡ number) }
+{
+    if number < 0 || number > i128::from(u32::MAX) {
+        return None;
+    }
+    Some(number as u64)
 }
 
 // The values of the variables from 1 on in these literals, or none where they are of others.
