@@ -1,4 +1,4 @@
-use Rattle.std.proofs.Common.{◌≡◌, ◌%◌, ◌/◌, ap₂, arith}
+use Rattle.std.proofs.Common.{ap₂, arith}
 use Rattle.proof_text.specs.KeptLines.{token_by}
 use Rattle.proof_text.proofs.kept_lines.joined.Goals as goal
 
