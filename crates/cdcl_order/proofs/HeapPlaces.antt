@@ -1,5 +1,5 @@
 -- The table of places, as two variables of the heap change places.
-use Rattle.std.proofs.Common.{◌≡◌, ◌≢◌, ℕ, ◌+◌, ◌-◌, ◌<◌, ◌≤◌, List, length, get_or, set, arith, ap, sym, ◌∙◌, subst, ⊎_elim, length-set, get_or-set_other, get_or-set_same}
+use Rattle.std.proofs.Common.{◌≡◌, ◌≢◌, ℕ, ◌+◌, ◌-◌, ◌^◌, ◌<◌, ◌≤◌, List, length, get_or, set, arith, ap, sym, ◌∙◌, subst, ⊎_elim, length-set, get_or-set_other, get_or-set_same}
 use Rattle.std.specs.List.{swap}
 use Rattle.std.proofs.lemmas.Bool.{cases_eq, cases_lt}
 use Rattle.std.proofs.lemmas.List.{get_or_default}
@@ -10,6 +10,7 @@ pub places_swapped : (n : ℕ) (vars places : List ℕ) (count i j : ℕ) (more 
     → ArePlaces n more (set (set places (get_or vars i 0 - 1) j) (get_or vars j 0 - 1) i) count
 places_swapped n vars places count i j more are in_i in_j is = record {
   room = ap length is ∙ length-swap vars i j ∙ are.room;
+  small = are.small;
   placed = length-set (set places a j) b i ∙ length-set places a j ∙ are.placed;
   counted = are.counted;
   below = λ var positive within. ⊎_elim
@@ -103,9 +104,10 @@ var_of n vars places count place var are inside is =
 
 -- ---- more variables
 
-pub places_longer : (n : ℕ) (vars more_vars places more_places : List ℕ) (count more : ℕ) → ArePlaces n vars places count → CountsOn vars more_vars 1 more → CountsOn places more_places 0 more → ArePlaces (n + more) more_vars more_places count
-places_longer n vars more_vars places more_places count more are v p = record {
+pub places_longer : (n : ℕ) (vars more_vars places more_places : List ℕ) (count more : ℕ) → ArePlaces n vars places count → n + more < 2 ^ 32 → CountsOn vars more_vars 1 more → CountsOn places more_places 0 more → ArePlaces (n + more) more_vars more_places count
+places_longer n vars more_vars places more_places count more are few v p = record {
   room = omega (arith, v.long, are.room);
+  small = few;
   placed = omega (arith, p.long, are.placed);
   counted = omega (arith, are.counted);
   below = λ var positive within. ⊎_elim

@@ -1,5 +1,5 @@
 -- Heaps of variables: all variables in one list, the first of which are the heap.
-use Rattle.std.specs.Prelude.{◌≡◌, ◌≢◌, ◌⊎◌, ℕ, ◌+◌, ◌-◌, ◌/◌, ◌<◌, ◌≤◌, Bool, List, length, All, ◌++◌, replicate, slice_index_or, slice_set, swap}
+use Rattle.std.specs.Prelude.{◌≡◌, ◌≢◌, ◌⊎◌, ℕ, ◌+◌, ◌-◌, ◌/◌, ◌^◌, ◌<◌, ◌≤◌, Bool, List, length, All, ◌++◌, replicate, slice_index_or, slice_set, swap}
 use Rattle.cdcl_order.specs.Order.{limit}
 
 -- activities by variable from 1 on; the variables, of which the first `count` wait; and for how many there is memory
@@ -9,9 +9,14 @@ pub record HeapValue : Type 0 where
   pub count : ℕ
   pub room : ℕ
 
+-- for how many variables there is room at most
+abbrev pub most_vars : ℕ
+most_vars = 2 ^ 32 - 1
+
 -- each variable up to n has one place, and the table of places tells it
 pub record ArePlaces (n : ℕ) (vars places : List ℕ) (count : ℕ) : Type 0 where
   pub room : length vars ≡ n
+  pub small : n < 2 ^ 32
   pub placed : length places ≡ n
   pub counted : count ≤ n
   pub below : (var : ℕ) → 0 < var → var ≤ n → slice_index_or places (var - 1) 0 < n

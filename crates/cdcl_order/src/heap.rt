@@ -6,21 +6,24 @@ use scut_base::NoMemory;
 use std::alloc::Global;
 use std::marker::Model;
 
+// For how many variables there is room: their numbers take 4 bytes.
+const MOST_VARS: usize = u32::MAX as usize;
+
 /// All variables from 1 on, of which those that wait form a heap with the most active in front.
 /// Taking, adding and raising a variable cost the logarithm of the number that wait.
 #[derive(Debug, Drop)]
 pub struct VariableHeap {
     activities: Vec<u64>,
     // The first `count` wait and are the heap; the others follow in any order.
-    vars: Vec<u64>,
+    vars: Vec<u32>,
     // By variable its place in that list.
-    places: Vec<u64>,
+    places: Vec<u32>,
     count: usize,
 }
 
 impl Model for VariableHeap {
     ghost use Rattle.std.specs.Prelude.{length, min, vec_capacity};
-    ghost use Rattle.cdcl_order.specs.Heap.{HeapValue, ArePlaces};
+    ghost use Rattle.cdcl_order.specs.Heap.{HeapValue, ArePlaces, most_vars};
 
     ghost Value = { HeapValue };
 
@@ -28,7 +31,8 @@ impl Model for VariableHeap {
       activities = h.activities.items;
       vars = h.vars.items;
       count = h.count;
-      room = min (vec_capacity h.activities) (min (vec_capacity h.vars) (vec_capacity h.places));
+      room = min most_vars
+          (min (vec_capacity h.activities) (min (vec_capacity h.vars) (vec_capacity h.places)));
     } };
 
     ghost invariant = { λ h.
@@ -102,8 +106,8 @@ impl VariableHeap {
         let var = self.vars[first];
         let other = self.vars[second];
         self.vars.swap(first, second);
-        self.places[(var - 1) as usize] = second as u64;
-        self.places[(other - 1) as usize] = first as u64;
+        self.places[(var - 1) as usize] = second as u32;
+        self.places[(other - 1) as usize] = first as u32;
     }
 
     // Moves the variable at a place up until none above it is less active.
@@ -171,7 +175,7 @@ impl VariableHeap {
         self.swap(0, last);
         self.count = last;
         self.sift_down(0);
-        Some(var)
+        Some(u64::from(var))
     }
 
     /// Adds to the activity of a variable, and answers the sum.
@@ -216,6 +220,9 @@ impl VariableHeap {
         ensures same { self.new ≡ with_room self.old self.new.room }
         ensures room { OnOk result (vars ≤ self.new.room) }
     {
+        if vars > MOST_VARS {
+            return Err(NoMemory);
+        }
         let more = vars.saturating_sub(self.activities.len());
         self.activities.reserve(more)?;
         self.vars.reserve(more)?;
@@ -272,13 +279,13 @@ pub fn push_copies<T: Copy>(list: &mut Vec<T>, item: T, more: usize)
 }
 
 // Puts numbers at the end of a list that has room for them, each of them its place plus `shift`.
-fn count_on(list: &mut Vec<u64>, shift: u64, more: usize)
-    requires small { shift ≤ 1 }
+fn count_on(list: &mut Vec<u32>, shift: u32, more: usize)
+    requires small { vec_len list.old + more + shift ≤ 2 ^ 32 }
     requires room { vec_len list.old + more ≤ vec_capacity list.old }
     ensures { CountsOn list.old.items list.new.items shift more }
 {
     for _ in 0..more {
-        let next = list.len() as u64 + shift;
+        let next = list.len() as u32 + shift;
         list.push_reserved(next);
     }
 }

@@ -1,7 +1,6 @@
 -- What keeps the slots in step with the stored clauses.
-use Rattle.std.proofs.Common.{◌≡◌, ◌≢◌, ℕ, Bool, true, false, ◌<◌, ◌≤◌, cond, nat_eq, Option, Some, None, List, [], ◌∷◌, ◌++◌, length, get_or, set, refl, arith, ap, sym, subst, ◌∙◌, inl, inr, get_or-set_same, get_or-set_other}
+use Rattle.std.proofs.Common.{◌≡◌, ◌≢◌, ℕ, Bool, true, false, ◌<◌, ◌≤◌, Option, Some, None, List, [], ◌∷◌, ◌++◌, length, get_or, set, refl, arith, ap, sym, subst, ◌∙◌, inl, inr, get_or-set_same, get_or-set_other}
 use Rattle.std.specs.List.Sorted.{IsPermutation}
-use Rattle.std.specs.Map.{lookup}
 use Rattle.std.specs.FinMap.{get, remove, empty, get-remove, get-empty}
 use Rattle.std.specs.Ordering.{nat_cmp, eq_by_cmp}
 use Rattle.std.proofs.lemmas.Bool.{cases_eq, false≢true, cond-true, cond-false, eq-eqb, ne_eqb}
@@ -12,6 +11,7 @@ use Rattle.std.proofs.lemmas.List.Sorted.{IsPermutation-trans, length_permutatio
 use Rattle.pb_lin.specs.Constraint.{ConstraintValue}
 use Rattle.pb_lin.specs.LineMap.{LineMap}
 use Rattle.clause_watch.specs.Slot.{Slot}
+use Rattle.clause_watch.specs.SlotTable.{slot_in}
 use Rattle.clause_prop.specs.LineKinds.{is_watched, IsClosedForWatched, IsClosedForCounted}
 use Rattle.pb_lin.specs.Propagation.{IsClosedUnder}
 use Rattle.clause_prop.specs.Steps.{TrailValue, partial}
@@ -37,16 +37,13 @@ other_id : (lines : LineMap) (id q : ℕ) (c : ConstraintValue) → get (remove 
 other_id lines id q c there same = none_not_some (get (remove lines id) q) c (ap (get (remove lines id)) same ∙ get_removed lines id) there
 
 -- an index that gives another id what it gave
-abbrev pub FindsOthers : List (ℕ × ℕ) → List (ℕ × ℕ) → ℕ → Type 0
-FindsOthers old new id = (q : ℕ) → q ≢ id → lookup (nat_eq q) new ≡ lookup (nat_eq q) old
-
-pub finds_others : (old new : List (ℕ × ℕ)) (id : ℕ) (w : Option ℕ) → ((q : ℕ) → lookup (nat_eq q) new ≡ cond (nat_eq id q) w (lookup (nat_eq q) old)) → FindsOthers old new id
-finds_others old new id w updates q other = updates q ∙ cond-false (nat_eq id q) w (lookup (nat_eq q) old) (ne_eqb id q (λ e. other (sym e)))
+abbrev pub FindsOthers : List ℕ → List ℕ → ℕ → Type 0
+FindsOthers old new id = (q : ℕ) → q ≢ id → slot_in new q ≡ slot_in old q
 
 -- ---- slots
 
 -- a clause in another order
-pub hold_reordered : (own : List Slot) (index : List (ℕ × ℕ)) (lines : LineMap) (slot : ℕ) (s : Slot) → AreSlots own index lines → s.id ≡ (get_or own slot no_slot).id → IsPermutation (clause_at own slot) s.lits → AreSlots (set own slot s) index lines
+pub hold_reordered : (own : List Slot) (index : List ℕ) (lines : LineMap) (slot : ℕ) (s : Slot) → AreSlots own index lines → s.id ≡ (get_or own slot no_slot).id → IsPermutation (clause_at own slot) s.lits → AreSlots (set own slot s) index lines
 hold_reordered own index lines slot s slots same_id same =
     let len = length_permutation _ _ same in
     record {
@@ -58,7 +55,7 @@ hold_reordered own index lines slot s slots same_id same =
             kind = old.kind;
             merged = old.merged;
             same = IsPermutation-trans _ _ _ old.same same;
-            found = ap (λ (i : ℕ). lookup (nat_eq i) index) same_id ∙ old.found;
+            found = ap (λ (i : ℕ). slot_in index i) same_id ∙ old.found;
           });
       held = λ id c there kind.
           let h = slots.held id c there kind in
@@ -70,7 +67,7 @@ hold_reordered own index lines slot s slots same_id same =
     }
 
 -- a slot without literals is put at the end, whose id has no line
-pub hold_slot : (own : List Slot) (index new : List (ℕ × ℕ)) (lines : LineMap) (s : Slot) → AreSlots own index lines → get lines s.id ≡ None → s.lits ≡ [] → FindsOthers index new s.id → AreSlots (own ++ s ∷ []) new lines
+pub hold_slot : (own : List Slot) (index new : List ℕ) (lines : LineMap) (s : Slot) → AreSlots own index lines → get lines s.id ≡ None → s.lits ≡ [] → FindsOthers index new s.id → AreSlots (own ++ s ∷ []) new lines
 hold_slot own index new lines s slots fresh none others = record {
   stored = at_push no_slot (λ j x. 2 ≤ length x.lits → IsStored x.lits new lines j x.id) own s
       (λ j long.
@@ -94,7 +91,7 @@ hold_slot own index new lines s slots fresh none others = record {
 }
 
 -- a slot without literals gets the clause of its id
-pub hold_filled : (own : List Slot) (index : List (ℕ × ℕ)) (lines : LineMap) (slot : ℕ) (s : Slot) (line : ConstraintValue) → AreSlots own index (remove lines s.id) → slot < length own → clause_at own slot ≡ [] → 2 ≤ length s.lits → IsCopy lines s.id line s.lits → lookup (nat_eq s.id) index ≡ Some slot → AreSlots (set own slot s) index lines
+pub hold_filled : (own : List Slot) (index : List ℕ) (lines : LineMap) (slot : ℕ) (s : Slot) (line : ConstraintValue) → AreSlots own index (remove lines s.id) → slot < length own → clause_at own slot ≡ [] → 2 ≤ length s.lits → IsCopy lines s.id line s.lits → slot_in index s.id ≡ Some slot → AreSlots (set own slot s) index lines
 hold_filled own index lines slot s line slots within none long copy found = record {
   stored = at_set no_slot (λ j x. 2 ≤ length x.lits → IsStored x.lits index lines j x.id) own slot s
       (λ j more.
@@ -121,7 +118,7 @@ hold_filled own index lines slot s line slots within none long copy found = reco
 }
 
 -- an id that no slot has is dropped
-pub hold_absent : (own : List Slot) (index new : List (ℕ × ℕ)) (lines : LineMap) (id : ℕ) → AreSlots own index lines → FindsOthers index new id → ((j : ℕ) → 2 ≤ length (clause_at own j) → (get_or own j no_slot).id ≢ id) → AreSlots own new (remove lines id)
+pub hold_absent : (own : List Slot) (index new : List ℕ) (lines : LineMap) (id : ℕ) → AreSlots own index lines → FindsOthers index new id → ((j : ℕ) → 2 ≤ length (clause_at own j) → (get_or own j no_slot).id ≢ id) → AreSlots own new (remove lines id)
 hold_absent own index new lines id slots others absent = record {
   stored = λ j long.
       let old = slots.stored j long in
@@ -138,16 +135,16 @@ hold_absent own index new lines id slots others absent = record {
 }
 
 -- a slot whose id the index doesn't lead to
-pub absent_by : (own : List Slot) (index : List (ℕ × ℕ)) (lines : LineMap) (id : ℕ) (o : Option ℕ) → AreSlots own index lines → lookup (nat_eq id) index ≡ o → ((j : ℕ) → o ≡ Some j → 2 ≤ length (clause_at own j) → (get_or own j no_slot).id ≢ id) → (j : ℕ) → 2 ≤ length (clause_at own j) → (get_or own j no_slot).id ≢ id
+pub absent_by : (own : List Slot) (index : List ℕ) (lines : LineMap) (id : ℕ) (o : Option ℕ) → AreSlots own index lines → slot_in index id ≡ o → ((j : ℕ) → o ≡ Some j → 2 ≤ length (clause_at own j) → (get_or own j no_slot).id ≢ id) → (j : ℕ) → 2 ≤ length (clause_at own j) → (get_or own j no_slot).id ≢ id
 absent_by own index lines id o slots is other j long same =
     let old = slots.stored j long in
-    other j (sym is ∙ ap (λ (i : ℕ). lookup (nat_eq i) index) (sym same) ∙ old.found) long same
+    other j (sym is ∙ ap (λ (i : ℕ). slot_in index i) (sym same) ∙ old.found) long same
 
 pub same_some : (i j : ℕ) → Some i ≡ Some j → i ≡ j
 same_some i j e = cc
 
 -- the slot of the id that is dropped loses its literals
-pub hold_emptied : (own : List Slot) (index new : List (ℕ × ℕ)) (lines : LineMap) (id slot : ℕ) (s : Slot) → AreSlots own index lines → FindsOthers index new id → lookup (nat_eq id) index ≡ Some slot → (get_or own slot no_slot).id ≡ id → slot < length own → s.lits ≡ [] → AreSlots (set own slot s) new (remove lines id)
+pub hold_emptied : (own : List Slot) (index new : List ℕ) (lines : LineMap) (id slot : ℕ) (s : Slot) → AreSlots own index lines → FindsOthers index new id → slot_in index id ≡ Some slot → (get_or own slot no_slot).id ≡ id → slot < length own → s.lits ≡ [] → AreSlots (set own slot s) new (remove lines id)
 hold_emptied own index new lines id slot s slots others found own_id within none = record {
   stored = λ j long. elim (cases_eq j slot) [
     | inl e ↦ absurd (
@@ -158,7 +155,7 @@ hold_emptied own index new lines id slot s slots others found own_id within none
         let other : get_or (set own slot s) j no_slot ≡ get_or own j no_slot = get_or-set_other own slot j s no_slot n in
         let old = slots.stored j (subst (λ (x : Slot). 2 ≤ length x.lits) other long) in
         let q : ℕ = (get_or own j no_slot).id in
-        let q_other : q ≢ id = λ e. n (same_some j slot (sym old.found ∙ ap (λ (i : ℕ). lookup (nat_eq i) index) e ∙ found)) in
+        let q_other : q ≢ id = λ e. n (same_some j slot (sym old.found ∙ ap (λ (i : ℕ). slot_in index i) e ∙ found)) in
         subst (λ (x : Slot). IsStored x.lits new (remove lines id) j x.id) (sym other) (record {
           line = old.line;
           there = get_kept lines id q q_other ∙ old.there;
@@ -176,7 +173,7 @@ hold_emptied own index new lines id slot s slots others found own_id within none
 }
 
 -- the other kind of lines changes
-pub hold_same : (own : List Slot) (index : List (ℕ × ℕ)) (old new : LineMap) → AreSameWatched old new → AreSlots own index old → AreSlots own index new
+pub hold_same : (own : List Slot) (index : List ℕ) (old new : LineMap) → AreSameWatched old new → AreSlots own index old → AreSlots own index new
 hold_same own index old new same slots = record {
   stored = λ j long.
       let s = slots.stored j long in
@@ -184,7 +181,7 @@ hold_same own index old new same slots = record {
   held = λ id c there kind. slots.held id c (same.was id c kind there) kind;
 }
 
-pub hold_none_of : (own : List Slot) (index : List (ℕ × ℕ)) → own ≡ [] → AreSlots own index empty
+pub hold_none_of : (own : List Slot) (index : List ℕ) → own ≡ [] → AreSlots own index empty
 hold_none_of own index none = record {
   stored = λ j long. absurd (let past = ap (λ (o : List Slot). length (clause_at o j)) none in let zero_long = ap (λ (s : Slot). length s.lits) (get_or_past [] j no_slot (omega arith)) in omega (arith, long, past, zero_long));
   held = λ id c there kind. absurd (none_not_some (get empty id) c (get-empty nat_cmp id) there);

@@ -124,7 +124,7 @@ all_false clause trail first rest zero below = first
 all_false clause trail first rest (suc k) below = rest (suc k) (omega arith) below
 
 -- a clause whose literals are all false is a conflict
-pub conflict_at : (own : List Slot) (index : List (ℕ × ℕ)) (lines : LineMap) (n : ℕ) (steps : List Step) (j : ℕ) → AreSteps n steps → AreSlots own index lines → 2 ≤ length (clause_at own j) → Contains (lits_of steps) (opposite (get_or (clause_at own j) 0 no_literal)) → AreFalse (clause_at own j) (lits_of steps) 1
+pub conflict_at : (own : List Slot) (index : List ℕ) (lines : LineMap) (n : ℕ) (steps : List Step) (j : ℕ) → AreSteps n steps → AreSlots own index lines → 2 ≤ length (clause_at own j) → Contains (lits_of steps) (opposite (get_or (clause_at own j) 0 no_literal)) → AreFalse (clause_at own j) (lits_of steps) 1
     → IsConflict lines (record { vars = n; steps = steps }) (get_or own j no_slot).id
 conflict_at own index lines n steps j are slots long first rest =
     let s = slots.stored j long in
@@ -135,7 +135,7 @@ conflict_at own index lines n steps j are slots long first rest =
     }
 
 -- one whose literals but the first are false forces the first
-pub forced_at : (own : List Slot) (index : List (ℕ × ℕ)) (lines : LineMap) (n : ℕ) (steps : List Step) (j : ℕ) → AreSteps n steps → AreSlots own index lines → 2 ≤ length (clause_at own j) → partial_truth (assigned n steps) (get_or (clause_at own j) 0 no_literal) ≡ None → AreFalse (clause_at own j) (lits_of steps) 1
+pub forced_at : (own : List Slot) (index : List ℕ) (lines : LineMap) (n : ℕ) (steps : List Step) (j : ℕ) → AreSteps n steps → AreSlots own index lines → 2 ≤ length (clause_at own j) → partial_truth (assigned n steps) (get_or (clause_at own j) 0 no_literal) ≡ None → AreFalse (clause_at own j) (lits_of steps) 1
     → IsForcedStep lines n steps (record { lit = get_or (clause_at own j) 0 no_literal; level = last_level steps; reason = (get_or own j no_slot).id })
 forced_at own index lines n steps j are slots long first rest =
     let s = slots.stored j long in

@@ -55,7 +55,7 @@ followed_twice a b c s t u one two = record {
 }
 
 -- the two watches of a clause are exchanged, or not
-pub second_put : (own new : List Slot) (lists : List (List Entry)) (ends : List ℕ) (index : List (ℕ × ℕ)) (n : ℕ) (trail : List Literal) (lit : Literal) (at slot : ℕ) → IsLooking own lists ends n trail lit at
+pub second_put : (own new : List Slot) (lists : List (List Entry)) (ends : List ℕ) (index : List ℕ) (n : ℕ) (trail : List Literal) (lit : Literal) (at slot : ℕ) → IsLooking own lists ends n trail lit at
     → (new ≡ own) ⊎ ((2 ≤ length (clause_at own slot)) × (new ≡ set own slot (record { id = (get_or own slot no_slot).id; lits = swap (clause_at own slot) 0 1 }))) → IsLooking new lists ends n trail lit at × (length new ≡ length own) × ((lines : LineMap) → AreSlots own index lines → AreSlots new index lines)
 second_put own new lists ends index n trail lit at slot looking which =
     let s : Slot = record { id = (get_or own slot no_slot).id; lits = swap (clause_at own slot) 0 1 } in

@@ -1,7 +1,6 @@
 -- When the watched clauses are in step with a store and a trail, and what a visit of one entry does.
-use Rattle.std.specs.Prelude.{◌≡◌, ◌≢◌, ℕ, ◌+◌, ◌<◌, ◌≤◌, true, nat_eq, List, [], ◌∷◌, ◌++◌, get_or, length, slice_index_or, Contains, Some, IsPermutation}
+use Rattle.std.specs.Prelude.{◌≡◌, ◌≢◌, ℕ, ◌+◌, ◌<◌, ◌≤◌, true, List, [], ◌∷◌, ◌++◌, get_or, length, slice_index_or, Contains, Some, IsPermutation}
 use Rattle.std.specs.FinMap.{get}
-use Rattle.std.specs.Map.{lookup}
 use Rattle.scut_base.specs.Literal.{Literal}
 use Rattle.pb_lin.specs.Constraint.{ConstraintValue, IsMerged, literals, opposite}
 use Rattle.pb_lin.specs.LineMap.{LineMap}
@@ -10,18 +9,19 @@ use Rattle.clause_prop.specs.Propagating.{Extends, IsConflict}
 use Rattle.clause_prop.specs.LineKinds.{is_watched}
 use Rattle.clause_watch.specs.Watching.{IsKept, IsLooking, clause_at, lits_of, list_of, no_literal, no_slot}
 use Rattle.clause_watch.specs.Slot.{Slot}
+use Rattle.clause_watch.specs.SlotTable.{slot_in}
 use Rattle.clause_watch.specs.declared.watches.Watches.{Watches}
 use Rattle.clause_watch.specs.declared.watches.Visit.{Visit}
 use Rattle.clause_watch.specs.declared.watches.Visit.TheVariants.{Next, Gone, Conflict}
 
 -- the literals are those of the line of the id, in some order, and the id leads to slot j
-pub record IsStored (lits : List Literal) (index : List (ℕ × ℕ)) (lines : LineMap) (j : ℕ) (id : ℕ) : Type 0 where
+pub record IsStored (lits : List Literal) (index : List ℕ) (lines : LineMap) (j : ℕ) (id : ℕ) : Type 0 where
   pub line : ConstraintValue
   pub there : get lines id ≡ Some line
   pub kind : is_watched line ≡ true
   pub merged : IsMerged line.terms
   pub same : IsPermutation (literals line.terms) lits
-  pub found : lookup (nat_eq id) index ≡ Some j
+  pub found : slot_in index id ≡ Some j
 
 -- the slot that has a line
 pub record IsHeld (own : List Slot) (id : ℕ) : Type 0 where
@@ -30,12 +30,12 @@ pub record IsHeld (own : List Slot) (id : ℕ) : Type 0 where
   pub long : 2 ≤ length (clause_at own slot)
 
 -- the slots with two literals or more are the clauses that are watched
-pub record AreSlots (own : List Slot) (index : List (ℕ × ℕ)) (lines : LineMap) : Type 0 where
+pub record AreSlots (own : List Slot) (index : List ℕ) (lines : LineMap) : Type 0 where
   pub stored : (j : ℕ) → 2 ≤ length (clause_at own j) → IsStored (clause_at own j) index lines j (get_or own j no_slot).id
   pub held : (id : ℕ) (c : ConstraintValue) → get lines id ≡ Some c → is_watched c ≡ true → IsHeld own id
 
 abbrev pub Hold : Watches → LineMap → Type 0
-Hold w lines = AreSlots w.slots w.index.entries lines
+Hold w lines = AreSlots w.slots w.index lines
 
 -- the watches are right for the looked-at steps
 abbrev pub IsReady : Watches → TrailValue → Type 0
@@ -105,7 +105,7 @@ pub record IsCopy (lines : LineMap) (id : ℕ) (line : ConstraintValue) (lits : 
 pub record IsOpened (before after : Watches) (id slot : ℕ) : Type 0 where
   pub is : slot ≡ length before.slots
   pub slots : after.slots ≡ before.slots ++ record { id = id; lits = [] } ∷ []
-  pub found : lookup (nat_eq id) after.index.entries ≡ Some slot
+  pub found : slot_in after.index id ≡ Some slot
 
 -- both have the same clauses that are watched
 pub record AreSameWatched (old new : LineMap) : Type 0 where

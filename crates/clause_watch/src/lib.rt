@@ -7,6 +7,7 @@
 
 mod row;
 mod short_lit;
+mod slot_table;
 mod slots;
 mod watch_lists;
 mod watches;

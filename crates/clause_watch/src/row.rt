@@ -50,6 +50,10 @@ impl<T> Row<T> {
         ensures ok { OnOk result (self.new ≡ self.old ++ item ∷ []) }
         ensures err { OnErr result (self.new ≡ self.old) }
     {
+        // Most lists of entries stay short: three entries fill the smallest block that is given out.
+        if self.items.is_empty() {
+            self.items.reserve_exact(3)?;
+        }
         self.items.push(item)?;
         Ok(())
     }

@@ -219,7 +219,7 @@ fn reach(alloc: Global, lists: &mut Vec<Row<Entry>>, code: usize) -> Result<(), 
 /// Puts two literals in front that no looked-at step makes false: those that aren't false, or else
 /// those that became false last, and then takes looked-at steps back. Costs two passes over the
 /// clause, and the steps that are taken back.
-pub fn latest_first(clause: &mut Row<ShortLit>, ends: &mut Vec<usize>, trail: &Trail)
+pub fn latest_first(clause: &mut Row<ShortLit>, ends: &mut Vec<u32>, trail: &Trail)
     requires long { 2 ≤ length clause.old }
     requires vars { (l : Literal) → Contains clause.old l → l.var ≤ trail.now.vars }
     ensures same { IsPermutation clause.old clause.new }
@@ -286,7 +286,7 @@ fn looked_at(trail: &Trail, lit: ShortLit) -> usize
 }
 
 /// Takes the last ends off, up to one that isn't above the length to keep.
-pub fn cut_ends(ends: &mut Vec<usize>, keep: usize)
+pub fn cut_ends(ends: &mut Vec<u32>, keep: usize)
     ensures front { ends.new.items ≡ take (length ends.new.items) ends.old.items }
     ensures len { length ends.new.items ≤ length ends.old.items }
     ensures last { 0 < length ends.new.items
@@ -297,13 +297,13 @@ pub fn cut_ends(ends: &mut Vec<usize>, keep: usize)
 }
 
 // How many ends stay.
-fn ends_within(ends: &[usize], keep: usize) -> usize
+fn ends_within(ends: &[u32], keep: usize) -> usize
     ensures within { result ≤ length ends.now }
     ensures last { 0 < result → slice_index ends.now (result - 1) ≤ keep }
 {
     let mut left = ends.len();
     while left > 0 {
-        if ends[left - 1] <= keep {
+        if ends[left - 1] as usize <= keep {
             return left;
         }
         left -= 1;

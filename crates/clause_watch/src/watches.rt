@@ -15,6 +15,7 @@ ghost use Rattle.clause_prop.specs.declared.step.Step.{Step};
 
 use crate::row::Row;
 use crate::short_lit::{ShortLit, short_number};
+use crate::slot_table::SlotTable;
 use crate::slots::Slots;
 use crate::watch_lists::{
     Entry, add_entry, cover, cut_ends, drop_entry, falsified, free_place, latest_first, put_second,
@@ -24,7 +25,6 @@ use clause_prop::{ClauseStore, Trail, literal_code, push_forced};
 use pb_lin::Constraint;
 use scut_base::{Lit, NoMemory};
 use std::alloc::Global;
-use std::collections::HashMap;
 
 /// What became of an entry.
 #[derive(Clone, Copy, Debug)]
@@ -53,9 +53,9 @@ pub struct Watches {
     alloc: Global,
     slots: Slots,
     // By id the slot of its clause.
-    index: HashMap<u64, u32>,
+    index: SlotTable,
     lists: Vec<Row<Entry>>,
-    ends: Vec<usize>,
+    ends: Vec<u32>,
 }
 
 impl Watches {
@@ -67,7 +67,7 @@ impl Watches {
         Watches {
             alloc,
             slots: Slots::new(alloc),
-            index: HashMap::new(alloc),
+            index: SlotTable::new(alloc),
             lists: Vec::new(alloc),
             ends: Vec::new(alloc),
         }
@@ -116,7 +116,7 @@ impl Watches {
         ensures { (lines : LineMap) (t : TrailValue) → AreWatches self.old lines t
             → AreWatches self.new (remove lines id) t }
     {
-        if let Some(slot) = self.index.remove(&id) {
+        if let Some(slot) = self.index.remove(id) {
             if self.has_slot(slot, id) {
                 self.slots.empty(slot);
             }
@@ -186,7 +186,8 @@ impl Watches {
                 Visit::Conflict(id) => return Ok(Some(id)),
             }
         }
-        self.ends.push(trail.len() as usize)?;
+        let end = short_number(trail.len() as usize)?;
+        self.ends.push(end)?;
         Ok(None)
     }
 

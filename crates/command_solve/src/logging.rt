@@ -21,7 +21,7 @@ use watch_prop::WatchProp;
 pub(crate) fn search_with_log<'a, S: Search, H: Shelf>(
     alloc: Global,
     inst: &Instance,
-    problem: &PbProblem,
+    problem: &'a PbProblem,
     log: &'a str,
     version: LogVersion,
     limit: Option<u64>,

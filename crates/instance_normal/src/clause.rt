@@ -61,7 +61,7 @@ fn distinct_of_sorted(alloc: Global, sorted: &[Lit]) -> Result<Option<Items<Lit>
     ensures { IfOk result (λ found. MatchOption found (is_tautology sorted.now ≡ true)
         (λ distinct. AreDistinct sorted.now distinct)) }
 {
-    let mut distinct = Items::new(alloc);
+    let mut distinct = Items::with_capacity(alloc, sorted.len())?;
     for lit in sorted {
         if add_literal(&mut distinct, *lit)? {
             return Ok(None);

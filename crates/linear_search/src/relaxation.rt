@@ -1,7 +1,7 @@
 // The linear relaxation of a problem.
 ghost use Rattle.std.specs.Prelude.{◌≡◌, length, IfOk};
 
-use linear_program::{LinearProgram, Range, Term};
+use linear_program::{LinearProgram, MOST_ENTRIES, Range, Term};
 use pb_lin::{Constraint, CostRow, PbProblem};
 use scut_base::{Lit, NoMemory};
 use std::alloc::Global;
@@ -24,7 +24,7 @@ pub struct Limit {
 pub struct LinearSearch {
     pub(crate) alloc: Global,
     pub(crate) program: LinearProgram,
-    // Whether all rows had room.
+    // Whether all rows are there: they had room, and weren't let go of.
     pub(crate) is_whole: bool,
     pub(crate) columns: usize,
     // The problem's constraints are the first rows, and the objectives are the last.
@@ -56,7 +56,7 @@ pub(crate) struct Objective {
 
 impl LinearSearch {
     /// The relaxation of a problem, with a purse of so much work: pivots times rows times columns. Takes 16
-    /// bytes for each row and column, unless these are too many; then all questions stay open.
+    /// bytes for each row and column, unless these are too many; then it takes none, and all questions stay open.
     pub fn new(alloc: Global, problem: &PbProblem, purse: u64) -> Result<LinearSearch, NoMemory>
         ensures { IfOk result (λ s. s ≡ record {
           columns = problem.now.vars;
@@ -65,19 +65,44 @@ impl LinearSearch {
         }) }
     {
         let columns = problem.vars() as usize;
+        let rows = problem.rows().len().saturating_add(problem.costs().len());
+        let is_whole = columns.saturating_mul(rows) <= MOST_ENTRIES;
+        // Of a relaxation that isn't asked nothing is kept.
+        let kept = if is_whole { columns } else { 0 };
         let mut search = LinearSearch {
             alloc,
-            program: LinearProgram::new(alloc, columns)?,
-            is_whole: true,
+            program: LinearProgram::new(alloc, kept)?,
+            is_whole,
             columns,
             constraints: problem.rows().len(),
             objectives: Vec::new(alloc),
-            weights: vec![in alloc; 0.0; problem.rows().len()]?,
+            weights: Vec::new(alloc),
             purse,
         };
-        search.add_constraints(problem.rows())?;
-        search.add_objectives(problem.costs())?;
+        if is_whole {
+            search.fill(problem)?;
+        }
         Ok(search)
+    }
+
+    // Adds the problem's rows and objectives.
+    fn fill(&mut self, problem: &PbProblem) -> Result<(), NoMemory>
+        ensures { self.new ≡ self.old }
+    {
+        self.weights = vec![in self.alloc; 0.0; problem.rows().len()]?;
+        self.add_constraints(problem.rows())?;
+        self.add_objectives(problem.costs())
+    }
+
+    // Lets go of the relaxation, after which no question is answered any more.
+    pub(crate) fn let_go(&mut self) -> Result<(), NoMemory>
+        ensures { self.new ≡ self.old }
+    {
+        self.program = LinearProgram::new(self.alloc, 0)?;
+        self.objectives = Vec::new(self.alloc);
+        self.weights = Vec::new(self.alloc);
+        self.is_whole = false;
+        Ok(())
     }
 
     fn add_constraints(&mut self, rows: &[Constraint]) -> Result<(), NoMemory>

@@ -46,6 +46,9 @@ impl LinearSearch {
                 .saturating_sub(tree.pivots_left)
                 .saturating_mul(self.cells());
             self.purse = self.purse.saturating_sub(spent);
+            if self.is_spent() {
+                self.let_go()?;
+            }
         }
         Ok(found)
     }

@@ -13,7 +13,7 @@ use crate::number::{read_literal, read_objective, read_weight};
 use crate::statement::Statement;
 use crate::words::Words;
 use instance::{BadKind, PlaceFault};
-use scut_base::{Items, Lit};
+use scut_base::{Duplicate, Items, Lit};
 use std::alloc::Global;
 
 // Reads what a line says, where the objectives have these sums of weights already.
@@ -85,7 +85,8 @@ fn read_clause(alloc: Global, words: &mut Words<'_>) -> Result<Items<Lit>, Place
                 if words.next().is_some() {
                     return Err(PlaceFault::Bad(BadKind::TextAfterZero));
                 }
-                return Ok(lits);
+                // A copy has no room to spare, and an instance may keep millions.
+                return Ok(lits.copy(alloc)?);
             }
         }
     }

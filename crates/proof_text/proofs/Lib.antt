@@ -9,3 +9,4 @@ pub mod LogFiles
 pub mod Lengths
 pub mod OneFile
 pub mod LogLeft
+pub mod KeptBack

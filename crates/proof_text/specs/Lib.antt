@@ -7,3 +7,4 @@ pub mod LogFile
 pub mod LogParts
 pub mod Recorders
 pub mod Writing
+pub mod KeptLines

@@ -12,14 +12,15 @@ ghost use Rattle.proof_text.specs.Versions.{after_lines, first_of, header_line};
 ghost use Rattle.proof_text.specs.LogFile.{IsLogFile, IsNotBegun};
 ghost use Rattle.proof_text.specs.Recorders.{fault_of, without_file, file_seen, IsKept, IsPutPartly, IsWrite};
 
-use crate::keeping::{advance, is_full, pop_last, push_copy, start};
+use crate::keeping::advance;
+use crate::kept_lines::KeptLines;
 use crate::log_writer::{begin_log, write_line};
 use crate::version::{LogVersion, first_of, spelling_at};
 use pb_lin::PbProblem;
 use proof_laws::Line;
 use proof_lines::Spelling;
 use proof_rules::{ProofState, RecordFault, Recorder};
-use scut_base::{Items, NoMemory, Shelf, ShelfFault};
+use scut_base::{NoMemory, Shelf, ShelfFault};
 use std::alloc::Global;
 use std::marker::Model;
 
@@ -30,9 +31,9 @@ pub struct FileRecorder<'a, H: Shelf> {
     alloc: Global,
     shelf: &'a mut H,
     name: &'a str,
-    problem: PbProblem,
+    problem: &'a PbProblem,
     version: LogVersion,
-    lines: Items<Line>,
+    lines: KeptLines,
     state: ProofState,
     // The text of the line that was written last. Its room is kept.
     text: Vec<u8>,
@@ -52,7 +53,7 @@ impl<'a, H: Shelf> Model for FileRecorder<'a, H> {
     ghost view = { λ r. record {
       shelf = r.shelf;
       name = r.name.now;
-      problem = r.problem;
+      problem = r.problem.now;
       version = r.version;
       lines = r.lines;
       state = r.state;
@@ -60,7 +61,7 @@ impl<'a, H: Shelf> Model for FileRecorder<'a, H> {
     } };
 
     ghost invariant = { λ r. IsHeld (H.world r.shelf.now).files r.name.now
-        r.problem r.version r.lines r.state r.broken };
+        r.problem.now r.version r.lines r.state r.broken };
 }
 
 /// A log that was not begun.
@@ -75,12 +76,12 @@ pub struct NotBegun<'a, H: Shelf> {
 impl<'a, H: Shelf> FileRecorder<'a, H> {
     /// Begins the file anew with the header of version 1, and no lines. After a fault it is as before or
     /// holds a part of the header: `Failed` where the shelf failed to begin or to append, `NoMemory`
-    /// where memory was refused. Copies the problem.
+    /// where memory was refused. The problem is lent for the recorder's life.
     pub fn new(
         alloc: Global,
         shelf: &'a mut H,
         name: &'a str,
-        problem: &PbProblem,
+        problem: &'a PbProblem,
     ) -> Result<FileRecorder<'a, H>, NotBegun<'a, H>>
         ensures same_reference { IfOk result (λ r. r.shelf.ghost_name ≡ shelf.entry.ghost_name) }
         ensures begun { IfOk result (λ r. (H.world r.shelf.now).files
@@ -91,7 +92,7 @@ impl<'a, H: Shelf> FileRecorder<'a, H> {
         ensures later { IfOk result (λ r. NoneFell (H.world shelf.old).faults
             (H.world r.shelf.now).faults) }
         ensures name { IfOk result (λ r. r.name ≡ name.entry.now) }
-        ensures problem { IfOk result (λ r. r.problem ≡ problem.now) }
+        ensures problem { IfOk result (λ r. r.problem ≡ problem.entry.now) }
         ensures version { IfOk result (λ r. r.version ≡ LogVersion.One) }
         ensures empty { IfOk result (λ r. r.lines ≡ []) }
         ensures whole { IfOk result (λ r. r.broken ≡ false) }
@@ -119,20 +120,20 @@ impl<'a, H: Shelf> FileRecorder<'a, H> {
         alloc: Global,
         shelf: &'a mut H,
         name: &'a str,
-        problem: &PbProblem,
+        problem: &'a PbProblem,
         version: LogVersion,
     ) -> Result<FileRecorder<'a, H>, NotBegun<'a, H>>
         ensures same_reference { IfOk result (λ r. r.shelf.ghost_name ≡ shelf.entry.ghost_name) }
         ensures begun { IfOk result (λ r. (H.world r.shelf.now).files
             ≡ with_file (H.world shelf.old).files name.entry.now
-            (header_line (first_of version problem.now))) }
+            (header_line (first_of version problem.entry.now))) }
         ensures said { IfOk result (λ r. (H.world r.shelf.now).said ≡ (H.world shelf.old).said) }
         ensures warned { IfOk result (λ r. (H.world r.shelf.now).warned
             ≡ (H.world shelf.old).warned) }
         ensures later { IfOk result (λ r. NoneFell (H.world shelf.old).faults
             (H.world r.shelf.now).faults) }
         ensures name { IfOk result (λ r. r.name ≡ name.entry.now) }
-        ensures problem { IfOk result (λ r. r.problem ≡ problem.now) }
+        ensures problem { IfOk result (λ r. r.problem ≡ problem.entry.now) }
         ensures version { IfOk result (λ r. r.version ≡ version) }
         ensures empty { IfOk result (λ r. r.lines ≡ []) }
         ensures whole { IfOk result (λ r. r.broken ≡ false) }
@@ -140,7 +141,7 @@ impl<'a, H: Shelf> FileRecorder<'a, H> {
             (λ e. e.shelf.ghost_name ≡ shelf.entry.ghost_name) }
         ensures refused { IfErr result
             (λ e. IsNotBegun (H.world shelf.old).files (H.world e.shelf.now).files name.entry.now
-            (first_of version problem.now)) }
+            (first_of version problem.entry.now)) }
         ensures said_after { IfErr result (λ e. (H.world e.shelf.now).said
             ≡ (H.world shelf.old).said) }
         ensures warned_after { IfErr result (λ e. (H.world e.shelf.now).warned
@@ -152,21 +153,15 @@ impl<'a, H: Shelf> FileRecorder<'a, H> {
             (H.world e.shelf.now).faults name.entry.now) }
         ensures never_full { IfErr result (λ e. e.fault ≢ RecordFault.Full) }
     {
-        let started = start(alloc, problem);
-        match started {
-            Ok((problem, state)) => match begin_log(
-                alloc,
-                shelf,
-                name,
-                first_of(version, &problem),
-            ) {
+        match ProofState::new(alloc, problem) {
+            Ok(state) => match begin_log(alloc, shelf, name, first_of(version, problem)) {
                 Ok(()) => Ok(FileRecorder {
                     alloc,
                     shelf,
                     name,
                     problem,
                     version,
-                    lines: Items::new(alloc),
+                    lines: KeptLines::new(alloc),
                     state,
                     text: Vec::new(alloc),
                     broken: false,
@@ -181,13 +176,6 @@ impl<'a, H: Shelf> FileRecorder<'a, H> {
                 fault: RecordFault::NoMemory,
             }),
         }
-    }
-
-    /// The lines so far.
-    pub fn lines(&self) -> &[Line]
-        ensures { result.now ≡ self.now.lines }
-    {
-        self.lines.as_slice()
     }
 
     /// Ends the recorder, and hands the shelf back.
@@ -243,27 +231,27 @@ impl<'a, H: Shelf> Recorder for FileRecorder<'a, H> {
             (printed (after_lines (first_of self.old.version self.old.problem) self.old.lines) line.now)) }
         ensures version { self.new.version ≡ self.old.version }
     {
-        if is_full(&self.lines, &self.state) {
+        if self.lines.is_full(&self.state) {
             return Err(RecordFault::Full);
         }
-        if push_copy(self.alloc, &mut self.lines, line).is_err() {
+        if self.lines.push_copy(self.alloc, line).is_err() {
             self.broken = true;
             return Err(RecordFault::NoMemory);
         }
-        let spelling = spelling_at(self.version, &self.problem, &self.state);
+        let spelling = spelling_at(self.version, self.problem, &self.state);
         let written = commit(
             self.shelf,
             self.name,
             &mut self.text,
             spelling,
-            &self.problem,
+            self.problem,
             &mut self.state,
             line,
         );
         match written {
             Ok(id) => Ok(id),
             Err(fault) => {
-                pop_last(&mut self.lines);
+                self.lines.pop_last();
                 self.broken = true;
                 Err(fault)
             }

@@ -12,7 +12,7 @@ use scut_base::{Duplicate, Items, NoMemory};
 use std::alloc::Global;
 
 // How many lines a proof may have.
-const MAX_LINES: u64 = 1 << 61;
+pub const MAX_LINES: u64 = 1 << 61;
 
 /// Whether there is no room for a line more. Its second clause tells that it is a state.
 pub fn is_full(lines: &Items<Line>, state: &ProofState) -> bool

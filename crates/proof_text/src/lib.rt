@@ -10,6 +10,7 @@
 mod fault;
 mod file_recorder;
 mod keeping;
+mod kept_lines;
 mod laws;
 mod line_feeds;
 mod line_reader;

@@ -47,7 +47,7 @@ fn search<'a, H: Shelf>(
     alloc: Global,
     shelf: &'a mut H,
     name: &'a str,
-    problem: &PbProblem,
+    problem: &'a PbProblem,
 ) -> Result<Option<Assignment>, RecordFault>
     ensures sought { IfOk result (IsSought (H.world shelf.old).files (H.world shelf.new).files
         name.now problem.now) }

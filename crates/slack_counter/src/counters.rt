@@ -36,7 +36,7 @@ pub struct Counters {
     // How many steps of the trail the sums count.
     counted: u64,
     // For each step that was looked at the trail's length when that was done.
-    ends: Vec<u64>,
+    ends: Vec<u32>,
     // The slots of lines that weren't there when the first steps were looked at. Of the first `done` the lines
     // were gone through.
     fresh: Vec<Fresh>,
@@ -151,7 +151,8 @@ impl Counters {
         if let Some(id) = self.visit_step(store, trail, place, low) {
             return Ok(Some(id));
         }
-        self.ends.push(trail.len())?;
+        let end = short_end(trail.len())?;
+        self.ends.push(end)?;
         Ok(None)
     }
 
@@ -372,8 +373,18 @@ fn dead_line() -> CounterLine
     }
 }
 
+// The end in half the room; nothing that memory holds has a longer trail.
+fn short_end(end: u64) -> Result<u32, NoMemory>
+    ensures { IfOk result (λ short. short ≡ end) }
+{
+    if end > u64::from(u32::MAX) {
+        return Err(NoMemory);
+    }
+    Ok(end as u32)
+}
+
 // How many of rising ends are at most `keep`.
-fn ends_within(ends: &[u64], keep: u64) -> usize
+fn ends_within(ends: &[u32], keep: u64) -> usize
     requires { (p q : ℕ) → p ≤ q → q < length ends.now
         → slice_index_or ends.now p 0 ≤ slice_index_or ends.now q 0 }
     ensures short { result ≤ length ends.now }
@@ -381,7 +392,7 @@ fn ends_within(ends: &[u64], keep: u64) -> usize
 {
     let mut count = ends.len();
     while count > 0 {
-        if ends[count - 1] <= keep {
+        if u64::from(ends[count - 1]) <= keep {
             return count;
         }
         count -= 1;

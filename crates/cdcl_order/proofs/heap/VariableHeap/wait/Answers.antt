@@ -1,6 +1,6 @@
 use Rattle.std.specs.Prelude.{min, vec_capacity}
 use Rattle.std.proofs.Common.{◌≡◌, length, arith, ap, sym, ◌∙◌, subst}
-use Rattle.cdcl_order.specs.Heap.{HeapValue, IsAdded, IsOrdered, key, swapped}
+use Rattle.cdcl_order.specs.Heap.{HeapValue, IsAdded, IsOrdered, key, swapped, most_vars}
 use Rattle.cdcl_order.proofs.HeapChanges.{wait_ordered, wait_added}
 use Rattle.cdcl_order.proofs.HeapPlaces.{place_of}
 use Rattle.cdcl_order.proofs.heap.VariableHeap.wait.Goals as goal
@@ -9,8 +9,8 @@ pub sift_up-requires-clause-ordered : goal.sift_up-requires-clause-ordered
 sift_up-requires-clause-ordered c =
     let i = c.self.inside in
     let j = c.self-then-place-end.inside in
-    let h : HeapValue = record { activities = i.activities.items; vars = i.vars.items; count = i.count; room = min (vec_capacity i.activities) (min (vec_capacity i.vars) (vec_capacity i.places)) } in
-    let v : HeapValue = record { activities = j.activities.items; vars = j.vars.items; count = j.count; room = min (vec_capacity j.activities) (min (vec_capacity j.vars) (vec_capacity j.places)) } in
+    let h : HeapValue = record { activities = i.activities.items; vars = i.vars.items; count = i.count; room = min most_vars (min (vec_capacity i.activities) (min (vec_capacity i.vars) (vec_capacity i.places))) } in
+    let v : HeapValue = record { activities = j.activities.items; vars = j.vars.items; count = j.count; room = min most_vars (min (vec_capacity j.activities) (min (vec_capacity j.vars) (vec_capacity j.places))) } in
     let place = c.index.result.now in
     let is : v ≡ swapped h place i.count = c.self-then-place-end.view_is ∙ c.swap.ensures ∙ ap (λ (x : HeapValue). swapped x place i.count) (sym c.self.view_is) in
     let size = ap (λ (x : HeapValue). length x.activities) c.self.view_is in
@@ -21,8 +21,8 @@ pub returns-then-place-end-clause-added : goal.returns-then-place-end-clause-add
 returns-then-place-end-clause-added c =
     let i = c.self.inside in
     let j = c.self-then-place-end.inside in
-    let h : HeapValue = record { activities = i.activities.items; vars = i.vars.items; count = i.count; room = min (vec_capacity i.activities) (min (vec_capacity i.vars) (vec_capacity i.places)) } in
-    let v : HeapValue = record { activities = j.activities.items; vars = j.vars.items; count = j.count; room = min (vec_capacity j.activities) (min (vec_capacity j.vars) (vec_capacity j.places)) } in
+    let h : HeapValue = record { activities = i.activities.items; vars = i.vars.items; count = i.count; room = min most_vars (min (vec_capacity i.activities) (min (vec_capacity i.vars) (vec_capacity i.places))) } in
+    let v : HeapValue = record { activities = j.activities.items; vars = j.vars.items; count = j.count; room = min most_vars (min (vec_capacity j.activities) (min (vec_capacity j.vars) (vec_capacity j.places))) } in
     let place = c.index.result.now in
     let is : v ≡ swapped h place i.count = c.self-then-place-end.view_is ∙ c.swap.ensures ∙ ap (λ (x : HeapValue). swapped x place i.count) (sym c.self.view_is) in
     let size = ap (λ (x : HeapValue). length x.activities) c.self.view_is in

@@ -4,7 +4,7 @@ use Rattle.clause_watch.specs.Watching.{IsKept, clause_at, lits_of, no_slot}
 use Rattle.clause_watch.specs.Watches.{AreSlots, AreWatches}
 use Rattle.std.specs.FinMap.{remove}
 use Rattle.clause_watch.proofs.WatchSlots.{kept_emptied}
-use Rattle.clause_watch.proofs.WatchHold.{absent_by, finds_others, hold_absent, hold_emptied, same_some}
+use Rattle.clause_watch.proofs.WatchHold.{absent_by, hold_absent, hold_emptied, same_some}
 use Rattle.clause_watch.proofs.watches.Watches.dropped.Goals as goal
 
 pub returns-then-has_slot : goal.returns-then-has_slot
@@ -15,8 +15,8 @@ returns-then-has_slot c = λ lines t watches.
     let found = c.has_slot.ensures.yes c.if-has_slot.true in
     let s : Slot = record { id = (get_or w.slots slot no_slot).id; lits = [] } in (
       subst (λ o. IsKept o w.lists.items w.ends.items t.vars (lits_of t.steps)) (sym c.empty.ensures) (kept_emptied w.slots w.lists.items w.ends.items t.vars _ slot s watches.0 refl),
-      subst (λ o. AreSlots o c.remove.new.self.entries (remove lines c.args.id)) (sym c.empty.ensures)
-          (hold_emptied w.slots w.index.entries c.remove.new.self.entries lines c.args.id slot s watches.1 (finds_others w.index.entries c.remove.new.self.entries c.args.id None c.remove.ensures.updates.0) (sym c.remove.ensures.value ∙ c.in-Some.is) found.1 found.0 refl),
+      subst (λ o. AreSlots o c.remove.new.self (remove lines c.args.id)) (sym c.empty.ensures)
+          (hold_emptied w.slots w.index c.remove.new.self lines c.args.id slot s watches.1 c.remove.ensures.others (sym c.remove.ensures.value ∙ c.in-Some.is) found.1 found.0 refl),
     )
 
 pub returns-else-has_slot : goal.returns-else-has_slot
@@ -28,8 +28,8 @@ returns-else-has_slot c = λ lines t watches.
     let e : slot ≡ j = same_some slot j is in
     subst (λ i. (get_or w.slots i no_slot).id ≢ c.args.id) e (c.has_slot.ensures.no c.if-has_slot.false (subst (λ i. 2 ≤ length (clause_at w.slots i)) (sym e) long)) in (
       watches.0,
-      hold_absent w.slots w.index.entries c.remove.new.self.entries lines c.args.id watches.1 (finds_others w.index.entries c.remove.new.self.entries c.args.id None c.remove.ensures.updates.0)
-          (absent_by w.slots w.index.entries lines c.args.id (Some slot) watches.1 (sym c.remove.ensures.value ∙ c.in-Some.is) other),
+      hold_absent w.slots w.index c.remove.new.self lines c.args.id watches.1 c.remove.ensures.others
+          (absent_by w.slots w.index lines c.args.id (Some slot) watches.1 (sym c.remove.ensures.value ∙ c.in-Some.is) other),
     )
 
 pub returns-in_default : goal.returns-in_default
@@ -37,6 +37,6 @@ unfolding AreWatches
 returns-in_default c = λ lines t watches.
     let w = c.args.self.now in (
       watches.0,
-      hold_absent w.slots w.index.entries c.remove.new.self.entries lines c.args.id watches.1 (finds_others w.index.entries c.remove.new.self.entries c.args.id None c.remove.ensures.updates.0)
-          (absent_by w.slots w.index.entries lines c.args.id None watches.1 (sym c.remove.ensures.value ∙ c.in_default.is) (λ j is. absurd (cc is))),
+      hold_absent w.slots w.index c.remove.new.self lines c.args.id watches.1 c.remove.ensures.others
+          (absent_by w.slots w.index lines c.args.id None watches.1 (sym c.remove.ensures.value ∙ c.in_default.is) (λ j is. absurd (cc is))),
     )

@@ -58,7 +58,7 @@ returns-in-Some-false c =
       left = refl;
       ends = refl;
       followed = followed_none w t;
-      rightly = λ lines hold. subst (IsConflict lines t) id (conflict_at own w.index.entries lines t.vars t.steps c.args.slot c.truth.ensures.steps hold c.requires.long at_first rest);
+      rightly = λ lines hold. subst (IsConflict lines t) id (conflict_at own w.index lines t.vars t.steps c.args.slot c.truth.ensures.steps hold c.requires.long at_first rest);
     }
 
 pub returns-in-None : goal.returns-in-None
@@ -84,6 +84,6 @@ returns-in-None c =
       followed = followed_step w t first c.id-id.result (λ lines hold.
           subst (λ (i : ℕ). IsForcedStep lines t.vars t.steps (record { lit = first; level = last_level t.steps; reason = i })) id
           (subst (λ (l : Literal). IsForcedStep lines t.vars t.steps (record { lit = l; level = last_level t.steps; reason = (get_or own slot no_slot).id })) (sym at_first)
-          (forced_at own w.index.entries lines t.vars t.steps slot c.truth.ensures.steps hold c.requires.long none rest)));
+          (forced_at own w.index lines t.vars t.steps slot c.truth.ensures.steps hold c.requires.long none rest)));
       rightly = tt;
     })

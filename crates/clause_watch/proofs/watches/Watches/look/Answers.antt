@@ -50,5 +50,5 @@ returns-clause-ready c =
     let t = c.loop-at.trail in
     let past = subst (λ (n : ℕ). n ≤ c.skip-at.result) c.entries.ensures c.if-at-entries.true in
     let done = looking_end w.slots w.lists.items w.ends.items t.vars (lits_of t.steps) c.falsified-lit.result c.skip-at.result c.skip-at.ensures.looking past in
-    let is : c.push.new.self.items ≡ w.ends.items ++ length (lits_of t.steps) ∷ [] = c.in_ok-push.ensures.items ∙ ap (λ (n : ℕ). w.ends.items ++ n ∷ []) (c.len-2.ensures.value ∙ sym (length-map t.steps (λ s. s.lit))) in
+    let is : c.push.new.self.items ≡ w.ends.items ++ length (lits_of t.steps) ∷ [] = c.in_ok-push.ensures.items ∙ ap (λ (n : ℕ). w.ends.items ++ n ∷ []) (c.in_ok-end.ensures ∙ c.len-2.ensures.value ∙ sym (length-map t.steps (λ s. s.lit))) in
     subst (λ (es : List ℕ). IsKept w.slots w.lists.items es t.vars (lits_of t.steps)) (sym is) done

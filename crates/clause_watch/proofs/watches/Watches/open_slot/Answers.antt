@@ -1,10 +1,8 @@
-use Rattle.std.proofs.Common.{Some, refl, ap, sym, subst}
-use Rattle.std.specs.Map.{lookup}
-use Rattle.std.specs.Prelude.{nat_eq}
+use Rattle.std.proofs.Common.{refl, sym, subst}
 use Rattle.clause_watch.specs.Watching.{IsKept, lits_of}
 use Rattle.clause_watch.specs.Watches.{AreSlots}
 use Rattle.clause_watch.proofs.WatchSlots.{kept_slot}
-use Rattle.clause_watch.proofs.WatchHold.{finds_others, hold_slot}
+use Rattle.clause_watch.proofs.WatchHold.{hold_slot}
 use Rattle.clause_watch.proofs.watches.Watches.open_slot.Goals as goal
 
 pub returns-in_err-insert-clause-ready : goal.returns-in_err-insert-clause-ready
@@ -15,7 +13,7 @@ returns-in_err-insert-clause-ready c = λ t ready.
 pub returns-in_err-insert-clause-hold : goal.returns-in_err-insert-clause-hold
 returns-in_err-insert-clause-hold c = λ lines fresh hold.
     let w = c.args.self.now in
-    subst (λ o. AreSlots o c.insert.new.self.entries lines) (sym c.in_ok-push.ensures.ok) (hold_slot w.slots w.index.entries c.insert.new.self.entries lines _ hold fresh refl (λ q other. ap (lookup (nat_eq q)) c.in_err-insert.ensures.err))
+    subst (λ o. AreSlots o c.insert.new.self lines) (sym c.in_ok-push.ensures.ok) (hold_slot w.slots w.index c.insert.new.self lines _ hold fresh refl c.in_err-insert.ensures.others)
 
 pub returns-clause-ready : goal.returns-clause-ready
 returns-clause-ready c = λ t ready.
@@ -25,4 +23,4 @@ returns-clause-ready c = λ t ready.
 pub returns-clause-hold : goal.returns-clause-hold
 returns-clause-hold c = λ lines fresh hold.
     let w = c.args.self.now in
-    subst (λ o. AreSlots o c.insert.new.self.entries lines) (sym c.in_ok-push.ensures.ok) (hold_slot w.slots w.index.entries c.insert.new.self.entries lines _ hold fresh refl (finds_others w.index.entries c.insert.new.self.entries c.args.id (Some c.in_ok-slot.slot) c.in_ok-insert.ensures.updates.0))
+    subst (λ o. AreSlots o c.insert.new.self lines) (sym c.in_ok-push.ensures.ok) (hold_slot w.slots w.index c.insert.new.self lines _ hold fresh refl c.in_ok-insert.ensures.others)

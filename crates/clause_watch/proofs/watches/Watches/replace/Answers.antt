@@ -39,7 +39,7 @@ returns-clause-ok c =
       looking = done.0;
       left = done.1;
       ends = refl;
-      followed = followed_same w _ t (λ lines h. subst (λ o. AreSlots o w.index.entries lines) (sym c.swap.ensures) (hold_reordered own w.index.entries lines slot s h refl (IsPermutation-swap clause s.lits 1 c.args.place (omega (arith, within.0, within.1)) within.1 refl)));
+      followed = followed_same w _ t (λ lines h. subst (λ o. AreSlots o w.index lines) (sym c.swap.ensures) (hold_reordered own w.index lines slot s h refl (IsPermutation-swap clause s.lits 1 c.args.place (omega (arith, within.0, within.1)) within.1 refl)));
       rightly = tt;
     }
 

@@ -1,12 +1,11 @@
 use Rattle.std.proofs.Common.{◌≡◌, ◌<◌, ◌≤◌, ◌++◌, ◌∷◌, ℕ, List, [], length, get_or, set, refl, arith, ap, sym, subst, ◌∙◌}
 use Rattle.scut_base.specs.Literal.{Literal}
 use Rattle.scut_base.specs.LiteralCode.{code_of}
-use Rattle.std.specs.Map.{lookup}
-use Rattle.std.specs.Prelude.{nat_eq}
 use Rattle.std.specs.FinMap.{remove}
 use Rattle.std.proofs.lemmas.List.{get_or_push, length_push}
 use Rattle.clause_watch.specs.declared.watch_lists.Entry.{Entry}
 use Rattle.clause_watch.specs.Slot.{Slot}
+use Rattle.clause_watch.specs.SlotTable.{slot_in}
 use Rattle.clause_watch.specs.Watching.{IsEntry, lits_of, no_literal, no_slot}
 use Rattle.clause_watch.specs.Watches.{AreSlots, IsCopy}
 use Rattle.clause_watch.proofs.WatchKept.{kept_entry, with_entry}
@@ -49,7 +48,7 @@ returns-in_err-fill-clause-ready c = λ t ready watchable.
 pub returns-in_err-fill-clause-err : goal.returns-in_err-fill-clause-err
 returns-in_err-fill-clause-err c =
     let o = c.open_slot.new.self in
-    on_err (λ lines fresh hold. subst (λ (x : List Slot). AreSlots x o.index.entries lines) (sym c.in_err-fill.ensures.err) (c.in_ok-slot.ensures.hold lines fresh hold)) c.from_residual-in_err-fill.result
+    on_err (λ lines fresh hold. subst (λ (x : List Slot). AreSlots x o.index lines) (sym c.in_err-fill.ensures.err) (c.in_ok-slot.ensures.hold lines fresh hold)) c.from_residual-in_err-fill.result
 
 pub returns-clause-ready : goal.returns-clause-ready
 returns-clause-ready c = λ t ready watchable.
@@ -83,6 +82,6 @@ returns-clause-ok c = λ lines line copy hold.
     let here : get_or o.slots slot no_slot ≡ none = ap (λ (x : List Slot). get_or x slot no_slot) opened.slots ∙ ap (λ (i : ℕ). get_or (w.slots ++ none ∷ []) i no_slot) opened.is ∙ get_or_push w.slots none no_slot (length w.slots) refl in
     let same_id : s.id ≡ c.args.id = ap (λ (x : Slot). x.id) here in
     let own : c.fill.new.self ≡ set o.slots slot s = c.in_ok-fill.ensures.ok ∙ ap (λ (ls : List Literal). set o.slots slot (record { id = (get_or o.slots slot no_slot).id; lits = ls })) c.as_slice.ensures in
-    subst (λ (x : List Slot). AreSlots x o.index.entries lines) (sym own) (
-    hold_filled o.slots o.index.entries lines slot s line (subst (λ (i : ℕ). AreSlots o.slots o.index.entries (remove lines i)) (sym same_id) (c.in_ok-slot.ensures.hold (remove lines c.args.id) (get_removed lines c.args.id) hold)) within (ap (λ (x : Slot). x.lits) here) c.requires.long
-    (subst (λ (i : ℕ). IsCopy lines i line c.args.lits.now) (sym same_id) copy) (ap (λ (i : ℕ). lookup (nat_eq i) o.index.entries) same_id ∙ opened.found))
+    subst (λ (x : List Slot). AreSlots x o.index lines) (sym own) (
+    hold_filled o.slots o.index lines slot s line (subst (λ (i : ℕ). AreSlots o.slots o.index (remove lines i)) (sym same_id) (c.in_ok-slot.ensures.hold (remove lines c.args.id) (get_removed lines c.args.id) hold)) within (ap (λ (x : Slot). x.lits) here) c.requires.long
+    (subst (λ (i : ℕ). IsCopy lines i line c.args.lits.now) (sym same_id) copy) (ap (λ (i : ℕ). slot_in o.index i) same_id ∙ opened.found))

@@ -19,7 +19,7 @@ returns-else-is_watched-clause-ok c = on_ok c.added-else-is_watched.result _ _
     (λ counters. record {
       watches = (
         c.requires.in_step.watches.0,
-        hold_same c.args.self.now.watches.slots c.args.self.now.watches.index.entries _ _ (same_watched_added c.args.store.now c.args.id c.in-Some.line.now c.in-Some.ensures (sym c.is_watched.ensures ∙ c.if-is_watched.false)) c.requires.in_step.watches.1,
+        hold_same c.args.self.now.watches.slots c.args.self.now.watches.index _ _ (same_watched_added c.args.store.now c.args.id c.in-Some.line.now c.in-Some.ensures (sym c.is_watched.ensures ∙ c.if-is_watched.false)) c.requires.in_step.watches.1,
       );
       counters = counters;
     })
