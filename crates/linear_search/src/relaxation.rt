@@ -31,6 +31,9 @@ pub struct LinearSearch {
     pub(crate) constraints: usize,
     pub(crate) objectives: Vec<Objective>,
     pub(crate) weights: Vec<f64>,
+    // Of each column, how many rows name it, and what the weights make of its costs.
+    pub(crate) uses: Vec<f64>,
+    pub(crate) costs: Vec<f64>,
     // What may be lost on questions that stay open: pivots times rows times columns.
     pub(crate) purse: u64,
 }
@@ -55,7 +58,7 @@ pub(crate) struct Objective {
 }
 
 impl LinearSearch {
-    /// The relaxation of a problem, with a purse of so much work: pivots times rows times columns. Takes 16
+    /// The relaxation of a problem, with a purse of so much work: pivots times rows times columns. Takes 8
     /// bytes for each row and column, unless these are too many; then all questions stay open.
     pub fn new(alloc: Global, problem: &PbProblem, purse: u64) -> Result<LinearSearch, NoMemory>
         ensures { IfOk result (λ s. s ≡ record {
@@ -73,6 +76,8 @@ impl LinearSearch {
             constraints: problem.rows().len(),
             objectives: Vec::new(alloc),
             weights: vec![in alloc; 0.0; problem.rows().len()]?,
+            uses: vec![in alloc; 1.0; columns]?,
+            costs: vec![in alloc; 0.0; columns]?,
             purse,
         };
         search.add_constraints(problem.rows())?;
@@ -95,6 +100,7 @@ impl LinearSearch {
                 upper: sum.greatest,
             };
             self.add_row(&sum, range)?;
+            add_uses(&mut self.uses, sum.terms.as_slice());
         }
         Ok(())
     }
@@ -117,8 +123,9 @@ impl LinearSearch {
                 range,
             })?;
             let width = 1.0 + sum.greatest - sum.least;
-            self.weights
-                .push(nearest_usize_to_f64(self.columns) / width)?;
+            let weight = nearest_usize_to_f64(self.columns) / width;
+            self.weights.push(weight)?;
+            add_costs(&mut self.costs, sum.terms.as_slice(), weight);
         }
         Ok(())
     }
@@ -129,6 +136,24 @@ impl LinearSearch {
         let had_room = self.program.add_row(sum.terms.as_slice(), range)?;
         self.is_whole = self.is_whole && had_room;
         Ok(())
+    }
+}
+
+// Counts a row for each of its columns.
+fn add_uses(uses: &mut [f64], terms: &[Term]) {
+    for term in terms {
+        if let Some(place) = uses.get_mut(term.column) {
+            *place += 1.0;
+        }
+    }
+}
+
+// Adds an objective's terms, times its weight.
+fn add_costs(costs: &mut [f64], terms: &[Term], weight: f64) {
+    for term in terms {
+        if let Some(place) = costs.get_mut(term.column) {
+            *place += weight * term.coefficient;
+        }
     }
 }
 

@@ -61,18 +61,19 @@ impl LinearSearch {
         Ok(solved.answer)
     }
 
-    // The literal of the value that is furthest from whole, at its nearer end; or all literals.
+    // The literal of the value with the greatest score, at its nearer end; or all literals, where all are whole.
     fn split(&self, values: &[f64]) -> Result<Visit, NoMemory> {
-        let mut furthest = None;
-        let mut most = WHOLE;
-        for (column, value) in values.iter().enumerate() {
-            let distance = value.min(1.0 - *value);
-            if distance > most {
-                most = distance;
-                furthest = literal_of(column, *value);
+        let mut best = None;
+        let mut most = 0.0;
+        let shares = self.uses.iter().zip(self.costs.as_slice());
+        for ((column, value), (uses, cost)) in values.iter().enumerate().zip(shares) {
+            let score = uncertainty(*value) * *uses * (1.0 + cost.abs());
+            if score > most {
+                most = score;
+                best = literal_of(column, *value);
             }
         }
-        match furthest {
+        match best {
             Some(lit) => Ok(Visit::Split(lit)),
             None => self.model(values),
         }
@@ -132,6 +133,15 @@ impl LinearSearch {
         };
         self.program
             .set_column(crate::relaxation::column_of(lit), range);
+    }
+}
+
+// How far a value is from whole; 0 where it's as good as whole.
+fn uncertainty(value: f64) -> f64 {
+    if value.min(1.0 - value) > WHOLE {
+        value * (1.0 - value)
+    } else {
+        0.0
     }
 }
 
