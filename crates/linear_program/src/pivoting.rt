@@ -5,7 +5,7 @@ use crate::LinearProgram;
 use crate::entering::Leaving;
 use crate::pricing::add_costs;
 use crate::program::{Entry, Place};
-use crate::table::{add_multiple, copy_row, number_at, put_number, range_of, value_of};
+use crate::table::{add_multiple, copy_row, number_at, put_number, range_of, sum_of, value_of};
 use scut_base::NoMemory;
 
 // A number of at most this size is 0.
@@ -69,8 +69,18 @@ impl LinearProgram {
         } else {
             range.upper
         };
+        end - self.value_now(leaving)
+    }
+
+    // The value of the variable that leaves: a row's follows from its terms, since flips move columns alone.
+    fn value_now(&self, leaving: &Leaving) -> f64 {
+        if leaving.variable >= self.columns {
+            if let Some(terms) = self.given.get(leaving.variable - self.columns) {
+                return sum_of(terms.as_slice(), self.values.as_slice());
+            }
+        }
         match self.basic.get(leaving.row) {
-            Some(basic) => end - basic.value,
+            Some(basic) => basic.value,
             None => 0.0,
         }
     }

@@ -153,7 +153,7 @@ fn table_row(table: &[f64], columns: usize, place: usize) -> &[f64] {
 }
 
 // The sum of a row's terms, where the columns have these values.
-fn sum_of(terms: &[Term], values: &[f64]) -> f64 {
+pub(crate) fn sum_of(terms: &[Term], values: &[f64]) -> f64 {
     let mut sum = 0.0;
     for term in terms {
         sum += term.coefficient * number_at(values, term.column);
