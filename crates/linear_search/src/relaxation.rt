@@ -34,6 +34,8 @@ pub struct LinearSearch {
     // Of each column, how many rows name it, and what the weights make of its costs.
     pub(crate) uses: Vec<f64>,
     pub(crate) costs: Vec<f64>,
+    // By how much a model is to be better than another one: a little less than the least of the weights.
+    pub(crate) step: f64,
     // What may be lost on questions that stay open: pivots times rows times columns.
     pub(crate) purse: u64,
 }
@@ -78,6 +80,7 @@ impl LinearSearch {
             weights: vec![in alloc; 0.0; problem.rows().len()]?,
             uses: vec![in alloc; 1.0; columns]?,
             costs: vec![in alloc; 0.0; columns]?,
+            step: f64::INFINITY,
             purse,
         };
         search.add_constraints(problem.rows())?;
@@ -125,6 +128,7 @@ impl LinearSearch {
             let width = 1.0 + sum.greatest - sum.least;
             let weight = nearest_usize_to_f64(self.columns) / width;
             self.weights.push(weight)?;
+            self.step = self.step.min(0.99 * weight);
             add_costs(&mut self.costs, sum.terms.as_slice(), weight);
         }
         Ok(())
