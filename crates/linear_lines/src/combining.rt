@@ -1,5 +1,5 @@
 // Sums of lines by factors.
-use crate::factors::Factor;
+use crate::factors::{Factor, Multiplier};
 use pb_lin::{Constraint, Lines, SIZE_LIMIT};
 use scut_base::{Lit, NoMemory, Partial};
 use std::alloc::Global;
@@ -7,35 +7,61 @@ use std::alloc::Global;
 // A sum of lines as `sum of coefficient times variable >= least`: the coefficient of the variable v is at v.
 #[derive(Debug, Drop)]
 pub(crate) struct Combination {
-    pub(crate) coefficients: Vec<i128>,
-    pub(crate) least: i128,
+    coefficients: Vec<i128>,
+    // The variables that the lines name, ascending: few beside all that there are.
+    pub(crate) named: Vec<u64>,
+    least: i128,
     // The sizes of the multiples together, which bounds that of each sum.
     size: u128,
 }
 
 impl Combination {
-    // The lines multiplied and summed; `None` where one isn't there, or something is too large.
-    pub(crate) fn of(
+    // The empty sum, to which multiples of these lines may be added.
+    pub(crate) fn over(
         alloc: Global,
         lines: &Lines,
         vars: u64,
-        factors: &[Factor],
-    ) -> Result<Option<Combination>, NoMemory> {
-        let mut sum = Combination {
-            coefficients: vec![in alloc; 0; vars as usize]?,
-            least: 0,
-            size: 0,
-        };
-        for factor in factors {
-            let added = match lines.get(factor.line) {
-                Some(line) => sum.add(line, factor.factor),
-                None => None,
-            };
-            if added.is_none() {
-                return Ok(None);
+        multipliers: &[Multiplier],
+    ) -> Result<Combination, NoMemory> {
+        let mut is_named = vec![in alloc; false; vars as usize]?;
+        for multiplier in multipliers {
+            if let Some(line) = lines.get(multiplier.line) {
+                mark_named(&mut is_named, line);
             }
         }
-        Ok(Some(sum))
+        Ok(Combination {
+            coefficients: vec![in alloc; 0; vars as usize]?,
+            named: marked(alloc, is_named.as_slice())?,
+            least: 0,
+            size: 0,
+        })
+    }
+
+    // Makes it the sum of the lines multiplied; `None` where one isn't there, or something is too large.
+    pub(crate) fn set(&mut self, lines: &Lines, factors: &[Factor]) -> Option<()> {
+        self.clear();
+        for factor in factors {
+            self.add(lines.get(factor.line)?, factor.factor)?;
+        }
+        Some(())
+    }
+
+    fn clear(&mut self) {
+        self.least = 0;
+        self.size = 0;
+        for var in self.named.iter() {
+            if let Some(place) = self.coefficients.get_mut(place_of(*var)) {
+                *place = 0;
+            }
+        }
+    }
+
+    // The coefficient of a variable.
+    pub(crate) fn coefficient(&self, var: u64) -> i128 {
+        match self.coefficients.get(place_of(var)) {
+            Some(coefficient) => *coefficient,
+            None => 0,
+        }
     }
 
     // Adds a multiple of a line; `None` where something is too large.
@@ -78,13 +104,34 @@ impl Combination {
     // below.
     pub(crate) fn shortfall(&self, fixed: &Partial) -> Option<i128> {
         let mut shortfall = self.least;
-        let mut var = 0u64;
-        for coefficient in self.coefficients.iter() {
-            var = var.checked_add(1)?;
-            shortfall = shortfall.checked_sub(most(fixed, var, *coefficient))?;
+        for var in self.named.iter() {
+            let most = most(fixed, *var, self.coefficient(*var));
+            shortfall = shortfall.checked_sub(most)?;
         }
         if shortfall > 0 { Some(shortfall) } else { None }
     }
+}
+
+// Marks the variables of a line.
+fn mark_named(is_named: &mut [bool], line: &Constraint) {
+    for lit in line.literals() {
+        if let Some(place) = is_named.get_mut(place_of(lit.var())) {
+            *place = true;
+        }
+    }
+}
+
+// The variables that are marked.
+fn marked(alloc: Global, is_marked: &[bool]) -> Result<Vec<u64>, NoMemory> {
+    let mut vars = Vec::new(alloc);
+    let mut var = 0u64;
+    for is_marked in is_marked {
+        var = var.saturating_add(1);
+        if *is_marked {
+            vars.push(var)?;
+        }
+    }
+    Ok(vars)
 }
 
 // The place of a variable from 1 on.

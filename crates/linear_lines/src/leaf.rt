@@ -25,7 +25,7 @@ pub struct Leaf {
 /// assignment holds. Literals that aren't needed are left out, those of small coefficients first. `None` where
 /// no denominator serves.
 ///
-/// Costs a pass over the lines' terms and the variables for each denominator.
+/// Costs a pass over the variables, and one over the lines' terms for each denominator.
 pub fn infeasible_leaf(
     alloc: Global,
     state: &ProofState,
@@ -37,11 +37,12 @@ pub fn infeasible_leaf(
     ensures false_there { IfOk result (λ leaf. IfSome leaf
         (λ l. IsFalseUnder fixed.now l.clause)) }
 {
+    let mut sum = Combination::over(alloc, state.live(), state.vars(), multipliers)?;
     for denominator in DENOMINATORS {
         for is_relative in [false, true] {
             let scale = scale_of(multipliers, denominator, is_relative);
             let factors = rounded(alloc, multipliers, scale)?;
-            if let Some(tokens) = short_sum(alloc, state, factors.as_slice(), fixed)? {
+            if let Some(tokens) = short_sum(alloc, state, &mut sum, factors.as_slice(), fixed)? {
                 return leaf_of(alloc, state, tokens, fixed);
             }
         }
@@ -53,15 +54,16 @@ pub fn infeasible_leaf(
 fn short_sum(
     alloc: Global,
     state: &ProofState,
+    sum: &mut Combination,
     factors: &[Factor],
     fixed: &Partial,
 ) -> Result<Option<Items<PolToken>>, NoMemory> {
-    let Some(sum) = Combination::of(alloc, state.live(), state.vars(), factors)? else {
+    if sum.set(state.live(), factors).is_none() {
         return Ok(None);
-    };
+    }
     match sum.shortfall(fixed) {
         Some(shortfall) => {
-            let tokens = leaf_tokens(alloc, factors, &sum, fixed, shortfall)?;
+            let tokens = leaf_tokens(alloc, factors, sum, fixed, shortfall)?;
             Ok(Some(tokens))
         }
         None => Ok(None),

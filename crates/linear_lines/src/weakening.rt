@@ -34,16 +34,15 @@ fn needed_terms(
     fixed: &Partial,
 ) -> Result<Vec<(u128, u64)>, NoMemory> {
     let mut needed = Vec::new(alloc);
-    let mut var = 0u64;
-    for coefficient in sum.coefficients.iter() {
-        var = var.saturating_add(1);
-        let is_needed = match value_of(fixed, var) {
-            Some(true) => *coefficient < 0,
-            Some(false) => *coefficient > 0,
+    for var in sum.named.iter() {
+        let coefficient = sum.coefficient(*var);
+        let is_needed = match value_of(fixed, *var) {
+            Some(true) => coefficient < 0,
+            Some(false) => coefficient > 0,
             None => false,
         };
         if is_needed {
-            needed.push((coefficient.unsigned_abs(), var))?;
+            needed.push((coefficient.unsigned_abs(), *var))?;
         }
     }
     needed.sort_unstable_by_key(|term| term.0);
@@ -89,17 +88,13 @@ fn weaken_rest(
     needed: &[(u128, u64)],
     lifted: usize,
 ) -> Result<(), NoMemory> {
-    let mut kept = vec![in alloc; false; sum.coefficients.len()]?;
+    let mut kept = Items::new(alloc);
     for term in needed.iter().skip(lifted) {
-        if let Some(place) = kept.get_mut(crate::combining::place_of(term.1)) {
-            *place = true;
-        }
+        kept.push(term.1)?;
     }
-    let mut var = 0u64;
-    for (coefficient, is_kept) in sum.coefficients.iter().zip(kept.iter()) {
-        var = var.saturating_add(1);
-        if *coefficient != 0 && !*is_kept {
-            tokens.push(PolToken::Weaken(var))?;
+    for var in sum.named.iter() {
+        if sum.coefficient(*var) != 0 && !kept.as_slice().contains(var) {
+            tokens.push(PolToken::Weaken(*var))?;
         }
     }
     Ok(())

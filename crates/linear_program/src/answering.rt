@@ -3,7 +3,7 @@ ghost use Rattle.std.specs.Prelude.{◌≡◌, length, IfOk};
 
 use crate::LinearProgram;
 use crate::entering::Leaving;
-use crate::table::value_of;
+use crate::table::put_number;
 use scut_base::NoMemory;
 
 impl LinearProgram {
@@ -33,16 +33,8 @@ impl LinearProgram {
         ensures { IfOk result (λ xs. length xs.items ≡ self.now.columns) }
     {
         let mut values = vec![in self.alloc; 0.0; self.columns]?;
-        for nonbasic in self.nonbasic.iter() {
-            let value = value_of(self.ranges.as_slice(), nonbasic);
-            if let Some(place) = values.get_mut(nonbasic.variable) {
-                *place = value;
-            }
-        }
-        for basic in self.basic.iter() {
-            if let Some(place) = values.get_mut(basic.variable) {
-                *place = basic.value;
-            }
+        for (column, value) in self.values.iter().enumerate() {
+            put_number(&mut values, column, *value);
         }
         Ok(values)
     }

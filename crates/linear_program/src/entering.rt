@@ -2,9 +2,8 @@
 ghost use Rattle.std.specs.Prelude.{◌≡◌};
 
 use crate::program::Nonbasic;
-use crate::table::{number_at, range_of};
+use crate::table::{number_at, put_number, range_of, value_of};
 use crate::{LinearProgram, Range};
-use scut_base::NoMemory;
 
 // A variable is outside of its range from this much on.
 const FEASIBLE: f64 = 1e-6;
@@ -41,19 +40,6 @@ impl LinearProgram {
             }
         }
         furthest
-    }
-
-    // Copies the row of the table that a pivot is in.
-    pub(crate) fn take_row(&mut self, row: usize) -> Result<(), NoMemory>
-        ensures { self.new ≡ self.old }
-    {
-        let from = row.saturating_mul(self.columns);
-        let to = from.saturating_add(self.columns);
-        if let Some(row) = self.table.get(from..to) {
-            self.pivot_row.clear();
-            self.pivot_row.extend_from_slice(row)?;
-        }
-        Ok(())
     }
 
     // The place of the variable that enters for the one that leaves: the first, by the ratio of cost and
@@ -113,6 +99,8 @@ impl LinearProgram {
                 by = -width;
             }
             nonbasic.is_at_upper = !nonbasic.is_at_upper;
+            let value = value_of(self.ranges.as_slice(), nonbasic);
+            put_number(&mut self.values, nonbasic.variable, value);
         }
         self.move_by(place, by);
     }

@@ -4,15 +4,15 @@ ghost use Rattle.std.specs.Prelude.{◌≡◌};
 use crate::LinearProgram;
 use crate::entering::Leaving;
 use crate::pricing::add_costs;
-use crate::program::Entry;
-use crate::table::{number_at, range_of, value_of};
+use crate::program::{Entry, Place};
+use crate::table::{add_multiple, copy_row, number_at, put_number, range_of, sum_of, value_of};
 use scut_base::NoMemory;
 
 // A number of at most this size is 0.
 const ZERO: f64 = 1e-13;
 
 impl LinearProgram {
-    // Moves the values of the basis with a variable outside of it.
+    // Moves the values of the columns in the basis with a variable outside of it.
     pub(crate) fn move_by(&mut self, place: usize, by: f64)
         ensures { self.new ≡ self.old }
     {
@@ -21,7 +21,10 @@ impl LinearProgram {
         }
         let rows = self.table.chunks_exact(self.columns);
         for (basic, row) in self.basic.iter_mut().zip(rows) {
-            basic.value += number_at(row, place) * by;
+            if basic.variable < self.columns {
+                basic.value += number_at(row, place) * by;
+                put_number(&mut self.values, basic.variable, basic.value);
+            }
         }
     }
 
@@ -66,8 +69,18 @@ impl LinearProgram {
         } else {
             range.upper
         };
+        end - self.value_now(leaving)
+    }
+
+    // The value of the variable that leaves: a row's follows from its terms, since flips move columns alone.
+    fn value_now(&self, leaving: &Leaving) -> f64 {
+        if leaving.variable >= self.columns {
+            if let Some(terms) = self.given.get(leaving.variable - self.columns) {
+                return sum_of(terms.as_slice(), self.values.as_slice());
+            }
+        }
         match self.basic.get(leaving.row) {
-            Some(basic) => end - basic.value,
+            Some(basic) => basic.value,
             None => 0.0,
         }
     }
@@ -97,7 +110,7 @@ impl LinearProgram {
         add_costs(&mut self.nonbasic, self.pivot_row.as_slice(), cost);
     }
 
-    // Puts the row of the pivot into all other rows.
+    // Puts the row of the pivot into all other rows that tell columns.
     fn eliminate(&mut self, pivot: usize, place: usize)
         ensures { self.new ≡ self.old }
     {
@@ -108,10 +121,11 @@ impl LinearProgram {
             numbers: self.pivot_row.as_slice(),
             entries: self.entries.as_slice(),
         };
-        for (at, row) in self.table.chunks_exact_mut(self.columns).enumerate() {
+        let rows = self.table.chunks_exact_mut(self.columns);
+        for ((at, basic), row) in self.basic.iter().enumerate().zip(rows) {
             if at == pivot {
                 copy_row(row, solved.numbers);
-            } else {
+            } else if basic.variable < self.columns {
                 put_into(row, &solved, place);
             }
         }
@@ -128,23 +142,25 @@ impl LinearProgram {
             entering = nonbasic.variable;
             nonbasic.variable = leaving.variable;
             nonbasic.is_at_upper = !leaving.is_below;
+            let end = value_of(self.ranges.as_slice(), nonbasic);
+            put_number(&mut self.values, leaving.variable, end);
         }
+        put_number(&mut self.values, entering, value);
         if let Some(basic) = self.basic.get_mut(leaving.row) {
             basic.variable = entering;
             basic.value = value;
         }
+        self.put_place(leaving.variable, Place::Nonbasic(place));
+        self.put_place(entering, Place::Basic(leaving.row));
     }
-}
 
-fn put_number(row: &mut [f64], at: usize, number: f64) {
-    if let Some(place) = row.get_mut(at) {
-        *place = number;
-    }
-}
-
-fn copy_row(row: &mut [f64], from: &[f64]) {
-    for (number, other) in row.iter_mut().zip(from) {
-        *number = *other;
+    // Notes where a variable stands, if it's a column's.
+    fn put_place(&mut self, variable: usize, place: Place)
+        ensures { self.new ≡ self.old }
+    {
+        if let Some(old) = self.places.get_mut(variable) {
+            *old = place;
+        }
     }
 }
 
@@ -166,12 +182,6 @@ fn put_into(row: &mut [f64], solved: &Solved<'_>, place: usize) {
         add_multiple(row, solved.numbers, factor);
     } else {
         add_entries(row, solved.entries, factor);
-    }
-}
-
-fn add_multiple(row: &mut [f64], numbers: &[f64], factor: f64) {
-    for (number, other) in row.iter_mut().zip(numbers) {
-        *number += factor * *other;
     }
 }
 

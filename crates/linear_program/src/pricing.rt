@@ -36,17 +36,24 @@ impl LinearProgram {
         ensures { self.new ≡ self.old }
     {
         let columns = self.columns;
-        if columns == 0 {
-            return;
-        }
         for nonbasic in self.nonbasic.iter_mut() {
             nonbasic.reduced_cost = weight_of(weights, columns, nonbasic.variable);
         }
-        for (basic, row) in self.basic.iter().zip(self.table.chunks_exact(columns)) {
-            let weight = weight_of(weights, columns, basic.variable);
+        for place in 0..self.basic.len() {
+            let variable = self.variable_at(place);
+            let weight = weight_of(weights, columns, variable);
             if weight != 0.0 {
-                add_costs(&mut self.nonbasic, row, weight);
+                self.take_row(place, variable);
+                add_costs(&mut self.nonbasic, self.pivot_row.as_slice(), weight);
             }
+        }
+    }
+
+    // The variable of the basis at a place.
+    fn variable_at(&self, place: usize) -> usize {
+        match self.basic.get(place) {
+            Some(basic) => basic.variable,
+            None => 0,
         }
     }
 }

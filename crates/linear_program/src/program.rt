@@ -39,6 +39,13 @@ pub(crate) struct Nonbasic {
     pub(crate) is_at_upper: bool,
 }
 
+// Where a column's variable stands: in the basis, by the row of the table that tells it, or outside of it.
+#[derive(Clone, Copy, Debug)]
+pub(crate) enum Place {
+    Basic(usize),
+    Nonbasic(usize),
+}
+
 // A number other than 0 at a place of a row.
 #[derive(Clone, Copy, Debug)]
 pub(crate) struct Entry {
@@ -53,14 +60,19 @@ pub struct LinearProgram {
     pub(crate) alloc: Global,
     pub(crate) columns: usize,
     pub(crate) rows: usize,
-    // The rows as they were given, one after another, and what pivots have made of them.
-    pub(crate) given: Vec<f64>,
+    // The terms of each row as it was given.
+    pub(crate) given: Vec<Vec<Term>>,
+    // What pivots have made of the rows, one after another. Only those that tell columns are kept: what tells a
+    // row follows from its terms.
     pub(crate) table: Vec<f64>,
     // Of the columns, then of the rows.
     pub(crate) ranges: Vec<Range>,
     // The variable that each row of the table tells, and that of each of its columns.
     pub(crate) basic: Vec<Basic>,
     pub(crate) nonbasic: Vec<Nonbasic>,
+    // Where each column stands, and its value.
+    pub(crate) places: Vec<Place>,
+    pub(crate) values: Vec<f64>,
     // The row of the table that a pivot is in.
     pub(crate) pivot_row: Vec<f64>,
     // What isn't 0 in that row, or where variables outside of the basis don't stand at 0.
@@ -94,7 +106,9 @@ impl LinearProgram {
             }; columns]?,
             basic: Vec::new(alloc),
             nonbasic: Vec::new(alloc),
-            pivot_row: Vec::new(alloc),
+            places: Vec::new(alloc),
+            values: vec![in alloc; 0.0; columns]?,
+            pivot_row: vec![in alloc; 0.0; columns]?,
             entries: Vec::new(alloc),
             pivots_since_built: 0,
             sequence: 1,
@@ -123,15 +137,12 @@ impl LinearProgram {
             (self.new ≡ record self.old { rows = self.old.rows + 1 }) (self.new ≡ self.old))
             (λ _. self.new ≡ self.old) }
     {
-        if self.columns > MOST_ENTRIES
-            || self.given.len() > MOST_ENTRIES - self.columns
-            || self.rows >= MOST_ENTRIES
-        {
+        if self.rows >= MOST_ENTRIES || self.columns.saturating_mul(self.rows + 1) > MOST_ENTRIES {
             return Ok(false);
         }
-        let row = dense_row(self.alloc, self.columns, terms)?;
+        let row = terms_within(self.alloc, self.columns, terms)?;
         self.ranges.push(range)?;
-        self.given.extend_from_slice(row.as_slice())?;
+        self.given.push(row)?;
         self.rows += 1;
         self.pivots_since_built = u64::MAX;
         Ok(true)
@@ -162,12 +173,12 @@ fn put_range(ranges: &mut [Range], variable: usize, range: Range) {
     }
 }
 
-// The coefficients of all columns.
-fn dense_row(alloc: Global, columns: usize, terms: &[Term]) -> Result<Vec<f64>, NoMemory> {
-    let mut row = vec![in alloc; 0.0; columns]?;
+// The terms whose columns are there.
+fn terms_within(alloc: Global, columns: usize, terms: &[Term]) -> Result<Vec<Term>, NoMemory> {
+    let mut row = Vec::new(alloc);
     for term in terms {
-        if let Some(place) = row.get_mut(term.column) {
-            *place += term.coefficient;
+        if term.column < columns {
+            row.push(*term)?;
         }
     }
     Ok(row)

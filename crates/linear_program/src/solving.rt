@@ -27,7 +27,7 @@ pub struct Solved {
 impl LinearProgram {
     /// Values of the columns that are within all ranges and make the sum of the rows by these weights least,
     /// within so many pivots: the dual simplex method (Lemke 1954) with bound flipping, the largest
-    /// infeasibility first, from the basis that the last call left. Each pivot costs rows times columns.
+    /// infeasibility first, from the basis that the last call left. Each pivot costs the terms of all rows, and at most rows times columns.
     /// `Unknown` where the pivots ran out. After `NoMemory` it may be asked again.
     pub fn solve(&mut self, weights: &[f64], budget: u64) -> Result<Solved, NoMemory>
         ensures solved { IfOk result (IsSolvedWithin self.old budget) }
@@ -55,11 +55,12 @@ impl LinearProgram {
         ensures shaped { IfOk result (λ answer. IfSome answer (IsShapedFor self.old)) }
         ensures same { self.new ≡ self.old }
     {
+        self.evaluate_rows();
         let Some(leaving) = self.leaving() else {
             let values = self.values()?;
             return Ok(Some(Answer::Optimal { values }));
         };
-        self.take_row(leaving.row)?;
+        self.take_row(leaving.row, leaving.variable);
         match self.entering(&leaving) {
             Some(place) => {
                 self.pivot(&leaving, place)?;

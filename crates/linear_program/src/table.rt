@@ -1,8 +1,8 @@
 // The table of a linear program, and where its variables stand.
 ghost use Rattle.std.specs.Prelude.{◌≡◌};
 
-use crate::program::{Basic, Entry, Nonbasic};
-use crate::{LinearProgram, Range};
+use crate::program::{Basic, Entry, Nonbasic, Place};
+use crate::{LinearProgram, Range, Term};
 use scut_base::NoMemory;
 use std::alloc::Global;
 
@@ -24,14 +24,18 @@ impl LinearProgram {
     pub fn rebuild(&mut self) -> Result<(), NoMemory>
         ensures { self.new ≡ self.old }
     {
-        self.table = Vec::from_slice(self.alloc, self.given.as_slice())?;
+        let entries = self.rows.saturating_mul(self.columns);
+        if self.table.len() != entries {
+            self.table = vec![in self.alloc; 0.0; entries]?;
+        }
         self.basic = first_basis(self.alloc, self.columns, self.rows)?;
         self.nonbasic = all_columns(self.alloc, self.columns)?;
+        self.places = first_places(self.alloc, self.columns)?;
         self.pivots_since_built = 0;
         Ok(())
     }
 
-    // The value of each variable in the basis.
+    // The value of each column.
     pub(crate) fn evaluate(&mut self) -> Result<(), NoMemory>
         ensures { self.new ≡ self.old }
     {
@@ -41,7 +45,10 @@ impl LinearProgram {
         self.note_values()?;
         let rows = self.table.chunks_exact(self.columns);
         for (basic, row) in self.basic.iter_mut().zip(rows) {
-            basic.value = row_value(row, self.entries.as_slice());
+            if basic.variable < self.columns {
+                basic.value = row_value(row, self.entries.as_slice());
+                put_number(&mut self.values, basic.variable, basic.value);
+            }
         }
         Ok(())
     }
@@ -53,11 +60,51 @@ impl LinearProgram {
         self.entries.clear();
         for (place, nonbasic) in self.nonbasic.iter().enumerate() {
             let number = value_of(self.ranges.as_slice(), nonbasic);
+            put_number(&mut self.values, nonbasic.variable, number);
             if number != 0.0 {
                 self.entries.push(Entry { place, number })?;
             }
         }
         Ok(())
+    }
+
+    // The value of each row in the basis, from those of the columns.
+    pub(crate) fn evaluate_rows(&mut self)
+        ensures { self.new ≡ self.old }
+    {
+        for basic in self.basic.iter_mut() {
+            if basic.variable >= self.columns {
+                if let Some(terms) = self.given.get(basic.variable - self.columns) {
+                    basic.value = sum_of(terms.as_slice(), self.values.as_slice());
+                }
+            }
+        }
+    }
+
+    // Makes the row of the table that tells this variable, which is the basis' at this place, the pivot's.
+    pub(crate) fn take_row(&mut self, place: usize, variable: usize)
+        ensures { self.new ≡ self.old }
+    {
+        if variable < self.columns {
+            let row = table_row(self.table.as_slice(), self.columns, place);
+            copy_row(&mut self.pivot_row, row);
+            return;
+        }
+        clear_row(&mut self.pivot_row);
+        if let Some(terms) = self.given.get(variable - self.columns) {
+            for term in terms.iter() {
+                match self.places.get(term.column) {
+                    Some(Place::Nonbasic(at)) => {
+                        add_number(&mut self.pivot_row, *at, term.coefficient);
+                    }
+                    Some(Place::Basic(at)) => {
+                        let row = table_row(self.table.as_slice(), self.columns, *at);
+                        add_multiple(&mut self.pivot_row, row, term.coefficient);
+                    }
+                    None => {}
+                }
+            }
+        }
     }
 }
 
@@ -84,6 +131,34 @@ fn all_columns(alloc: Global, columns: usize) -> Result<Vec<Nonbasic>, NoMemory>
         })?;
     }
     Ok(nonbasic)
+}
+
+// Each column at the place of its number.
+fn first_places(alloc: Global, columns: usize) -> Result<Vec<Place>, NoMemory> {
+    let mut places = Vec::with_capacity(alloc, columns)?;
+    for column in 0..columns {
+        places.push(Place::Nonbasic(column))?;
+    }
+    Ok(places)
+}
+
+// The row of the table at a place.
+fn table_row(table: &[f64], columns: usize, place: usize) -> &[f64] {
+    let from = place.saturating_mul(columns);
+    let to = from.saturating_add(columns);
+    match table.get(from..to) {
+        Some(row) => row,
+        None => &[],
+    }
+}
+
+// The sum of a row's terms, where the columns have these values.
+pub(crate) fn sum_of(terms: &[Term], values: &[f64]) -> f64 {
+    let mut sum = 0.0;
+    for term in terms {
+        sum += term.coefficient * number_at(values, term.column);
+    }
+    sum
 }
 
 // The sum of a row of the table, where its variables have these values.
@@ -113,6 +188,36 @@ pub(crate) fn range_of(ranges: &[Range], variable: usize) -> Range {
             lower: 0.0,
             upper: 0.0,
         },
+    }
+}
+
+pub(crate) fn put_number(row: &mut [f64], at: usize, number: f64) {
+    if let Some(place) = row.get_mut(at) {
+        *place = number;
+    }
+}
+
+fn add_number(row: &mut [f64], at: usize, number: f64) {
+    if let Some(place) = row.get_mut(at) {
+        *place += number;
+    }
+}
+
+fn clear_row(row: &mut [f64]) {
+    for number in row.iter_mut() {
+        *number = 0.0;
+    }
+}
+
+pub(crate) fn copy_row(row: &mut [f64], from: &[f64]) {
+    for (number, other) in row.iter_mut().zip(from) {
+        *number = *other;
+    }
+}
+
+pub(crate) fn add_multiple(row: &mut [f64], numbers: &[f64], factor: f64) {
+    for (number, other) in row.iter_mut().zip(numbers) {
+        *number += factor * *other;
     }
 }
 

@@ -31,6 +31,11 @@ pub struct LinearSearch {
     pub(crate) constraints: usize,
     pub(crate) objectives: Vec<Objective>,
     pub(crate) weights: Vec<f64>,
+    // Of each column, how many rows name it, and what the weights make of its costs.
+    pub(crate) uses: Vec<f64>,
+    pub(crate) costs: Vec<f64>,
+    // By how much a model is to be better than another one: a little less than the least of the weights.
+    pub(crate) step: f64,
     // What may be lost on questions that stay open: pivots times rows times columns.
     pub(crate) purse: u64,
 }
@@ -55,7 +60,7 @@ pub(crate) struct Objective {
 }
 
 impl LinearSearch {
-    /// The relaxation of a problem, with a purse of so much work: pivots times rows times columns. Takes 16
+    /// The relaxation of a problem, with a purse of so much work: pivots times rows times columns. Takes 8
     /// bytes for each row and column, unless these are too many; then it takes none, and all questions stay open.
     pub fn new(alloc: Global, problem: &PbProblem, purse: u64) -> Result<LinearSearch, NoMemory>
         ensures { IfOk result (λ s. s ≡ record {
@@ -77,6 +82,9 @@ impl LinearSearch {
             constraints: problem.rows().len(),
             objectives: Vec::new(alloc),
             weights: Vec::new(alloc),
+            uses: Vec::new(alloc),
+            costs: Vec::new(alloc),
+            step: f64::INFINITY,
             purse,
         };
         if is_whole {
@@ -90,6 +98,8 @@ impl LinearSearch {
         ensures { self.new ≡ self.old }
     {
         self.weights = vec![in self.alloc; 0.0; problem.rows().len()]?;
+        self.uses = vec![in self.alloc; 1.0; self.columns]?;
+        self.costs = vec![in self.alloc; 0.0; self.columns]?;
         self.add_constraints(problem.rows())?;
         self.add_objectives(problem.costs())
     }
@@ -101,6 +111,8 @@ impl LinearSearch {
         self.program = LinearProgram::new(self.alloc, 0)?;
         self.objectives = Vec::new(self.alloc);
         self.weights = Vec::new(self.alloc);
+        self.uses = Vec::new(self.alloc);
+        self.costs = Vec::new(self.alloc);
         self.is_whole = false;
         Ok(())
     }
@@ -120,6 +132,7 @@ impl LinearSearch {
                 upper: sum.greatest,
             };
             self.add_row(&sum, range)?;
+            add_uses(&mut self.uses, sum.terms.as_slice());
         }
         Ok(())
     }
@@ -142,8 +155,10 @@ impl LinearSearch {
                 range,
             })?;
             let width = 1.0 + sum.greatest - sum.least;
-            self.weights
-                .push(nearest_usize_to_f64(self.columns) / width)?;
+            let weight = nearest_usize_to_f64(self.columns) / width;
+            self.weights.push(weight)?;
+            self.step = self.step.min(0.99 * weight);
+            add_costs(&mut self.costs, sum.terms.as_slice(), weight);
         }
         Ok(())
     }
@@ -154,6 +169,24 @@ impl LinearSearch {
         let had_room = self.program.add_row(sum.terms.as_slice(), range)?;
         self.is_whole = self.is_whole && had_room;
         Ok(())
+    }
+}
+
+// Counts a row for each of its columns.
+fn add_uses(uses: &mut [f64], terms: &[Term]) {
+    for term in terms {
+        if let Some(place) = uses.get_mut(term.column) {
+            *place += 1.0;
+        }
+    }
+}
+
+// Adds an objective's terms, times its weight.
+fn add_costs(costs: &mut [f64], terms: &[Term], weight: f64) {
+    for term in terms {
+        if let Some(place) = costs.get_mut(term.column) {
+            *place += weight * term.coefficient;
+        }
     }
 }
 

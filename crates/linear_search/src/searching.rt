@@ -101,7 +101,7 @@ impl LinearSearch {
         }
     }
 
-    // Visits nodes until the root is closed, a model is found, or the pivots are spent.
+    // Visits nodes until the root is closed or the pivots are spent.
     fn explore(
         &mut self,
         state: &ProofState,
@@ -111,7 +111,7 @@ impl LinearSearch {
     ) -> Result<Found, NoMemory> {
         for _node in 0..tree.pivots_left {
             if tree.pivots_left == 0 {
-                return Ok(Found::Unknown);
+                break;
             }
             tree.fix(assumed);
             match self.visit(state, limits, tree)? {
@@ -124,11 +124,13 @@ impl LinearSearch {
                     tree.path.push(Branch { lit, first: None })?;
                     self.set_literal(lit, true);
                 }
-                Visit::Model(lits) => return Ok(Found::Model(lits)),
-                Visit::Unknown => return Ok(Found::Unknown),
+                Visit::Unknown => break,
             }
         }
-        Ok(Found::Unknown)
+        match tree.take_best() {
+            Some(lits) => Ok(Found::Model(lits)),
+            None => Ok(Found::Unknown),
+        }
     }
 
     // Goes on after a closed node.
@@ -145,8 +147,11 @@ impl LinearSearch {
     }
 }
 
-// The nodes up to the root's.
+// The best model, or the nodes up to the root's where there is none.
 fn closed_tree(tree: &mut Tree, root: usize) -> Result<Found, NoMemory> {
+    if let Some(lits) = tree.take_best() {
+        return Ok(Found::Model(lits));
+    }
     let mut nodes = Vec::new(tree.alloc);
     std::mem::swap(&mut nodes, &mut tree.nodes);
     nodes.truncate(root.saturating_add(1));

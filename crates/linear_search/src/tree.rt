@@ -11,6 +11,13 @@ pub(crate) struct Branch {
     pub(crate) first: Option<usize>,
 }
 
+// A model, and the sum of its costs by the objectives' weights.
+#[derive(Debug, Drop)]
+struct Best {
+    lits: Items<Lit>,
+    sum: f64,
+}
+
 #[derive(Debug, Drop)]
 pub(crate) struct Tree {
     pub(crate) alloc: Global,
@@ -18,7 +25,10 @@ pub(crate) struct Tree {
     pub(crate) nodes: Vec<Node>,
     // What is true on the path.
     pub(crate) fixed: Partial,
+    pivots: u64,
     pub(crate) pivots_left: u64,
+    // The best model so far: the search goes on for a better one, since each that is answered costs lines.
+    best: Option<Best>,
 }
 
 // Where the search goes on after a node is closed.
@@ -37,8 +47,49 @@ impl Tree {
             path: Vec::new(alloc),
             nodes: Vec::new(alloc),
             fixed: Partial::new(alloc, vars)?,
+            pivots,
             pivots_left: pivots,
+            best: None,
         })
+    }
+
+    // Keeps a model that is better than those before. Seeking a better one than the first may take a few times
+    // the pivots of that.
+    pub(crate) fn keep(&mut self, lits: Items<Lit>, sum: f64) {
+        if self.best.is_none() {
+            let spent = self.pivots.saturating_sub(self.pivots_left);
+            let more = spent.saturating_mul(3).saturating_add(100);
+            self.pivots_left = self.pivots_left.min(more);
+        }
+        self.best = Some(Best { lits, sum });
+    }
+
+    // Whether nothing of this sum is better than the best model by a step.
+    pub(crate) fn is_no_better(&self, sum: f64, step: f64) -> bool {
+        match &self.best {
+            Some(best) => sum > best.sum - step,
+            None => false,
+        }
+    }
+
+    // Takes the best model out.
+    pub(crate) fn take_best(&mut self) -> Option<Items<Lit>> {
+        let mut best = None;
+        std::mem::swap(&mut best, &mut self.best);
+        match best {
+            Some(best) => Some(best.lits),
+            None => None,
+        }
+    }
+
+    // Adds a node for what needn't be searched any more beside a model, as if the whole path stood against it.
+    pub(crate) fn add_passed(&mut self) -> Result<usize, NoMemory> {
+        let mut lits = Items::new(self.alloc);
+        for branch in self.path.iter() {
+            lits.push(branch.lit.not())?;
+        }
+        let making = Making::Leaf(Items::new(self.alloc));
+        self.add_node(making, lits)
     }
 
     // Sets what is true on the path.

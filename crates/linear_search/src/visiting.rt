@@ -18,8 +18,6 @@ pub(crate) enum Visit {
     Closed(usize),
     // It is to be split, this literal first.
     Split(Lit),
-    // All values are whole.
-    Model(Items<Lit>),
     Unknown,
 }
 
@@ -34,7 +32,7 @@ impl LinearSearch {
         // Where rounding costs the multipliers, once more from the first basis.
         for _attempt in 0..2 {
             match self.solved(tree)? {
-                Answer::Optimal { values } => return self.split(values.as_slice()),
+                Answer::Optimal { values } => return self.look(tree, values.as_slice()),
                 Answer::Unknown => return Ok(Visit::Unknown),
                 Answer::Infeasible { multipliers } => {
                     let multipliers = self.lines_of(limits, multipliers.as_slice())?;
@@ -61,32 +59,44 @@ impl LinearSearch {
         Ok(solved.answer)
     }
 
-    // The literal of the value that is furthest from whole, at its nearer end; or all literals.
-    fn split(&self, values: &[f64]) -> Result<Visit, NoMemory> {
-        let mut furthest = None;
-        let mut most = WHOLE;
-        for (column, value) in values.iter().enumerate() {
-            let distance = value.min(1.0 - *value);
-            if distance > most {
-                most = distance;
-                furthest = literal_of(column, *value);
+    // Passes a node by that is no better than the best model, keeps a better one, or splits the node.
+    fn look(&self, tree: &mut Tree, values: &[f64]) -> Result<Visit, NoMemory> {
+        let sum = sum_of(self.costs.as_slice(), values);
+        if !tree.is_no_better(sum, self.step) {
+            if let Some(lit) = self.split(values) {
+                return Ok(Visit::Split(lit));
+            }
+            let lits = self.model(values)?;
+            tree.keep(lits, sum);
+        }
+        let node = tree.add_passed()?;
+        Ok(Visit::Closed(node))
+    }
+
+    // The literal of the value with the greatest score, at its nearer end; none where all are whole.
+    fn split(&self, values: &[f64]) -> Option<Lit> {
+        let mut best = None;
+        let mut most = 0.0;
+        let shares = self.uses.iter().zip(self.costs.as_slice());
+        for ((column, value), (uses, cost)) in values.iter().enumerate().zip(shares) {
+            let score = uncertainty(*value) * *uses * (1.0 + cost.abs());
+            if score > most {
+                most = score;
+                best = literal_of(column, *value);
             }
         }
-        match furthest {
-            Some(lit) => Ok(Visit::Split(lit)),
-            None => self.model(values),
-        }
+        best
     }
 
     // The literals of whole values.
-    fn model(&self, values: &[f64]) -> Result<Visit, NoMemory> {
+    fn model(&self, values: &[f64]) -> Result<Items<Lit>, NoMemory> {
         let mut lits = Items::new(self.alloc);
         for (column, value) in values.iter().enumerate() {
             if let Some(lit) = literal_of(column, *value) {
                 lits.push(lit)?;
             }
         }
-        Ok(Visit::Model(lits))
+        Ok(lits)
     }
 
     // The lines of the rows with their multipliers: a constraint's own, and a limit's upper line.
@@ -132,6 +142,24 @@ impl LinearSearch {
         };
         self.program
             .set_column(crate::relaxation::column_of(lit), range);
+    }
+}
+
+// The sum of costs at these values.
+fn sum_of(costs: &[f64], values: &[f64]) -> f64 {
+    let mut sum = 0.0;
+    for (cost, value) in costs.iter().zip(values) {
+        sum += *cost * *value;
+    }
+    sum
+}
+
+// How far a value is from whole; 0 where it's as good as whole.
+fn uncertainty(value: f64) -> f64 {
+    if value.min(1.0 - value) > WHOLE {
+        value * (1.0 - value)
+    } else {
+        0.0
     }
 }
 
