@@ -219,7 +219,7 @@ fn relaxations_tell<O: Oracle>(
     }
     match aim {
         Some(aim) => relaxed.seek_better(alloc, oracle, bounds, board.problem(), aim),
-        None if board.last().is_none() => Ok(None),
+        None if board.problem().costs().is_empty() => Ok(None),
         None => relaxed.seek_open(alloc, oracle, bounds, board.problem()),
     }
 }
