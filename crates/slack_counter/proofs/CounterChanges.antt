@@ -14,10 +14,10 @@ use Rattle.scut_base.proofs.Lists.{sum_by_same_in}
 use Rattle.pb_lin.specs.Constraint.{ConstraintValue, UpTo, opposite, possible_value, total, unless_false}
 use Rattle.pb_lin.specs.LineMap.{LineMap}
 use Rattle.clause_prop.specs.Steps.{AreSteps, TrailValue, assigned, with_true}
+use Rattle.slack_counter.specs.declared.occurrence_lists.OccurrenceLists.{OccurrenceLists}
 use Rattle.slack_counter.specs.Counting.{AreKept, IsCounter, IsDone, IsGone, IsHeld, IsOver, IsSettled, IsWaiting, line_at, list_at, listed, lowered, possible, raised}
 use Rattle.clause_prop.specs.declared.step.Step.{Step}
 use Rattle.slack_counter.specs.declared.counter_lines.CounterLine.{CounterLine}
-use Rattle.slack_counter.specs.declared.counter_lines.Occurrence.{Occurrence}
 use Rattle.slack_counter.specs.declared.counter_lines.Fresh.{Fresh}
 use Rattle.clause_prop.proofs.Assigned.{Values, index}
 use Rattle.slack_counter.proofs.CounterForcing.{sum_under}
@@ -58,7 +58,7 @@ settled_vars n m steps c q e le positive within settled =
           ∙ settled.told k d short (subst (λ (sum : ℕ). sum < (get_or c.terms k d).1 + c.degree) (sym sums) exceeds);
     }
 
-pub kept_vars : (lines : List CounterLine) (lists : List (List Occurrence)) (slot_of : ℕ → Option ℕ) (counted : ℕ) (ends : List ℕ) (fresh : List Fresh) (done : ℕ) (store : LineMap) (t : TrailValue) (m : ℕ) → t.vars ≤ m
+pub kept_vars : (lines : List CounterLine) (lists : OccurrenceLists) (slot_of : ℕ → Option ℕ) (counted : ℕ) (ends : List ℕ) (fresh : List Fresh) (done : ℕ) (store : LineMap) (t : TrailValue) (m : ℕ) → t.vars ≤ m
     → AreKept lines lists slot_of counted ends fresh done store t → AreKept lines lists slot_of counted ends fresh done store (record { vars = m; steps = t.steps })
 kept_vars lines lists slot_of counted ends fresh done store t m le kept = record {
   found = kept.found;
@@ -103,7 +103,7 @@ kept_vars lines lists slot_of counted ends fresh done store t m le kept = record
 abbrev pub with_sum : CounterLine → ℕ → CounterLine
 with_sum line n = record { id = line.id; live = line.live; possible = n; limit = line.limit }
 
-pub kept_sums : (lines new : List CounterLine) (lists : List (List Occurrence)) (slot_of : ℕ → Option ℕ) (counted m : ℕ) (ends : List ℕ) (fresh : List Fresh) (done : ℕ) (store : LineMap) (t : TrailValue) (f : ℕ → ℕ)
+pub kept_sums : (lines new : List CounterLine) (lists : OccurrenceLists) (slot_of : ℕ → Option ℕ) (counted m : ℕ) (ends : List ℕ) (fresh : List Fresh) (done : ℕ) (store : LineMap) (t : TrailValue) (f : ℕ → ℕ)
     → length new ≡ length lines → ((j : ℕ) → line_at new j ≡ with_sum (line_at lines j) (f j))
     → ((j : ℕ) (c : ConstraintValue) → (line_at lines j).live ≡ true → IsCounter lists t.vars (take counted t.steps) j (line_at lines j) c → f j ≡ possible t.vars (take m t.steps) c.terms)
     → length ends ≤ m → m ≤ length t.steps
@@ -144,13 +144,13 @@ kept_sums lines new lists slot_of counted m ends fresh done store t f len same s
     }
 
 -- what the opposite of the step at k has in the line of a live slot
-takes : (lines : List CounterLine) (lists : List (List Occurrence)) (n : ℕ) (steps : List Step) (k m : ℕ) (d : Step) (j : ℕ) (c : ConstraintValue) → AreSteps n steps → k < length steps → IsCounter lists n (take m steps) j (line_at lines j) c
+takes : (lines : List CounterLine) (lists : OccurrenceLists) (n : ℕ) (steps : List Step) (k m : ℕ) (d : Step) (j : ℕ) (c : ConstraintValue) → AreSteps n steps → k < length steps → IsCounter lists n (take m steps) j (line_at lines j) c
     → possible n (take (k + 1) steps) c.terms + listed j (list_at lists (code_of (opposite (get_or steps k d).lit))) ≡ possible n (take k steps) c.terms
 takes lines lists n steps k m d j c are short counter =
     ap (λ (w : ℕ). possible n (take (k + 1) steps) c.terms + w) (counter.occurs (code_of (opposite (get_or steps k d).lit)))
     ∙ sum_step n steps k d c.terms are short counter.normal.merged.from_one
 
-pub count_fits : (lines : List CounterLine) (lists : List (List Occurrence)) (slot_of : ℕ → Option ℕ) (counted : ℕ) (ends : List ℕ) (fresh : List Fresh) (done : ℕ) (store : LineMap) (t : TrailValue) (d : Step) → AreSteps t.vars t.steps → counted < length t.steps
+pub count_fits : (lines : List CounterLine) (lists : OccurrenceLists) (slot_of : ℕ → Option ℕ) (counted : ℕ) (ends : List ℕ) (fresh : List Fresh) (done : ℕ) (store : LineMap) (t : TrailValue) (d : Step) → AreSteps t.vars t.steps → counted < length t.steps
     → AreKept lines lists slot_of counted ends fresh done store t → (j : ℕ) → (line_at lines j).live ≡ true → listed j (list_at lists (code_of (opposite (get_or t.steps counted d).lit))) ≤ (line_at lines j).possible
 count_fits lines lists slot_of counted ends fresh done store t d are short kept j live =
     let held = kept.held j live in
@@ -158,7 +158,7 @@ count_fits lines lists slot_of counted ends fresh done store t d are short kept 
     let sum = held.counter.sum in
     omega (arith, step, sum)
 
-pub kept_counted : (lines new : List CounterLine) (lists : List (List Occurrence)) (slot_of : ℕ → Option ℕ) (counted : ℕ) (ends : List ℕ) (fresh : List Fresh) (done : ℕ) (store : LineMap) (t : TrailValue) (d : Step) → AreSteps t.vars t.steps → counted < length t.steps
+pub kept_counted : (lines new : List CounterLine) (lists : OccurrenceLists) (slot_of : ℕ → Option ℕ) (counted : ℕ) (ends : List ℕ) (fresh : List Fresh) (done : ℕ) (store : LineMap) (t : TrailValue) (d : Step) → AreSteps t.vars t.steps → counted < length t.steps
     → length new ≡ length lines → ((j : ℕ) → line_at new j ≡ lowered (line_at lines j) (listed j (list_at lists (code_of (opposite (get_or t.steps counted d).lit)))))
     → AreKept lines lists slot_of counted ends fresh done store t → AreKept new lists slot_of (counted + 1) ends fresh done store t
 kept_counted lines new lists slot_of counted ends fresh done store t d are short len same kept =
@@ -180,7 +180,7 @@ whole_sum p terms = sum_by-le-sum_by (possible_value p) (λ t. t.1) terms (λ t.
     unless_le (Some true) n = omega arith
     unless_le None n = omega arith
 
-pub uncount_fits : (lines : List CounterLine) (lists : List (List Occurrence)) (slot_of : ℕ → Option ℕ) (counted m : ℕ) (ends : List ℕ) (fresh : List Fresh) (done : ℕ) (store : LineMap) (t : TrailValue) (d : Step) → AreSteps t.vars t.steps → counted ≡ m + 1
+pub uncount_fits : (lines : List CounterLine) (lists : OccurrenceLists) (slot_of : ℕ → Option ℕ) (counted m : ℕ) (ends : List ℕ) (fresh : List Fresh) (done : ℕ) (store : LineMap) (t : TrailValue) (d : Step) → AreSteps t.vars t.steps → counted ≡ m + 1
     → AreKept lines lists slot_of counted ends fresh done store t → (j : ℕ) → (line_at lines j).live ≡ true → (line_at lines j).possible + listed j (list_at lists (code_of (opposite (get_or t.steps m d).lit))) ≤ 2 ^ 100
 uncount_fits lines lists slot_of counted m ends fresh done store t d are next kept j live =
     let held = kept.held j live in
@@ -191,7 +191,7 @@ uncount_fits lines lists slot_of counted m ends fresh done store t d are next ke
     let whole = whole_sum (assigned t.vars (take m t.steps)) held.line.terms in
     omega (arith, step, sum, small, whole)
 
-pub kept_uncounted : (lines new : List CounterLine) (lists : List (List Occurrence)) (slot_of : ℕ → Option ℕ) (counted m : ℕ) (ends : List ℕ) (fresh : List Fresh) (done : ℕ) (store : LineMap) (t : TrailValue) (d : Step) → AreSteps t.vars t.steps → counted ≡ m + 1 → length ends ≤ m
+pub kept_uncounted : (lines new : List CounterLine) (lists : OccurrenceLists) (slot_of : ℕ → Option ℕ) (counted m : ℕ) (ends : List ℕ) (fresh : List Fresh) (done : ℕ) (store : LineMap) (t : TrailValue) (d : Step) → AreSteps t.vars t.steps → counted ≡ m + 1 → length ends ≤ m
     → length new ≡ length lines → ((j : ℕ) → line_at new j ≡ raised (line_at lines j) (listed j (list_at lists (code_of (opposite (get_or t.steps m d).lit)))))
     → AreKept lines lists slot_of counted ends fresh done store t → AreKept new lists slot_of m ends fresh done store t
 kept_uncounted lines new lists slot_of counted m ends fresh done store t d are next looked len same kept =
@@ -211,7 +211,7 @@ kept_uncounted lines new lists slot_of counted m ends fresh done store t d are n
 some_same : {X : Type 0} (a b : X) (o : Option X) → o ≡ Some a → o ≡ Some b → a ≡ b
 some_same a b o e f = cc
 
-pub kept_over : (lines : List CounterLine) (lists : List (List Occurrence)) (slot_of : ℕ → Option ℕ) (counted : ℕ) (ends : List ℕ) (fresh : List Fresh) (done : ℕ) (store : LineMap) (t : TrailValue) → AreSteps t.vars t.steps
+pub kept_over : (lines : List CounterLine) (lists : OccurrenceLists) (slot_of : ℕ → Option ℕ) (counted : ℕ) (ends : List ℕ) (fresh : List Fresh) (done : ℕ) (store : LineMap) (t : TrailValue) → AreSteps t.vars t.steps
     → AreKept lines lists slot_of counted ends fresh done store t → (j : ℕ) → IsOver store t (line_at lines j)
 kept_over lines lists slot_of counted ends fresh done store t are kept j live c there =
     let held = kept.held j live in
@@ -222,7 +222,7 @@ kept_over lines lists slot_of counted ends fresh done store t are kept j live c 
     subst (λ (x : ConstraintValue). possible t.vars t.steps x.terms ≤ (line_at lines j).possible) same (omega (arith, falls, whole, sum))
 
 -- a live line that was gone through is settled for each number of steps that were looked at, or are counted
-pub held_gone : (lists : List (List Occurrence)) (counted : ℕ) (ends : List ℕ) (fresh : List Fresh) (done : ℕ) (store : LineMap) (t : TrailValue) (j : ℕ) (line : CounterLine) (q : ℕ) → AreSteps t.vars t.steps → q ≤ counted → counted ≤ length t.steps → line.live ≡ true
+pub held_gone : (lists : OccurrenceLists) (counted : ℕ) (ends : List ℕ) (fresh : List Fresh) (done : ℕ) (store : LineMap) (t : TrailValue) (j : ℕ) (line : CounterLine) (q : ℕ) → AreSteps t.vars t.steps → q ≤ counted → counted ≤ length t.steps → line.live ≡ true
     → (held : IsHeld lists counted ends fresh done store t j line) → IsGone store t line → IsSettled t.vars t.steps held.line q (length t.steps)
 held_gone lists counted ends fresh done store t j line q are le counts live held gone =
     settled_gone t.vars t.steps held.line q counted line.limit line.possible are le counts held.counter.sum held.counter.limit held.counter.enough (gone live held.line held.there)

@@ -11,10 +11,10 @@ use Rattle.pb_lin.specs.Constraint.{ConstraintValue}
 use Rattle.pb_lin.specs.LineMap.{LineMap}
 use Rattle.clause_prop.specs.Steps.{TrailValue, assigned, cut}
 use Rattle.clause_prop.specs.LineKinds.{is_watched}
+use Rattle.slack_counter.specs.declared.occurrence_lists.OccurrenceLists.{OccurrenceLists}
 use Rattle.slack_counter.specs.Counting.{AreKept, AreTold, IsCounter, IsDone, IsHeld, IsSettled, IsWaiting, end_of, fresh_at, line_at, possible}
 use Rattle.clause_prop.specs.declared.step.Step.{Step}
 use Rattle.slack_counter.specs.declared.counter_lines.CounterLine.{CounterLine}
-use Rattle.slack_counter.specs.declared.counter_lines.Occurrence.{Occurrence}
 use Rattle.slack_counter.specs.declared.counter_lines.Fresh.{Fresh}
 
 -- ---- ends
@@ -35,7 +35,7 @@ by_within ends fresh done n steps j c q within late le is = ⊎_elim
 -- ---- another trail
 
 -- a held line under another trail, where the counted steps and the settled ones are the same
-pub held_trail : (lists : List (List Occurrence)) (counted : ℕ) (ends : List ℕ) (fresh : List Fresh) (done : ℕ) (store : LineMap) (t u : TrailValue) (j : ℕ) (kept : CounterLine) → u.vars ≡ t.vars → take counted u.steps ≡ take counted t.steps
+pub held_trail : (lists : OccurrenceLists) (counted : ℕ) (ends : List ℕ) (fresh : List Fresh) (done : ℕ) (store : LineMap) (t u : TrailValue) (j : ℕ) (kept : CounterLine) → u.vars ≡ t.vars → take counted u.steps ≡ take counted t.steps
     → ((c : ConstraintValue) (q : ℕ) → q ≤ length ends → IsDone ends fresh done t.vars t.steps j c q → IsWaiting fresh done j ⊎ IsDone ends fresh done u.vars u.steps j c q)
     → IsHeld lists counted ends fresh done store t j kept → IsHeld lists counted ends fresh done store u j kept
 held_trail lists counted ends fresh done store t u j kept vars same ready held = record {
@@ -54,7 +54,7 @@ settled_steps n m ss rs c q e vars first later settled =
           (subst (λ (xs : List Step). AreTold (assigned n xs) c (possible n (take q ss) c.terms)) (sym later) settled.told);
     })
 
-pub kept_longer : (lines : List CounterLine) (lists : List (List Occurrence)) (slot_of : ℕ → Option ℕ) (counted : ℕ) (ends : List ℕ) (fresh : List Fresh) (done : ℕ) (store : LineMap) (t u : TrailValue) (more : List Step) → u.vars ≡ t.vars → u.steps ≡ t.steps ++ more
+pub kept_longer : (lines : List CounterLine) (lists : OccurrenceLists) (slot_of : ℕ → Option ℕ) (counted : ℕ) (ends : List ℕ) (fresh : List Fresh) (done : ℕ) (store : LineMap) (t u : TrailValue) (more : List Step) → u.vars ≡ t.vars → u.steps ≡ t.steps ++ more
     → AreKept lines lists slot_of counted ends fresh done store t → AreKept lines lists slot_of counted ends fresh done store u
 kept_longer lines lists slot_of counted ends fresh done store t u more vars is kept = record {
   found = kept.found;
@@ -83,7 +83,7 @@ kept_longer lines lists slot_of counted ends fresh done store t u more vars is k
     first k le = ap (take k) is ∙ take-append-le k t.steps more le
 
 -- ends that are forgotten
-pub kept_ends : (lines : List CounterLine) (lists : List (List Occurrence)) (slot_of : ℕ → Option ℕ) (counted : ℕ) (ends : List ℕ) (fresh : List Fresh) (done : ℕ) (store : LineMap) (t : TrailValue) (count : ℕ)
+pub kept_ends : (lines : List CounterLine) (lists : OccurrenceLists) (slot_of : ℕ → Option ℕ) (counted : ℕ) (ends : List ℕ) (fresh : List Fresh) (done : ℕ) (store : LineMap) (t : TrailValue) (count : ℕ)
     → AreKept lines lists slot_of counted ends fresh done store t → AreKept lines lists slot_of counted (take count ends) fresh done store t
 kept_ends lines lists slot_of counted ends fresh done store t count kept = record {
   found = kept.found;
@@ -121,7 +121,7 @@ kept_ends lines lists slot_of counted ends fresh done store t count kept = recor
     end_same (suc p) le = same p (omega (arith, le))
 
 -- new lines that wait again
-pub kept_done : (lines : List CounterLine) (lists : List (List Occurrence)) (slot_of : ℕ → Option ℕ) (counted : ℕ) (ends : List ℕ) (fresh : List Fresh) (done : ℕ) (store : LineMap) (t : TrailValue) (fewer : ℕ) → fewer ≤ done
+pub kept_done : (lines : List CounterLine) (lists : OccurrenceLists) (slot_of : ℕ → Option ℕ) (counted : ℕ) (ends : List ℕ) (fresh : List Fresh) (done : ℕ) (store : LineMap) (t : TrailValue) (fewer : ℕ) → fewer ≤ done
     → AreKept lines lists slot_of counted ends fresh done store t → AreKept lines lists slot_of counted ends fresh fewer store t
 kept_done lines lists slot_of counted ends fresh done store t fewer le kept = record {
   found = kept.found;
@@ -155,7 +155,7 @@ kept_done lines lists slot_of counted ends fresh done store t fewer le kept = re
 }
 
 -- a cut, where nothing was counted, looked at or gone through with more steps
-pub kept_cut : (lines : List CounterLine) (lists : List (List Occurrence)) (slot_of : ℕ → Option ℕ) (counted : ℕ) (ends : List ℕ) (fresh : List Fresh) (done : ℕ) (store : LineMap) (t : TrailValue) (keep : ℕ) → keep ≤ length t.steps → counted ≤ keep
+pub kept_cut : (lines : List CounterLine) (lists : OccurrenceLists) (slot_of : ℕ → Option ℕ) (counted : ℕ) (ends : List ℕ) (fresh : List Fresh) (done : ℕ) (store : LineMap) (t : TrailValue) (keep : ℕ) → keep ≤ length t.steps → counted ≤ keep
     → ((k : ℕ) → k < length ends → get_or ends k 0 ≤ keep) → ((k : ℕ) → k < done → (fresh_at fresh k).end ≤ keep)
     → AreKept lines lists slot_of counted ends fresh done store t → AreKept lines lists slot_of counted ends fresh done store (cut t keep)
 kept_cut lines lists slot_of counted ends fresh done store t keep short counts within late kept = record {
@@ -206,7 +206,7 @@ pub removed_other : (store : LineMap) (id q : ℕ) → q ≢ id → get (remove 
 removed_other store id q other = get-remove nat_cmp_total store id q ∙ ap (λ b. cond b None (get store q)) (turned q id ∙ ne_eqb id q (λ e. other (sym e)))
 
 -- a store that has the same counted lines
-pub kept_store : (lines : List CounterLine) (lists : List (List Occurrence)) (slot_of : ℕ → Option ℕ) (counted : ℕ) (ends : List ℕ) (fresh : List Fresh) (done : ℕ) (store new : LineMap) (t : TrailValue)
+pub kept_store : (lines : List CounterLine) (lists : OccurrenceLists) (slot_of : ℕ → Option ℕ) (counted : ℕ) (ends : List ℕ) (fresh : List Fresh) (done : ℕ) (store new : LineMap) (t : TrailValue)
     → ((q : ℕ) (c : ConstraintValue) → get new q ≡ Some c → is_watched c ≡ false → get store q ≡ Some c) → ((j : ℕ) (c : ConstraintValue) → is_watched c ≡ false → get store (line_at lines j).id ≡ Some c → get new (line_at lines j).id ≡ Some c)
     → AreKept lines lists slot_of counted ends fresh done store t → AreKept lines lists slot_of counted ends fresh done new t
 kept_store lines lists slot_of counted ends fresh done store new t back forth kept = record {
@@ -240,7 +240,7 @@ none_there o x e f = cc
 two_kinds : (b : Bool) → b ≡ true → b ≡ false → ⊥
 two_kinds b e f = cc
 
-pub kept_watched : (lines : List CounterLine) (lists : List (List Occurrence)) (slot_of : ℕ → Option ℕ) (counted : ℕ) (ends : List ℕ) (fresh : List Fresh) (done : ℕ) (store : LineMap) (t : TrailValue) (id : ℕ) (c : ConstraintValue) → get store id ≡ Some c → is_watched c ≡ true
+pub kept_watched : (lines : List CounterLine) (lists : OccurrenceLists) (slot_of : ℕ → Option ℕ) (counted : ℕ) (ends : List ℕ) (fresh : List Fresh) (done : ℕ) (store : LineMap) (t : TrailValue) (id : ℕ) (c : ConstraintValue) → get store id ≡ Some c → is_watched c ≡ true
     → AreKept lines lists slot_of counted ends fresh done (remove store id) t → AreKept lines lists slot_of counted ends fresh done store t
 kept_watched lines lists slot_of counted ends fresh done store t id c there watched kept = kept_store lines lists slot_of counted ends fresh done (remove store id) store t
     (λ q d here kind. ⊎_elim
@@ -253,7 +253,7 @@ kept_watched lines lists slot_of counted ends fresh done store t id c there watc
     (cases_eq (line_at lines j).id id))
     kept
 
-pub kept_unwatched : (lines : List CounterLine) (lists : List (List Occurrence)) (slot_of : ℕ → Option ℕ) (counted : ℕ) (ends : List ℕ) (fresh : List Fresh) (done : ℕ) (store : LineMap) (t : TrailValue) (id : ℕ) (c : ConstraintValue) → get store id ≡ Some c → is_watched c ≡ true
+pub kept_unwatched : (lines : List CounterLine) (lists : OccurrenceLists) (slot_of : ℕ → Option ℕ) (counted : ℕ) (ends : List ℕ) (fresh : List Fresh) (done : ℕ) (store : LineMap) (t : TrailValue) (id : ℕ) (c : ConstraintValue) → get store id ≡ Some c → is_watched c ≡ true
     → AreKept lines lists slot_of counted ends fresh done store t → AreKept lines lists slot_of counted ends fresh done (remove store id) t
 kept_unwatched lines lists slot_of counted ends fresh done store t id c there watched kept = kept_store lines lists slot_of counted ends fresh done store (remove store id) t
     (λ q d here kind. ⊎_elim

@@ -21,19 +21,19 @@ use Rattle.slack_counter.proofs.CounterLooks.{kept_closed}
 
 pub counters_extended : (w : Counters) (store lines : LineMap) (t u : TrailValue) → Extends lines t u → AreCounters w store t → AreCounters w store u
 unfolding AreCounters
-counters_extended w store lines t u more in_step = kept_longer w.lines.items w.lists.items (λ id. lookup (nat_eq id) w.slots.entries) w.counted w.ends.items w.fresh.items w.done store t u more.more more.vars more.is in_step
+counters_extended w store lines t u more in_step = kept_longer w.lines.items w.lists (λ id. lookup (nat_eq id) w.slots.entries) w.counted w.ends.items w.fresh.items w.done store t u more.more more.vars more.is in_step
 
 pub counters_longer : (w : Counters) (store : LineMap) (t : TrailValue) (s : Step) → AreCounters w store t → AreCounters w store (with_step t s)
 unfolding AreCounters
-counters_longer w store t s in_step = kept_longer w.lines.items w.lists.items (λ id. lookup (nat_eq id) w.slots.entries) w.counted w.ends.items w.fresh.items w.done store t (with_step t s) (s ∷ []) refl refl in_step
+counters_longer w store t s in_step = kept_longer w.lines.items w.lists (λ id. lookup (nat_eq id) w.slots.entries) w.counted w.ends.items w.fresh.items w.done store t (with_step t s) (s ∷ []) refl refl in_step
 
 pub counters_over : (w : Counters) (store : LineMap) (t : TrailValue) → AreSteps t.vars t.steps → AreCounters w store t → (j : ℕ) → IsOver store t (line_at w.lines.items j)
 unfolding AreCounters
-counters_over w store t are in_step = kept_over w.lines.items w.lists.items (λ id. lookup (nat_eq id) w.slots.entries) w.counted w.ends.items w.fresh.items w.done store t are in_step
+counters_over w store t are in_step = kept_over w.lines.items w.lists (λ id. lookup (nat_eq id) w.slots.entries) w.counted w.ends.items w.fresh.items w.done store t are in_step
 
 pub counters_closed : (w : Counters) (store : LineMap) (t : TrailValue) → w.done ≡ length w.fresh.items → length t.steps ≤ length w.ends.items → AreCounters w store t → IsClosedForCounted store t
 unfolding AreCounters
-counters_closed w store t done all in_step = kept_closed w.lines.items w.lists.items (λ id. lookup (nat_eq id) w.slots.entries) w.counted w.ends.items w.fresh.items w.done store t done all in_step
+counters_closed w store t done all in_step = kept_closed w.lines.items w.lists (λ id. lookup (nat_eq id) w.slots.entries) w.counted w.ends.items w.fresh.items w.done store t done all in_step
 
 -- a step stays at its place
 pub step_extended : (lines : LineMap) (t u : TrailValue) (k : ℕ) (s : Step) → Extends lines t u → slice_get t.steps k ≡ Some s → slice_get u.steps k ≡ Some s
@@ -48,11 +48,11 @@ step_extended lines t u k s more found =
 
 pub counters_vars : (w : Counters) (store : LineMap) (t : TrailValue) (n : ℕ) → t.vars ≤ n → AreCounters w store t → AreCounters w store (record { vars = n; steps = t.steps })
 unfolding AreCounters
-counters_vars w store t n le in_step = kept_vars w.lines.items w.lists.items (λ id. lookup (nat_eq id) w.slots.entries) w.counted w.ends.items w.fresh.items w.done store t n le in_step
+counters_vars w store t n le in_step = kept_vars w.lines.items w.lists (λ id. lookup (nat_eq id) w.slots.entries) w.counted w.ends.items w.fresh.items w.done store t n le in_step
 
 pub counters_watched : (w : Counters) (store : LineMap) (t : TrailValue) (id : ℕ) (c : ConstraintValue) → get store id ≡ Some c → is_watched c ≡ true → AreCounters w (remove store id) t → AreCounters w store t
 unfolding AreCounters
-counters_watched w store t id c there watched in_step = kept_watched w.lines.items w.lists.items (λ id. lookup (nat_eq id) w.slots.entries) w.counted w.ends.items w.fresh.items w.done store t id c there watched in_step
+counters_watched w store t id c there watched in_step = kept_watched w.lines.items w.lists (λ id. lookup (nat_eq id) w.slots.entries) w.counted w.ends.items w.fresh.items w.done store t id c there watched in_step
 
 -- only the steps that are kept were looked at
 pub ends_short : (w : Counters) (store : LineMap) (t : TrailValue) (keep : ℕ) → ((k : ℕ) → k < length w.ends.items → get_or w.ends.items k 0 ≤ keep) → AreCounters w store t → length w.ends.items ≤ keep
@@ -69,7 +69,7 @@ ends_short w store t keep within in_step = ⊎_elim
 pub counters_cut : (w : Counters) (store : LineMap) (t : TrailValue) (keep : ℕ) → keep ≤ length t.steps → w.counted ≤ keep → ((k : ℕ) → k < length w.ends.items → get_or w.ends.items k 0 ≤ keep) → ((k : ℕ) → k < w.done → (fresh_at w.fresh.items k).end ≤ keep)
     → AreCounters w store t → AreCounters w store (cut t keep)
 unfolding AreCounters
-counters_cut w store t keep short counts within late in_step = kept_cut w.lines.items w.lists.items (λ id. lookup (nat_eq id) w.slots.entries) w.counted w.ends.items w.fresh.items w.done store t keep short counts within late in_step
+counters_cut w store t keep short counts within late in_step = kept_cut w.lines.items w.lists (λ id. lookup (nat_eq id) w.slots.entries) w.counted w.ends.items w.fresh.items w.done store t keep short counts within late in_step
 
 -- what holds anyway holds after an error
 pub on_err : {T E : Type 0} (r : Result T E) (P : Type 0) → P → OnErr r P
@@ -85,4 +85,4 @@ if_none (Some x) P holds = tt
 
 pub counters_unwatched : (w : Counters) (store : LineMap) (t : TrailValue) (id : ℕ) (c : ConstraintValue) → get store id ≡ Some c → is_watched c ≡ true → AreCounters w store t → AreCounters w (remove store id) t
 unfolding AreCounters
-counters_unwatched w store t id c there watched in_step = kept_unwatched w.lines.items w.lists.items (λ id. lookup (nat_eq id) w.slots.entries) w.counted w.ends.items w.fresh.items w.done store t id c there watched in_step
+counters_unwatched w store t id c there watched in_step = kept_unwatched w.lines.items w.lists (λ id. lookup (nat_eq id) w.slots.entries) w.counted w.ends.items w.fresh.items w.done store t id c there watched in_step

@@ -1,5 +1,5 @@
 -- Lists of occurrences, and the sums that change by them.
-use Rattle.std.proofs.Common.{◌≡◌, ◌≢◌, ℕ, ◌+◌, ◌-◌, ◌<◌, ◌≤◌, ◌^◌, Bool, true, false, cond, length-set, Some, List, [], ◌∷◌, ◌++◌, length, get_or, set, take, All, refl, arith, ap, sym, ◌∙◌, subst, ⊎_elim, eq-eqb, get_or-set_same, get_or-set_other}
+use Rattle.std.proofs.Common.{◌≡◌, ◌≢◌, ℕ, ◌+◌, ◌-◌, ◌<◌, ◌≤◌, ◌^◌, Bool, true, false, cond, length-set, if◌then◌else◌, Some, List, [], ◌∷◌, ◌++◌, length, get_or, set, take, All, refl, arith, ap, sym, ◌∙◌, subst, ⊎_elim, eq-eqb, get_or-set_same, get_or-set_other}
 use Rattle.std.specs.Prelude.{nat_eq, slice_get}
 use Rattle.std.proofs.lemmas.Bool.{cases_eq, ne_eqb, cond-true, cond-false}
 use Rattle.std.proofs.lemmas.Option.{get_or_from_slice_get, slice_get-get_or}
@@ -10,7 +10,9 @@ use Rattle.scut_base.specs.Literal.{Literal}
 use Rattle.scut_base.specs.LiteralCode.{code_of}
 use Rattle.scut_base.proofs.Lists.{sum_by_zero}
 use Rattle.pb_lin.proofs.AtPlace.{take_place, sum_place}
-use Rattle.slack_counter.specs.Counting.{AreOfSlots, AreQuiet, IsQuiet, coefficient_at, line_at, list_at, listed, lowered, raised, no_line, no_occurrence, share, weight}
+use Rattle.slack_counter.specs.declared.occurrence_lists.CodeList.{CodeList}
+use Rattle.slack_counter.specs.declared.occurrence_lists.OccurrenceLists.{OccurrenceLists}
+use Rattle.slack_counter.specs.Counting.{AreOfSlots, AreQuiet, IsQuiet, coefficient_at, items_for, line_at, list_at, listed, lowered, raised, no_line, no_occurrence, share, weight}
 use Rattle.pb_lin.specs.Constraint.{opposite}
 use Rattle.clause_prop.specs.declared.step.Step.{Step}
 use Rattle.slack_counter.specs.declared.counter_lines.CounterLine.{CounterLine}
@@ -126,54 +128,73 @@ add_fits lines old list k x each small short within is live =
 
 -- ---- a line's literals, listed one after another
 
-pub record AreListed (old lists : List (List Occurrence)) (terms : List (Literal × ℕ)) (slot at : ℕ) : Type 0 where
+pub record AreListed (old lists : OccurrenceLists) (terms : List (Literal × ℕ)) (slot at : ℕ) : Type 0 where
   pub slots : (code : ℕ) → AreOfSlots (slot + 1) (list_at lists code)
   pub others : (code j : ℕ) → j < slot → listed j (list_at lists code) ≡ listed j (list_at old code)
   pub listed : (code : ℕ) → listed slot (list_at lists code) ≡ coefficient_at (take at terms) code
 
-pub listed_first : (lists : List (List Occurrence)) (terms : List (Literal × ℕ)) (slot : ℕ) → ((code : ℕ) → AreOfSlots slot (list_at lists code)) → AreListed lists lists terms slot 0
+pub listed_first : (lists : OccurrenceLists) (terms : List (Literal × ℕ)) (slot : ℕ) → ((code : ℕ) → AreOfSlots slot (list_at lists code)) → AreListed lists lists terms slot 0
 listed_first lists terms slot below = record {
   slots = λ code. more_slots slot (slot + 1) (list_at lists code) (omega arith) (below code);
   others = λ code j less. refl;
   listed = λ code. none_listed slot (list_at lists code) (below code);
 }
 
-pub listed_more : (old mid lists : List (List Occurrence)) (terms : List (Literal × ℕ)) (slot at code : ℕ) (t : Literal × ℕ) (list : List Occurrence) → AreListed old mid terms slot at → ((k : ℕ) → list_at lists k ≡ list_at mid k) → code < length lists → slice_get terms at ≡ Some t → code ≡ code_of t.0
-    → list ≡ get_or lists code list → AreListed old (set lists code (list ++ record { slot = slot; coefficient = t.1 } ∷ [])) terms slot (at + 1)
-listed_more old mid lists terms slot at code t list before same short found is own = record {
-  slots = set_cases [] (λ k l. AreOfSlots (slot + 1) l) lists code new short
-      (λ k other. subst (AreOfSlots (slot + 1)) (sym (same k)) (before.slots k))
-      (All-push (λ e. e.slot < slot + 1) list entry (subst (AreOfSlots (slot + 1)) (sym cell) (before.slots code)) (omega arith));
-  others = λ k j less. set_cases [] (λ k' l. listed j l ≡ listed j (list_at old k')) lists code new short
-      (λ k' other. ap (listed j) (same k') ∙ before.others k' j less)
-      (sum_by_push (share j) list entry ∙ ap (λ n. listed j list + n) (share_other j entry (λ e. absurd (omega (arith, e, less)))) ∙ plus_zero (listed j list) ∙ ap (listed j) cell ∙ before.others code j less)
+pub listed_more : (old mid new : OccurrenceLists) (terms : List (Literal × ℕ)) (slot at code : ℕ) (t : Literal × ℕ) → AreListed old mid terms slot at → ((k : ℕ) → k ≢ code → list_at new k ≡ list_at mid k)
+    → list_at new code ≡ list_at mid code ++ record { slot = slot; coefficient = t.1 } ∷ [] → slice_get terms at ≡ Some t → code ≡ code_of t.0 → AreListed old new terms slot (at + 1)
+listed_more old mid new terms slot at code t before kept put found is = record {
+  slots = each (λ k l. AreOfSlots (slot + 1) l)
+      (λ k other. before.slots k)
+      (All-push (λ e. e.slot < slot + 1) list entry (before.slots code) (omega arith));
+  others = λ k j less. each (λ k' l. listed j l ≡ listed j (list_at old k'))
+      (λ k' other. before.others k' j less)
+      (sum_by_push (share j) list entry ∙ ap (λ n. listed j list + n) (share_other j entry (λ e. absurd (omega (arith, e, less)))) ∙ plus_zero (listed j list) ∙ before.others code j less)
       k;
-  listed = set_cases [] (λ k l. listed slot l ≡ coefficient_at (take (at + 1) terms) k) lists code new short
+  listed = each (λ k l. listed slot l ≡ coefficient_at (take (at + 1) terms) k)
       (λ k other.
       let more : coefficient_at (take (at + 1) terms) k ≡ coefficient_at (take at terms) k + weight k t = sum_place (weight k) terms at t found in
       let none : weight k t ≡ 0 = weight_other k t (λ e. other (sym e ∙ sym is)) in
-      let was : listed slot (list_at lists k) ≡ coefficient_at (take at terms) k = ap (listed slot) (same k) ∙ before.listed k in
+      let was : listed slot (list_at mid k) ≡ coefficient_at (take at terms) k = before.listed k in
       omega (arith, more, none, was))
       (let more : coefficient_at (take (at + 1) terms) code ≡ coefficient_at (take at terms) code + weight code t = sum_place (weight code) terms at t found in
       let here : weight code t ≡ t.1 = weight_own code t (sym is) in
-      let was : listed slot list ≡ coefficient_at (take at terms) code = ap (listed slot) cell ∙ before.listed code in
-      let put : listed slot new ≡ listed slot list + share slot entry = sum_by_push (share slot) list entry in
-      omega (arith, more, here, was, put, share_own slot entry refl));
+      let was : listed slot list ≡ coefficient_at (take at terms) code = before.listed code in
+      let push : listed slot (list ++ entry ∷ []) ≡ listed slot list + share slot entry = sum_by_push (share slot) list entry in
+      omega (arith, more, here, was, push, share_own slot entry refl));
 }
   where
     entry : Occurrence
     entry = record { slot = slot; coefficient = t.1 }
 
-    new : List Occurrence
-    new = list ++ entry ∷ []
-
-    cell : list ≡ list_at mid code
-    cell = own ∙ get_or_default lists code list [] short ∙ same code
+    list : List Occurrence
+    list = list_at mid code
 
     plus_zero : (n : ℕ) → n + 0 ≡ n
     plus_zero n = omega arith
 
+    each : (P : ℕ → List Occurrence → Type 0) → ((k : ℕ) → k ≢ code → P k (list_at mid k)) → P code (list ++ entry ∷ []) → (k : ℕ) → P k (list_at new k)
+    each P others here k = ⊎_elim
+        (λ (e : k ≡ code). subst (λ (i : ℕ). P i (list_at new i)) (sym e) (subst (P code) (sym put) here))
+        (λ (other : k ≢ code). subst (P k) (sym (kept k other)) (others k other))
+        (cases_eq k code)
+
+-- ---- lists that are swept
+
+swept_if : (n : ℕ) (b : Bool) (xs ys : List Occurrence) → (AreOfSlots n xs → AreOfSlots n ys) → AreOfSlots n (if b then xs else []) → AreOfSlots n (if b then ys else [])
+swept_if n true xs ys keeps are = keeps are
+swept_if n false xs ys keeps are = are
+
+pub swept_slots : (l m : CodeList) (code n : ℕ) → m.code ≡ l.code → (AreOfSlots n l.items → AreOfSlots n m.items) → AreOfSlots n (items_for l code) → AreOfSlots n (items_for m code)
+swept_slots l m code n same keeps are = subst (λ (c : ℕ). AreOfSlots n (if nat_eq c code then m.items else [])) (sym same) (swept_if n (nat_eq l.code code) l.items m.items keeps are)
+
+listed_if : (j : ℕ) (b : Bool) (xs ys : List Occurrence) → listed j ys ≡ listed j xs → listed j (if b then ys else []) ≡ listed j (if b then xs else [])
+listed_if j true xs ys same = same
+listed_if j false xs ys same = refl
+
+pub swept_listed : (l m : CodeList) (code j : ℕ) → m.code ≡ l.code → listed j m.items ≡ listed j l.items → listed j (items_for m code) ≡ listed j (items_for l code)
+swept_listed l m code j same one = ap (λ (c : ℕ). listed j (if nat_eq c code then m.items else [])) same ∙ listed_if j (nat_eq l.code code) l.items m.items one
+
 -- the list that a step makes false, of the step at a place
-pub step_list : (lists ls : List (List Occurrence)) (list : List Occurrence) (steps : List Step) (k : ℕ) (s : Step) → slice_get steps k ≡ Some s → ls ≡ lists → list ≡ list_at ls (code_of (opposite s.lit)) → list ≡ list_at lists (code_of (opposite (get_or steps k s).lit))
+pub step_list : (lists ls : OccurrenceLists) (list : List Occurrence) (steps : List Step) (k : ℕ) (s : Step) → slice_get steps k ≡ Some s → ls ≡ lists → list ≡ list_at ls (code_of (opposite s.lit)) → list ≡ list_at lists (code_of (opposite (get_or steps k s).lit))
 step_list lists ls list steps k s found same is =
-    is ∙ ap (λ (l : List (List Occurrence)). list_at l (code_of (opposite s.lit))) same ∙ ap (λ (r : Step). list_at lists (code_of (opposite r.lit))) (sym (get_or_from_slice_get steps k s s found))
+    is ∙ ap (λ (l : OccurrenceLists). list_at l (code_of (opposite s.lit))) same ∙ ap (λ (r : Step). list_at lists (code_of (opposite r.lit))) (sym (get_or_from_slice_get steps k s s found))

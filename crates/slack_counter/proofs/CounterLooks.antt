@@ -10,6 +10,7 @@ use Rattle.pb_lin.specs.LineMap.{LineMap}
 use Rattle.pb_lin.specs.Propagation.{IsClosedUnder}
 use Rattle.clause_prop.specs.Steps.{AreSteps, TrailValue, partial}
 use Rattle.clause_prop.specs.LineKinds.{IsClosedForCounted}
+use Rattle.slack_counter.specs.declared.occurrence_lists.OccurrenceLists.{OccurrenceLists}
 use Rattle.slack_counter.specs.Counting.{AreKept, IsDone, IsGone, IsHeld, IsSettled, IsWaiting, end_of, fresh_at, line_at, list_at, listed, no_fresh, share}
 use Rattle.clause_prop.specs.declared.step.Step.{Step}
 use Rattle.slack_counter.specs.declared.counter_lines.CounterLine.{CounterLine}
@@ -40,7 +41,7 @@ in_list j (e ∷ list) = ⊎_elim
     sum_is x xs rest one = omega (arith, sum_by-cons (share j) x xs, rest, one)
 
 -- the lines of a list were gone through, so each line is settled with the step that the list is of
-pub held_looked : (lines : List CounterLine) (lists : List (List Occurrence)) (slot_of : ℕ → Option ℕ) (counted : ℕ) (ends : List ℕ) (fresh : List Fresh) (done : ℕ) (store : LineMap) (t : TrailValue) (d : Step) → AreSteps t.vars t.steps → length ends < counted
+pub held_looked : (lines : List CounterLine) (lists : OccurrenceLists) (slot_of : ℕ → Option ℕ) (counted : ℕ) (ends : List ℕ) (fresh : List Fresh) (done : ℕ) (store : LineMap) (t : TrailValue) (d : Step) → AreSteps t.vars t.steps → length ends < counted
     → All (λ e. IsGone store t (line_at lines e.slot)) (list_at lists (code_of (opposite (get_or t.steps (length ends) d).lit)))
     → (kept : AreKept lines lists slot_of counted ends fresh done store t) → (j : ℕ) → (live : (line_at lines j).live ≡ true) → IsDone ends fresh done t.vars t.steps j (kept.held j live).line (length ends) → IsSettled t.vars t.steps (kept.held j live).line (length ends + 1) (length t.steps)
 held_looked lines lists slot_of counted ends fresh done store t d are less gone kept j live is = ⊎_elim
@@ -63,7 +64,7 @@ held_looked lines lists slot_of counted ends fresh done store t d are less gone 
     counts = kept.counts
 
 -- a step was looked at
-pub kept_looked : (lines : List CounterLine) (lists : List (List Occurrence)) (slot_of : ℕ → Option ℕ) (counted : ℕ) (ends : List ℕ) (fresh : List Fresh) (done : ℕ) (store : LineMap) (t : TrailValue) (d : Step) → AreSteps t.vars t.steps → length ends < counted
+pub kept_looked : (lines : List CounterLine) (lists : OccurrenceLists) (slot_of : ℕ → Option ℕ) (counted : ℕ) (ends : List ℕ) (fresh : List Fresh) (done : ℕ) (store : LineMap) (t : TrailValue) (d : Step) → AreSteps t.vars t.steps → length ends < counted
     → All (λ e. IsGone store t (line_at lines e.slot)) (list_at lists (code_of (opposite (get_or t.steps (length ends) d).lit)))
     → AreKept lines lists slot_of counted ends fresh done store t → AreKept lines lists slot_of counted (ends ++ length t.steps ∷ []) fresh done store t
 kept_looked lines lists slot_of counted ends fresh done store t d are less gone kept = record {
@@ -139,7 +140,7 @@ kept_looked lines lists slot_of counted ends fresh done store t d are less gone 
 
 -- ---- a new line
 
-pub kept_visited : (lines : List CounterLine) (lists : List (List Occurrence)) (slot_of : ℕ → Option ℕ) (counted : ℕ) (ends : List ℕ) (fresh : List Fresh) (done : ℕ) (store : LineMap) (t : TrailValue) → AreSteps t.vars t.steps → done < length fresh
+pub kept_visited : (lines : List CounterLine) (lists : OccurrenceLists) (slot_of : ℕ → Option ℕ) (counted : ℕ) (ends : List ℕ) (fresh : List Fresh) (done : ℕ) (store : LineMap) (t : TrailValue) → AreSteps t.vars t.steps → done < length fresh
     → IsGone store t (line_at lines (fresh_at fresh done).slot)
     → AreKept lines lists slot_of counted ends fresh done store t → AreKept lines lists slot_of counted ends (set fresh done (record { slot = (fresh_at fresh done).slot; end = length t.steps })) (done + 1) store t
 kept_visited lines lists slot_of counted ends fresh done store t are short gone kept = record {
@@ -220,7 +221,7 @@ kept_visited lines lists slot_of counted ends fresh done store t are short gone 
 
 -- ---- all is gone through
 
-pub kept_closed : (lines : List CounterLine) (lists : List (List Occurrence)) (slot_of : ℕ → Option ℕ) (counted : ℕ) (ends : List ℕ) (fresh : List Fresh) (done : ℕ) (store : LineMap) (t : TrailValue) → done ≡ length fresh → length t.steps ≤ length ends
+pub kept_closed : (lines : List CounterLine) (lists : OccurrenceLists) (slot_of : ℕ → Option ℕ) (counted : ℕ) (ends : List ℕ) (fresh : List Fresh) (done : ℕ) (store : LineMap) (t : TrailValue) → done ≡ length fresh → length t.steps ≤ length ends
     → AreKept lines lists slot_of counted ends fresh done store t → IsClosedForCounted store t
 kept_closed lines lists slot_of counted ends fresh done store t all looked kept id c there kind =
     let slot = kept.found id c there kind in

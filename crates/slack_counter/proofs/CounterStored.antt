@@ -10,9 +10,9 @@ use Rattle.pb_lin.specs.Constraint.{ConstraintValue}
 use Rattle.pb_lin.specs.LineMap.{LineMap}
 use Rattle.clause_prop.specs.Steps.{TrailValue}
 use Rattle.clause_prop.specs.LineKinds.{is_watched}
+use Rattle.slack_counter.specs.declared.occurrence_lists.OccurrenceLists.{OccurrenceLists}
 use Rattle.slack_counter.specs.Counting.{AreKept, AreOfSlots, IsCounter, IsDone, IsHeld, IsWaiting, end_of, fresh_at, line_at, list_at, listed, no_fresh, no_line}
 use Rattle.slack_counter.specs.declared.counter_lines.CounterLine.{CounterLine}
-use Rattle.slack_counter.specs.declared.counter_lines.Occurrence.{Occurrence}
 use Rattle.slack_counter.specs.declared.counter_lines.Fresh.{Fresh}
 use Rattle.slack_counter.proofs.CounterKeeps.{removed_same, removed_other}
 
@@ -26,13 +26,13 @@ some_same : {X : Type 0} (a b : X) (o : Option X) → o ≡ Some a → o ≡ Som
 some_same a b o e f = cc
 
 -- nothing is kept
-pub kept_new : (slot_of : ℕ → Option ℕ) (n : ℕ) → ((id : ℕ) → slot_of id ≡ None) → AreKept [] [] slot_of 0 [] [] 0 empty (record { vars = n; steps = [] })
-kept_new slot_of n none = record {
+pub kept_new : (lists : OccurrenceLists) (slot_of : ℕ → Option ℕ) (n : ℕ) → ((k : ℕ) → list_at lists k ≡ []) → ((id : ℕ) → slot_of id ≡ None) → AreKept [] lists slot_of 0 [] [] 0 empty (record { vars = n; steps = [] })
+kept_new lists slot_of n nothing none = record {
   found = λ id c there kind. absurd (none_there (get empty id) c (get-empty nat_cmp id) there);
   slots = λ id j is. absurd (none_there (slot_of id) j (none id) is);
   named = λ j live. absurd (two_truths false live refl);
   held = λ j live. absurd (two_truths false live refl);
-  occurrences = λ code k d less. absurd (omega (arith, less));
+  occurrences = λ code. subst (AreOfSlots 0) (sym (nothing code)) (λ k d less. absurd (omega (arith, less)));
   looked = omega arith;
   counts = omega arith;
   within = λ p less. absurd (omega (arith, less));
@@ -43,14 +43,13 @@ kept_new slot_of n none = record {
   later = λ i k le less. absurd (omega (arith, less));
 }
 
-pub kept_empty : (lines : List CounterLine) (lists : List (List Occurrence)) (entries : List (ℕ × ℕ)) (ends : List ℕ) (fresh : List Fresh) (n : ℕ) → lines ≡ [] → lists ≡ [] → entries ≡ [] → ends ≡ [] → fresh ≡ []
+pub kept_empty : (lines : List CounterLine) (lists : OccurrenceLists) (entries : List (ℕ × ℕ)) (ends : List ℕ) (fresh : List Fresh) (n : ℕ) → lines ≡ [] → ((k : ℕ) → list_at lists k ≡ []) → entries ≡ [] → ends ≡ [] → fresh ≡ []
     → AreKept lines lists (λ id. lookup (nat_eq id) entries) 0 ends fresh 0 empty (record { vars = n; steps = [] })
 kept_empty lines lists entries ends fresh n no_lines no_lists no_entries no_ends no_news =
     subst (λ (ls : List CounterLine). AreKept ls lists (λ id. lookup (nat_eq id) entries) 0 ends fresh 0 empty (record { vars = n; steps = [] })) (sym no_lines)
-    (subst (λ (ls : List (List Occurrence)). AreKept [] ls (λ id. lookup (nat_eq id) entries) 0 ends fresh 0 empty (record { vars = n; steps = [] })) (sym no_lists)
-    (subst (λ (es : List ℕ). AreKept [] [] (λ id. lookup (nat_eq id) entries) 0 es fresh 0 empty (record { vars = n; steps = [] })) (sym no_ends)
-    (subst (λ (fs : List Fresh). AreKept [] [] (λ id. lookup (nat_eq id) entries) 0 [] fs 0 empty (record { vars = n; steps = [] })) (sym no_news)
-    (kept_new (λ id. lookup (nat_eq id) entries) n (λ id. ap (λ (es : List (ℕ × ℕ)). lookup (nat_eq id) es) no_entries)))))
+    (subst (λ (es : List ℕ). AreKept [] lists (λ id. lookup (nat_eq id) entries) 0 es fresh 0 empty (record { vars = n; steps = [] })) (sym no_ends)
+    (subst (λ (fs : List Fresh). AreKept [] lists (λ id. lookup (nat_eq id) entries) 0 [] fs 0 empty (record { vars = n; steps = [] })) (sym no_news)
+    (kept_new lists (λ id. lookup (nat_eq id) entries) n no_lists (λ id. ap (λ (es : List (ℕ × ℕ)). lookup (nat_eq id) es) no_entries))))
 
 -- ---- a slot that isn't in use
 
@@ -63,7 +62,7 @@ dead_same lines j = ⊎_elim
     (cases_eq j (length lines)))
     (cases_lt j (length lines))
 
-pub kept_dead : (lines : List CounterLine) (lists : List (List Occurrence)) (slot_of : ℕ → Option ℕ) (counted : ℕ) (ends : List ℕ) (fresh : List Fresh) (done : ℕ) (store : LineMap) (t : TrailValue)
+pub kept_dead : (lines : List CounterLine) (lists : OccurrenceLists) (slot_of : ℕ → Option ℕ) (counted : ℕ) (ends : List ℕ) (fresh : List Fresh) (done : ℕ) (store : LineMap) (t : TrailValue)
     → AreKept lines lists slot_of counted ends fresh done store t → AreKept (lines ++ no_line ∷ []) lists slot_of counted ends fresh done store t
 kept_dead lines lists slot_of counted ends fresh done store t kept = record {
   found = kept.found;
@@ -85,7 +84,7 @@ kept_dead lines lists slot_of counted ends fresh done store t kept = record {
 
 -- ---- occurrences of a slot that isn't in use
 
-pub kept_lists : (lines : List CounterLine) (lists new : List (List Occurrence)) (slot_of : ℕ → Option ℕ) (counted : ℕ) (ends : List ℕ) (fresh : List Fresh) (done : ℕ) (store : LineMap) (t : TrailValue) (slot : ℕ) → length lines ≡ slot + 1 → line_at lines slot ≡ no_line
+pub kept_lists : (lines : List CounterLine) (lists new : OccurrenceLists) (slot_of : ℕ → Option ℕ) (counted : ℕ) (ends : List ℕ) (fresh : List Fresh) (done : ℕ) (store : LineMap) (t : TrailValue) (slot : ℕ) → length lines ≡ slot + 1 → line_at lines slot ≡ no_line
     → ((code : ℕ) → AreOfSlots (slot + 1) (list_at new code)) → ((code j : ℕ) → j < slot → listed j (list_at new code) ≡ listed j (list_at lists code))
     → AreKept lines lists slot_of counted ends fresh done store t → AreKept lines new slot_of counted ends fresh done store t
 kept_lists lines lists new slot_of counted ends fresh done store t slot len dead slots others kept = record {
@@ -123,7 +122,7 @@ kept_lists lines lists new slot_of counted ends fresh done store t slot len dead
 
 -- ---- a fresh slot
 
-pub kept_fresh : (lines : List CounterLine) (lists : List (List Occurrence)) (slot_of : ℕ → Option ℕ) (counted : ℕ) (ends : List ℕ) (fresh : List Fresh) (done : ℕ) (store : LineMap) (t : TrailValue) (slot : ℕ) → slot < length lines
+pub kept_fresh : (lines : List CounterLine) (lists : OccurrenceLists) (slot_of : ℕ → Option ℕ) (counted : ℕ) (ends : List ℕ) (fresh : List Fresh) (done : ℕ) (store : LineMap) (t : TrailValue) (slot : ℕ) → slot < length lines
     → AreKept lines lists slot_of counted ends fresh done store t → AreKept lines lists slot_of counted ends (fresh ++ record { slot = slot; end = 0 } ∷ []) done store t
 kept_fresh lines lists slot_of counted ends fresh done store t slot short kept = record {
   found = kept.found;
@@ -177,7 +176,7 @@ kept_fresh lines lists slot_of counted ends fresh done store t slot short kept =
 
 -- ---- a slot that is taken into use
 
-pub kept_live : (lines : List CounterLine) (lists : List (List Occurrence)) (slot_of slot_in : ℕ → Option ℕ) (counted : ℕ) (ends : List ℕ) (fresh : List Fresh) (done : ℕ) (store : LineMap) (t : TrailValue) (id slot : ℕ) (line : CounterLine) (c : ConstraintValue)
+pub kept_live : (lines : List CounterLine) (lists : OccurrenceLists) (slot_of slot_in : ℕ → Option ℕ) (counted : ℕ) (ends : List ℕ) (fresh : List Fresh) (done : ℕ) (store : LineMap) (t : TrailValue) (id slot : ℕ) (line : CounterLine) (c : ConstraintValue)
     → slot < length lines → line_at lines slot ≡ no_line → slot_in id ≡ Some slot → ((q : ℕ) → q ≢ id → slot_in q ≡ slot_of q) → line.id ≡ id → line.live ≡ true → get store id ≡ Some c → is_watched c ≡ false
     → IsCounter lists t.vars (take counted t.steps) slot line c → IsWaiting fresh done slot
     → AreKept lines lists slot_of counted ends fresh done (remove store id) t → AreKept (set lines slot line) lists slot_in counted ends fresh done store t
@@ -255,7 +254,7 @@ kept_live lines lists slot_of slot_in counted ends fresh done store t id slot li
 
 -- ---- a line that is let go
 
-pub kept_dropped : (lines : List CounterLine) (lists : List (List Occurrence)) (slot_of slot_in : ℕ → Option ℕ) (counted : ℕ) (ends : List ℕ) (fresh : List Fresh) (done : ℕ) (store : LineMap) (t : TrailValue) (id slot : ℕ)
+pub kept_dropped : (lines : List CounterLine) (lists : OccurrenceLists) (slot_of slot_in : ℕ → Option ℕ) (counted : ℕ) (ends : List ℕ) (fresh : List Fresh) (done : ℕ) (store : LineMap) (t : TrailValue) (id slot : ℕ)
     → slot_of id ≡ Some slot → slot_in id ≡ None → ((q : ℕ) → q ≢ id → slot_in q ≡ slot_of q)
     → AreKept lines lists slot_of counted ends fresh done store t → AreKept (set lines slot no_line) lists slot_in counted ends fresh done (remove store id) t
 kept_dropped lines lists slot_of slot_in counted ends fresh done store t id slot in_use free elsewhere kept = record {
@@ -311,7 +310,7 @@ kept_dropped lines lists slot_of slot_in counted ends fresh done store t id slot
     }
 
 -- an id that has no slot
-pub kept_other : (lines : List CounterLine) (lists : List (List Occurrence)) (slot_of slot_in : ℕ → Option ℕ) (counted : ℕ) (ends : List ℕ) (fresh : List Fresh) (done : ℕ) (store : LineMap) (t : TrailValue) (id : ℕ)
+pub kept_other : (lines : List CounterLine) (lists : OccurrenceLists) (slot_of slot_in : ℕ → Option ℕ) (counted : ℕ) (ends : List ℕ) (fresh : List Fresh) (done : ℕ) (store : LineMap) (t : TrailValue) (id : ℕ)
     → slot_of id ≡ None → ((q : ℕ) → slot_in q ≡ slot_of q)
     → AreKept lines lists slot_of counted ends fresh done store t → AreKept lines lists slot_in counted ends fresh done (remove store id) t
 kept_other lines lists slot_of slot_in counted ends fresh done store t id free same kept = record {
@@ -357,7 +356,7 @@ update_none old new id is none q = ⊎_elim
     (cases_eq q id)
 
 -- lists that have the same of each live slot
-pub kept_swept : (lines : List CounterLine) (lists new : List (List Occurrence)) (slot_of : ℕ → Option ℕ) (counted : ℕ) (ends : List ℕ) (fresh : List Fresh) (done : ℕ) (store : LineMap) (t : TrailValue)
+pub kept_swept : (lines : List CounterLine) (lists new : OccurrenceLists) (slot_of : ℕ → Option ℕ) (counted : ℕ) (ends : List ℕ) (fresh : List Fresh) (done : ℕ) (store : LineMap) (t : TrailValue)
     → ((n code : ℕ) → AreOfSlots n (list_at lists code) → AreOfSlots n (list_at new code)) → ((code j : ℕ) → (line_at lines j).live ≡ true → listed j (list_at new code) ≡ listed j (list_at lists code))
     → AreKept lines lists slot_of counted ends fresh done store t → AreKept lines new slot_of counted ends fresh done store t
 kept_swept lines lists new slot_of counted ends fresh done store t slots same kept = record {

@@ -13,6 +13,8 @@ use Rattle.clause_prop.specs.declared.step.Step.{Step}
 use Rattle.slack_counter.specs.declared.counter_lines.CounterLine.{CounterLine}
 use Rattle.slack_counter.specs.declared.counter_lines.Occurrence.{Occurrence}
 use Rattle.slack_counter.specs.declared.counter_lines.Fresh.{Fresh}
+use Rattle.slack_counter.specs.declared.occurrence_lists.CodeList.{CodeList}
+use Rattle.slack_counter.specs.declared.occurrence_lists.OccurrenceLists.{OccurrenceLists}
 
 -- what stands past the ends of the lists
 abbrev pub no_line : CounterLine
@@ -30,8 +32,26 @@ line_at lines j = slice_index_or lines j no_line
 abbrev pub fresh_at : List Fresh → ℕ → Fresh
 fresh_at fresh k = slice_index_or fresh k no_fresh
 
-abbrev pub list_at : List (List Occurrence) → ℕ → List Occurrence
-list_at lists code = slice_index_or lists code []
+-- what stands past the end of the lists
+abbrev pub no_list : CodeList
+no_list = record { code = 0; items = [] }
+
+-- the list that is kept for a code, which counts where it is of this code
+abbrev pub kept_for : OccurrenceLists → ℕ → CodeList
+kept_for o code = slice_index_or o.lists.items (slice_index_or o.places.items code 0) no_list
+
+-- the occurrences of a list for a code: none where it is of another one
+abbrev pub items_for : CodeList → ℕ → List Occurrence
+items_for l code = if nat_eq l.code code then l.items else []
+
+abbrev pub list_at : OccurrenceLists → ℕ → List Occurrence
+list_at o code = items_for (kept_for o code) code
+
+-- the list of a code is at this place
+pub record IsListOf (o : OccurrenceLists) (code place : ℕ) : Type 0 where
+  pub there : place < length o.lists.items
+  pub own : (slice_index_or o.lists.items place no_list).code ≡ code
+  pub is : slice_index_or o.places.items code 0 ≡ place
 
 -- the coefficient where the occurrence is of this slot, and else 0
 abbrev pub share : ℕ → Occurrence → ℕ
@@ -70,7 +90,7 @@ abbrev pub possible : ℕ → List Step → List (Literal × ℕ) → ℕ
 possible n steps terms = sum_by (possible_value (assigned n steps)) terms
 
 -- what is kept of a line: the coefficients of the literals that aren't false, and the degree and the greatest coefficient summed
-pub record IsCounter (lists : List (List Occurrence)) (n : ℕ) (steps : List Step) (j : ℕ) (kept : CounterLine) (c : ConstraintValue) : Type 0 where
+pub record IsCounter (lists : OccurrenceLists) (n : ℕ) (steps : List Step) (j : ℕ) (kept : CounterLine) (c : ConstraintValue) : Type 0 where
   pub normal : IsNormal c.terms c.degree
   pub within : UpTo n c
   pub occurs : (code : ℕ) → listed j (list_at lists code) ≡ coefficient_at c.terms code
@@ -101,7 +121,7 @@ pub record IsDone (ends : List ℕ) (fresh : List Fresh) (done n : ℕ) (steps :
   pub reached : (by ≤ end_of ends q) ⊎ ((k : ℕ) × (k < done) × ((fresh_at fresh k).slot ≡ j) × (by ≤ (fresh_at fresh k).end))
 
 -- the line of a live slot
-pub record IsHeld (lists : List (List Occurrence)) (counted : ℕ) (ends : List ℕ) (fresh : List Fresh) (done : ℕ) (store : LineMap) (t : TrailValue) (j : ℕ) (kept : CounterLine) : Type 0 where
+pub record IsHeld (lists : OccurrenceLists) (counted : ℕ) (ends : List ℕ) (fresh : List Fresh) (done : ℕ) (store : LineMap) (t : TrailValue) (j : ℕ) (kept : CounterLine) : Type 0 where
   pub line : ConstraintValue
   pub there : get store kept.id ≡ Some line
   pub kind : is_watched line ≡ false
@@ -109,7 +129,7 @@ pub record IsHeld (lists : List (List Occurrence)) (counted : ℕ) (ends : List 
   pub ready : (q : ℕ) → q ≤ length ends → IsWaiting fresh done j ⊎ IsDone ends fresh done t.vars t.steps j line q
 
 -- The lines of slots, the lists of occurrences by codes of literals, the slots by ids, how many steps the sums count, the trail's length after each step that was looked at, and the slots of new lines, of which the first `done` were gone through.
-pub record AreKept (lines : List CounterLine) (lists : List (List Occurrence)) (slot_of : ℕ → Option ℕ) (counted : ℕ) (ends : List ℕ) (fresh : List Fresh) (done : ℕ) (store : LineMap) (t : TrailValue) : Type 0 where
+pub record AreKept (lines : List CounterLine) (lists : OccurrenceLists) (slot_of : ℕ → Option ℕ) (counted : ℕ) (ends : List ℕ) (fresh : List Fresh) (done : ℕ) (store : LineMap) (t : TrailValue) : Type 0 where
   pub found : (id : ℕ) (c : ConstraintValue) → get store id ≡ Some c → is_watched c ≡ false → (j : ℕ) × (slot_of id ≡ Some j)
   pub slots : (id j : ℕ) → slot_of id ≡ Some j → (j < length lines) × ((line_at lines j).id ≡ id) × ((line_at lines j).live ≡ true)
   pub named : (j : ℕ) → (line_at lines j).live ≡ true → slot_of (line_at lines j).id ≡ Some j

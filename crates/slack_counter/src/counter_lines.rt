@@ -9,6 +9,7 @@ ghost use Rattle.clause_prop.specs.Steps.{partial};
 ghost use Rattle.clause_prop.specs.Propagating.{Extends, IsConflict};
 ghost use Rattle.slack_counter.specs.Counting.{AreOfSlots, AreQuiet, AreTold, IsGone, IsOver, IsQuiet, coefficient_at, line_at, list_at, listed, lowered, no_occurrence, possible, raised};
 
+use crate::occurrence_lists::OccurrenceLists;
 use clause_prop::{ClauseStore, Step, Trail, is_forced, literal_code, push_forced};
 use pb_lin::Constraint;
 use scut_base::{Items, NoMemory};
@@ -41,15 +42,10 @@ pub struct Fresh {
 }
 
 // The occurrences of the literal that a step makes false.
-pub fn falsified(lists: &[Items<Occurrence>], step: Step) -> &[Occurrence]
+pub fn falsified(lists: &OccurrenceLists, step: Step) -> &[Occurrence]
     ensures { result.now ≡ list_at lists.now (code_of (opposite step.lit)) }
 {
-    let code = literal_code(step.lit.not());
-    if code < lists.len() {
-        lists[code].as_slice()
-    } else {
-        &[]
-    }
+    lists.of(literal_code(step.lit.not()))
 }
 
 // Takes the coefficients of a list off the sums of their lines; whether a sum may be below its limit then.
@@ -184,36 +180,25 @@ pub fn visit_list(
 // Lists a line's literals as occurrences in a slot. After `NoMemory` some may be listed.
 pub fn list_terms(
     alloc: Global,
-    lists: &mut Vec<Items<Occurrence>>,
+    lists: &mut OccurrenceLists,
     line: &Constraint,
     slot: usize,
 ) -> Result<(), NoMemory>
-    requires { (code : ℕ) → AreOfSlots slot (list_at lists.old.items code) }
-    ensures slots { (code : ℕ) → AreOfSlots (slot + 1) (list_at lists.new.items code) }
+    requires { (code : ℕ) → AreOfSlots slot (list_at lists.old code) }
+    ensures slots { (code : ℕ) → AreOfSlots (slot + 1) (list_at lists.new code) }
     ensures others { (code j : ℕ) → j < slot
-        → listed j (list_at lists.new.items code) ≡ listed j (list_at lists.old.items code) }
+        → listed j (list_at lists.new code) ≡ listed j (list_at lists.old code) }
     ensures listed { OnOk result ((code : ℕ)
-        → listed slot (list_at lists.new.items code) ≡ coefficient_at line.now.terms code) }
+        → listed slot (list_at lists.new code) ≡ coefficient_at line.now.terms code) }
 {
     for at in 0..line.len() {
         let term = line.term(at);
         let code = literal_code(term.0);
-        cover(alloc, lists, code)?;
-        lists[code].push(Occurrence {
+        let occurrence = Occurrence {
             slot,
             coefficient: term.1,
-        })?;
-    }
-    Ok(())
-}
-
-// Makes room for the list of this code.
-fn cover(alloc: Global, lists: &mut Vec<Items<Occurrence>>, code: usize) -> Result<(), NoMemory>
-    ensures room { OnOk result (code < length lists.new.items) }
-    ensures same { (k : ℕ) → list_at lists.new.items k ≡ list_at lists.old.items k }
-{
-    while lists.len() <= code {
-        lists.push(Items::new(alloc))?;
+        };
+        lists.push(alloc, code, occurrence)?;
     }
     Ok(())
 }
@@ -233,20 +218,8 @@ pub fn greatest(line: &Constraint) -> u128
     greatest
 }
 
-// Takes occurrences in slots that aren't live out of all lists.
-pub fn sweep(lists: &mut Vec<Items<Occurrence>>, lines: &[CounterLine])
-    ensures slots { (n code : ℕ) → AreOfSlots n (list_at lists.old.items code)
-        → AreOfSlots n (list_at lists.new.items code) }
-    ensures same { (code j : ℕ) → (line_at lines.now j).live ≡ true
-        → listed j (list_at lists.new.items code) ≡ listed j (list_at lists.old.items code) }
-{
-    for code in 0..lists.len() {
-        sweep_list(&mut lists[code], lines);
-    }
-}
-
-// The same of one list.
-fn sweep_list(list: &mut Items<Occurrence>, lines: &[CounterLine])
+// Takes occurrences in slots that aren't live out of a list.
+pub fn sweep_list(list: &mut Items<Occurrence>, lines: &[CounterLine])
     ensures slots { (n : ℕ) → AreOfSlots n list.old → AreOfSlots n list.new }
     ensures same { (j : ℕ) → (line_at lines.now j).live ≡ true
         → listed j list.new ≡ listed j list.old }

@@ -12,12 +12,12 @@ ghost use Rattle.slack_counter.specs.Counting.{fresh_at, no_line};
 ghost use Rattle.slack_counter.specs.Counted.{AreCounters, IsGoneStep, IsNewSlot, IsOnlyCounted, IsQuietStep};
 
 use crate::counter_lines::{
-    CounterLine, Fresh, Occurrence, add, falsified, greatest, list_terms, subtract, sweep,
-    visit_line, visit_list,
+    CounterLine, Fresh, add, falsified, greatest, list_terms, subtract, visit_line, visit_list,
 };
+use crate::occurrence_lists::OccurrenceLists;
 use clause_prop::{ClauseStore, Trail, possible};
 use pb_lin::Constraint;
-use scut_base::{Items, NoMemory};
+use scut_base::NoMemory;
 use std::alloc::Global;
 use std::collections::HashMap;
 
@@ -30,7 +30,7 @@ pub struct Counters {
     alloc: Global,
     lines: Vec<CounterLine>,
     // By literals.
-    lists: Vec<Items<Occurrence>>,
+    lists: OccurrenceLists,
     // By ids.
     slots: HashMap<u64, usize>,
     // How many steps of the trail the sums count.
@@ -54,7 +54,7 @@ impl Counters {
         Counters {
             alloc,
             lines: Vec::new(alloc),
-            lists: Vec::new(alloc),
+            lists: OccurrenceLists::new(alloc),
             slots: HashMap::new(alloc),
             counted: 0,
             ends: Vec::new(alloc),
@@ -175,7 +175,7 @@ impl Counters {
         if !low {
             return None;
         }
-        let list = falsified(self.lists.as_slice(), trail.step_at(place));
+        let list = falsified(&self.lists, trail.step_at(place));
         visit_list(self.lines.as_slice(), list, store, trail)
     }
 
@@ -212,7 +212,7 @@ impl Counters {
         // The length is a u64, and so is a count that is at most it.
         let _fits = trail.len();
         let step = trail.step_at(self.counted);
-        let low = subtract(&mut self.lines, falsified(self.lists.as_slice(), step));
+        let low = subtract(&mut self.lines, falsified(&self.lists, step));
         self.counted += 1;
         low
     }
@@ -228,7 +228,7 @@ impl Counters {
     {
         self.counted -= 1;
         let step = trail.step_at(self.counted);
-        add(&mut self.lines, falsified(self.lists.as_slice(), step));
+        add(&mut self.lines, falsified(&self.lists, step));
     }
 
     // Counts the first `count` steps, where they aren't counted.
@@ -316,7 +316,7 @@ impl Counters {
     {
         self.let_go(id);
         if self.dead > self.slots.len() + self.lists.len() / 64 {
-            sweep(&mut self.lists, self.lines.as_slice());
+            self.lists.sweep(self.lines.as_slice());
             self.dead = 0;
         }
     }

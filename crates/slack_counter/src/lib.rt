@@ -7,6 +7,7 @@
 
 mod counter_lines;
 mod counters;
+mod occurrence_lists;
 
 pub use counters::{
     Counters, dropped_watched_line_keeps_counters, longer_trail_keeps_counters,

@@ -12,7 +12,7 @@ pub returns-then-self-len : goal.returns-then-self-len
 unfolding AreCounters
 returns-then-self-len c = λ lines t in_step.
     let w = c.let_go.new.self in
-    kept_swept w.lines.items w.lists.items c.sweep.new.lists.items (λ id. lookup (nat_eq id) w.slots.entries) w.counted w.ends.items w.fresh.items w.done (remove lines c.args.id) t
+    kept_swept w.lines.items w.lists c.sweep.new.self (λ id. lookup (nat_eq id) w.slots.entries) w.counted w.ends.items w.fresh.items w.done (remove lines c.args.id) t
     c.sweep.ensures.slots
-    (subst (λ (ls : List CounterLine). (code j : ℕ) → (line_at ls j).live ≡ true → listed j (list_at c.sweep.new.lists.items code) ≡ listed j (list_at w.lists.items code)) c.as_slice.ensures.value c.sweep.ensures.same)
+    (subst (λ (ls : List CounterLine). (code j : ℕ) → (line_at ls j).live ≡ true → listed j (list_at c.sweep.new.self code) ≡ listed j (list_at w.lists code)) c.as_slice.ensures.value c.sweep.ensures.same)
     (c.let_go.ensures lines t in_step)

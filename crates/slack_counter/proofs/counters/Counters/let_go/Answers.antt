@@ -14,8 +14,8 @@ returns-then-slot-len c = λ lines t in_step.
     let w = c.args.self.now in
     let old : ℕ → Option ℕ = λ q. lookup (nat_eq q) w.slots.entries in
     let new : ℕ → Option ℕ = λ q. lookup (nat_eq q) c.remove.new.self.entries in
-    subst (λ (l : CounterLine). AreKept (set w.lines.items c.in-Some.slot l) w.lists.items new w.counted w.ends.items w.fresh.items w.done (remove lines c.args.id) t) (sym c.dead_line.ensures)
-    (kept_dropped w.lines.items w.lists.items old new w.counted w.ends.items w.fresh.items w.done lines t c.args.id c.in-Some.slot
+    subst (λ (l : CounterLine). AreKept (set w.lines.items c.in-Some.slot l) w.lists new w.counted w.ends.items w.fresh.items w.done (remove lines c.args.id) t) (sym c.dead_line.ensures)
+    (kept_dropped w.lines.items w.lists old new w.counted w.ends.items w.fresh.items w.done lines t c.args.id c.in-Some.slot
     (sym c.remove.ensures.value ∙ c.in-Some.is) (update_here old new c.args.id _ c.remove.ensures.updates.0) (update_other old new c.args.id _ c.remove.ensures.updates.0) in_step)
 
 pub returns-else-slot-len : goal.returns-else-slot-len
@@ -29,4 +29,4 @@ returns-in_default c = λ lines t in_step.
     let old : ℕ → Option ℕ = λ q. lookup (nat_eq q) w.slots.entries in
     let new : ℕ → Option ℕ = λ q. lookup (nat_eq q) c.remove.new.self.entries in
     let none = sym c.remove.ensures.value ∙ c.in_default.is in
-    kept_other w.lines.items w.lists.items old new w.counted w.ends.items w.fresh.items w.done lines t c.args.id none (update_none old new c.args.id c.remove.ensures.updates.0 none) in_step
+    kept_other w.lines.items w.lists old new w.counted w.ends.items w.fresh.items w.done lines t c.args.id none (update_none old new c.args.id c.remove.ensures.updates.0 none) in_step

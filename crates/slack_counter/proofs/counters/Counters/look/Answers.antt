@@ -35,7 +35,7 @@ unfolding AreCounters
 returns-in_err-push-clause-in_step c =
     let w = c.count_next-low.new.self in
     let longer = counters_extended w c.args.store.now c.args.store.now c.args.trail.now c.visit_step.new.trail c.visit_step.ensures.extends (c.count_next-low.ensures.in_step c.args.store.now c.requires.in_step) in
-    subst (λ (es : List ℕ). AreKept w.lines.items w.lists.items (λ id. lookup (nat_eq id) w.slots.entries) w.counted es w.fresh.items w.done c.args.store.now c.visit_step.new.trail) (sym c.in_err-push.ensures.items) longer
+    subst (λ (es : List ℕ). AreKept w.lines.items w.lists (λ id. lookup (nat_eq id) w.slots.entries) w.counted es w.fresh.items w.done c.args.store.now c.visit_step.new.trail) (sym c.in_err-push.ensures.items) longer
 
 pub returns-clause-in_step : goal.returns-clause-in_step
 unfolding AreCounters
@@ -51,5 +51,5 @@ returns-clause-in_step c =
     let went = subst (λ r. IfNone r (IsGoneStep w store new c.len-place.result)) c.in_default.is c.visit_step.ensures.gone in
     let gone = subst (λ (k : ℕ). IsGoneStep w store new k) place went (get_or new.steps (length w.ends.items) d) (slice_get-get_or new.steps (length w.ends.items) d (omega (arith, counted, counts, place))) in
     let put : c.push.new.self.items ≡ w.ends.items ++ length new.steps ∷ [] = c.in_ok-push.ensures.items ∙ ap (λ (n : ℕ). w.ends.items ++ n ∷ []) (c.in_ok-end.ensures ∙ c.len.ensures.value) in
-    subst (λ (es : List ℕ). AreKept w.lines.items w.lists.items (λ id. lookup (nat_eq id) w.slots.entries) w.counted es w.fresh.items w.done store new) (sym put)
-    (kept_looked w.lines.items w.lists.items (λ id. lookup (nat_eq id) w.slots.entries) w.counted w.ends.items w.fresh.items w.done store new d c.len.ensures.steps (omega (arith, counted, place)) gone longer)
+    subst (λ (es : List ℕ). AreKept w.lines.items w.lists (λ id. lookup (nat_eq id) w.slots.entries) w.counted es w.fresh.items w.done store new) (sym put)
+    (kept_looked w.lines.items w.lists (λ id. lookup (nat_eq id) w.slots.entries) w.counted w.ends.items w.fresh.items w.done store new d c.len.ensures.steps (omega (arith, counted, place)) gone longer)

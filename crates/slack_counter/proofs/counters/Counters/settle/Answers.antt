@@ -47,7 +47,7 @@ loop-self-preserved c =
           let next : Fresh = record { slot = (fresh_at w.fresh.items w.done).slot; end = length new.steps } in
           let put : Fresh = record { slot = c.index.result.now.slot; end = c.len-in-loop-self.result } in
           let is : next ≡ put = ap (λ (f : Fresh). record f { end = length new.steps }) (sym own) ∙ ap (λ (n : ℕ). record c.index.result.now { end = n }) (sym c.len-in-loop-self.ensures.value) in
-          subst (λ (f : Fresh). AreKept w.lines.items w.lists.items (λ id. lookup (nat_eq id) w.slots.entries) w.counted w.ends.items (set w.fresh.items w.done f) (w.done + 1) store new) is
-          (kept_visited w.lines.items w.lists.items (λ id. lookup (nat_eq id) w.slots.entries) w.counted w.ends.items w.fresh.items w.done store new c.len-in-loop-self.ensures.steps short gone longer);
+          subst (λ (f : Fresh). AreKept w.lines.items w.lists (λ id. lookup (nat_eq id) w.slots.entries) w.counted w.ends.items (set w.fresh.items w.done f) (w.done + 1) store new) is
+          (kept_visited w.lines.items w.lists (λ id. lookup (nat_eq id) w.slots.entries) w.counted w.ends.items w.fresh.items w.done store new c.len-in-loop-self.ensures.steps short gone longer);
       extends = extends_twice store c.args.trail.now c.loop-self.trail new c.loop-self.invariant.extends c.visit_line.ensures.extends;
     }

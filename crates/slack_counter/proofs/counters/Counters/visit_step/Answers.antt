@@ -1,4 +1,4 @@
-use Rattle.std.proofs.Common.{◌≡◌, ◌∙◌, ℕ, List, length, get_or, inl, ap, sym, subst}
+use Rattle.std.proofs.Common.{◌≡◌, ◌∙◌, ℕ, List, length, get_or, inl, ap, sym, subst, refl}
 use Rattle.scut_base.specs.LiteralCode.{code_of}
 use Rattle.std.specs.Prelude.{All}
 use Rattle.std.specs.Option.{IfNone}
@@ -24,13 +24,13 @@ unfolding AreCounters
 visit_list-requires-clause-slots c =
     let w = c.args.self.now in
     let t = c.args.trail.now in
-    let is = step_list w.lists.items c.as_slice.result.now c.falsified-list.result.now t.steps c.args.place c.step_at.result c.step_at.ensures.value c.as_slice.ensures.value c.falsified-list.ensures in
-    subst (λ (ls : List CounterLine). AreOfSlots (length ls) c.falsified-list.result.now) (sym c.as_slice-2.ensures.value)
+    let is = step_list w.lists w.lists c.falsified-list.result.now t.steps c.args.place c.step_at.result c.step_at.ensures.value refl c.falsified-list.ensures in
+    subst (λ (ls : List CounterLine). AreOfSlots (length ls) c.falsified-list.result.now) (sym c.as_slice.ensures.value)
     (subst (AreOfSlots (length w.lines.items)) (sym is) (c.requires.in_step.occurrences (code_of (opposite (get_or t.steps c.args.place c.step_at.result).lit))))
 
 pub visit_list-requires-clause-over : goal.visit_list-requires-clause-over
 visit_list-requires-clause-over c =
-    subst (λ (ls : List CounterLine). (j : ℕ) → IsOver c.args.store.now c.args.trail.now (line_at ls j)) (sym c.as_slice-2.ensures.value)
+    subst (λ (ls : List CounterLine). (j : ℕ) → IsOver c.args.store.now c.args.trail.now (line_at ls j)) (sym c.as_slice.ensures.value)
     (counters_over c.args.self.now c.args.store.now c.args.trail.now c.step_at.ensures.steps c.requires.in_step)
 
 pub returns-clause-gone : goal.returns-clause-gone
@@ -39,7 +39,7 @@ returns-clause-gone c = if_none c.visit_list.result _ (λ e s found.
     let store = c.args.store.now in
     let new = c.visit_list.new.trail in
     let same : c.step_at.result ≡ s = some_same c.step_at.result s _ (step_extended store c.args.trail.now new c.args.place c.step_at.result c.visit_list.ensures.extends c.step_at.ensures.value) found in
-    let is = c.falsified-list.ensures ∙ ap (λ (ls : List (List Occurrence)). list_at ls (code_of (opposite c.step_at.result.lit))) c.as_slice.ensures.value ∙ ap (λ (r : Step). list_at w.lists.items (code_of (opposite r.lit))) same in
-    let went = subst (λ r. IfNone r (All (λ e. IsGone store new (line_at c.as_slice-2.result.now e.slot)) c.falsified-list.result.now)) e c.visit_list.ensures.gone in
-    let lines_went = subst (λ (ls : List CounterLine). All (λ e. IsGone store new (line_at ls e.slot)) c.falsified-list.result.now) c.as_slice-2.ensures.value went in
+    let is = c.falsified-list.ensures ∙ ap (λ (r : Step). list_at w.lists (code_of (opposite r.lit))) same in
+    let went = subst (λ r. IfNone r (All (λ e. IsGone store new (line_at c.as_slice.result.now e.slot)) c.falsified-list.result.now)) e c.visit_list.ensures.gone in
+    let lines_went = subst (λ (ls : List CounterLine). All (λ e. IsGone store new (line_at ls e.slot)) c.falsified-list.result.now) c.as_slice.ensures.value went in
     subst (λ (es : List Occurrence). All (λ e. IsGone store new (line_at w.lines.items e.slot)) es) is lines_went)
