@@ -35,7 +35,7 @@ pub(crate) fn relax<'a, H: Shelf>(
     alloc: Global,
     shelf: &'a mut H,
     name: &'a str,
-    problem: &PbProblem,
+    problem: &'a PbProblem,
 ) -> Result<Relaxed, RecordFault>
     ensures told { IfOk result (λ told. WhereKnown told (IsSought (H.world shelf.old).files
         (H.world shelf.new).files name.now problem.now)) }
