@@ -13,8 +13,11 @@ use crate::number::{read_literal, read_objective, read_weight};
 use crate::statement::Statement;
 use crate::words::Words;
 use instance::{BadKind, PlaceFault};
-use scut_base::{Duplicate, Items, Lit};
+use scut_base::{Duplicate, Items, Lit, NoMemory};
 use std::alloc::Global;
+
+// Clauses of more literals than these are kept with the room that they have.
+const MOST_COPIED: usize = 1_000;
 
 // Reads what a line says, where the objectives have these sums of weights already.
 pub(crate) fn read_statement(
@@ -72,6 +75,16 @@ fn read_soft(
     })
 }
 
+// The same literals; where they are few, without room to spare, since an instance may keep millions of short clauses.
+fn compact(alloc: Global, lits: Items<Lit>) -> Result<Items<Lit>, NoMemory>
+    ensures { IfOk result (λ same. same ≡ lits) }
+{
+    if lits.len() > MOST_COPIED {
+        return Ok(lits);
+    }
+    lits.copy(alloc)
+}
+
 // Reads literals up to the terminator, after which there is no word.
 fn read_clause(alloc: Global, words: &mut Words<'_>) -> Result<Items<Lit>, PlaceFault>
     ensures ok { IfOk result (λ lits. SpellsClause words.old lits × IsClauseWithin lits) }
@@ -85,8 +98,7 @@ fn read_clause(alloc: Global, words: &mut Words<'_>) -> Result<Items<Lit>, Place
                 if words.next().is_some() {
                     return Err(PlaceFault::Bad(BadKind::TextAfterZero));
                 }
-                // A copy has no room to spare, and an instance may keep millions.
-                return Ok(lits.copy(alloc)?);
+                return Ok(compact(alloc, lits)?);
             }
         }
     }
