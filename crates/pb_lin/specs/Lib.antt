@@ -12,5 +12,6 @@ pub mod Problem
 pub mod LineMap
 pub mod LineCodes
 pub mod IdList
+pub mod IdTable
 pub mod Given
 pub mod Place

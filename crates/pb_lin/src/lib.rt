@@ -10,6 +10,7 @@ mod cost_row;
 mod cover;
 mod evaluate;
 mod fault;
+mod id_table;
 mod lines;
 mod negation;
 mod normal;
