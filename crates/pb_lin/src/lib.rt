@@ -19,6 +19,7 @@ mod propagation;
 mod restriction;
 mod size;
 mod substitution;
+mod weights;
 mod witness;
 
 pub use constraint::Constraint;
