@@ -13,7 +13,7 @@ use std::marker::Model;
 /// A sum of positive coefficients on literals of distinct variables, in rising order of variables,
 /// that is at least its degree. Coefficients and degree sum to at most 2^100.
 ///
-/// Takes 48 bytes, and 8 for a literal where all coefficients are 1, and else 24.
+/// Takes 48 bytes, and for each literal 8 where all coefficients are 1; else 24, and a box besides.
 #[derive(Debug, Drop)]
 pub struct Constraint {
     pub(crate) lits: Items<Lit>,

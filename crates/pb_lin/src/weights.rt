@@ -6,8 +6,8 @@ use scut_base::{Items, NoMemory, boxed};
 use std::alloc::Global;
 use std::marker::Model;
 
-// 2^64
-const HALF: u128 = 1 << 64;
+// Each half of a degree is below this.
+const HALF_LIMIT: u128 = 1 << 64;
 
 // Coefficients in the order of their terms, none where all are 1, and a degree. Takes 24 bytes, and
 // where there are coefficients a box besides.
@@ -31,8 +31,7 @@ struct Mixed {
 }
 
 impl Model for Weights {
-    ghost use Rattle.pb_lin.specs.Weights.{WeightsValue};
-    ghost use Rattle.pb_lin.specs.Weights.{weights_of};
+    ghost use Rattle.pb_lin.specs.Weights.{WeightsValue, weights_of};
 
     ghost Value = { WeightsValue };
 
@@ -45,8 +44,8 @@ impl Weights {
         ensures { result ≡ record { coefs = []; degree = degree } }
     {
         let kind = Kind::Ones {
-            low: (degree % HALF) as u64,
-            high: (degree / HALF) as u64,
+            low: (degree % HALF_LIMIT) as u64,
+            high: (degree / HALF_LIMIT) as u64,
         };
         Weights { kind }
     }
@@ -69,7 +68,7 @@ impl Weights {
         ensures { result ≡ self.now.degree }
     {
         match &self.kind {
-            Kind::Ones { low, high } => *high as u128 * HALF + *low as u128,
+            Kind::Ones { low, high } => *high as u128 * HALF_LIMIT + *low as u128,
             Kind::Mixed(mixed) => mixed.degree,
         }
     }
