@@ -5,7 +5,7 @@ ghost use Rattle.scut_base.specs.Literal.{Literal};
 ghost use Rattle.pb_lin.specs.Constraint.{IsNormal, AreOnes, literals, ones};
 ghost use Rattle.pb_lin.specs.Stored.{terms_of};
 
-use crate::weights::Weights;
+use crate::weights::{Weights, coefficient};
 use scut_base::{Duplicate, Items, Lit, NoMemory};
 use std::alloc::Global;
 use std::marker::Model;
@@ -110,11 +110,7 @@ impl Constraint {
         ensures value { IfOk result (λ terms. terms ≡ self.now.terms) }
         ensures normal { IsNormal self.now.terms self.now.degree }
     {
-        let mut terms = Items::with_capacity(alloc, self.len())?;
-        for at in 0..self.len() {
-            terms.push(self.term(at))?;
-        }
-        Ok(terms)
+        paired(alloc, self.lits.as_slice(), self.weights.coefficients())
     }
 
     /// Whether all coefficients are 1. Takes constant time.
@@ -149,6 +145,17 @@ fn first_variable(lits: &[Lit]) -> u64
         return 1;
     }
     lits[0].var()
+}
+
+// Each literal with its coefficient. The coefficients are looked up once, and not for each term.
+fn paired(alloc: Global, lits: &[Lit], coefs: &[u128]) -> Result<Items<(Lit, u128)>, NoMemory>
+    ensures { IfOk result (λ terms. terms ≡ terms_of lits.now coefs.now) }
+{
+    let mut terms = Items::with_capacity(alloc, lits.len())?;
+    for at in 0..lits.len() {
+        terms.push((lits[at], coefficient(coefs, at)))?;
+    }
+    Ok(terms)
 }
 
 // The literals of the terms.

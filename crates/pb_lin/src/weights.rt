@@ -83,6 +83,16 @@ impl Weights {
         }
     }
 
+    // The coefficients.
+    pub(crate) fn coefficients(&self) -> &[u128]
+        ensures { result.now ≡ self.now.coefs }
+    {
+        match &self.kind {
+            Kind::Ones { .. } => &[],
+            Kind::Mixed(mixed) => mixed.coefs.as_slice(),
+        }
+    }
+
     // The coefficient at a place, which is 1 past the end.
     pub(crate) fn coefficient(&self, at: usize) -> u128
         ensures { result ≡ slice_index_or self.now.coefs at 1 }
@@ -108,7 +118,7 @@ impl Weights {
 }
 
 // The coefficient at a place, which is 1 past the end.
-fn coefficient(coefs: &[u128], at: usize) -> u128
+pub(crate) fn coefficient(coefs: &[u128], at: usize) -> u128
     ensures { result ≡ slice_index_or coefs.now at 1 }
 {
     if at < coefs.len() {
