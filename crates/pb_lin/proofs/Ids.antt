@@ -1,9 +1,8 @@
--- Ids in rising order beside the entries that they list.
+-- Ids in rising order, and those that a table lists.
 use Rattle.std.proofs.Common.{◌≡◌, ◌≢◌, ◌⊎◌, ℕ, ◌+◌, ◌-◌, ◌<◌, ◌≤◌, Bool, true, false, cond, ◌||◌, List, [], ◌∷◌, length, get_or, take, drop, filter, refl, arith, ap, sym, subst, ◌∙◌, ⊎_elim, inl, inr, Option, Some, None}
 use Rattle.std.specs.Prelude.{nat_eq, IsSome}
 use Rattle.std.specs.Option.{is_some}
 use Rattle.std.specs.List.{All, list_any, insert}
-use Rattle.std.specs.Map.{lookup}
 use Rattle.std.specs.List.Sorted.{IsPartitionPoint}
 use Rattle.std.proofs.lemmas.Bool.{cases_lt, cases_order, eqb-true, eq-eqb, leb-true, leb-false}
 use Rattle.std.proofs.Common.{leb}
@@ -11,13 +10,9 @@ use Rattle.std.proofs.lemmas.List.{take-append-drop, get_or_default}
 use Rattle.std.proofs.lemmas.List.Edits.{length-insert, get_or-insert_below, get_or-insert_at, get_or-insert_above}
 use Rattle.std.proofs.lemmas.List.Folds.{list_any-append, Any-from_list_any}
 use Rattle.std.proofs.lemmas.List.Kept.{AllPairs-filter}
-use Rattle.pb_lin.specs.Constraint.{ConstraintValue}
 use Rattle.pb_lin.specs.Place.{IsPlace}
 use Rattle.pb_lin.specs.LineMap.{IsNextAbove, NoneAbove}
 use Rattle.pb_lin.specs.IdList.{IsRising, IsListed, ListsIds}
-
-abbrev pub Entries : Type 0
-Entries = List (ℕ × ConstraintValue)
 
 -- from the test that the number isn't above
 pub IsPlace-from_last : (ids : List ℕ) (id i : ℕ) → i ≤ length ids → IsPartitionPoint (λ y. leb y id ≡ true) (λ y. leb y id ≡ false) ids i → IsPlace (λ k. k) ids (id + 1) i
@@ -114,39 +109,11 @@ listed-filter test (x ∷ ids) k passes listed = by (nat_eq k x) refl (test x) r
     by false e true t h rest = ap (λ (b : Bool). b || list_any (nat_eq k) (filter test ids)) e ∙ rest h
     by false e false t h rest = rest h
 
-pub lists-filter : (entries : Entries) (ids kept : List ℕ) → ListsIds entries ids → kept ≡ filter (λ k. is_some (lookup (nat_eq k) entries)) ids → ListsIds entries kept
-lists-filter entries ids kept lists is = subst (ListsIds entries) (sym is) (record {
-  rising = AllPairs-filter (λ i j. i < j) (λ k. is_some (lookup (nat_eq k) entries)) ids lists.rising;
-  listed = λ k some. listed-filter (λ k. is_some (lookup (nat_eq k) entries)) ids k some (lists.listed k some);
+pub lists-filter : (held : ℕ → Option ℕ) (ids kept : List ℕ) → ListsIds held ids → kept ≡ filter (λ k. is_some (held k)) ids → ListsIds held kept
+lists-filter held ids kept lists is = subst (ListsIds held) (sym is) (record {
+  rising = AllPairs-filter (λ i j. i < j) (λ k. is_some (held k)) ids lists.rising;
+  listed = λ k some. listed-filter (λ k. is_some (held k)) ids k some (lists.listed k some);
 })
-
--- ---- entries that change
-
-some_of : {X : Type 0} (o p : Option X) → o ≡ p → IsSome o → IsSome p
-some_of o p e some = ap is_some (sym e) ∙ some
-
-pub lists_put : (es fs : Entries) (ids : List ℕ) (id : ℕ) (c : ConstraintValue) → ListsIds es ids → IsListed ids id → ((k : ℕ) → lookup (nat_eq k) fs ≡ cond (nat_eq id k) (Some c) (lookup (nat_eq k) es)) → ListsIds fs ids
-lists_put es fs ids id c lists here updates = record {
-  rising = lists.rising;
-  listed = λ k some. by k (nat_eq id k) refl (some_of _ _ (updates k) some);
-}
-  where
-    by : (k : ℕ) (same : Bool) → nat_eq id k ≡ same → IsSome (cond same (Some c) (lookup (nat_eq k) es)) → IsListed ids k
-    by k true e some = subst (IsListed ids) (eqb-true id k e) here
-    by k false e some = lists.listed k some
-
-pub lists_removed : (es fs : Entries) (ids : List ℕ) (id : ℕ) → ListsIds es ids → ((k : ℕ) → lookup (nat_eq k) fs ≡ cond (nat_eq id k) None (lookup (nat_eq k) es)) → ListsIds fs ids
-lists_removed es fs ids id lists updates = record {
-  rising = lists.rising;
-  listed = λ k some. by k (nat_eq id k) (some_of _ _ (updates k) some);
-}
-  where
-    by : (k : ℕ) (same : Bool) → IsSome (cond same None (lookup (nat_eq k) es)) → IsListed ids k
-    by k true some = cc
-    by k false some = lists.listed k some
-
-pub lists_longer : (es : Entries) (ids more : List ℕ) → ListsIds es ids → IsRising more → ((k : ℕ) → IsListed ids k → IsListed more k) → ListsIds es more
-lists_longer es ids more lists rising kept = record { rising = rising; listed = λ k some. kept k (lists.listed k some) }
 
 -- ---- the next id
 
@@ -154,38 +121,38 @@ none_or_some : {X : Type 0} (o : Option X) → (o ≡ None) ⊎ IsSome o
 none_or_some None = inl refl
 none_or_some (Some x) = inr refl
 
--- the place of an id that has an entry
-place_of_live : (entries : Entries) (ids : List ℕ) (k : ℕ) → ListsIds entries ids → IsSome (lookup (nat_eq k) entries) → (j : ℕ) × (d : ℕ) × (j < length ids) × (get_or ids j d ≡ k)
-place_of_live entries ids k lists some =
+-- the place of an id at which something is held
+place_of_live : (held : ℕ → Option ℕ) (ids : List ℕ) (k : ℕ) → ListsIds held ids → IsSome (held k) → (j : ℕ) × (d : ℕ) × (j < length ids) × (get_or ids j d ≡ k)
+place_of_live held ids k lists some =
     let found = Any-from_list_any (nat_eq k) ids (lists.listed k some) in
     (found.0, found.1, found.2, found.3 ∙ sym (eqb-true k found.1 found.4))
 
--- places from `first` to `at` have ids without an entry
-abbrev pub Skipped : Entries → List ℕ → ℕ → ℕ → Type 0
-Skipped entries ids first at = (j d : ℕ) → first ≤ j → j < at → lookup (nat_eq (get_or ids j d)) entries ≡ None
+-- places from `first` to `at` have ids at which nothing is held
+abbrev pub Skipped : (ℕ → Option ℕ) → List ℕ → ℕ → ℕ → Type 0
+Skipped held ids first at = (j d : ℕ) → first ≤ j → j < at → held (get_or ids j d) ≡ None
 
--- an id above `id` stands at `at` or after it, if it has an entry
-after_skipped : (entries : Entries) (ids : List ℕ) (id first at k : ℕ) → ListsIds entries ids → IsPlace (λ i. i) ids (id + 1) first → Skipped entries ids first at → id < k → ((j d : ℕ) → at ≤ j → j < length ids → get_or ids j d ≡ k → ⊥) → lookup (nat_eq k) entries ≡ None
-after_skipped entries ids id first at k lists place skipped above later = ⊎_elim (λ (none : lookup (nat_eq k) entries ≡ None). none) (λ some.
-    let p = place_of_live entries ids k lists some in
+-- an id above `id` stands at `at` or after it, if something is held there
+after_skipped : (held : ℕ → Option ℕ) (ids : List ℕ) (id first at k : ℕ) → ListsIds held ids → IsPlace (λ i. i) ids (id + 1) first → Skipped held ids first at → id < k → ((j d : ℕ) → at ≤ j → j < length ids → get_or ids j d ≡ k → ⊥) → held k ≡ None
+after_skipped held ids id first at k lists place skipped above later = ⊎_elim (λ (none : held k ≡ None). none) (λ some.
+    let p = place_of_live held ids k lists some in
     ⊎_elim (λ (h : p.0 < first). let low = place.below p.0 p.1 h in let is = p.3 in absurd (omega arith))
     (λ (h : first ≤ p.0). ⊎_elim
-    (λ (l : p.0 < at). ap (λ (n : ℕ). lookup (nat_eq n) entries) (sym p.3) ∙ skipped p.0 p.1 h l)
+    (λ (l : p.0 < at). ap held (sym p.3) ∙ skipped p.0 p.1 h l)
     (λ (m : at ≤ p.0). absurd (later p.0 p.1 m p.2 p.3)) (cases_lt p.0 at))
     (cases_lt p.0 first))
-    (none_or_some (lookup (nat_eq k) entries))
+    (none_or_some (held k))
 
-pub next_found : (entries : Entries) (ids : List ℕ) (id first at next : ℕ) → ListsIds entries ids → IsPlace (λ i. i) ids (id + 1) first → Skipped entries ids first at → first ≤ at → at < length ids → next ≡ get_or ids at 0 → IsSome (lookup (nat_eq next) entries) → IsNextAbove (λ k. lookup (nat_eq k) entries) id next
-next_found entries ids id first at next lists place skipped from short is live = record {
+pub next_found : (held : ℕ → Option ℕ) (ids : List ℕ) (id first at next : ℕ) → ListsIds held ids → IsPlace (λ i. i) ids (id + 1) first → Skipped held ids first at → first ≤ at → at < length ids → next ≡ get_or ids at 0 → IsSome (held next) → IsNextAbove held id next
+next_found held ids id first at next lists place skipped from short is live = record {
   above = let least = place.above at 0 from short in omega arith;
   live = live;
-  least = λ k above below. after_skipped entries ids id first at k lists place skipped above (λ j d from' short' e.
+  least = λ k above below. after_skipped held ids id first at k lists place skipped above (λ j d from' short' e.
       let same : get_or ids j d ≡ get_or ids j 0 = get_or_default ids j d 0 short' in
       ⊎_elim (λ (h : at < j). let up = lists.rising at j 0 h short' in omega arith)
       (λ (h : j ≤ at). let here : j ≡ at = omega arith in let there = ap (λ (n : ℕ). get_or ids n 0) here in omega arith)
       (cases_lt at j));
 }
 
-pub none_above : (entries : Entries) (ids : List ℕ) (id first at : ℕ) → ListsIds entries ids → IsPlace (λ i. i) ids (id + 1) first → Skipped entries ids first at → length ids ≤ at → NoneAbove (λ k. lookup (nat_eq k) entries) id
-none_above entries ids id first at lists place skipped past k above =
-    after_skipped entries ids id first at k lists place skipped above (λ j d from short e. absurd (omega arith))
+pub none_above : (held : ℕ → Option ℕ) (ids : List ℕ) (id first at : ℕ) → ListsIds held ids → IsPlace (λ i. i) ids (id + 1) first → Skipped held ids first at → length ids ≤ at → NoneAbove held id
+none_above held ids id first at lists place skipped past k above =
+    after_skipped held ids id first at k lists place skipped above (λ j d from short e. absurd (omega arith))

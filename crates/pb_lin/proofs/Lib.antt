@@ -17,3 +17,4 @@ pub mod ClosedLengths
 pub mod LineEntries
 pub mod LineVariables
 pub mod Ids
+pub mod LineTable

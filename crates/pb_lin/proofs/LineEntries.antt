@@ -1,6 +1,7 @@
--- The entries of a hash map as a finite map.
-use Rattle.std.specs.Prelude.{◌≡◌, ℕ, ◌+◌, false, cond, List, [], ◌∷◌, Option, Some, None, MatchOption, nat_eq, length, is_some, refl}
-use Rattle.std.proofs.Common.{sym, ◌∙◌, ap, arith}
+-- Entries by ids as a finite map.
+use Rattle.std.specs.Prelude.{◌≡◌, ◌≢◌, ℕ, ◌+◌, false, cond, List, [], ◌∷◌, Option, Some, None, IsSome, MatchOption, nat_eq, length, is_some, refl}
+use Rattle.std.proofs.Common.{sym, ◌∙◌, ap, arith, inl, inr}
+use Rattle.std.proofs.lemmas.Bool.{cases_eq, eq-eqb, ne_eqb}
 use Rattle.std.specs.Ordering.{nat_cmp, eq_by_cmp}
 use Rattle.std.specs.Cmp.{nat_cmp_total, unsigned_tied}
 use Rattle.std.proofs.lemmas.Cmp.{eq_by_cmp_equiv}
@@ -26,18 +27,24 @@ no_lines = refl
 turned : (q id : ℕ) → eq_by_cmp nat_cmp q id ≡ nat_eq id q
 turned q id = (eq_by_cmp_equiv nat_cmp_total).symm q id ∙ unsigned_tied id q
 
+updated : (es fs : List (ℕ × ConstraintValue)) (id q : ℕ) (held : Option ConstraintValue) → lookup (nat_eq id) fs ≡ held → ((k : ℕ) → k ≢ id → lookup (nat_eq k) fs ≡ lookup (nat_eq k) es) → lookup (nat_eq q) fs ≡ cond (nat_eq id q) held (lookup (nat_eq q) es)
+updated es fs id q held found others = elim (cases_eq q id) [
+  | inl same ↦ ap (λ k. lookup (nat_eq k) fs) same ∙ found ∙ sym (ap (λ t. cond t held (lookup (nat_eq q) es)) (eq-eqb id q (sym same)))
+  | inr differs ↦ others q differs ∙ sym (ap (λ t. cond t held (lookup (nat_eq q) es)) (ne_eqb id q (λ e. differs (sym e))))
+]
+
 -- entries that give an id this constraint, and each other id what it had
-pub lines_put : (es fs : List (ℕ × ConstraintValue)) (id : ℕ) (c : ConstraintValue) → ((q : ℕ) → lookup (nat_eq q) fs ≡ cond (nat_eq id q) (Some c) (lookup (nat_eq q) es)) → lines_of fs ≡ insert (lines_of es) id c
-lines_put es fs id c updates =
+pub lines_put : (es fs : List (ℕ × ConstraintValue)) (id : ℕ) (c : ConstraintValue) → lookup (nat_eq id) fs ≡ Some c → ((q : ℕ) → q ≢ id → lookup (nat_eq q) fs ≡ lookup (nat_eq q) es) → lines_of fs ≡ insert (lines_of es) id c
+lines_put es fs id c found others =
     same_map nat_cmp_total nat_cmp-IsAntisymmetric _ _ (λ q.
-    get_line fs q ∙ updates q ∙ ap (λ t. cond t (Some c) (lookup (nat_eq q) es)) (sym (turned q id)) ∙ ap (cond (eq_by_cmp nat_cmp q id) (Some c)) (sym (get_line es q))
+    get_line fs q ∙ updated es fs id q (Some c) found others ∙ ap (λ t. cond t (Some c) (lookup (nat_eq q) es)) (sym (turned q id)) ∙ ap (cond (eq_by_cmp nat_cmp q id) (Some c)) (sym (get_line es q))
     ∙ sym (get-insert nat_cmp_total (lines_of es) id c q))
 
 -- entries without an id, that give each other id what it had
-pub lines_removed : (es fs : List (ℕ × ConstraintValue)) (id : ℕ) → ((q : ℕ) → lookup (nat_eq q) fs ≡ cond (nat_eq id q) None (lookup (nat_eq q) es)) → lines_of fs ≡ remove (lines_of es) id
-lines_removed es fs id updates =
+pub lines_removed : (es fs : List (ℕ × ConstraintValue)) (id : ℕ) → lookup (nat_eq id) fs ≡ None → ((q : ℕ) → q ≢ id → lookup (nat_eq q) fs ≡ lookup (nat_eq q) es) → lines_of fs ≡ remove (lines_of es) id
+lines_removed es fs id gone others =
     same_map nat_cmp_total nat_cmp-IsAntisymmetric _ _ (λ q.
-    get_line fs q ∙ updates q ∙ ap (λ t. cond t None (lookup (nat_eq q) es)) (sym (turned q id)) ∙ ap (cond (eq_by_cmp nat_cmp q id) None) (sym (get_line es q))
+    get_line fs q ∙ updated es fs id q None gone others ∙ ap (λ t. cond t None (lookup (nat_eq q) es)) (sym (turned q id)) ∙ ap (cond (eq_by_cmp nat_cmp q id) None) (sym (get_line es q))
     ∙ sym (get-remove nat_cmp_total (lines_of es) id q))
 
 -- ---- how many entries
@@ -57,10 +64,10 @@ len_lines (e ∷ es) distinct =
 
 -- ---- the next id, as the map sees it
 
-pub next_by : (o : Option ℕ) (held held' : ℕ → Option ConstraintValue) (id : ℕ) → ((k : ℕ) → held k ≡ held' k) → MatchOption o (NoneAbove held id) (IsNextAbove held id) → MatchOption o (NoneAbove held' id) (IsNextAbove held' id)
-next_by None held held' id same none = λ k above. sym (same k) ∙ none k above
-next_by (Some next) held held' id same is = record {
+pub next_by : {X Y : Type 0} (o : Option ℕ) (held : ℕ → Option X) (held' : ℕ → Option Y) (id : ℕ) → ((k : ℕ) → held k ≡ None → held' k ≡ None) → ((k : ℕ) → IsSome (held k) → IsSome (held' k)) → MatchOption o (NoneAbove held id) (IsNextAbove held id) → MatchOption o (NoneAbove held' id) (IsNextAbove held' id)
+next_by None held held' id none some above = λ k more. none k (above k more)
+next_by (Some next) held held' id none some is = record {
   above = is.above;
-  live = ap is_some (sym (same next)) ∙ is.live;
-  least = λ k above below. sym (same k) ∙ is.least k above below;
+  live = some next is.live;
+  least = λ k more less. none k (is.least k more less);
 }

@@ -2,6 +2,7 @@ pub use Rattle.scut_base.specs.Literal
 pub use Rattle.scut_base.specs.Assignment
 pub mod Constraint
 pub mod Stored
+pub mod Weights
 pub mod NormalForm
 pub mod Cover
 pub mod Restriction
@@ -12,5 +13,6 @@ pub mod Problem
 pub mod LineMap
 pub mod LineCodes
 pub mod IdList
+pub mod IdTable
 pub mod Given
 pub mod Place

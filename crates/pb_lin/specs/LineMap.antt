@@ -13,11 +13,11 @@ abbrev pub LinesUpTo : ℕ → LineMap → Type 0
 LinesUpTo n lines = (id : ℕ) (c : ConstraintValue) → get lines id ≡ Some c → UpTo n c
 
 -- nothing is held above `id`
-abbrev pub NoneAbove : (ℕ → Option ConstraintValue) → ℕ → Type 0
+abbrev pub NoneAbove : {X : Type 0} → (ℕ → Option X) → ℕ → Type 0
 NoneAbove held id = (k : ℕ) → id < k → held k ≡ None
 
 -- the least id above `id` at which something is held
-pub record IsNextAbove (held : ℕ → Option ConstraintValue) (id next : ℕ) : Type 0 where
+pub record IsNextAbove {X : Type 0} (held : ℕ → Option X) (id next : ℕ) : Type 0 where
   pub above : id < next
   pub live : IsSome (held next)
   pub least : (k : ℕ) → id < k → k < next → held k ≡ None

@@ -5,6 +5,7 @@ ghost use Rattle.scut_base.specs.Literal.{Literal};
 ghost use Rattle.pb_lin.specs.Constraint.{IsNormal, AreOnes, literals, ones};
 ghost use Rattle.pb_lin.specs.Stored.{terms_of};
 
+use crate::weights::{Weights, coefficient};
 use scut_base::{Duplicate, Items, Lit, NoMemory};
 use std::alloc::Global;
 use std::marker::Model;
@@ -12,13 +13,12 @@ use std::marker::Model;
 /// A sum of positive coefficients on literals of distinct variables, in rising order of variables,
 /// that is at least its degree. Coefficients and degree sum to at most 2^100.
 ///
-/// Takes 8 bytes a literal where all coefficients are 1, and else 24.
+/// Takes 48 bytes, and for each literal 8 where all coefficients are 1; else 24, and a box besides.
 #[derive(Debug, Drop)]
 pub struct Constraint {
     pub(crate) lits: Items<Lit>,
-    // Empty where all are 1.
-    pub(crate) coefs: Items<u128>,
-    pub(crate) degree: u128,
+    // No coefficients where all are 1.
+    pub(crate) weights: Weights,
 }
 
 impl Model for Constraint {
@@ -27,9 +27,9 @@ impl Model for Constraint {
 
     ghost Value = { ConstraintValue };
 
-    ghost view = { λ c. record { terms = terms_of c.lits c.coefs; degree = c.degree } };
+    ghost view = { λ c. record { terms = terms_of c.lits c.weights.coefs; degree = c.weights.degree } };
 
-    ghost invariant = { λ c. IsStored c.lits c.coefs c.degree };
+    ghost invariant = { λ c. IsStored c.lits c.weights.coefs c.weights.degree };
 }
 
 impl Constraint {
@@ -44,11 +44,8 @@ impl Constraint {
     {
         let lits = literals_of(alloc, terms)?;
         let coefs = stored_coefficients(alloc, terms)?;
-        Ok(Constraint {
-            lits,
-            coefs,
-            degree,
-        })
+        let weights = Weights::new(alloc, coefs, degree)?;
+        Ok(Constraint { lits, weights })
     }
 
     /// That at least one of these literals, whose variables rise, is true. Takes no memory, and
@@ -70,12 +67,9 @@ impl Constraint {
     {
         // A literal's variable is at least 1; of those that rise, the first tells it of all.
         let _first = first_variable(lits.as_slice());
-        let lits = lits.into_vec();
-        let alloc = *lits.allocator();
         Constraint {
-            lits: Items::from_vec(lits),
-            coefs: Items::new(alloc),
-            degree,
+            lits,
+            weights: Weights::ones(degree),
         }
     }
 
@@ -92,7 +86,7 @@ impl Constraint {
         ensures value { result ≡ self.now.degree }
         ensures normal { IsNormal self.now.terms self.now.degree }
     {
-        self.degree
+        self.weights.degree()
     }
 
     /// The literals, in rising order of variables.
@@ -108,7 +102,7 @@ impl Constraint {
         requires { at < length self.now.terms }
         ensures { slice_get self.now.terms at ≡ Some result }
     {
-        (*self.lits.at(at), coefficient(self.coefs.as_slice(), at))
+        (*self.lits.at(at), self.weights.coefficient(at))
     }
 
     /// A copy of the terms, each literal with its coefficient. Takes 32 bytes a term, and one pass.
@@ -116,25 +110,21 @@ impl Constraint {
         ensures value { IfOk result (λ terms. terms ≡ self.now.terms) }
         ensures normal { IsNormal self.now.terms self.now.degree }
     {
-        let mut terms = Items::with_capacity(alloc, self.len())?;
-        for at in 0..self.len() {
-            terms.push(self.term(at))?;
-        }
-        Ok(terms)
+        paired(alloc, self.lits.as_slice(), self.weights.coefficients())
     }
 
     /// Whether all coefficients are 1. Takes constant time.
     pub fn is_cardinality(&self) -> bool
         ensures { IsTrue result ↔ AreOnes self.now.terms }
     {
-        self.coefs.is_empty()
+        self.weights.is_ones()
     }
 
     /// Whether all coefficients and the degree are 1, also without terms. Takes constant time.
     pub fn is_clause(&self) -> bool
         ensures { IsTrue result ↔ (AreOnes self.now.terms × (self.now.degree ≡ 1)) }
     {
-        self.coefs.is_empty() && self.degree == 1
+        self.weights.is_ones() && self.weights.degree() == 1
     }
 }
 
@@ -142,20 +132,9 @@ impl Duplicate for Constraint {
     fn copy(&self, alloc: Global) -> Result<Constraint, NoMemory> {
         Ok(Constraint {
             lits: Items::from_vec(Vec::from_slice(alloc, self.lits.as_slice())?),
-            coefs: Items::from_vec(Vec::from_slice(alloc, self.coefs.as_slice())?),
-            degree: self.degree,
+            weights: self.weights.with_degree(alloc, self.weights.degree())?,
         })
     }
-}
-
-// The coefficient at a place, which is 1 past the end.
-fn coefficient(coefs: &[u128], at: usize) -> u128
-    ensures { result ≡ slice_index_or coefs.now at 1 }
-{
-    if at < coefs.len() {
-        return coefs[at];
-    }
-    1
 }
 
 // The first literal's variable, and 1 where there is none.
@@ -166,6 +145,17 @@ fn first_variable(lits: &[Lit]) -> u64
         return 1;
     }
     lits[0].var()
+}
+
+// Each literal with its coefficient. The coefficients are looked up once, and not for each term.
+fn paired(alloc: Global, lits: &[Lit], coefs: &[u128]) -> Result<Items<(Lit, u128)>, NoMemory>
+    ensures { IfOk result (λ terms. terms ≡ terms_of lits.now coefs.now) }
+{
+    let mut terms = Items::with_capacity(alloc, lits.len())?;
+    for at in 0..lits.len() {
+        terms.push((lits[at], coefficient(coefs, at)))?;
+    }
+    Ok(terms)
 }
 
 // The literals of the terms.

@@ -10,6 +10,7 @@ mod cost_row;
 mod cover;
 mod evaluate;
 mod fault;
+mod id_table;
 mod lines;
 mod negation;
 mod normal;
@@ -18,6 +19,7 @@ mod propagation;
 mod restriction;
 mod size;
 mod substitution;
+mod weights;
 mod witness;
 
 pub use constraint::Constraint;

@@ -1,39 +1,41 @@
 // Constraints by their ids.
-ghost use Rattle.std.specs.Prelude.{◌≡◌, ℕ, ◌+◌, None, Some, MatchOption, OnOk, OnErr, nat_eq};
+ghost use Rattle.std.specs.Prelude.{◌≡◌, ◌+◌, ◌++◌, [], ◌∷◌, None, Some, MatchOption, OnOk, OnErr};
 ghost use Rattle.std.specs.FinMap.{empty, get, insert, len, remove};
-ghost use Rattle.std.specs.Map.{lookup};
-ghost use Rattle.pb_lin.specs.IdList.{IsListed, IsRising, ListsIds};
 ghost use Rattle.pb_lin.specs.LineMap.{IsNextAbove, NoneAbove};
-ghost use Rattle.pb_lin.specs.Place.{IsPlace};
 
 use crate::Constraint;
+use crate::id_table::IdTable;
 use scut_base::NoMemory;
 use std::alloc::Global;
-use std::collections::HashMap;
 use std::marker::Model;
 
 /// Constraints, found by their ids. Contracts see it as a finite map.
 ///
-/// Beside the map stands a list of the ids in rising order, for the walk from one to the next. A
-/// dropped id stays in it until more than half are dropped.
+/// The constraints stand in a list in any order, and a table has for each id its place in it. The
+/// table takes 4 bytes for each id up to the largest that was ever there, so it is meant for ids that
+/// follow one another.
 #[derive(Debug, Drop)]
 pub struct Lines {
-    lines: HashMap<u64, Constraint>,
-    ids: Vec<u64>,
+    table: IdTable,
+    // The id of each of the constraints.
+    ids: Vec<u32>,
+    lines: Vec<Constraint>,
 }
 
 impl Model for Lines {
+    ghost use Rattle.std.specs.Prelude.{length};
+    ghost use Rattle.std.specs.List.{zip};
     ghost use Rattle.pb_lin.specs.LineMap.{LineMap, lines_of};
     ghost use Rattle.pb_lin.specs.LineCodes.{line_code};
-    ghost use Rattle.pb_lin.specs.IdList.{ListsIds};
+    ghost use Rattle.pb_lin.specs.IdTable.{PlacesIds};
 
     ghost Value = { LineMap };
 
     ghost coded = { line_code };
 
-    ghost view = { λ l. lines_of l.lines.entries };
+    ghost view = { λ l. lines_of (zip l.ids.items l.lines.items) };
 
-    ghost invariant = { λ l. ListsIds l.lines.entries l.ids.items };
+    ghost invariant = { λ l. PlacesIds l.table l.ids.items (length l.lines.items) };
 }
 
 impl Lines {
@@ -42,8 +44,9 @@ impl Lines {
         ensures { result ≡ empty }
     {
         Lines {
-            lines: HashMap::new(alloc),
+            table: IdTable::new(alloc),
             ids: Vec::new(alloc),
+            lines: Vec::new(alloc),
         }
     }
 
@@ -54,11 +57,14 @@ impl Lines {
         self.lines.len()
     }
 
-    /// The constraint of an id, in constant time on average.
+    /// The constraint of an id, in constant time.
     pub fn get(&self, id: u64) -> Option<&Constraint>
         ensures { MatchOption result (get self.now id ≡ None) (λ c. get self.now id ≡ Some c.now) }
     {
-        self.lines.get(&id)
+        match self.table.place(id) {
+            Some(place) => Some(&self.lines[place as usize]),
+            None => None,
+        }
     }
 
     /// The least id above `id` that has a constraint. Takes a binary search, and passes over ids that
@@ -68,18 +74,40 @@ impl Lines {
             (NoneAbove (get self.now) id)
             (IsNextAbove (get self.now) id) }
     {
-        next_live(&self.ids, &self.lines, id)
+        self.table.next_above(id)
     }
 
     /// Gives an id this constraint, in place of the one that it had. `NoMemory` where memory was
-    /// refused, and then nothing changes. Takes a binary search; the ids above a new one move.
+    /// refused, or a new id is 2^32 - 1 or above, and then nothing changes. A new id takes a binary
+    /// search, and those above it move.
     pub fn put(&mut self, id: u64, c: Constraint) -> Result<(), NoMemory>
         ensures ok { OnOk result (self.new ≡ insert self.old id c) }
         ensures err { OnErr result (self.new ≡ self.old) }
     {
-        // An id more in the list changes nothing where memory is refused for the constraint.
-        list_id(&mut self.ids, id)?;
-        self.lines.insert(id, c)?;
+        match self.table.place(id) {
+            Some(place) => {
+                self.lines[place as usize] = c;
+                Ok(())
+            }
+            None => self.put_new(id, c),
+        }
+    }
+
+    // Gives an id that has none this constraint.
+    fn put_new(&mut self, id: u64, c: Constraint) -> Result<(), NoMemory>
+        requires { get self.old id ≡ None }
+        ensures ok { OnOk result (self.new ≡ insert self.old id c) }
+        ensures err { OnErr result (self.new ≡ self.old) }
+    {
+        let place = self.lines.len() as u64;
+        if id >= u32::MAX as u64 || place >= u32::MAX as u64 {
+            return Err(NoMemory);
+        }
+        self.table.insert(id as u32, place as u32)?;
+        if let Err(refused) = push_line(&mut self.ids, &mut self.lines, id as u32, c) {
+            self.table.remove(id);
+            return Err(refused);
+        }
         Ok(())
     }
 
@@ -88,63 +116,35 @@ impl Lines {
     pub fn drop_id(&mut self, id: u64)
         ensures { self.new ≡ remove self.old id }
     {
-        self.lines.remove(&id);
-        sweep(&mut self.ids, &self.lines);
+        let Some(place) = self.table.place(id) else {
+            return;
+        };
+        // The last constraint takes the place of the dropped one.
+        let last = self.ids[self.ids.len() - 1];
+        self.table.change(last, place);
+        self.table.remove(id);
+        self.ids.swap_remove(place as usize);
+        self.lines.swap_remove(place as usize);
+        self.table.sweep(self.lines.len());
     }
 }
 
-// The least id above `id` that the map has.
-fn next_live(ids: &[u64], lines: &HashMap<u64, Constraint>, id: u64) -> Option<u64>
-    requires { ListsIds lines.now.entries ids.now }
-    ensures { MatchOption result
-        (NoneAbove (λ k. lookup (nat_eq k) lines.now.entries) id)
-        (IsNextAbove (λ k. lookup (nat_eq k) lines.now.entries) id) }
+// One more constraint with its id, or neither.
+fn push_line(
+    ids: &mut Vec<u32>,
+    lines: &mut Vec<Constraint>,
+    id: u32,
+    c: Constraint,
+) -> Result<(), NoMemory>
+    ensures ids { OnOk result (ids.new.items ≡ ids.old.items ++ id ∷ []) }
+    ensures lines { OnOk result (lines.new.items ≡ lines.old.items ++ c ∷ []) }
+    ensures same_ids { OnErr result (ids.new.items ≡ ids.old.items) }
+    ensures same_lines { OnErr result (lines.new.items ≡ lines.old.items) }
 {
-    for at in place_above(ids, id)..ids.len() {
-        if lines.contains_key(&ids[at]) {
-            return Some(ids[at]);
-        }
+    ids.push(id)?;
+    if lines.push(c).is_err() {
+        let _ = ids.pop();
+        return Err(NoMemory);
     }
-    None
-}
-
-// Puts an id in its place among the others, where it isn't there.
-fn list_id(ids: &mut Vec<u64>, id: u64) -> Result<(), NoMemory>
-    requires { IsRising ids.old.items }
-    ensures rising { IsRising ids.new.items }
-    ensures listed { OnOk result (IsListed ids.new.items id) }
-    ensures kept { (k : ℕ) → IsListed ids.old.items k → IsListed ids.new.items k }
-{
-    let place = place_of(ids, id);
-    if place < ids.len() && ids[place] == id {
-        return Ok(());
-    }
-    ids.insert(place, id)?;
     Ok(())
-}
-
-// Takes out the ids that the map lacks, where these are more than half.
-fn sweep(ids: &mut Vec<u64>, lines: &HashMap<u64, Constraint>)
-    requires { ListsIds lines.now.entries ids.old.items }
-    ensures { ListsIds lines.now.entries ids.new.items }
-{
-    if lines.len() < ids.len() / 2 {
-        ids.retain(|id| lines.contains_key(id));
-    }
-}
-
-// The first place whose id isn't below the given one, by binary search.
-fn place_of(ids: &[u64], id: u64) -> usize
-    requires { IsRising ids.now }
-    ensures { IsPlace (λ i. i) ids.now id result }
-{
-    ids.partition_point(|i| *i < id)
-}
-
-// The first place whose id is above the given one, by binary search.
-fn place_above(ids: &[u64], id: u64) -> usize
-    requires { IsRising ids.now }
-    ensures { IsPlace (λ i. i) ids.now (id + 1) result }
-{
-    ids.partition_point(|i| *i <= id)
 }

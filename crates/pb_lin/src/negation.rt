@@ -32,8 +32,7 @@ impl Constraint {
     {
         Ok(Constraint {
             lits: opposite_literals(alloc, self.lits.as_slice())?,
-            coefs: Items::from_vec(Vec::from_slice(alloc, self.coefs.as_slice())?),
-            degree,
+            weights: self.weights.with_degree(alloc, degree)?,
         })
     }
 }

@@ -8,9 +8,9 @@ use Rattle.pb_lin.proofs.constraint.Constraint.at_least.Goals as goal
 pub invariant_of-result : goal.invariant_of-result
 invariant_of-result c =
     let first = subst (λ (ls : List Literal). (d : Literal) → 0 < length ls → 0 < (get_or ls 0 d).var) c.as_slice.ensures c.first_variable-first.ensures in
-    rw (c.new.ensures, c.from_vec.ensures, c.into_vec-lits.ensures) (stored-ones c.args.lits c.args.degree c.requires.rising first c.requires.small)
+    rw c.ones.ensures (stored-ones c.args.lits c.args.degree c.requires.rising first c.requires.small)
 
 pub returns : goal.returns
 returns c =
-    rw (c.new.ensures, c.from_vec.ensures, c.into_vec-lits.ensures)
+    rw c.ones.ensures
     (ap (λ (ts : List (Literal × ℕ)). let r : ConstraintValue = record { terms = ts; degree = c.args.degree } in r) (terms_of-none c.args.lits))

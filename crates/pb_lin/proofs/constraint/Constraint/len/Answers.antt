@@ -3,4 +3,4 @@ use Rattle.pb_lin.proofs.Terms.{length-terms_of}
 use Rattle.pb_lin.proofs.constraint.Constraint.len.Goals as goal
 
 pub returns-clause-value : goal.returns-clause-value
-returns-clause-value c = rw (← c.self.view_is) (c.len.ensures ∙ sym (length-terms_of c.self.inside.lits c.self.inside.coefs))
+returns-clause-value c = rw (← c.self.view_is) (c.len.ensures ∙ sym (length-terms_of c.self.inside.lits c.self.inside.weights.coefs))

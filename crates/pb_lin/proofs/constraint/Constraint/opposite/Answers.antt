@@ -7,14 +7,12 @@ use Rattle.pb_lin.proofs.constraint.Constraint.opposite.Goals as goal
 pub invariant_of-result : goal.invariant_of-result
 invariant_of-result c =
     let lits : c.in_ok-opposite_literals.field-0 ≡ map opposite c.self.inside.lits = c.in_ok-opposite_literals.ensures ∙ ap (map opposite) c.as_slice.ensures in
-    let coefs : c.from_vec.result ≡ c.self.inside.coefs = c.from_vec.ensures ∙ c.in_ok-from_slice.ensures.items ∙ c.as_slice-2.ensures in
     let view = ap (λ (v : ConstraintValue). total v.terms) c.self.view_is in
-    rw (lits, coefs) (stored-opposite c.self.inside.lits c.self.inside.coefs c.self.inside.degree c.args.degree c.self.invariant (omega arith))
+    rw (lits, c.in_ok-with_degree.ensures) (stored-opposite c.self.inside.lits c.self.inside.weights.coefs c.self.inside.weights.degree c.args.degree c.self.invariant (omega arith))
 
 pub returns : goal.returns
 returns c =
     let lits : c.in_ok-opposite_literals.field-0 ≡ map opposite c.self.inside.lits = c.in_ok-opposite_literals.ensures ∙ ap (map opposite) c.as_slice.ensures in
-    let coefs : c.from_vec.result ≡ c.self.inside.coefs = c.from_vec.ensures ∙ c.in_ok-from_slice.ensures.items ∙ c.as_slice-2.ensures in
-    rw (lits, coefs)
+    rw (lits, c.in_ok-with_degree.ensures)
     (ap (λ (ts : List (Literal × ℕ)). let r : ConstraintValue = record { terms = ts; degree = c.args.degree } in r)
-    (terms_of-opposite c.self.inside.lits c.self.inside.coefs ∙ ap (λ (v : ConstraintValue). opposite_terms v.terms) c.self.view_is))
+    (terms_of-opposite c.self.inside.lits c.self.inside.weights.coefs ∙ ap (λ (v : ConstraintValue). opposite_terms v.terms) c.self.view_is))
