@@ -5,7 +5,7 @@ ghost use Rattle.scut_base.specs.Literal.{Literal};
 ghost use Rattle.pb_lin.specs.Constraint.{IsNormal, AreOnes, literals, ones};
 ghost use Rattle.pb_lin.specs.Stored.{terms_of};
 
-use crate::weights::{Weights, coefficient};
+use crate::parts::{Parts, coefficient};
 use scut_base::{Duplicate, Items, Lit, NoMemory};
 use std::alloc::Global;
 use std::marker::Model;
@@ -13,13 +13,14 @@ use std::marker::Model;
 /// A sum of positive coefficients on literals of distinct variables, in rising order of variables,
 /// that is at least its degree. Coefficients and degree sum to at most 2^100.
 ///
-/// Takes 48 bytes, and for each literal 8 where all coefficients are 1; else 24, and a box besides.
+/// Takes 48 bytes, and a clause of one to four literals no more. Else 8 besides for each literal where all coefficients
+/// are 1, and 24 with a box where they aren't.
 #[derive(Debug, Drop)]
 pub struct Constraint {
-    pub(crate) lits: Items<Lit>,
-    // No coefficients where all are 1.
-    pub(crate) weights: Weights,
+    pub(crate) parts: Parts,
 }
+
+const _: () = prove!(std::mem::size_of::<Constraint>() == 48);
 
 impl Model for Constraint {
     ghost use Rattle.pb_lin.specs.Constraint.{ConstraintValue};
@@ -27,9 +28,9 @@ impl Model for Constraint {
 
     ghost Value = { ConstraintValue };
 
-    ghost view = { λ c. record { terms = terms_of c.lits c.weights.coefs; degree = c.weights.degree } };
+    ghost view = { λ c. record { terms = terms_of c.parts.lits c.parts.coefs; degree = c.parts.degree } };
 
-    ghost invariant = { λ c. IsStored c.lits c.weights.coefs c.weights.degree };
+    ghost invariant = { λ c. IsStored c.parts.lits c.parts.coefs c.parts.degree };
 }
 
 impl Constraint {
@@ -44,8 +45,8 @@ impl Constraint {
     {
         let lits = literals_of(alloc, terms)?;
         let coefs = stored_coefficients(alloc, terms)?;
-        let weights = Weights::new(alloc, coefs, degree)?;
-        Ok(Constraint { lits, weights })
+        let parts = Parts::new(alloc, lits, coefs, degree)?;
+        Ok(Constraint { parts })
     }
 
     /// That at least one of these literals, whose variables rise, is true. Takes no memory, and
@@ -68,8 +69,7 @@ impl Constraint {
         // A literal's variable is at least 1; of those that rise, the first tells it of all.
         let _first = first_variable(lits.as_slice());
         Constraint {
-            lits,
-            weights: Weights::ones(degree),
+            parts: Parts::ones(lits, degree),
         }
     }
 
@@ -78,7 +78,7 @@ impl Constraint {
         ensures value { result ≡ length self.now.terms }
         ensures normal { IsNormal self.now.terms self.now.degree }
     {
-        self.lits.len()
+        self.parts.literals().len()
     }
 
     /// The least value of the sum at which the constraint holds.
@@ -86,7 +86,7 @@ impl Constraint {
         ensures value { result ≡ self.now.degree }
         ensures normal { IsNormal self.now.terms self.now.degree }
     {
-        self.weights.degree()
+        self.parts.degree()
     }
 
     /// The literals, in rising order of variables.
@@ -94,7 +94,7 @@ impl Constraint {
         ensures value { result.now ≡ literals self.now.terms }
         ensures normal { IsNormal self.now.terms self.now.degree }
     {
-        self.lits.as_slice()
+        self.parts.literals()
     }
 
     /// The literal at a place, counted from 0, with its coefficient.
@@ -102,7 +102,7 @@ impl Constraint {
         requires { at < length self.now.terms }
         ensures { slice_get self.now.terms at ≡ Some result }
     {
-        (*self.lits.at(at), self.weights.coefficient(at))
+        (self.parts.literals()[at], self.parts.coefficient(at))
     }
 
     /// A copy of the terms, each literal with its coefficient. Takes 32 bytes a term, and one pass.
@@ -110,29 +110,28 @@ impl Constraint {
         ensures value { IfOk result (λ terms. terms ≡ self.now.terms) }
         ensures normal { IsNormal self.now.terms self.now.degree }
     {
-        paired(alloc, self.lits.as_slice(), self.weights.coefficients())
+        paired(alloc, self.parts.literals(), self.parts.coefficients())
     }
 
     /// Whether all coefficients are 1. Takes constant time.
     pub fn is_cardinality(&self) -> bool
         ensures { IsTrue result ↔ AreOnes self.now.terms }
     {
-        self.weights.is_ones()
+        self.parts.is_ones()
     }
 
     /// Whether all coefficients and the degree are 1, also without terms. Takes constant time.
     pub fn is_clause(&self) -> bool
         ensures { IsTrue result ↔ (AreOnes self.now.terms × (self.now.degree ≡ 1)) }
     {
-        self.weights.is_ones() && self.weights.degree() == 1
+        self.parts.is_ones() && self.parts.degree() == 1
     }
 }
 
 impl Duplicate for Constraint {
     fn copy(&self, alloc: Global) -> Result<Constraint, NoMemory> {
         Ok(Constraint {
-            lits: Items::from_vec(Vec::from_slice(alloc, self.lits.as_slice())?),
-            weights: self.weights.with_degree(alloc, self.weights.degree())?,
+            parts: self.parts.copy(alloc)?,
         })
     }
 }

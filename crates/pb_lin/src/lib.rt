@@ -14,12 +14,12 @@ mod id_table;
 mod lines;
 mod negation;
 mod normal;
+mod parts;
 mod problem;
 mod propagation;
 mod restriction;
 mod size;
 mod substitution;
-mod weights;
 mod witness;
 
 pub use constraint::Constraint;

@@ -30,9 +30,9 @@ impl Constraint {
         ensures { IfOk result
             (λ c. c ≡ record { terms = opposite_terms self.now.terms; degree = degree }) }
     {
+        let lits = opposite_literals(alloc, self.parts.literals())?;
         Ok(Constraint {
-            lits: opposite_literals(alloc, self.lits.as_slice())?,
-            weights: self.weights.with_degree(alloc, degree)?,
+            parts: self.parts.replaced(alloc, lits, degree)?,
         })
     }
 }

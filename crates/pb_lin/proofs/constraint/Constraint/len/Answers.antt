@@ -1,6 +1,6 @@
-use Rattle.std.proofs.Common.{sym, ◌∙◌}
+use Rattle.std.proofs.Common.{ap, length, sym, ◌∙◌}
 use Rattle.pb_lin.proofs.Terms.{length-terms_of}
 use Rattle.pb_lin.proofs.constraint.Constraint.len.Goals as goal
 
 pub returns-clause-value : goal.returns-clause-value
-returns-clause-value c = rw (← c.self.view_is) (c.len.ensures ∙ sym (length-terms_of c.self.inside.lits c.self.inside.weights.coefs))
+returns-clause-value c = rw (← c.self.view_is) (ap length c.literals.ensures ∙ sym (length-terms_of c.self.inside.parts.lits c.self.inside.parts.coefs))

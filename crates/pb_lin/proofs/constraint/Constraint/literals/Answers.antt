@@ -3,4 +3,4 @@ use Rattle.pb_lin.proofs.Terms.{literals-terms_of}
 use Rattle.pb_lin.proofs.constraint.Constraint.literals.Goals as goal
 
 pub returns-clause-value : goal.returns-clause-value
-returns-clause-value c = rw (← c.self.view_is) (c.as_slice.ensures ∙ sym (literals-terms_of c.self.inside.lits c.self.inside.weights.coefs))
+returns-clause-value c = rw (← c.self.view_is) (c.literals.ensures ∙ sym (literals-terms_of c.self.inside.parts.lits c.self.inside.parts.coefs))

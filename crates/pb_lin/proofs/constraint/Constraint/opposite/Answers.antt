@@ -6,13 +6,13 @@ use Rattle.pb_lin.proofs.constraint.Constraint.opposite.Goals as goal
 
 pub invariant_of-result : goal.invariant_of-result
 invariant_of-result c =
-    let lits : c.in_ok-opposite_literals.field-0 ≡ map opposite c.self.inside.lits = c.in_ok-opposite_literals.ensures ∙ ap (map opposite) c.as_slice.ensures in
+    let lits : c.in_ok-lits.lits ≡ map opposite c.self.inside.parts.lits = c.in_ok-lits.ensures ∙ ap (map opposite) c.literals.ensures in
     let view = ap (λ (v : ConstraintValue). total v.terms) c.self.view_is in
-    rw (lits, c.in_ok-with_degree.ensures) (stored-opposite c.self.inside.lits c.self.inside.weights.coefs c.self.inside.weights.degree c.args.degree c.self.invariant (omega arith))
+    rw (c.in_ok-replaced.ensures, lits) (stored-opposite c.self.inside.parts.lits c.self.inside.parts.coefs c.self.inside.parts.degree c.args.degree c.self.invariant (omega arith))
 
 pub returns : goal.returns
 returns c =
-    let lits : c.in_ok-opposite_literals.field-0 ≡ map opposite c.self.inside.lits = c.in_ok-opposite_literals.ensures ∙ ap (map opposite) c.as_slice.ensures in
-    rw (lits, c.in_ok-with_degree.ensures)
+    let lits : c.in_ok-lits.lits ≡ map opposite c.self.inside.parts.lits = c.in_ok-lits.ensures ∙ ap (map opposite) c.literals.ensures in
+    rw (c.in_ok-replaced.ensures, lits)
     (ap (λ (ts : List (Literal × ℕ)). let r : ConstraintValue = record { terms = ts; degree = c.args.degree } in r)
-    (terms_of-opposite c.self.inside.lits c.self.inside.weights.coefs ∙ ap (λ (v : ConstraintValue). opposite_terms v.terms) c.self.view_is))
+    (terms_of-opposite c.self.inside.parts.lits c.self.inside.parts.coefs ∙ ap (λ (v : ConstraintValue). opposite_terms v.terms) c.self.view_is))
