@@ -4,3 +4,4 @@ pub mod Agreement
 pub mod HintLines
 pub mod HintedVariables
 pub mod Lengths
+pub mod ClauseFates
