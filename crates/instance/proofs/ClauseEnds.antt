@@ -1,14 +1,18 @@
 -- What the ends of clauses tell of them.
-use Rattle.std.proofs.Common.{◌≡◌, ℕ, zero, suc, ◌+◌, ◌-◌, ◌<◌, ◌≤◌, List, [], ◌∷◌, ◌++◌, length, take, drop, Some, refl, sym, ap, ◌∙◌, arith}
+use Rattle.std.proofs.Common.{◌≡◌, ℕ, zero, suc, ◌+◌, ◌-◌, ◌<◌, ◌≤◌, List, [], ◌∷◌, ◌++◌, length, take, drop, Some, refl, ap, ◌∙◌, arith}
 use Rattle.std.specs.Prelude.{slice_get, slice_index, slice_range}
 use Rattle.std.proofs.Math.Seq.{drop-append_seam}
 use Rattle.std.proofs.lemmas.List.{drop-append-le, length-drop, take-append-le, take_all}
 use Rattle.scut_base.specs.Literal.{Literal}
-use Rattle.instance.specs.Clauses.{clauses_from, AreEnds}
+use Rattle.instance.specs.Clauses.{clauses_from, clauses_of, AreEnds}
 
 pub length-clauses_from : (start : ℕ) (lits : List Literal) (ends : List ℕ) → length (clauses_from start lits ends) ≡ length ends
 length-clauses_from start lits [] = refl
 length-clauses_from start lits (end ∷ ends) = ap suc (length-clauses_from end lits ends)
+
+-- a place of a clause is one of its end
+pub within_ends : (lits : List Literal) (ends : List ℕ) (clauses : List (List Literal)) (at : ℕ) → clauses_of lits ends ≡ clauses → at < length clauses → at < length ends
+within_ends lits ends clauses at is lt = omega (arith, lt, ap length is, length-clauses_from 0 lits ends)
 
 -- the first clause begins within the literals
 start_within : (len start : ℕ) (ends : List ℕ) → AreEnds len start ends → start ≤ len

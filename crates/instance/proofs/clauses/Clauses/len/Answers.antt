@@ -1,4 +1,4 @@
-use Rattle.std.proofs.Common.{length, sym, ap, arith}
+use Rattle.std.proofs.Common.{length, ap, arith}
 use Rattle.instance.proofs.ClauseEnds.{length-clauses_from}
 use Rattle.instance.proofs.clauses.Clauses.len.Goals as goal
 

@@ -1,4 +1,4 @@
-use Rattle.std.proofs.Common.{◌≡◌, ◌<◌, ◌≤◌, ◌+◌, length, sym, ap, ◌∙◌, arith, rules}
+use Rattle.std.proofs.Common.{◌+◌, length, arith, rules}
 use Rattle.instance.proofs.ClauseEnds.{clauses_push, ends_push}
 use Rattle.instance.proofs.clauses.Clauses.push.Goals as goal
 
