@@ -5,7 +5,7 @@ ghost use Rattle.gen_instance.specs.Generated.{drawn_clause, drawn_clauses, draw
 ghost use Rattle.gen_instance.specs.Printed.{AllOccur, IsPlain, mcnf_text};
 
 use crate::draws::Draws;
-use instance::{Instance, Objective, Sense, Soft};
+use instance::{Clauses, Instance, Objective, Sense, Soft};
 use scut_base::{Items, Lit, NoMemory};
 use std::alloc::Global;
 
@@ -26,14 +26,14 @@ pub fn make(alloc: Global, number: u64, vars: u32, objectives: u32) -> Result<In
 }
 
 // As many clauses as variables.
-fn draw_clauses(alloc: Global, draws: &mut Draws, vars: u32) -> Result<Items<Items<Lit>>, NoMemory>
+fn draw_clauses(alloc: Global, draws: &mut Draws, vars: u32) -> Result<Clauses, NoMemory>
     requires { 0 < vars }
     ensures clauses { IfOk result (λ clauses. clauses ≡ drawn_clauses vars draws.old) }
     ensures state { OnOk result (draws.new ≡ state_after (3 * vars) draws.old) }
 {
-    let mut clauses = Items::new(alloc);
+    let mut clauses = Clauses::new(alloc);
     for _clause in 0..vars {
-        clauses.push(draw_clause(alloc, draws, vars)?)?;
+        clauses.push(draw_clause(alloc, draws, vars)?.as_slice())?;
     }
     Ok(clauses)
 }

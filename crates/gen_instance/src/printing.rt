@@ -4,9 +4,9 @@ ghost use Rattle.std.specs.List.{flat_map};
 ghost use Rattle.mcnf_reader.specs.Grammar.{Spells};
 ghost use Rattle.gen_instance.specs.Printed.{AllOccur, AreVariables, IsPlain, IsPrintable, IsVariable, clause_text, hard_line, literal_text, mcnf_text, soft_line, soft_lines, weight_text};
 
-use instance::{Instance, Objective, Soft};
+use instance::{Clauses, Instance, Objective, Soft};
 use itoa::Buffer;
-use scut_base::{Items, Lit, NoMemory};
+use scut_base::{Lit, NoMemory};
 use std::alloc::Global;
 
 /// The text of an instance without linear rows, objective terms, offsets and maximised objectives, line by line. It spells
@@ -18,19 +18,19 @@ pub fn print_mcnf(alloc: Global, inst: &Instance) -> Result<Vec<u8>, NoMemory>
     ensures spells { IfOk result (λ text. AllOccur inst.now → Spells text.items inst.now) }
 {
     let mut text = Vec::new(alloc);
-    append_clauses(&mut text, inst.clauses.as_slice())?;
+    append_clauses(&mut text, &inst.clauses)?;
     append_objectives(&mut text, inst.objectives.as_slice())?;
     Ok(text)
 }
 
 // Puts a line for each hard clause at the end of a text.
-fn append_clauses(text: &mut Vec<u8>, clauses: &[Items<Lit>]) -> Result<(), NoMemory>
+fn append_clauses(text: &mut Vec<u8>, clauses: &Clauses) -> Result<(), NoMemory>
     ensures text { OnOk result (text.new.items ≡ text.old.items ++ flat_map hard_line clauses.now) }
     ensures variables { OnOk result (All AreVariables clauses.now) }
 {
-    for clause in clauses {
+    for at in 0..clauses.len() {
         text.push(b'h')?;
-        append_clause(text, clause.as_slice())?;
+        append_clause(text, clauses.clause(at))?;
     }
     Ok(())
 }

@@ -1,3 +1,4 @@
+pub mod ClauseEnds
 pub mod Sums
 pub mod Dominance
 pub mod FaultLines

@@ -4,17 +4,17 @@ ghost use Rattle.std.specs.List.{list_all};
 ghost use Rattle.instance.specs.Shape.{ClauseUpTo, TermsUpTo, IsRowWithin, IsObjectiveWithin, terms_magnitude, weights_sum};
 ghost use Rattle.instance.specs.Meaning.{clause_true, term_value, terms_value, row_holds, int_sum_by, soft_cost, objective_cost};
 
-use crate::{Linear, Objective, Rel, Soft};
-use scut_base::{Assignment, Items, Lit, NoMemory};
+use crate::{Clauses, Linear, Objective, Rel, Soft};
+use scut_base::{Assignment, Lit, NoMemory};
 use std::alloc::Global;
 
 // Whether each of these clauses has a true literal.
-pub(crate) fn all_clauses_true(clauses: &[Items<Lit>], a: &Assignment) -> bool
+pub(crate) fn all_clauses_true(clauses: &Clauses, a: &Assignment) -> bool
     requires { All (ClauseUpTo (length a.now)) clauses.now }
     ensures { result ≡ list_all (clause_true a.now) clauses.now }
 {
-    for clause in clauses {
-        if !clause_true(clause.as_slice(), a) {
+    for at in 0..clauses.len() {
+        if !clause_true(clauses.clause(at), a) {
             return false;
         }
     }

@@ -3,9 +3,9 @@ ghost use Rattle.std.specs.Prelude.{◌≡◌, ◌↔◌, length, IsTrue, IfOk};
 
 use crate::evaluate::{all_clauses_true, all_rows_hold, objective_costs};
 use crate::sense::problem_numbers;
-use crate::{Linear, Objective};
+use crate::{Clauses, Linear, Objective};
 use front_set::CostVec;
-use scut_base::{Assignment, Duplicate, Items, Lit, NoMemory};
+use scut_base::{Assignment, Duplicate, Items, NoMemory};
 use std::alloc::Global;
 use std::marker::Model;
 
@@ -13,7 +13,7 @@ use std::marker::Model;
 #[derive(Debug, Drop)]
 pub struct Instance {
     pub vars: u64,
-    pub clauses: Items<Items<Lit>>,
+    pub clauses: Clauses,
     pub linear: Items<Linear>,
     pub objectives: Items<Objective>,
 }
@@ -36,7 +36,7 @@ impl Instance {
     /// The instance of these parts, which are within the limits. Takes no memory.
     pub fn new(
         vars: u64,
-        clauses: Items<Items<Lit>>,
+        clauses: Clauses,
         linear: Items<Linear>,
         objectives: Items<Objective>,
     ) -> Instance
@@ -68,7 +68,7 @@ impl Instance {
         requires { length a.now ≡ self.now.vars }
         ensures { IsTrue result ↔ IsModel self.now a.now }
     {
-        all_clauses_true(self.clauses.as_slice(), a) && all_rows_hold(self.linear.as_slice(), a)
+        all_clauses_true(&self.clauses, a) && all_rows_hold(self.linear.as_slice(), a)
     }
 
     /// One number for each objective: the weights of its false soft clauses, plus the coefficients of

@@ -8,6 +8,7 @@
 //! file and searches nothing.
 #![tactic(auto)]
 
+mod clauses;
 mod evaluate;
 mod fault;
 mod front;
@@ -17,6 +18,7 @@ mod objective;
 mod row;
 mod sense;
 
+pub use clauses::Clauses;
 pub use fault::{
     BadKind, InstanceLimit, MAX_MAGNITUDE, MAX_OBJECTIVES, MAX_VARS, PlaceFault, ReadFault,
 };

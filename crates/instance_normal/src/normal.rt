@@ -33,7 +33,7 @@ fn instance_rows(alloc: Global, inst: &Instance) -> Result<Draft, NoMemory>
     ensures fits { IfOk result (λ d. All (Fits inst.now.vars) d.rows) }
 {
     let mut rows = Items::new(alloc);
-    add_clauses(alloc, inst.clauses.as_slice(), &mut rows)?;
+    add_clauses(alloc, &inst.clauses, &mut rows)?;
     add_linear(alloc, inst.linear.as_slice(), &mut rows)?;
     Ok(Draft {
         vars: inst.vars(),

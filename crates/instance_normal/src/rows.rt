@@ -7,7 +7,7 @@ ghost use Rattle.instance_normal.specs.NormalForm.{RowSource, Clause, Sum, IsRow
 ghost use Rattle.instance_normal.specs.Fitting.{Fits};
 
 use crate::clause::clause_row;
-use instance::{Linear, Rel};
+use instance::{Clauses, Linear, Rel};
 use pb_lin::{Constraint, LinFault};
 use scut_base::{Items, Lit, NoMemory};
 use std::alloc::Global;
@@ -15,7 +15,7 @@ use std::alloc::Global;
 // Adds the rows of clauses.
 pub(crate) fn add_clauses(
     alloc: Global,
-    clauses: &[Items<Lit>],
+    clauses: &Clauses,
     rows: &mut Items<Constraint>,
 ) -> Result<(), NoMemory>
     ensures rows { OnOk result ((ss : List RowSource)
@@ -23,8 +23,8 @@ pub(crate) fn add_clauses(
     ensures fits { OnOk result ((n : ℕ)
         → All (ClauseUpTo n) clauses.now → All (Fits n) rows.old → All (Fits n) rows.new) }
 {
-    for clause in clauses {
-        let row = clause_row(alloc, clause.as_slice())?;
+    for at in 0..clauses.len() {
+        let row = clause_row(alloc, clauses.clause(at))?;
         rows.push(row)?;
     }
     Ok(())

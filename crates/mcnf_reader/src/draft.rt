@@ -8,7 +8,7 @@ ghost use Rattle.mcnf_reader.specs.Draft.{IsReady, IsDraftOf, AddsSoft, with_sof
 ghost use Rattle.mcnf_reader.specs.declared.statement.Statement.{Statement};
 
 use crate::statement::Statement;
-use instance::{Instance, MAX_OBJECTIVES, Objective, Sense, Soft};
+use instance::{Clauses, Instance, MAX_OBJECTIVES, Objective, Sense, Soft};
 use scut_base::{Items, Lit, NoMemory};
 use std::alloc::Global;
 
@@ -17,7 +17,7 @@ use std::alloc::Global;
 /// weights are kept, so that a limit is noticed at its line and not at the end.
 #[derive(Drop)]
 pub struct Draft {
-    pub clauses: Items<Items<Lit>>,
+    pub clauses: Clauses,
     pub objectives: Vec<Objective>,
     pub sums: [u64; MAX_OBJECTIVES],
     pub vars: u64,
@@ -30,7 +30,7 @@ pub(crate) fn new_draft(alloc: Global) -> Result<Draft, NoMemory>
     ensures empty { IfOk result (λ d. IsDraftOf d []) }
 {
     Ok(Draft {
-        clauses: Items::new(alloc),
+        clauses: Clauses::new(alloc),
         objectives: empty_objectives(alloc)?,
         sums: [0; MAX_OBJECTIVES],
         vars: 0,
@@ -88,7 +88,7 @@ fn add_hard(draft: &mut Draft, lits: Items<Lit>) -> Result<(), NoMemory>
     }) }
 {
     draft.vars = draft.vars.max(largest_variable(&lits));
-    draft.clauses.push(lits)
+    draft.clauses.push(lits.as_slice())
 }
 
 // Puts a soft clause into the draft.

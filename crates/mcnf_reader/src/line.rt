@@ -16,7 +16,7 @@ use instance::{BadKind, PlaceFault};
 use scut_base::{Duplicate, Items, Lit, NoMemory};
 use std::alloc::Global;
 
-// Clauses of more literals than these are kept with the room that they have.
+// Soft clauses of more literals than these are kept with the room that they have.
 const MOST_COPIED: usize = 1_000;
 
 // Reads what a line says, where the objectives have these sums of weights already.
@@ -71,11 +71,12 @@ fn read_soft(
     Ok(Statement::Soft {
         objective,
         weight,
-        lits,
+        lits: compact(alloc, lits)?,
     })
 }
 
-// The same literals; where they are few, without room to spare, since an instance may keep millions of short clauses.
+// The same literals; where they are few, without room to spare, since an instance may keep millions
+// of short soft clauses.
 fn compact(alloc: Global, lits: Items<Lit>) -> Result<Items<Lit>, NoMemory>
     ensures { IfOk result (λ same. same ≡ lits) }
 {
@@ -98,7 +99,7 @@ fn read_clause(alloc: Global, words: &mut Words<'_>) -> Result<Items<Lit>, Place
                 if words.next().is_some() {
                     return Err(PlaceFault::Bad(BadKind::TextAfterZero));
                 }
-                return Ok(compact(alloc, lits)?);
+                return Ok(lits);
             }
         }
     }

@@ -9,7 +9,7 @@ use crate::statement::{read_objective, read_row};
 use crate::token::{Token, begins_row};
 use crate::tokens::Tokens;
 use instance::{
-    BadKind, Instance, InstanceLimit, Linear, MAX_OBJECTIVES, Objective, PlaceFault, Sense,
+    BadKind, Clauses, Instance, InstanceLimit, Linear, MAX_OBJECTIVES, Objective, PlaceFault, Sense,
 };
 use scut_base::Items;
 use std::alloc::Global;
@@ -105,7 +105,7 @@ pub fn finish(alloc: Global, draft: Draft) -> Instance
 {
     Instance::new(
         draft.vars,
-        Items::new(alloc),
+        Clauses::new(alloc),
         draft.linear,
         draft.objectives,
     )

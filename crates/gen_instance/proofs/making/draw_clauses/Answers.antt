@@ -10,7 +10,7 @@ loop-clause-preserved c =
     let s = c.args.draws.now in
     let was = c.loop-clause.invariant in
     record {
-      clauses = drawn_more (nth_clause c.args.vars s) 0 i i c.loop-clause.clauses c.push.new.self c.in_ok-draw_clause.field-0 (omega arith) was.clauses c.in_ok-push.ensures.ok
-          (c.in_ok-draw_clause.ensures.clause ∙ ap (drawn_clause c.args.vars) was.state);
+      clauses = drawn_more (nth_clause c.args.vars s) 0 i i c.loop-clause.clauses c.push.new.self c.as_slice.result.now (omega arith) was.clauses c.in_ok-push.ensures.ok
+          (c.as_slice.ensures ∙ c.in_ok-draw_clause.ensures.clause ∙ ap (drawn_clause c.args.vars) was.state);
       state = c.in_ok-draw_clause.ensures.state ∙ ap (state_after 3) was.state ∙ sym (state_sum 3 (3 * i) (3 * (i + 1)) s (omega arith));
     }

@@ -1,11 +1,17 @@
-use Rattle.std.proofs.Common.{arith, subst}
+use Rattle.std.proofs.Common.{arith, sym}
 use Rattle.std.proofs.lemmas.Grind.{common_steps}
+use Rattle.std.proofs.lemmas.Option.{slice_get_within, get_or_from_slice_get}
 use Rattle.gen_instance.specs.Printed.{AreVariables}
 use Rattle.gen_instance.proofs.OneMore.{one_more}
 use Rattle.gen_instance.proofs.printing.append_clauses.Goals as goal
 
-pub loop-clause-preserved : goal.loop-clause-preserved
-loop-clause-preserved c = record {
-  text = grind (arith, common_steps);
-  variables = one_more AreVariables c.args.clauses.now c.loop-clause.clause-index c.clause-item.result c.loop-clause-test.true c.clause-item.is c.loop-clause.invariant.variables (subst AreVariables c.as_slice.ensures c.in_ok-append_clause.ensures.variables);
-}
+pub loop-at-preserved : goal.loop-at-preserved
+loop-at-preserved c =
+    let clauses = c.args.clauses.now in
+    let clause = c.clause.result.now in
+    let within = slice_get_within clauses c.loop-at.at clause c.clause.ensures in
+    let is = get_or_from_slice_get clauses c.loop-at.at clause clause c.clause.ensures in
+    record {
+      text = grind (arith, common_steps, is);
+      variables = one_more AreVariables clauses c.loop-at.at clause within (sym is) c.loop-at.invariant.variables c.in_ok-append_clause.ensures.variables;
+    }

@@ -10,8 +10,8 @@ use Rattle.gen_instance.proofs.printing.print_mcnf.Goals as goal
 pub returns-clause-spells : goal.returns-clause-spells
 returns-clause-spells c =
     let i = c.args.inst.now in
-    let clauses : c.as_slice.result.now ≡ i.clauses = c.as_slice.ensures ∙ ap (λ (v : InstanceValue). v.clauses) c.inst.view_is in
-    let objectives : c.as_slice-2.result.now ≡ i.objectives = c.as_slice-2.ensures ∙ ap (λ (v : InstanceValue). v.objectives) c.inst.view_is in
+    let clauses : c.inst.inside.clauses ≡ i.clauses = ap (λ (v : InstanceValue). v.clauses) c.inst.view_is in
+    let objectives : c.as_slice.result.now ≡ i.objectives = c.as_slice.ensures ∙ ap (λ (v : InstanceValue). v.objectives) c.inst.view_is in
     let text = whole_text i _ _ _ _ _ c.new-text.ensures.items c.in_ok-append_clauses.ensures.text c.in_ok-append_objectives.ensures.text clauses objectives in
     λ occur. subst (λ (bytes : List ℕ). Spells bytes i) (sym text)
     (printed_spells i (subst IsWithinLimits c.inst.view_is c.inst.invariant) c.requires

@@ -6,8 +6,8 @@ use Rattle.instance_normal.specs.NormalForm.{RowSource, Clause, IsRowOf}
 use Rattle.instance_normal.specs.Fitting.{Fits}
 use Rattle.instance_normal.proofs.rows.add_clauses.Given as goal
 
-abbrev pub invariant-loop-clause : goal.invariant-loop-clause
-invariant-loop-clause l = record {
-  rows : (ss : List RowSource) → AllZip IsRowOf ss l.initial.rows → AllZip IsRowOf (ss ++ map Clause (take l.clause-index l.clauses)) l.rows;
+abbrev pub invariant-loop-at : goal.invariant-loop-at
+invariant-loop-at l = record {
+  rows : (ss : List RowSource) → AllZip IsRowOf ss l.initial.rows → AllZip IsRowOf (ss ++ map Clause (take l.at l.clauses)) l.rows;
   fits : (n : ℕ) → All (ClauseUpTo n) l.clauses → All (Fits n) l.initial.rows → All (Fits n) l.rows;
 }

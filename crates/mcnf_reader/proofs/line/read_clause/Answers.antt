@@ -20,7 +20,7 @@ pub returns-in-None-clause-ok : goal.returns-in-None-clause-ok
 returns-in-None-clause-ok c =
     let zero = rw c.in-None.is at c.in_ok-lit.ensures.ok in
     let none = where_none c.next-in-None.result _ _ c.next-in-None.ensures (sym c.is_some.ensures ∙ c.if-is_some.false) in
-    rw c.in_ok-compact-in-None.ensures (ends_clause c.args.words.now c.loop-word.words c.next.new.self c.in-Some.word.now c.loop-word.lits c.in-Some.ensures none.0 zero c.loop-word.invariant.spelled, c.loop-word.invariant.within)
+    (ends_clause c.args.words.now c.loop-word.words c.next.new.self c.in-Some.word.now c.loop-word.lits c.in-Some.ensures none.0 zero c.loop-word.invariant.spelled, c.loop-word.invariant.within)
 
 pub returns-in_err-lit-clause-fault : goal.returns-in_err-lit-clause-fault
 returns-in_err-lit-clause-fault c =
