@@ -1,5 +1,5 @@
 -- The walk back over a trail: its marks, and what the hints that it has found so far prove.
-use Rattle.std.specs.Prelude.{◌≡◌, ◌≢◌, ℕ, ◌<◌, ◌≤◌, ◌⊎◌, Bool, true, false, not, nat_eq, [], ◌++◌, Option, Some, List, length, slice_index_or, All, AllPairs, Contains, IsSome}
+use Rattle.std.specs.Prelude.{◌≡◌, ◌≢◌, ℕ, ◌+◌, ◌<◌, ◌≤◌, ◌⊎◌, Bool, true, false, not, nat_eq, [], ◌++◌, Option, Some, List, length, reverse, slice_index_or, All, AllPairs, Contains, IsSome, Result, OnOk}
 use Rattle.std.specs.FinMap.{get}
 use Rattle.scut_base.specs.Literal.{Literal}
 use Rattle.scut_base.specs.Assignment.{partial_truth}
@@ -11,7 +11,7 @@ use Rattle.hint_rup.specs.declared.hint.Hint.{Hint}
 use Rattle.hint_rup.specs.declared.hint.Hint.TheVariants.{Id as IdHint}
 use Rattle.clause_prop.specs.Steps.{TrailValue, last_level}
 use Rattle.clause_prop.specs.declared.step.Step.{Step}
-use Rattle.cdcl_trail.specs.SearchTrail.{IsStepAt}
+use Rattle.cdcl_trail.specs.SearchTrail.{AreLines, IsSearchTrail, IsStepAt}
 use Rattle.cdcl_trail.specs.Learning.{stored}
 use Rattle.cdcl_analysis.specs.declared.marks.Marks.{Marks}
 use Rattle.cdcl_analysis.specs.declared.reach.Reach.{Reach}
@@ -111,6 +111,21 @@ IsStoredHint store h = (id : ℕ) × (h ≡ IdHint id) × IsSome (get store id)
 pub record IsClosing (store : LineMap) (t : TrailValue) (reach : Reach) (marks : List Bool) (end : ℕ) (given : List Literal) (hints : List Hint) : Type 0 where
   pub ids : All (IsStoredHint store) hints
   pub closing : (p : List (Option Bool)) → length p ≡ t.vars → Meets t reach marks end given p → Conflicts p (named (stored store) hints)
+
+-- a walk over the trail may go back from `end`
+pub record MayWalkBack (store : LineMap) (t : TrailValue) (reach : Reach) (end : ℕ) (m : Marks) : Type 0 where
+  pub walk : IsMarking t reach m
+  pub lines : AreLines t.vars store
+  pub search : IsSearchTrail store t
+  pub after : m.least + spare reach ≤ end
+  pub within : end ≤ length t.steps
+
+-- it went back from there to the least step that it leaves, and its hints still lead to a conflict
+pub record WalksBack {A E : Type 0} (store : LineMap) (t : TrailValue) (reach : Reach) (end : ℕ) (old new : Marks) (hints more : List Hint) (result : Result A E) : Type 0 where
+  pub walk : IsMarking t reach new
+  pub room : length new.on.items ≡ length old.on.items
+  pub after : new.least + spare reach ≤ end
+  pub closing : OnOk result ((given : List Literal) → IsClosing store t reach old.on.items end given (reverse hints) → IsClosing store t reach new.on.items (new.least + spare reach) given (reverse more))
 
 -- the literal is what the outcome says of the marked step at one of the places, which the walk doesn't resolve
 pub record IsAside (t : TrailValue) (reach : Reach) (marks : List Bool) (places : List ℕ) (l : Literal) : Type 0 where

@@ -6,7 +6,7 @@ ghost use Rattle.pb_lin.specs.Constraint.{UpTo, literals, opposite};
 ghost use Rattle.clause_prop.specs.declared.step.Step.{Step};
 ghost use Rattle.clause_prop.specs.Propagating.{IsConflict};
 ghost use Rattle.cdcl_trail.specs.SearchTrail.{AreLines, IsSearchTrail, IsStepAt};
-ghost use Rattle.cdcl_analysis.specs.Walking.{AreMarks, AreUnresolved, HasSeen, IsAbove, IsClosing, IsLonger, IsMarkedBefore, IsMarking, IsMore, IsUnmarked, is_marked, is_resolved, spare};
+ghost use Rattle.cdcl_analysis.specs.Walking.{AreMarks, AreUnresolved, HasSeen, IsAbove, IsClosing, IsLonger, IsMarkedBefore, IsMarking, IsMore, IsUnmarked, MayWalkBack, WalksBack, is_marked, is_resolved, spare};
 
 use crate::reach::Reach;
 use clause_prop::{ClauseStore, Step, Trail};
@@ -198,19 +198,9 @@ impl Marks {
         end: u64,
         hints: &mut Vec<Hint>,
     ) -> Result<(), NoMemory>
-        requires walk { IsMarking trail.now reach self.old }
-        requires lines { AreLines trail.now.vars store.now }
-        requires search { IsSearchTrail store.now trail.now }
-        requires after { self.old.least + spare reach ≤ end }
-        requires within { end ≤ length trail.now.steps }
-        ensures walk { IsMarking trail.now reach self.new }
-        ensures room { length self.new.on.items ≡ length self.old.on.items }
-        ensures after { self.new.least + spare reach ≤ end }
-        ensures closing { OnOk result ((given : List Literal)
-            → IsClosing store.now trail.now reach self.old.on.items end given
-            (reverse hints.old.items)
-            → IsClosing store.now trail.now reach self.new.on.items (self.new.least + spare reach)
-            given (reverse hints.new.items)) }
+        requires { MayWalkBack store.now trail.now reach end self.old }
+        ensures { WalksBack store.now trail.now reach end self.old self.new hints.old.items
+            hints.new.items result }
     {
         match reach {
             Reach::Level(_) => self.scan_back(store, trail, reach, end, hints),
@@ -227,19 +217,9 @@ impl Marks {
         end: u64,
         hints: &mut Vec<Hint>,
     ) -> Result<(), NoMemory>
-        requires walk { IsMarking trail.now reach self.old }
-        requires lines { AreLines trail.now.vars store.now }
-        requires search { IsSearchTrail store.now trail.now }
-        requires after { self.old.least + spare reach ≤ end }
-        requires within { end ≤ length trail.now.steps }
-        ensures walk { IsMarking trail.now reach self.new }
-        ensures room { length self.new.on.items ≡ length self.old.on.items }
-        ensures after { self.new.least + spare reach ≤ end }
-        ensures closing { OnOk result ((given : List Literal)
-            → IsClosing store.now trail.now reach self.old.on.items end given
-            (reverse hints.old.items)
-            → IsClosing store.now trail.now reach self.new.on.items (self.new.least + spare reach)
-            given (reverse hints.new.items)) }
+        requires { MayWalkBack store.now trail.now reach end self.old }
+        ensures { WalksBack store.now trail.now reach end self.old self.new hints.old.items
+            hints.new.items result }
     {
         let spare = reach.spare();
         let mut place = end;

@@ -1,5 +1,6 @@
 pub mod LogNames
 pub mod Touching
+pub mod EntryGathered
 pub mod Gathered
 pub mod OneMore
 pub mod Texts

@@ -88,14 +88,25 @@ fn weaken_rest(
     needed: &[(u128, u64)],
     lifted: usize,
 ) -> Result<(), NoMemory> {
-    let mut kept = Items::new(alloc);
-    for term in needed.iter().skip(lifted) {
-        kept.push(term.1)?;
-    }
+    let kept = kept_variables(alloc, needed, lifted)?;
     for var in sum.named.iter() {
-        if sum.coefficient(*var) != 0 && !kept.as_slice().contains(var) {
+        if sum.coefficient(*var) != 0 && kept.as_slice().binary_search(var).is_err() {
             tokens.push(PolToken::Weaken(*var))?;
         }
     }
     Ok(())
+}
+
+// The variables that are needed and weren't lifted, ascending.
+fn kept_variables(
+    alloc: Global,
+    needed: &[(u128, u64)],
+    lifted: usize,
+) -> Result<Vec<u64>, NoMemory> {
+    let mut kept = Vec::new(alloc);
+    for term in needed.iter().skip(lifted) {
+        kept.push(term.1)?;
+    }
+    kept.sort_unstable();
+    Ok(kept)
 }

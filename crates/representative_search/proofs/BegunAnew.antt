@@ -1,16 +1,17 @@
 -- A log that is begun anew: what was in it before doesn't matter.
 use Rattle.std.proofs.Common.{◌≡◌, inl, inr, ℕ, ◌≤◌, Bool, None, Some, List, sym, ap, subst, ◌∙◌, arith}
-use Rattle.std.specs.Prelude.{Option, Result, Ok, Err, IfOk, IfErr}
+use Rattle.std.specs.Prelude.{Option, Result, Ok, Err}
 use Rattle.scut_base.specs.Files.{Files, IsTouched, with_file}
 use Rattle.scut_base.specs.Faults.{Faults, NoneFell, Rose, WritingFailed}
 use Rattle.scut_base.specs.declared.shelf.ShelfCall.TheVariants.{Append, Begin}
 use Rattle.scut_base.proofs.FileLaws.{with_file-twice}
+use Rattle.scut_base.specs.World.{World}
 use Rattle.pb_lin.specs.Problem.{ProblemValue}
 use Rattle.proof_rules.specs.declared.recorder.RecordFault.{RecordFault}
 use Rattle.proof_rules.specs.declared.recorder.RecordFault.TheVariants.{Failed, Full, NoMemory}
 use Rattle.proof_text.specs.LogParts.{IsFull, IsLogStopped, IsPartOfLog}
 use Rattle.proof_text.specs.declared.version.LogVersion.TheVariants.{One}
-use Rattle.representative_search.specs.Seeking.{IsBegunAnew, IsSought}
+use Rattle.representative_search.specs.Seeking.{IsSought, LeavesLog, TouchesFile}
 
 -- ---- files
 
@@ -43,26 +44,34 @@ pub writing_since : (before mid after : Faults) (name : List ℕ) → NoneFell b
 writing_since before mid after name later (inl rose) = inl (rose_since _ _ _ (later Begin name) rose)
 writing_since before mid after name later (inr rose) = inr (rose_since _ _ _ (later Append name) rose)
 
+pub fell_twice : (before mid after : Faults) → NoneFell before mid → NoneFell mid after → NoneFell before after
+fell_twice before mid after first second call name = let one = first call name in let two = second call name in omega arith
+
 -- ---- one search after another
 
-module _ (old mid new : Option Files) (name : List ℕ) (p : ProblemValue) (first : IsBegunAnew old mid name p) where
-  sought_anew : (found : Option (List Bool)) → IsSought mid new name p found → IsSought old new name p found
+-- the file was touched, and then once more
+pub touches_twice : (P : List ℕ → Type 0) (name : List ℕ) (before mid after : World) → TouchesFile P name before mid → TouchesFile P name mid after → TouchesFile P name before after
+touches_twice P name before mid after first second = record {
+  touched = touched_twice before.files mid.files after.files name P first.touched second.touched;
+  said = second.said ∙ first.said;
+  warned = second.warned ∙ first.warned;
+  later = fell_twice before.faults mid.faults after.faults first.later second.later;
+}
+
+-- after the file was touched
+module _ (name : List ℕ) (p : ProblemValue) (before mid after : World) (first : TouchesFile (IsPartOfLog One p) name before mid) where
+  sought_anew : (found : Option (List Bool)) → IsSought mid.files after.files name p found → IsSought before.files after.files name p found
   sought_anew (Some a) sought = sought
-  sought_anew None (log, ended, files) = (log, ended, again old mid new name log (IsPartOfLog One p) first files)
+  sought_anew None (log, ended, files) = (log, ended, again before.files mid.files after.files name log (IsPartOfLog One p) first.touched files)
 
-  pub searched_anew : {E : Type 0} (r : Result (Option (List Bool)) E) → IfOk r (IsSought mid new name p) → IfOk r (IsSought old new name p)
-  searched_anew (Ok found) sought = sought_anew found sought
-  searched_anew (Err fault) sought = tt
+  stop_anew : (fault : RecordFault) → IsLogStopped fault mid.files after.files p name One mid.faults after.faults → IsLogStopped fault before.files after.files p name One before.faults after.faults
+  stop_anew Full full = full_anew before.files mid.files after.files name (IsPartOfLog One p) first.touched p full
+  stop_anew NoMemory touched = touched_twice before.files mid.files after.files name (IsPartOfLog One p) first.touched touched
+  stop_anew Failed (touched, failed) = (
+    touched_twice before.files mid.files after.files name (IsPartOfLog One p) first.touched touched,
+    writing_since before.faults mid.faults after.faults name first.later failed,
+  )
 
-  pub begun_anew : IsBegunAnew mid new name p → IsBegunAnew old new name p
-  begun_anew later = touched_twice old mid new name (IsPartOfLog One p) first later
-
-  module _ (before between after : Faults) (later : NoneFell before between) where
-    stop_anew : (fault : RecordFault) → IsLogStopped fault mid new p name One between after → IsLogStopped fault old new p name One before after
-    stop_anew Full full = full_anew old mid new name (IsPartOfLog One p) first p full
-    stop_anew NoMemory touched = begun_anew touched
-    stop_anew Failed (touched, failed) = (begun_anew touched, writing_since before between after name later failed)
-
-    pub stopped_anew : {T : Type 0} (r : Result T RecordFault) → IfErr r (λ fault. IsLogStopped fault mid new p name One between after) → IfErr r (λ fault. IsLogStopped fault old new p name One before after)
-    stopped_anew (Ok x) stop = tt
-    stopped_anew (Err fault) stop = stop_anew fault stop
+  pub seeks_anew : (r : Result (Option (List Bool)) RecordFault) → LeavesLog (IsSought mid.files after.files name p) p name mid after r → LeavesLog (IsSought before.files after.files name p) p name before after r
+  seeks_anew (Ok found) leaves = record { found = sought_anew found leaves.found; stop = tt; keeps = touches_twice (IsPartOfLog One p) name before mid after first leaves.keeps }
+  seeks_anew (Err fault) leaves = record { found = tt; stop = stop_anew fault leaves.stop; keeps = touches_twice (IsPartOfLog One p) name before mid after first leaves.keeps }

@@ -3,7 +3,7 @@ use Rattle.std.proofs.Common.{◌≡◌, ℕ, ◌^◌, Bool, false, None, Some, 
 use Rattle.std.specs.Prelude.{All, Option, Result, Ok, Err, IfOk, IfErr, IsErrOf, OnOk, ℤ}
 use Rattle.std.proofs.lemmas.List.Elements.{All-nil}
 use Rattle.scut_base.specs.Files.{Files, with_file}
-use Rattle.scut_base.specs.Faults.{Faults, NoneFell, Rose}
+use Rattle.scut_base.specs.Faults.{NoneFell, Rose}
 use Rattle.scut_base.specs.World.{World}
 use Rattle.pb_lin.specs.Problem.{ProblemValue}
 use Rattle.proof_laws.specs.State.{StateValue}
@@ -12,17 +12,17 @@ use Rattle.proof_rules.specs.Recording.{KeepsRecorder, Snapshot}
 use Rattle.proof_rules.specs.declared.recorder.RecordFault.{RecordFault}
 use Rattle.proof_rules.specs.declared.recorder.RecordFault.TheVariants.{Failed, Full, NoMemory}
 use Rattle.proof_text.specs.LogFile.{Held, IsLogFile}
-use Rattle.proof_text.specs.LogParts.{IsLogStopped}
+use Rattle.proof_text.specs.LogParts.{IsLogStopped, IsPartOfLog}
 use Rattle.proof_text.specs.Recorders.{IsKept, file_seen, without_file}
 use Rattle.proof_text.specs.declared.version.LogVersion.TheVariants.{One}
 use Rattle.proof_text.proofs.LogLeft.{kept_here, log_here, others_here, part_left, spelled, stopped_here, text, whole}
 use Rattle.log_checker.specs.Accepted.{IsCovered}
 use Rattle.sum_outputs.specs.Adding.{Continues, IsFaultAt}
 use Rattle.sum_outputs.proofs.LaterStates.{around_again, around_twice}
-use Rattle.representative_search.specs.Seeking.{HasEnded, IsBegunAnew, IsFound, IsRefuted, IsRelaxed, IsSought, Leaves, WhereKnown}
+use Rattle.representative_search.specs.Seeking.{HasEnded, IsFound, IsRefuted, IsRelaxed, IsSought, Leaves, LeavesLog, TouchesFile, WhereKnown}
 use Rattle.representative_search.specs.declared.relaxing.Relaxed.{Relaxed}
 use Rattle.representative_search.specs.declared.relaxing.Relaxed.TheVariants.{Known, Unknown}
-use Rattle.representative_search.proofs.BegunAnew.{rose_since}
+use Rattle.representative_search.proofs.BegunAnew.{fell_twice, rose_since}
 
 -- ---- recorders
 
@@ -113,36 +113,47 @@ module _ (old begun new : Option Files) (name header : List ℕ) (p : ProblemVal
     whole old begun new name header p One lines s broken is others log kept (log.whole unbroken),
   )
 
-module _ {H : Type 0} (world : H → World) (old : Option Files) (name header : List ℕ) (p : ProblemValue) (first last : Held H) (end : H)
+-- a recorder that was begun after one world and handed back in another
+module _ {H : Type 0} (world : H → World) (before : World) (name header : List ℕ) (p : ProblemValue) (first last : Held H) (end : H)
     {A : Type 0} (Found : List Line → A → Type 0) (r : Result A RecordFault)
     (named : first.name ≡ name) (of_problem : first.problem ≡ p) (of_version : first.version ≡ One)
-    (begun : (world first.shelf.now).files ≡ with_file old name header)
+    (begun : (world first.shelf.now).files ≡ with_file before.files name header)
+    (said : (world first.shelf.now).said ≡ before.said) (warned : (world first.shelf.now).warned ≡ before.warned)
+    (later : NoneFell before.faults (world first.shelf.now).faults)
     (same : end ≡ last.shelf.now)
     (log : IsLogFile (world end).files last.name last.problem last.version last.lines last.broken) (kept : IsKept last.problem last.lines last.state)
     (leaves : Leaves Found (file_seen world first) (file_seen world last) r) where
   here_others : without_file (world end).files name ≡ without_file (world first.shelf.now).files name
-  here_others = others_here world old name header p One first last end named of_problem of_version begun same log kept leaves.problem leaves.around
+  here_others = others_here world before.files name header p One first last end named of_problem of_version begun same log kept leaves.problem leaves.around
 
   here_log : IsLogFile (world end).files name p One last.lines last.broken
-  here_log = log_here world old name header p One first last end named of_problem of_version begun same log kept leaves.problem leaves.around
+  here_log = log_here world before.files name header p One first last end named of_problem of_version begun same log kept leaves.problem leaves.around
 
   here_kept : IsKept p last.lines last.state
-  here_kept = kept_here world old name header p One first last end named of_problem of_version begun same log kept leaves.problem leaves.around
+  here_kept = kept_here world before.files name header p One first last end named of_problem of_version begun same log kept leaves.problem leaves.around
 
   -- what was found, of the file
-  pub found_left : (Left : A → Type 0) → ((x : A) → (HasEnded p last.lines → IsRefuted old (world end).files name p) → Found last.lines x → Left x) → IfOk r Left
+  found_left : (Left : A → Type 0) → ((x : A) → (HasEnded p last.lines → IsRefuted before.files (world end).files name p) → Found last.lines x → Left x) → IfOk r Left
   found_left Left so = by r leaves.whole leaves.found
     where
       by : (s : Result A RecordFault) → OnOk s (last.broken ≡ false) → IfOk s (Found last.lines) → IfOk s Left
-      by (Ok x) unbroken is = so x (refuted_by old (world first.shelf.now).files (world end).files name header p last.lines last.state last.broken begun here_others here_log here_kept unbroken) is
+      by (Ok x) unbroken is = so x (refuted_by before.files (world first.shelf.now).files (world end).files name header p last.lines last.state last.broken begun here_others here_log here_kept unbroken) is
       by (Err fault) unbroken is = tt
 
-  pub touched_left : IsBegunAnew old (world end).files name p
-  touched_left = part_left old (world first.shelf.now).files (world end).files name header p One last.lines last.state last.broken begun here_others here_log here_kept
-
-  pub stopped_left : (began : Faults) → NoneFell began (world first.shelf.now).faults → IfErr r (λ fault. IsLogStopped fault old (world end).files p name One began (world end).faults)
-  stopped_left began later = by r leaves.failed leaves.full
+  stopped_left : IfErr r (λ fault. IsLogStopped fault before.files (world end).files p name One before.faults (world end).faults)
+  stopped_left = by r leaves.failed leaves.full
     where
-      by : (s : Result A RecordFault) → (IsErrOf s Failed → Rose (file_seen world first).faults (file_seen world last).faults) → (IsErrOf s Full → length last.lines ≡ 2 ^ 61) → IfErr s (λ fault. IsLogStopped fault old (world end).files p name One began (world end).faults)
+      by : (s : Result A RecordFault) → (IsErrOf s Failed → Rose (file_seen world first).faults (file_seen world last).faults) → (IsErrOf s Full → length last.lines ≡ 2 ^ 61) → IfErr s (λ fault. IsLogStopped fault before.files (world end).files p name One before.faults (world end).faults)
       by (Ok x) failed full = tt
-      by (Err fault) failed full = stopped_here world old name header p One first last end named of_problem of_version begun same log kept leaves.problem leaves.around began later fault (λ e. failed (ap (λ (f : RecordFault). Err f) e)) (λ e. full (ap (λ (f : RecordFault). Err f) e))
+      by (Err fault) failed full = stopped_here world before.files name header p One first last end named of_problem of_version begun same log kept leaves.problem leaves.around before.faults later fault (λ e. failed (ap (λ (f : RecordFault). Err f) e)) (λ e. full (ap (λ (f : RecordFault). Err f) e))
+
+  touched_left : TouchesFile (IsPartOfLog One p) name before (world end)
+  touched_left = record {
+    touched = part_left before.files (world first.shelf.now).files (world end).files name header p One last.lines last.state last.broken begun here_others here_log here_kept;
+    said = ap (λ (h : H). (world h).said) same ∙ leaves.around.said ∙ said;
+    warned = ap (λ (h : H). (world h).warned) same ∙ leaves.around.warned ∙ warned;
+    later = subst (λ (h : H). NoneFell before.faults (world h).faults) (sym same) (fell_twice before.faults (world first.shelf.now).faults (world last.shelf.now).faults later leaves.around.counts);
+  }
+
+  pub log_left : (Left : A → Type 0) → ((x : A) → (HasEnded p last.lines → IsRefuted before.files (world end).files name p) → Found last.lines x → Left x) → LeavesLog Left p name before (world end) r
+  log_left Left so = record { found = found_left Left so; stop = stopped_left; keeps = touched_left }

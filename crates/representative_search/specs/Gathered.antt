@@ -1,13 +1,19 @@
 -- What gathering the models that serve a vector leaves in its log.
-use Rattle.std.specs.Prelude.{◌≡◌, ℕ, Bool, List, ℤ, Option}
+use Rattle.std.specs.Prelude.{◌≡◌, ℕ, Bool, true, List, ℤ, Option, Result}
 use Rattle.scut_base.specs.Faults.{Faults, WritingFailed}
 use Rattle.scut_base.specs.Files.{Files, with_file}
+use Rattle.scut_base.specs.World.{World}
+use Rattle.instance.specs.ParetoFront.{problem_vector}
+use Rattle.instance.specs.Shape.{InstanceValue}
+use Rattle.models_text.specs.declared.reps.Reps.{Reps}
 use Rattle.pb_lin.specs.Problem.{ProblemValue}
 use Rattle.proof_rules.specs.declared.recorder.RecordFault.{RecordFault}
 use Rattle.proof_rules.specs.declared.recorder.RecordFault.TheVariants.{Failed, Full, NoMemory}
 use Rattle.proof_text.specs.LogParts.{IsFull, IsPartOfLog}
 use Rattle.proof_text.specs.declared.version.LogVersion.TheVariants.{One}
 use Rattle.representatives.specs.Bounded.{IsBounded, IsListingLog}
+use Rattle.representatives.specs.Representatives.{AreReps}
+use Rattle.representative_search.specs.Seeking.{LeavesFile}
 
 -- P holds of the bounded problem of some models
 abbrev pub OfBounded : ProblemValue → List ℤ → (ProblemValue → Type 0) → Type 0
@@ -30,3 +36,12 @@ abbrev pub IsGatherStop : RecordFault → Option Files → Option Files → List
 IsGatherStop Failed old new name p us before after = WritingFailed before after name
 IsGatherStop Full old new name p us before after = IsFullSearch old new name p us
 IsGatherStop NoMemory old new name p us before after = Unit {0}
+
+-- what a search over bounded problems leaves in this file
+abbrev pub LeavesSearch : {A : Type 0} → (A → Type 0) → ProblemValue → List ℤ → List ℕ → World → World → Result A RecordFault → Type 0
+LeavesSearch Found p us name before after = LeavesFile Found (λ fault. IsGatherStop fault before.files after.files name p us before.faults after.faults) (IsPartOfSearch p us) name before after
+
+-- models that serve the vector; where they are all, the log shows it
+pub record IsGathered (old new : Option Files) (name : List ℕ) (i : InstanceValue) (p : ProblemValue) (v : List ℤ) (most : ℕ) (r : Reps) : Type 0 where
+  pub reps : AreReps i v most r.all r.models
+  pub log : r.all ≡ true → ListsAll old new name p (problem_vector i v) r.models

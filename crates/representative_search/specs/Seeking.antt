@@ -1,8 +1,9 @@
 -- What a search for one model of a problem leaves.
-use Rattle.std.specs.Prelude.{◌≡◌, ◌≤◌, ◌^◌, ℕ, Bool, true, false, List, [], length, take, Option, Some, None, Result, IfOk, IsErrOf, OnOk}
+use Rattle.std.specs.Prelude.{◌≡◌, ◌≤◌, ◌^◌, ℕ, Bool, true, false, List, [], length, take, Option, Some, None, Result, IfOk, IfErr, IsErrOf, OnOk}
 use Rattle.std.specs.FinMap.{get}
-use Rattle.scut_base.specs.Faults.{Rose}
+use Rattle.scut_base.specs.Faults.{NoneFell, Rose}
 use Rattle.scut_base.specs.Files.{Files, IsTouched, with_file}
+use Rattle.scut_base.specs.World.{World}
 use Rattle.pb_lin.specs.Problem.{ProblemValue, IsProblemModel}
 use Rattle.proof_laws.specs.State.{StateValue}
 use Rattle.proof_laws.specs.Replay.{IsReplay}
@@ -11,7 +12,7 @@ use Rattle.proof_laws.specs.declared.line.Line.TheVariants.{End}
 use Rattle.proof_rules.specs.Recording.{KeepsSurroundings, Snapshot}
 use Rattle.proof_rules.specs.declared.recorder.RecordFault.{RecordFault}
 use Rattle.proof_rules.specs.declared.recorder.RecordFault.TheVariants.{Failed, Full}
-use Rattle.proof_text.specs.LogParts.{IsPartOfLog}
+use Rattle.proof_text.specs.LogParts.{IsLogStopped, IsPartOfLog}
 use Rattle.proof_text.specs.declared.version.LogVersion.TheVariants.{One}
 use Rattle.log_checker.specs.Accepted.{IsEndedProof}
 use Rattle.oracle.specs.Solving.{AddsSearchLines, Reaches}
@@ -29,14 +30,27 @@ abbrev pub IsSought : Option Files → Option Files → List ℕ → ProblemValu
 IsSought old new name p (Some a) = (p.vars ≤ length a) × IsProblemModel p (take p.vars a)
 IsSought old new name p None = IsRefuted old new name p
 
--- the log was not begun, or is a part of one
-abbrev pub IsBegunAnew : Option Files → Option Files → List ℕ → ProblemValue → Type 0
-IsBegunAnew old new name p = IsTouched old new name (IsPartOfLog One p)
-
 -- P holds of what a relaxation tells, if it tells anything
 abbrev pub WhereKnown : Relaxed → (Option (List Bool) → Type 0) → Type 0
 WhereKnown (Known found) P = P found
 WhereKnown Unknown P = Unit {0}
+
+-- the file of this name is as before or holds a part, and all else is as before
+pub record TouchesFile (Part : List ℕ → Type 0) (name : List ℕ) (before after : World) : Type 0 where
+  pub touched : IsTouched before.files after.files name Part
+  pub said : after.said ≡ before.said
+  pub warned : after.warned ≡ before.warned
+  pub later : NoneFell before.faults after.faults
+
+-- what is found, or why nothing was; only the file of this name was touched
+pub record LeavesFile {A : Type 0} (Found : A → Type 0) (Stop : RecordFault → Type 0) (Part : List ℕ → Type 0) (name : List ℕ) (before after : World) (result : Result A RecordFault) : Type 0 where
+  pub found : IfOk result Found
+  pub stop : IfErr result Stop
+  pub keeps : TouchesFile Part name before after
+
+-- the same of a log over one problem
+abbrev pub LeavesLog : {A : Type 0} → (A → Type 0) → ProblemValue → List ℕ → World → World → Result A RecordFault → Type 0
+LeavesLog Found p name before after = LeavesFile Found (λ fault. IsLogStopped fault before.files after.files p name One before.faults after.faults) (IsPartOfLog One p) name before after
 
 -- ---- any recorder
 

@@ -1,15 +1,10 @@
 // Gathering the models that serve a vector.
-ghost use Rattle.std.specs.Prelude.{◌≡◌, ◌≤◌, ◌<◌, ◌^◌, true, length, take, All, IfOk, IfErr};
-ghost use Rattle.scut_base.specs.Faults.{NoneFell};
-ghost use Rattle.scut_base.specs.Files.{IsTouched};
+ghost use Rattle.std.specs.Prelude.{◌≡◌, ◌≤◌, ◌<◌, ◌^◌, length, take, All, IfOk};
 ghost use Rattle.instance.specs.ParetoFront.{IsProblemVector, problem_vector};
 ghost use Rattle.instance_normal.specs.NormalForm.{IsNormalFormOf};
-ghost use Rattle.proof_text.specs.LogParts.{IsLogStopped};
-ghost use Rattle.proof_text.specs.declared.version.LogVersion.TheVariants.{One};
-ghost use Rattle.representatives.specs.Representatives.{AreReps};
 ghost use Rattle.representative_search.specs.Further.{IsCutModel, IsFurther};
-ghost use Rattle.representative_search.specs.Gathered.{IsGatherStop, IsPartOfSearch, ListsAll};
-ghost use Rattle.representative_search.specs.Seeking.{IsBegunAnew};
+ghost use Rattle.representative_search.specs.Gathered.{IsGathered, LeavesSearch};
+ghost use Rattle.representative_search.specs.Seeking.{LeavesLog};
 
 use crate::seeking::seek_model;
 use front_set::CostVec;
@@ -38,17 +33,9 @@ pub fn gather<H: Shelf>(
     requires vector { IsProblemVector inst.now vec.now }
     requires some { 0 < most }
     requires few { most ≤ 2 ^ 20 }
-    ensures reps { IfOk result (λ r. AreReps inst.now vec.now most r.all r.models) }
-    ensures log { IfOk result (λ r. r.all ≡ true → ListsAll (H.world shelf.old).files
-        (H.world shelf.new).files name.now problem.now (problem_vector inst.now vec.now) r.models) }
-    ensures stop { IfErr result (λ fault. IsGatherStop fault (H.world shelf.old).files
-        (H.world shelf.new).files name.now problem.now (problem_vector inst.now vec.now)
-        (H.world shelf.old).faults (H.world shelf.new).faults) }
-    ensures touched { IsTouched (H.world shelf.old).files (H.world shelf.new).files name.now
-        (IsPartOfSearch problem.now (problem_vector inst.now vec.now)) }
-    ensures said { (H.world shelf.new).said ≡ (H.world shelf.old).said }
-    ensures warned { (H.world shelf.new).warned ≡ (H.world shelf.old).warned }
-    ensures later { NoneFell (H.world shelf.old).faults (H.world shelf.new).faults }
+    ensures { LeavesSearch (IsGathered (H.world shelf.old).files (H.world shelf.new).files name.now
+        inst.now problem.now vec.now most) problem.now (problem_vector inst.now vec.now)
+        name.now (H.world shelf.old) (H.world shelf.new) result }
 {
     let mut models = Items::new(alloc);
     while (models.len() as u64) < most {
@@ -74,16 +61,9 @@ fn next_model<H: Shelf>(
     requires vector { IsProblemVector inst.now vec.now }
     requires few { length list.now ≤ 2 ^ 20 }
     requires long { All (λ a. length a ≡ inst.now.vars) list.now }
-    ensures further { IfOk result (IsFurther (H.world shelf.old).files (H.world shelf.new).files
-        name.now inst.now problem.now vec.now list.now) }
-    ensures stop { IfErr result (λ fault. IsGatherStop fault (H.world shelf.old).files
-        (H.world shelf.new).files name.now problem.now (problem_vector inst.now vec.now)
-        (H.world shelf.old).faults (H.world shelf.new).faults) }
-    ensures touched { IsTouched (H.world shelf.old).files (H.world shelf.new).files name.now
-        (IsPartOfSearch problem.now (problem_vector inst.now vec.now)) }
-    ensures said { (H.world shelf.new).said ≡ (H.world shelf.old).said }
-    ensures warned { (H.world shelf.new).warned ≡ (H.world shelf.old).warned }
-    ensures later { NoneFell (H.world shelf.old).faults (H.world shelf.new).faults }
+    ensures { LeavesSearch (IsFurther (H.world shelf.old).files (H.world shelf.new).files name.now
+        inst.now problem.now vec.now list.now) problem.now (problem_vector inst.now vec.now)
+        name.now (H.world shelf.old) (H.world shelf.new) result }
 {
     bounded_model_serves();
     ended_log_lists_all();
@@ -101,16 +81,8 @@ fn cut_model<H: Shelf>(
     vars: u64,
 ) -> Result<Option<Assignment>, RecordFault>
     requires within { vars ≤ problem.now.vars }
-    ensures model { IfOk result (IsCutModel (H.world shelf.old).files (H.world shelf.new).files
-        name.now problem.now vars) }
-    ensures stop { IfErr result (λ fault. IsLogStopped fault (H.world shelf.old).files
-        (H.world shelf.new).files problem.now name.now One
-        (H.world shelf.old).faults (H.world shelf.new).faults) }
-    ensures touched { IsBegunAnew (H.world shelf.old).files (H.world shelf.new).files
-        name.now problem.now }
-    ensures said { (H.world shelf.new).said ≡ (H.world shelf.old).said }
-    ensures warned { (H.world shelf.new).warned ≡ (H.world shelf.old).warned }
-    ensures later { NoneFell (H.world shelf.old).faults (H.world shelf.new).faults }
+    ensures { LeavesLog (IsCutModel (H.world shelf.old).files (H.world shelf.new).files name.now
+        problem.now vars) problem.now name.now (H.world shelf.old) (H.world shelf.new) result }
 {
     // Tells that the variables are few.
     let _vars = problem.vars();

@@ -1,13 +1,10 @@
 // What the linear relaxation of a problem tells of its models; the proof goes to a file.
-ghost use Rattle.std.specs.Prelude.{◌≡◌, ◌↔◌, false, [], length, All, IfOk, IfErr, IfSome, IsTrue};
-ghost use Rattle.scut_base.specs.Faults.{NoneFell};
+ghost use Rattle.std.specs.Prelude.{◌≡◌, ◌↔◌, false, [], length, All, IfOk, IfSome, IsTrue};
 ghost use Rattle.pb_lin.specs.Constraint.{Holds, UpTo};
 ghost use Rattle.pb_lin.specs.Problem.{IsProblemModel};
-ghost use Rattle.proof_text.specs.LogParts.{IsLogStopped};
-ghost use Rattle.proof_text.specs.declared.version.LogVersion.TheVariants.{One};
 ghost use Rattle.sum_outputs.specs.Adding.{IsReady, IsRecorded};
 ghost use Rattle.linear_search.specs.Replies.{IsReply};
-ghost use Rattle.representative_search.specs.Seeking.{IsBegunAnew, IsRelaxed, IsSought, Leaves, WhereKnown};
+ghost use Rattle.representative_search.specs.Seeking.{IsRelaxed, IsSought, Leaves, LeavesLog, WhereKnown};
 
 use crate::ending::end_proof;
 use linear_search::{LinearSearch, Reply};
@@ -37,16 +34,9 @@ pub(crate) fn relax<'a, H: Shelf>(
     name: &'a str,
     problem: &'a PbProblem,
 ) -> Result<Relaxed, RecordFault>
-    ensures told { IfOk result (λ told. WhereKnown told (IsSought (H.world shelf.old).files
-        (H.world shelf.new).files name.now problem.now)) }
-    ensures touched { IsBegunAnew (H.world shelf.old).files (H.world shelf.new).files
-        name.now problem.now }
-    ensures stop { IfErr result (λ fault. IsLogStopped fault (H.world shelf.old).files
-        (H.world shelf.new).files problem.now name.now One
-        (H.world shelf.old).faults (H.world shelf.new).faults) }
-    ensures said { (H.world shelf.new).said ≡ (H.world shelf.old).said }
-    ensures warned { (H.world shelf.new).warned ≡ (H.world shelf.old).warned }
-    ensures later { NoneFell (H.world shelf.old).faults (H.world shelf.new).faults }
+    ensures { LeavesLog (λ told. WhereKnown told (IsSought (H.world shelf.old).files
+        (H.world shelf.new).files name.now problem.now)) problem.now name.now
+        (H.world shelf.old) (H.world shelf.new) result }
 {
     let mut recorder = match FileRecorder::new(alloc, shelf, name, problem) {
         Ok(recorder) => recorder,

@@ -1,10 +1,7 @@
 // A search for one model of a problem, whose proof goes to a file.
-ghost use Rattle.std.specs.Prelude.{◌≡◌, None, false, [], IfOk, IfErr};
-ghost use Rattle.scut_base.specs.Faults.{NoneFell};
-ghost use Rattle.proof_text.specs.LogParts.{IsLogStopped};
-ghost use Rattle.proof_text.specs.declared.version.LogVersion.TheVariants.{One};
+ghost use Rattle.std.specs.Prelude.{◌≡◌, None, false, []};
 ghost use Rattle.oracle.specs.Solving.{IsAnswer};
-ghost use Rattle.representative_search.specs.Seeking.{HasSearched, IsBegunAnew, IsFound, IsSought, Leaves};
+ghost use Rattle.representative_search.specs.Seeking.{HasSearched, IsFound, IsSought, Leaves, LeavesLog};
 
 use crate::ending::end_proof;
 use crate::relaxing::{Relaxed, relax};
@@ -25,16 +22,8 @@ pub(crate) fn seek_model<H: Shelf>(
     name: &str,
     problem: &PbProblem,
 ) -> Result<Option<Assignment>, RecordFault>
-    ensures sought { IfOk result (IsSought (H.world shelf.old).files (H.world shelf.new).files
-        name.now problem.now) }
-    ensures touched { IsBegunAnew (H.world shelf.old).files (H.world shelf.new).files
-        name.now problem.now }
-    ensures stop { IfErr result (λ fault. IsLogStopped fault (H.world shelf.old).files
-        (H.world shelf.new).files problem.now name.now One
-        (H.world shelf.old).faults (H.world shelf.new).faults) }
-    ensures said { (H.world shelf.new).said ≡ (H.world shelf.old).said }
-    ensures warned { (H.world shelf.new).warned ≡ (H.world shelf.old).warned }
-    ensures later { NoneFell (H.world shelf.old).faults (H.world shelf.new).faults }
+    ensures { LeavesLog (IsSought (H.world shelf.old).files (H.world shelf.new).files name.now
+        problem.now) problem.now name.now (H.world shelf.old) (H.world shelf.new) result }
 {
     match relax(alloc, shelf, name, problem)? {
         Relaxed::Known(found) => Ok(found),
@@ -49,16 +38,8 @@ fn search<'a, H: Shelf>(
     name: &'a str,
     problem: &'a PbProblem,
 ) -> Result<Option<Assignment>, RecordFault>
-    ensures sought { IfOk result (IsSought (H.world shelf.old).files (H.world shelf.new).files
-        name.now problem.now) }
-    ensures touched { IsBegunAnew (H.world shelf.old).files (H.world shelf.new).files
-        name.now problem.now }
-    ensures stop { IfErr result (λ fault. IsLogStopped fault (H.world shelf.old).files
-        (H.world shelf.new).files problem.now name.now One
-        (H.world shelf.old).faults (H.world shelf.new).faults) }
-    ensures said { (H.world shelf.new).said ≡ (H.world shelf.old).said }
-    ensures warned { (H.world shelf.new).warned ≡ (H.world shelf.old).warned }
-    ensures later { NoneFell (H.world shelf.old).faults (H.world shelf.new).faults }
+    ensures { LeavesLog (IsSought (H.world shelf.old).files (H.world shelf.new).files name.now
+        problem.now) problem.now name.now (H.world shelf.old) (H.world shelf.new) result }
 {
     let recorder = match FileRecorder::new(alloc, shelf, name, problem) {
         Ok(recorder) => recorder,

@@ -1,8 +1,7 @@
 use Rattle.std.proofs.Common.{◌≡◌, ◌≤◌, ◌-◌, length}
-use Rattle.scut_base.specs.Faults.{NoneFell}
-use Rattle.scut_base.specs.Files.{IsTouched}
 use Rattle.instance.specs.ParetoFront.{problem_vector}
 use Rattle.representative_search.specs.Gathered.{IsPartOfSearch}
+use Rattle.representative_search.specs.Seeking.{TouchesFile}
 use Rattle.representative_search.proofs.FurtherModels.{AreGathered}
 use Rattle.representative_search.proofs.gathering.gather.Given as goal
 
@@ -12,10 +11,7 @@ invariant-loop-alloc g l =
     record {
       gathered : AreGathered l.inst l.vec l.models;
       few : length l.models ≤ l.most;
-      touched : IsTouched (world l.fn.shelf).files (world l.shelf).files l.name (IsPartOfSearch l.problem (problem_vector l.inst l.vec));
-      said : (world l.shelf).said ≡ (world l.fn.shelf).said;
-      warned : (world l.shelf).warned ≡ (world l.fn.shelf).warned;
-      later : NoneFell (world l.fn.shelf).faults (world l.shelf).faults;
+      keeps : TouchesFile (IsPartOfSearch l.problem (problem_vector l.inst l.vec)) l.name (world l.fn.shelf) (world l.shelf);
     }
 
 abbrev pub decreases-loop-alloc : goal.decreases-loop-alloc

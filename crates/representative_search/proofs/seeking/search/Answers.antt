@@ -1,38 +1,20 @@
 -- What the recorder answered, of the file that it leaves.
 use Rattle.std.proofs.Common.{rules, subst}
-use Rattle.std.specs.Prelude.{IfOk, IfErr}
-use Rattle.proof_text.specs.LogParts.{IsLogStopped}
-use Rattle.proof_text.specs.declared.version.LogVersion.TheVariants.{One}
-use Rattle.representative_search.specs.Seeking.{IsBegunAnew, IsFound, IsSought}
-use Rattle.representative_search.proofs.Searches.{found_left, known_left, stopped_left, touched_left}
+use Rattle.representative_search.specs.Seeking.{IsFound, IsSought, LeavesLog}
+use Rattle.representative_search.proofs.Searches.{known_left, log_left}
 use Rattle.representative_search.proofs.seeking.search.Goals as goal
 
-pub returns-clause-sought : goal.returns-clause-sought
-returns-clause-sought g c =
+pub returns : goal.returns
+returns g c =
     let world = g.H.Shelf.world in
-    let old = (world c.args.shelf.now).files in
+    let before = world c.args.shelf.now in
+    let name = c.args.name.now in
     let p = c.args.problem.now in
     let r = c.seek_over-sought.result in
-    subst (λ h. IfOk r.0 (IsSought old (world h).files c.args.name.now p)) (search rules)
-    (found_left world old c.args.name.now _ p c.in-Ok.recorder r.1 c.finish-shelf.result.now (IsFound p) r.0
-    c.in-Ok.ensures.name c.in-Ok.ensures.problem c.in-Ok.ensures.version c.in-Ok.ensures.begun c.finish-shelf.ensures.same c.finish-shelf.ensures.log c.finish-shelf.ensures.kept c.seek_over-sought.ensures
-    _ (known_left old (world c.finish-shelf.result.now).files c.args.name.now p r.1.lines))
-
-pub returns-clause-touched : goal.returns-clause-touched
-returns-clause-touched g c =
-    let world = g.H.Shelf.world in
-    let p = c.args.problem.now in
-    let r = c.seek_over-sought.result in
-    subst (λ h. IsBegunAnew (world c.args.shelf.now).files (world h).files c.args.name.now p) (search rules)
-    (touched_left world (world c.args.shelf.now).files c.args.name.now _ p c.in-Ok.recorder r.1 c.finish-shelf.result.now (IsFound p) r.0
-    c.in-Ok.ensures.name c.in-Ok.ensures.problem c.in-Ok.ensures.version c.in-Ok.ensures.begun c.finish-shelf.ensures.same c.finish-shelf.ensures.log c.finish-shelf.ensures.kept c.seek_over-sought.ensures)
-
-pub returns-clause-stop : goal.returns-clause-stop
-returns-clause-stop g c =
-    let world = g.H.Shelf.world in
-    let p = c.args.problem.now in
-    let r = c.seek_over-sought.result in
-    subst (λ h. IfErr r.0 (λ fault. IsLogStopped fault (world c.args.shelf.now).files (world h).files p c.args.name.now One (world c.args.shelf.now).faults (world h).faults)) (search rules)
-    (stopped_left world (world c.args.shelf.now).files c.args.name.now _ p c.in-Ok.recorder r.1 c.finish-shelf.result.now (IsFound p) r.0
-    c.in-Ok.ensures.name c.in-Ok.ensures.problem c.in-Ok.ensures.version c.in-Ok.ensures.begun c.finish-shelf.ensures.same c.finish-shelf.ensures.log c.finish-shelf.ensures.kept c.seek_over-sought.ensures
-    (world c.args.shelf.now).faults c.in-Ok.ensures.later)
+    let end = c.finish-shelf.result.now in
+    let new = c.in-Ok.ensures in
+    let finish = c.finish-shelf.ensures in
+    subst (λ h. LeavesLog (IsSought before.files (world h).files name p) p name before (world h) r.0) (search rules)
+    (log_left world before name _ p c.in-Ok.recorder r.1 end (IsFound p) r.0
+    new.name new.problem new.version new.begun new.said new.warned new.later finish.same finish.log finish.kept c.seek_over-sought.ensures
+    (IsSought before.files (world end).files name p) (known_left before.files (world end).files name p r.1.lines))

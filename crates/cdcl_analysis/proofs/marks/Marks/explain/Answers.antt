@@ -27,8 +27,16 @@ mark_all-requires-clause-walk c =
     walk_start c.args.trail.now Decisions c.args.self.now.on.items c.args.self.now.seen.items c.args.self.now.places c.args.place u.on
     (seen_start (length c.args.trail.now.steps) c.args.self.now.on.items c.args.self.now.seen.items c.args.self.now.places u.on u.seen u.places u.room c.requires.long) (λ s at. with_reason s (c.requires.forced s at))
 
-pub walk_back-requires-clause-after : goal.walk_back-requires-clause-after
-walk_back-requires-clause-after c = omega (arith, (c.in_ok-mark_all.ensures).falls, spare_none c.mark_all.new.self.least)
+pub walk_back-requires : goal.walk_back-requires
+walk_back-requires c =
+    let done = c.in_ok-mark_all.ensures in
+    record {
+      walk = done.walk;
+      lines = c.requires.lines;
+      search = c.requires.search;
+      after = omega (arith, done.falls, spare_none c.mark_all.new.self.least);
+      within = omega (arith, c.requires.within);
+    }
 
 pub returns-clause-closing : goal.returns-clause-closing
 returns-clause-closing c l s at is =

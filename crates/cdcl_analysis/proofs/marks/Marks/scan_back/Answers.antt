@@ -18,8 +18,13 @@ back-preserved c =
       closing = λ given start. done.closing given (subst (λ (n : ℕ). IsClosing c.args.store.now c.args.trail.now c.args.reach c.back.self.on.items n given (reverse c.back.hints.items)) (sym next) (before.closing given start));
     }
 
-pub returns-clause-closing : goal.returns-clause-closing
-returns-clause-closing c =
+pub returns : goal.returns
+returns c =
     let before = c.back.invariant in
     let end : c.back.place ≡ c.back.self.least + spare c.args.reach = omega (arith, c.back-test.false, c.spare-spare.ensures, before.after) in
-    λ given start. subst (λ (n : ℕ). IsClosing c.args.store.now c.args.trail.now c.args.reach c.back.self.on.items n given (reverse c.back.hints.items)) end (before.closing given start)
+    record {
+      walk = before.walk;
+      room = before.room;
+      after = omega (arith, before.falls, c.requires.after);
+      closing = λ given start. subst (λ (n : ℕ). IsClosing c.args.store.now c.args.trail.now c.args.reach c.back.self.on.items n given (reverse c.back.hints.items)) end (before.closing given start);
+    }

@@ -8,15 +8,15 @@ use Rattle.cdcl_analysis.proofs.Closing.{closing_start, violated_line}
 use Rattle.cdcl_analysis.proofs.TopLevel.{least_within}
 use Rattle.cdcl_analysis.proofs.marks.Marks.trace.Goals as goal
 
-pub walk_back-requires-clause-after : goal.walk_back-requires-clause-after
-walk_back-requires-clause-after c =
+pub walk_back-requires : goal.walk_back-requires
+walk_back-requires c =
     let t = c.args.trail.now in
     let done = c.in_ok-mark_all.ensures in
     let marked = subst (λ (n : ℕ). All (IsMarkedBefore t c.mark_all.new.self.on.items n) (literals c.in-Some.line.now.terms)) c.len.ensures.value done.marked in
     let least : c.mark_all.new.self.least ≤ length t.steps = omega (arith, done.falls, c.len-self.ensures.value) in
     let within = least_within c.args.store.now t c.args.reach c.mark_all.new.self.on.items c.mark_all.new.self.seen.items c.mark_all.new.self.places c.mark_all.new.self.least c.args.conflict c.in-Some.line.now c.requires.lines c.requires.search c.requires.above done.walk least c.in-Some.ensures
     (violated_line c.args.store.now t c.args.conflict c.in-Some.line.now c.requires.conflict c.in-Some.ensures) marked in
-    omega (arith, within, c.len-2.ensures.value)
+    record { walk = done.walk; lines = c.requires.lines; search = c.requires.search; after = omega (arith, within, c.len-2.ensures.value); within = omega (arith, c.len-2.ensures.value) }
 
 pub returns-clause-within : goal.returns-clause-within
 returns-clause-within c = omega (arith, (c.in_ok-walk_back.ensures).after, c.len-2.ensures.value)
