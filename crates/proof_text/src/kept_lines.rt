@@ -1,9 +1,10 @@
 // The lines of a proof in little room, since a recorder keeps all of them to its end.
 ghost use Rattle.std.specs.Prelude.{List, ℕ, ◌≡◌, ◌≢◌, ◌<◌, ◌^◌, ◌++◌, ◌∷◌, [], length, map, pos, IfOk, IfSome, OnOk, OnErr, MatchBool};
+ghost use Rattle.proof_laws.specs.Refusal.{literals_at};
 ghost use Rattle.proof_laws.specs.State.{IsState};
 ghost use Rattle.proof_laws.specs.declared.line.Line.{Line};
 ghost use Rattle.scut_base.specs.LiteralCode.{literal_of};
-ghost use Rattle.proof_text.specs.KeptLines.{IsModelOf, IsProofOf, hint_of, line_of, literals_from, token_by, token_of};
+ghost use Rattle.proof_text.specs.KeptLines.{IsModelOf, IsProofOf, hint_of, line_of, token_by, token_of};
 
 use crate::keeping::MAX_LINES;
 use cutting_planes::PolToken;
@@ -271,7 +272,7 @@ fn small_positive(number: i128) -> Option<u64>
 
 // The values of the variables from 1 on in these literals, or none where they are of others.
 fn values_of(alloc: Global, model: &[Lit]) -> Result<Option<Items<bool>>, NoMemory>
-    ensures { IfOk result (λ found. IfSome found (λ values. literals_from 1 values ≡ model.now)) }
+    ensures { IfOk result (λ found. IfSome found (λ values. literals_at 1 values ≡ model.now)) }
 {
     let mut values = Items::with_capacity(alloc, model.len())?;
     let mut var = 0;
