@@ -9,6 +9,7 @@ pub mod KeptWithin
 pub mod Derivations
 pub mod ClosedGoals
 pub mod Solutions
+pub mod ModelLiterals
 pub mod Ranges
 pub mod NextCovers
 pub mod NextFits

@@ -182,6 +182,11 @@ IsSubstitutionFault s c proofs requirements fault = FirstOf (size_fault (size (n
 abbrev pub assignment_of : List Literal → List Bool
 assignment_of model = map (λ l. not l.neg) model
 
+-- the literals that are true at these values, of the variables from var on
+abbrev pub literals_at : ℕ → List Bool → List Literal
+literals_at var [] = []
+literals_at var (b ∷ bs) = record { var = var; neg = not b } ∷ literals_at (var + 1) bs
+
 -- the first place, from k on, at which the literals aren't those of the variables up to n in order
 abbrev pub misplaced : ℕ → ℕ → List Literal → Option ℕ
 misplaced k n [] = if nat_lt n k then None else Some k

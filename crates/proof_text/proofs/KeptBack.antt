@@ -1,11 +1,11 @@
 -- What is kept in short gives back what it was made of.
-use Rattle.std.proofs.Common.{◌≡◌, ◌+◌, ℕ, Bool, true, false, not, List, [], ◌∷◌, ◌++◌, length, refl, arith, ap, ap₂, sym, ◌∙◌}
+use Rattle.std.proofs.Common.{◌≡◌, ℕ, List, [], ◌∷◌, refl, ap, ap₂, sym, ◌∙◌}
 use Rattle.std.specs.Prelude.{map}
 use Rattle.scut_base.specs.Literal.{Literal}
 use Rattle.scut_base.specs.LiteralCode.{literal_of}
 use Rattle.pb_lin.specs.Constraint.{ConstraintValue, AreOnes, literals, ones}
 use Rattle.std.proofs.lemmas.List.Elements.{All-head, All-tail}
-use Rattle.proof_text.specs.KeptLines.{clause_of, literals_from}
+use Rattle.proof_text.specs.KeptLines.{clause_of}
 
 ones_literals : (terms : List (Literal × ℕ)) → AreOnes terms → ones (literals terms) ≡ terms
 ones_literals [] all = refl
@@ -17,19 +17,3 @@ ones_literals (t ∷ terms) all =
 pub clause_back : (c : ConstraintValue) (codes : List ℕ) → AreOnes c.terms → c.degree ≡ 1 → map literal_of codes ≡ literals c.terms → clause_of codes ≡ c
 clause_back c codes are one same =
     ap₂ (λ (ts : List (Literal × ℕ)) (d : ℕ). record { terms = ts; degree = d }) (ap ones same ∙ ones_literals c.terms are) (sym one)
-
--- one value more
-pub literals_more : (var : ℕ) (bs : List Bool) (b : Bool) → literals_from var (bs ++ b ∷ []) ≡ literals_from var bs ++ record { var = var + length bs; neg = not b } ∷ []
-literals_more var [] b = ap (λ (v : ℕ). record { var = v; neg = not b } ∷ []) (omega arith)
-literals_more var (x ∷ bs) b =
-    ap (λ (ls : List Literal). record { var = var; neg = not x } ∷ ls)
-    (literals_more (var + 1) bs b ∙ ap (λ (v : ℕ). literals_from (var + 1) bs ++ record { var = v; neg = not b } ∷ [])
-    (omega arith))
-
-not_twice : (b : Bool) → not (not b) ≡ b
-not_twice true = refl
-not_twice false = refl
-
--- a literal of its variable and the opposite of its value
-pub literal_again : (l : Literal) (var : ℕ) (b : Bool) → var ≡ l.var → b ≡ l.neg → record { var = var; neg = not (not b) } ≡ l
-literal_again l var b same sign = ap₂ (λ (v : ℕ) (s : Bool). record { var = v; neg = s }) same (not_twice b ∙ sign)

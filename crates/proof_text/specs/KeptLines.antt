@@ -1,5 +1,5 @@
 -- What kept lines stand for.
-use Rattle.std.specs.Prelude.{ℕ, zero, suc, pos, ◌+◌, ◌/◌, ◌%◌, ◌≡◌, Bool, not, List, [], ◌∷◌, map}
+use Rattle.std.specs.Prelude.{ℕ, zero, suc, pos, ◌/◌, ◌%◌, ◌≡◌, List, map}
 use Rattle.scut_base.specs.Literal.{Literal}
 use Rattle.scut_base.specs.LiteralCode.{literal_of}
 use Rattle.pb_lin.specs.Constraint.{ConstraintValue, ones}
@@ -7,6 +7,7 @@ use Rattle.hint_rup.specs.declared.hint.Hint.{Hint}
 use Rattle.hint_rup.specs.declared.hint.Hint.TheVariants.{Id, Negated, Denied}
 use Rattle.cutting_planes.specs.declared.token.PolToken.{PolToken}
 use Rattle.cutting_planes.specs.declared.token.PolToken.TheVariants.{Id as PushId, Axiom, Negated as PushNegated, Add, Mul, Div, Saturate, Weaken}
+use Rattle.proof_laws.specs.Refusal.{literals_at}
 use Rattle.proof_laws.specs.declared.line.Line.{Line}
 use Rattle.proof_laws.specs.declared.line.Line.TheVariants.{Learn, Pol, Rup, Sol}
 use Rattle.proof_text.specs.declared.kept_lines.KeptLine.{KeptLine}
@@ -24,11 +25,6 @@ hint_of (suc (suc id)) = Id id
 abbrev pub clause_of : List ℕ → ConstraintValue
 clause_of codes = record { terms = ones (map literal_of codes); degree = 1 }
 
--- the literals that are true at these values, of the variables from one on
-abbrev pub literals_from : ℕ → List Bool → List Literal
-literals_from var [] = []
-literals_from var (b ∷ bs) = record { var = var; neg = not b } ∷ literals_from (var + 1) bs
-
 -- this goal and these hints are kept so
 pub record IsProofOf (goal : ConstraintValue) (hints : List Hint) (kept : ShortProof) : Type 0 where
   pub clause : clause_of kept.codes ≡ goal
@@ -36,7 +32,7 @@ pub record IsProofOf (goal : ConstraintValue) (hints : List Hint) (kept : ShortP
 
 -- this model with its cut and rows is kept so
 pub record IsModelOf (model cut : List Literal) (rows : List ℕ) (kept : ShortModel) : Type 0 where
-  pub lits : literals_from 1 kept.values ≡ model
+  pub lits : literals_at 1 kept.values ≡ model
   pub same_cut : kept.cut ≡ cut
   pub same_rows : kept.rows ≡ rows
 
@@ -60,5 +56,5 @@ abbrev pub line_of : KeptLine → Line
 line_of (Learned proof) = Learn (clause_of proof.codes) (map hint_of proof.numbers)
 line_of (Implied proof) = Rup (clause_of proof.codes) (map hint_of proof.numbers)
 line_of (Combined numbers) = Pol (map token_of numbers)
-line_of (Logged model) = Sol (literals_from 1 model.value.values) model.value.cut model.value.rows
+line_of (Logged model) = Sol (literals_at 1 model.value.values) model.value.cut model.value.rows
 line_of (Whole line) = line.value

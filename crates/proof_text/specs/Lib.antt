@@ -6,5 +6,6 @@ pub mod Cutting
 pub mod LogFile
 pub mod LogParts
 pub mod Recorders
+pub mod Beginning
 pub mod Writing
 pub mod KeptLines

@@ -1,7 +1,7 @@
 -- What recorders keep.
-use Rattle.std.specs.Prelude.{◌≡◌, ◌⊎◌, ℕ, ◌+◌, Bool, false, List, [], All, Option, None, Some, Result, Ok, Err, IsErrOf}
+use Rattle.std.specs.Prelude.{◌≡◌, ◌⊎◌, ℕ, ◌+◌, Bool, false, List, [], All, Option, None, Some, Result, Ok, Err, OnOk, OnErr, IsErrOf}
 use Rattle.std.specs.FinMap.{remove}
-use Rattle.scut_base.specs.Files.{Files, IsPartlyAppended}
+use Rattle.scut_base.specs.Files.{Files, IsPartlyAppended, with_appended}
 use Rattle.scut_base.specs.Faults.{Faults, NoneFell, Rose, count, one_more}
 use Rattle.scut_base.specs.declared.shelf.ShelfCall.TheVariants.{Append}
 use Rattle.scut_base.specs.declared.shelf.ShelfFault.{ShelfFault}
@@ -12,11 +12,12 @@ use Rattle.proof_laws.specs.WellFormed.{IsWellFormed}
 use Rattle.proof_laws.specs.State.{StateValue, Fits, start}
 use Rattle.proof_laws.specs.Replay.{IsReplay}
 use Rattle.proof_laws.specs.declared.line.Line.{Line}
+use Rattle.proof_lines.specs.LineText.{printed}
 use Rattle.proof_rules.specs.Recording.{Surroundings, Snapshot}
 use Rattle.proof_rules.specs.declared.recorder.RecordFault.{RecordFault}
 use Rattle.proof_rules.specs.declared.recorder.RecordFault.TheVariants.{Failed, Full, NoMemory}
 use Rattle.proof_text.specs.LogFile.{IsLogFile, Held}
-use Rattle.proof_text.specs.Versions.{version_number}
+use Rattle.proof_text.specs.Versions.{after_lines, first_of, version_number}
 use Rattle.proof_text.specs.declared.version.LogVersion.{LogVersion}
 
 -- lines that a log can spell, each legal where it stands, and the state that they reach
@@ -99,6 +100,16 @@ fault_of ShelfNoMemory = NoMemory
 -- nothing of the piece was put after the file, or a part
 abbrev pub IsPutPartly : Option Files → Option Files → List ℕ → List ℕ → Type 0
 IsPutPartly old new name piece = (new ≡ old) ⊎ IsPartlyAppended old new name piece
+
+-- the text of a line after those of a recorder
+abbrev pub next_text : {H : Type 0} → Held H → Line → List ℕ
+next_text r line = printed (after_lines (first_of r.version r.problem) r.lines) line
+
+-- the text of a line was put after the bytes of the file, or after a fault none or a part of it
+pub record PutsLine {H : Type 0} (world : H → World) (old new : Held H) (line : Line) (result : Result ℕ RecordFault) : Type 0 where
+  pub written : OnOk result ((world new.shelf.now).files ≡ with_appended (world old.shelf.now).files old.name (next_text old line))
+  pub partly : OnErr result (IsPutPartly (world old.shelf.now).files (world new.shelf.now).files old.name (next_text old line))
+  pub version : new.version ≡ old.version
 
 -- No count has fallen. Where a write of this file failed that of its appends rose; it answers nothing but this and want of memory.
 pub record IsWrite {T : Type 0} (name : List ℕ) (before now : Faults) (result : Result T RecordFault) : Type 0 where

@@ -1,16 +1,17 @@
 // A proof in a file of a shelf that is lent for the recorder's life.
-ghost use Rattle.std.specs.Prelude.{◌≡◌, ◌≢◌, ◌↔◌, ◌^◌, ◌++◌, ◌∷◌, [], true, false, length, IfOk, IfErr, OnOk, OnErr, IsErrOf, IsSome};
-ghost use Rattle.scut_base.specs.Files.{content, with_file, with_appended, IsPrefixOf, IsTold, IsTouched};
-ghost use Rattle.scut_base.specs.Faults.{NoneFell, Rose, WritingFailed};
+ghost use Rattle.std.specs.Prelude.{◌≡◌, ◌↔◌, ◌^◌, ◌++◌, ◌∷◌, [], true, false, length, IfOk, IfErr, OnOk, OnErr, IsErrOf, IsSome};
+ghost use Rattle.scut_base.specs.Files.{content, with_appended, IsTold};
+ghost use Rattle.scut_base.specs.Faults.{Rose};
 ghost use Rattle.proof_laws.specs.WellFormed.{IsWellFormed};
 ghost use Rattle.proof_laws.specs.State.{Fits};
 ghost use Rattle.proof_laws.specs.Legal.{IsLegal, IsNext};
 ghost use Rattle.proof_rules.specs.Recording.{KeepsRecorder, MayBeAdded, IsNextId};
 ghost use Rattle.proof_lines.specs.declared.spelling.Spelling.TheVariants.{Plain};
 ghost use Rattle.proof_lines.specs.LineText.{printed};
-ghost use Rattle.proof_text.specs.Versions.{after_lines, first_of, header_line};
-ghost use Rattle.proof_text.specs.LogFile.{IsLogFile, IsNotBegun};
-ghost use Rattle.proof_text.specs.Recorders.{fault_of, without_file, file_seen, IsKept, IsPutPartly, IsWrite};
+ghost use Rattle.proof_text.specs.Beginning.{HasBegun, HasNotBegun};
+ghost use Rattle.proof_text.specs.Versions.{first_of};
+ghost use Rattle.proof_text.specs.LogFile.{IsLogFile};
+ghost use Rattle.proof_text.specs.Recorders.{fault_of, without_file, file_seen, IsKept, IsPutPartly, IsWrite, PutsLine};
 
 use crate::keeping::advance;
 use crate::kept_lines::KeptLines;
@@ -83,33 +84,9 @@ impl<'a, H: Shelf> FileRecorder<'a, H> {
         name: &'a str,
         problem: &'a PbProblem,
     ) -> Result<FileRecorder<'a, H>, NotBegun<'a, H>>
-        ensures same_reference { IfOk result (λ r. r.shelf.ghost_name ≡ shelf.entry.ghost_name) }
-        ensures begun { IfOk result (λ r. (H.world r.shelf.now).files
-            ≡ with_file (H.world shelf.old).files name.entry.now (header_line Plain)) }
-        ensures said { IfOk result (λ r. (H.world r.shelf.now).said ≡ (H.world shelf.old).said) }
-        ensures warned { IfOk result (λ r. (H.world r.shelf.now).warned
-            ≡ (H.world shelf.old).warned) }
-        ensures later { IfOk result (λ r. NoneFell (H.world shelf.old).faults
-            (H.world r.shelf.now).faults) }
-        ensures name { IfOk result (λ r. r.name ≡ name.entry.now) }
-        ensures problem { IfOk result (λ r. r.problem ≡ problem.entry.now) }
-        ensures version { IfOk result (λ r. r.version ≡ LogVersion.One) }
-        ensures empty { IfOk result (λ r. r.lines ≡ []) }
-        ensures whole { IfOk result (λ r. r.broken ≡ false) }
-        ensures same_reference_after { IfErr result
-            (λ e. e.shelf.ghost_name ≡ shelf.entry.ghost_name) }
-        ensures refused { IfErr result
-            (λ e. IsNotBegun (H.world shelf.old).files (H.world e.shelf.now).files name.entry.now Plain) }
-        ensures said_after { IfErr result (λ e. (H.world e.shelf.now).said
-            ≡ (H.world shelf.old).said) }
-        ensures warned_after { IfErr result (λ e. (H.world e.shelf.now).warned
-            ≡ (H.world shelf.old).warned) }
-        ensures later_after { IfErr result
-            (λ e. NoneFell (H.world shelf.old).faults (H.world e.shelf.now).faults) }
-        ensures cause { IfErr result (λ e. e.fault ≡ RecordFault.Failed
-            → WritingFailed (H.world shelf.old).faults
-            (H.world e.shelf.now).faults name.entry.now) }
-        ensures never_full { IfErr result (λ e. e.fault ≢ RecordFault.Full) }
+        ensures begun { IfOk result
+            (HasBegun H.world shelf.entry name.entry.now problem.entry.now LogVersion.One) }
+        ensures refused { IfErr result (HasNotBegun H.world shelf.entry name.entry.now Plain) }
     {
         FileRecorder::with_version(alloc, shelf, name, problem, LogVersion::One)
     }
@@ -123,35 +100,10 @@ impl<'a, H: Shelf> FileRecorder<'a, H> {
         problem: &'a PbProblem,
         version: LogVersion,
     ) -> Result<FileRecorder<'a, H>, NotBegun<'a, H>>
-        ensures same_reference { IfOk result (λ r. r.shelf.ghost_name ≡ shelf.entry.ghost_name) }
-        ensures begun { IfOk result (λ r. (H.world r.shelf.now).files
-            ≡ with_file (H.world shelf.old).files name.entry.now
-            (header_line (first_of version problem.entry.now))) }
-        ensures said { IfOk result (λ r. (H.world r.shelf.now).said ≡ (H.world shelf.old).said) }
-        ensures warned { IfOk result (λ r. (H.world r.shelf.now).warned
-            ≡ (H.world shelf.old).warned) }
-        ensures later { IfOk result (λ r. NoneFell (H.world shelf.old).faults
-            (H.world r.shelf.now).faults) }
-        ensures name { IfOk result (λ r. r.name ≡ name.entry.now) }
-        ensures problem { IfOk result (λ r. r.problem ≡ problem.entry.now) }
-        ensures version { IfOk result (λ r. r.version ≡ version) }
-        ensures empty { IfOk result (λ r. r.lines ≡ []) }
-        ensures whole { IfOk result (λ r. r.broken ≡ false) }
-        ensures same_reference_after { IfErr result
-            (λ e. e.shelf.ghost_name ≡ shelf.entry.ghost_name) }
-        ensures refused { IfErr result
-            (λ e. IsNotBegun (H.world shelf.old).files (H.world e.shelf.now).files name.entry.now
+        ensures begun { IfOk result
+            (HasBegun H.world shelf.entry name.entry.now problem.entry.now version) }
+        ensures refused { IfErr result (HasNotBegun H.world shelf.entry name.entry.now
             (first_of version problem.entry.now)) }
-        ensures said_after { IfErr result (λ e. (H.world e.shelf.now).said
-            ≡ (H.world shelf.old).said) }
-        ensures warned_after { IfErr result (λ e. (H.world e.shelf.now).warned
-            ≡ (H.world shelf.old).warned) }
-        ensures later_after { IfErr result
-            (λ e. NoneFell (H.world shelf.old).faults (H.world e.shelf.now).faults) }
-        ensures cause { IfErr result (λ e. e.fault ≡ RecordFault.Failed
-            → WritingFailed (H.world shelf.old).faults
-            (H.world e.shelf.now).faults name.entry.now) }
-        ensures never_full { IfErr result (λ e. e.fault ≢ RecordFault.Full) }
     {
         match ProofState::new(alloc, problem) {
             Ok(state) => match begin_log(alloc, shelf, name, first_of(version, problem)) {
@@ -223,13 +175,7 @@ impl<'a, H: Shelf> Recorder for FileRecorder<'a, H> {
         ensures failed_broken { IsErrOf result RecordFault.Failed → self.new.broken ≡ true }
         ensures short_broken { IsErrOf result RecordFault.NoMemory → self.new.broken ≡ true }
         ensures keeps { KeepsRecorder (file_seen H.world self.old) (file_seen H.world self.new) }
-        ensures written { OnOk result ((H.world self.new.shelf.now).files
-            ≡ with_appended (H.world self.old.shelf.now).files self.old.name
-            (printed (after_lines (first_of self.old.version self.old.problem) self.old.lines) line.now)) }
-        ensures partly { OnErr result (IsPutPartly (H.world self.old.shelf.now).files
-            (H.world self.new.shelf.now).files self.old.name
-            (printed (after_lines (first_of self.old.version self.old.problem) self.old.lines) line.now)) }
-        ensures version { self.new.version ≡ self.old.version }
+        ensures puts { PutsLine H.world self.old self.new line.now result }
     {
         if self.lines.is_full(&self.state) {
             return Err(RecordFault::Full);

@@ -1,9 +1,10 @@
 // The lines of a proof in little room, since a recorder keeps all of them to its end.
-ghost use Rattle.std.specs.Prelude.{List, ◌≡◌, ◌≢◌, ◌<◌, ◌^◌, ◌++◌, ◌∷◌, [], length, map, pos, IfOk, IfSome, OnOk, OnErr, MatchBool};
+ghost use Rattle.std.specs.Prelude.{List, ℕ, ◌≡◌, ◌≢◌, ◌<◌, ◌^◌, ◌++◌, ◌∷◌, [], length, map, pos, IfOk, IfSome, OnOk, OnErr, MatchBool};
+ghost use Rattle.proof_laws.specs.Refusal.{literals_at};
 ghost use Rattle.proof_laws.specs.State.{IsState};
 ghost use Rattle.proof_laws.specs.declared.line.Line.{Line};
 ghost use Rattle.scut_base.specs.LiteralCode.{literal_of};
-ghost use Rattle.proof_text.specs.KeptLines.{IsModelOf, IsProofOf, hint_of, line_of, literals_from, token_by, token_of};
+ghost use Rattle.proof_text.specs.KeptLines.{IsModelOf, IsProofOf, hint_of, line_of, token_by, token_of};
 
 use crate::keeping::MAX_LINES;
 use cutting_planes::PolToken;
@@ -116,7 +117,7 @@ fn kept_copy(alloc: Global, line: &Line) -> Result<KeptLine, NoMemory>
             Some(proof) => Ok(KeptLine::Implied { proof }),
             None => whole_copy(alloc, line),
         },
-        Line::Pol { tokens } => match token_numbers(alloc, tokens.as_slice())? {
+        Line::Pol { tokens } => match codes_of(alloc, tokens.as_slice())? {
             Some(numbers) => Ok(KeptLine::Combined { numbers }),
             None => whole_copy(alloc, line),
         },
@@ -170,95 +171,82 @@ fn short_proof(
     let Some(codes) = codes_of(alloc, goal.literals())? else {
         return Ok(None);
     };
-    let Some(numbers) = numbers_of(alloc, hints)? else {
+    let Some(numbers) = codes_of(alloc, hints)? else {
         return Ok(None);
     };
     Ok(Some(ShortProof { codes, numbers }))
 }
 
-// The codes of these literals, or none where a variable is too large for them.
-fn codes_of(alloc: Global, lits: &[Lit]) -> Result<Option<Items<u32>>, NoMemory>
-    ensures { IfOk result (λ found. IfSome found (λ codes. map literal_of codes ≡ lits.now)) }
+// What 4 bytes hold, where it isn't too large.
+trait Short {
+    // What a code stands for.
+    ghost meaning: { ℕ → Self };
+
+    // Its code, or none where it has none.
+    fn code(&self) -> Option<u32>
+        ensures { IfSome result (λ code. meaning code ≡ self.now) };
+}
+
+// Twice the variable, plus 1 for a negation.
+impl Short for Lit {
+    ghost meaning = { literal_of };
+
+    fn code(&self) -> Option<u32> {
+        let var = self.var();
+        if var > u64::from(u32::MAX / 2) {
+            return None;
+        }
+        Some(2 * var as u32 + u32::from(self.is_neg()))
+    }
+}
+
+impl Short for Hint {
+    ghost meaning = { hint_of };
+
+    fn code(&self) -> Option<u32> {
+        match *self {
+            Hint::Negated => Some(0),
+            Hint::Denied => Some(1),
+            Hint::Id(id) => {
+                if id > u64::from(u32::MAX - FIRST_ID) {
+                    return None;
+                }
+                Some(id as u32 + FIRST_ID)
+            }
+        }
+    }
+}
+
+// What is to be proved has no code.
+impl Short for PolToken {
+    ghost meaning = { token_of };
+
+    fn code(&self) -> Option<u32> {
+        match *self {
+            PolToken::Id(id) => joined(0, id),
+            PolToken::Add => joined(1, 0),
+            PolToken::Saturate => joined(2, 0),
+            PolToken::Mul(by) => joined(3, small_positive(by)?),
+            PolToken::Div(by) => joined(4, small_positive(by)?),
+            PolToken::Weaken(var) => joined(5, var),
+            PolToken::Axiom(lit) => joined(6, u64::from(lit.code()?)),
+            PolToken::Negated | PolToken::Denied => None,
+        }
+    }
+}
+
+// The codes of these, or none where one has none.
+fn codes_of<T: Short>(alloc: Global, items: &[T]) -> Result<Option<Items<u32>>, NoMemory>
+    ensures { IfOk result (λ found. IfSome found (λ codes. map T.meaning codes ≡ items.now)) }
 {
-    let mut codes = Items::with_capacity(alloc, lits.len())?;
-    for lit in lits {
-        match code_of(*lit) {
+    let mut codes = Items::with_capacity(alloc, items.len())?;
+    for item in items {
+        match item.code() {
             Some(code) => codes.push(code)?,
             None => return Ok(None),
         }
     }
     Ok(Some(codes))
-}
-
-// Twice a literal's variable, plus 1 for a negation, or none where the variable is too large.
-fn code_of(lit: Lit) -> Option<u32>
-    ensures { IfSome result (λ code. literal_of code ≡ lit) }
-{
-    let var = lit.var();
-    if var > u64::from(u32::MAX / 2) {
-        return None;
-    }
-    Some(2 * var as u32 + u32::from(lit.is_neg()))
-}
-
-// The numbers of these hints, or none where an id is too large for them.
-fn numbers_of(alloc: Global, hints: &[Hint]) -> Result<Option<Items<u32>>, NoMemory>
-    ensures { IfOk result (λ found. IfSome found (λ numbers. map hint_of numbers ≡ hints.now)) }
-{
-    let mut numbers = Items::with_capacity(alloc, hints.len())?;
-    for hint in hints {
-        match number_of(*hint) {
-            Some(number) => numbers.push(number)?,
-            None => return Ok(None),
-        }
-    }
-    Ok(Some(numbers))
-}
-
-// The number of a hint, or none where its id is too large.
-fn number_of(hint: Hint) -> Option<u32>
-    ensures { IfSome result (λ number. hint_of number ≡ hint) }
-{
-    match hint {
-        Hint::Negated => Some(0),
-        Hint::Denied => Some(1),
-        Hint::Id(id) => {
-            if id > u64::from(u32::MAX - FIRST_ID) {
-                return None;
-            }
-            Some(id as u32 + FIRST_ID)
-        }
-    }
-}
-
-// The numbers of these tokens, or none where one has none.
-fn token_numbers(alloc: Global, tokens: &[PolToken]) -> Result<Option<Items<u32>>, NoMemory>
-    ensures { IfOk result (λ found. IfSome found (λ numbers. map token_of numbers ≡ tokens.now)) }
-{
-    let mut numbers = Items::with_capacity(alloc, tokens.len())?;
-    for token in tokens {
-        match token_number(*token) {
-            Some(number) => numbers.push(number)?,
-            None => return Ok(None),
-        }
-    }
-    Ok(Some(numbers))
-}
-
-// The number of a token, or none where what it names is too large, or it names what is to be proved.
-fn token_number(token: PolToken) -> Option<u32>
-    ensures { IfSome result (λ number. token_of number ≡ token) }
-{
-    match token {
-        PolToken::Id(id) => joined(0, id),
-        PolToken::Add => joined(1, 0),
-        PolToken::Saturate => joined(2, 0),
-        PolToken::Mul(by) => joined(3, small_positive(by)?),
-        PolToken::Div(by) => joined(4, small_positive(by)?),
-        PolToken::Weaken(var) => joined(5, var),
-        PolToken::Axiom(lit) => joined(6, u64::from(code_of(lit)?)),
-        PolToken::Negated | PolToken::Denied => None,
-    }
 }
 
 // The number of a kind of token with this number, or none where that is too large.
@@ -284,7 +272,7 @@ fn small_positive(number: i128) -> Option<u64>
 
 // The values of the variables from 1 on in these literals, or none where they are of others.
 fn values_of(alloc: Global, model: &[Lit]) -> Result<Option<Items<bool>>, NoMemory>
-    ensures { IfOk result (λ found. IfSome found (λ values. literals_from 1 values ≡ model.now)) }
+    ensures { IfOk result (λ found. IfSome found (λ values. literals_at 1 values ≡ model.now)) }
 {
     let mut values = Items::with_capacity(alloc, model.len())?;
     let mut var = 0;

@@ -18,7 +18,6 @@ pub mod GoodStates
 pub mod Beginning
 pub mod Turning
 pub mod Cuts
-pub mod ModelLiterals
 pub mod Answered
 pub mod CutClauses
 pub mod AlikeAnswers

@@ -10,10 +10,12 @@ use Rattle.pb_lin.specs.Problem.{ProblemValue, problem_costs}
 use Rattle.proof_laws.specs.State.{StateValue}
 use Rattle.proof_laws.specs.Steps.{clause}
 use Rattle.proof_laws.specs.Legal.{IsNext}
+use Rattle.proof_laws.specs.Refusal.{literals_at}
 use Rattle.proof_laws.specs.Replay.{IsReplay}
 use Rattle.proof_laws.specs.declared.line.Line.{Line}
 use Rattle.proof_laws.specs.declared.line.Line.TheVariants.{Sol}
 use Rattle.proof_laws.proofs.EarnedLines.{line_keeps_earned}
+use Rattle.proof_laws.proofs.ModelLiterals.{assignment_again}
 use Rattle.proof_laws.proofs.Replays.{replay_before}
 use Rattle.proof_rules.specs.Recording.{Snapshot}
 use Rattle.oracle.specs.Solving.{AreEarned, IsWithin}
@@ -23,13 +25,12 @@ use Rattle.totalizer.specs.Keeping.{FittingStays, OwnLinesStay, ReformStays}
 use Rattle.totalizer.specs.declared.bound.Bound.{Bound}
 use Rattle.search_base.specs.Logged.{IsCovered, Logs, logged}
 use Rattle.search_base.specs.Boards.{BoardValue, IsBoard, IsModelPair}
-use Rattle.search_base.specs.Cutting.{AreAnswersAt, IsAnswerAt, IsCutOf, IsPut, LogsModel, answered_line, answered_literals, literals_at}
+use Rattle.search_base.specs.Cutting.{AreAnswersAt, IsAnswerAt, IsCutOf, IsPut, LogsModel, answered_line, answered_literals}
 use Rattle.search_base.specs.Good.{GoesOn, IsGood}
 use Rattle.search_base.specs.declared.objective_bound.ObjectiveBound.{ObjectiveBound}
 use Rattle.search_base.proofs.BoundRows.{bounds_later}
 use Rattle.search_base.proofs.CutClauses.{clause_tested, cut_fails}
 use Rattle.search_base.proofs.LoggedVectors.{logged_append}
-use Rattle.search_base.proofs.ModelLiterals.{assignment_again}
 use Rattle.search_base.proofs.PutEntries.{put_board}
 use Rattle.sum_outputs.proofs.PolLines.{put_live}
 use Rattle.search_base.proofs.TurnLines.{own_law}

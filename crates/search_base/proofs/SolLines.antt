@@ -11,23 +11,23 @@ use Rattle.pb_lin.specs.CostRow.{CostRowValue}
 use Rattle.pb_lin.specs.Problem.{ProblemValue, IsProblem, IsProblemModel}
 use Rattle.proof_laws.specs.State.{StateValue, IsState}
 use Rattle.proof_laws.specs.Legal.{IsLegal, IsRefused}
-use Rattle.proof_laws.specs.Refusal.{IsCutFault, IsSolFault, Bounds, assignment_of, broken_row, misplaced, range_fault}
+use Rattle.proof_laws.specs.Refusal.{IsCutFault, IsSolFault, Bounds, assignment_of, broken_row, literals_at, misplaced, range_fault}
 use Rattle.proof_laws.specs.Replay.{IsReplay}
 use Rattle.proof_laws.specs.WellFormed.{IsWellFormed, IsId, IsVariable as IsLogVariable}
 use Rattle.proof_laws.specs.declared.line.Line.{Line}
 use Rattle.proof_laws.specs.declared.line.Line.TheVariants.{Sol}
 use Rattle.proof_laws.specs.declared.why.Why.TheVariants.{CutOpen, LogLong, NoSuchId, SolRow, VarRange}
 use Rattle.proof_laws.proofs.Conditions.{no_first, no_range_fault, may_follow}
+use Rattle.proof_laws.proofs.ModelLiterals.{assignment_again, in_place, model_variables}
 use Rattle.proof_laws.proofs.Replays.{replay_once}
 use Rattle.proof_rules.proofs.Cuts.{opposites_distinct}
 use Rattle.proof_rules.specs.Recording.{MayBeAdded}
 use Rattle.totalizer.specs.Meaning.{AreTruthsWith, IsOwnOrNone}
 use Rattle.totalizer.specs.declared.bound.Bound.{Bound}
 use Rattle.totalizer.specs.declared.bound.Bound.TheVariants.{Always, Never, At}
-use Rattle.search_base.specs.Cutting.{AreThese, IsAnswerAt, IsCutOf, IsModelLine, answered_line, answered_literals, literals_at}
+use Rattle.search_base.specs.Cutting.{AreThese, IsAnswerAt, IsCutOf, IsModelLine, answered_line, answered_literals}
 use Rattle.search_base.proofs.Answered.{row_of}
 use Rattle.search_base.proofs.Cuts.{opposite_twice}
-use Rattle.search_base.proofs.ModelLiterals.{assignment_again, in_place, model_variables}
 
 -- no row is broken where all hold
 none_broken : (x : List Bool) (i : ℕ) (rows : List ConstraintValue) → All (Holds x) rows →

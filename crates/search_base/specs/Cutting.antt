@@ -1,5 +1,5 @@
 -- The cut of a model, and the line that logs it.
-use Rattle.std.specs.Prelude.{◌≡◌, ◌↔◌, ◌⊎◌, ℕ, ◌+◌, ◌<◌, Bool, false, not, List, [], ◌∷◌, ◌++◌, length, map, slice_index_or, sum_by, take, Some, ℤ, pos, ◌+ℤ◌, ◌≤ℤ◌, Contains}
+use Rattle.std.specs.Prelude.{◌≡◌, ◌↔◌, ◌⊎◌, ℕ, ◌<◌, Bool, false, List, [], ◌∷◌, ◌++◌, length, map, slice_index_or, sum_by, take, Some, ℤ, pos, ◌+ℤ◌, ◌≤ℤ◌, Contains}
 use Rattle.std.specs.List.{AllZip, flat_map}
 use Rattle.scut_base.specs.Literal.{Literal}
 use Rattle.front_set.specs.declared.set.Inserted.{Inserted}
@@ -9,6 +9,7 @@ use Rattle.pb_lin.specs.Constraint.{opposite}
 use Rattle.pb_lin.specs.CostRow.{CostRowValue, row_cost}
 use Rattle.pb_lin.specs.Problem.{ProblemValue}
 use Rattle.pb_lin.specs.Restriction.{met_value}
+use Rattle.proof_laws.specs.Refusal.{literals_at}
 use Rattle.proof_laws.specs.State.{StateValue, IsState}
 use Rattle.proof_laws.specs.declared.line.Line.{Line}
 use Rattle.proof_laws.specs.declared.line.Line.TheVariants.{Sol}
@@ -101,11 +102,6 @@ abbrev pub IsCutOf : List Bound → List Literal → Type 0
 IsCutOf answers cut = AreDistinct (map opposite (answered_literals answers)) cut
 
 -- ---- the line
-
--- the literals that are true at these values, of the variables from var on
-abbrev pub literals_at : ℕ → List Bool → List Literal
-literals_at var [] = []
-literals_at var (b ∷ bs) = record { var = var; neg = not b } ∷ literals_at (var + 1) bs
 
 -- the line logs this assignment, with the cut of these answers
 pub record IsModelLine (x : List Bool) (answers : List Bound) (line : Line) : Type 0 where

@@ -1,8 +1,9 @@
 // The line that logs a model.
 ghost use Rattle.std.specs.Prelude.{◌≡◌, ◌<◌, ◌^◌, length, IfOk, IfErr, OnOk};
 ghost use Rattle.pb_lin.specs.Problem.{IsProblem, IsProblemModel};
+ghost use Rattle.proof_laws.specs.Refusal.{literals_at};
 ghost use Rattle.sum_outputs.specs.Adding.{IsFaultAt, IsReady};
-ghost use Rattle.search_base.specs.Cutting.{AreAlike, AreAnswersAt, IsModelLine, LogsModel, answered_literals, literals_at};
+ghost use Rattle.search_base.specs.Cutting.{AreAlike, AreAnswersAt, IsModelLine, LogsModel, answered_literals};
 ghost use Rattle.search_base.specs.Good.{GoesOn};
 ghost use Rattle.search_base.specs.Logged.{AddsTakenLines};
 

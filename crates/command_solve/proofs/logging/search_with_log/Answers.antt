@@ -11,7 +11,7 @@ returns-clause-found g c =
     let r = c.search_over-found.result in
     subst (λ h. IfOk r.0 (IsLogged (world c.args.shelf.now).files (world h).files c.args.inst.now c.args.problem.now c.args.log.now c.args.version c.args.limit c.args.plan)) (search rules)
     (found_left world (world c.args.shelf.now).files c.args.log.now _ c.args.problem.now c.args.version c.in-Ok.recorder r.1 c.finish-shelf.result.now c.args.inst.now c.args.limit c.args.plan r.0
-    c.in-Ok.ensures.name c.in-Ok.ensures.problem c.in-Ok.ensures.version c.in-Ok.ensures.begun c.finish-shelf.ensures.same c.finish-shelf.ensures.log c.finish-shelf.ensures.kept c.search_over-found.ensures)
+    c.in-Ok.ensures.begun.name c.in-Ok.ensures.begun.problem c.in-Ok.ensures.begun.version c.in-Ok.ensures.begun.files c.finish-shelf.ensures.same c.finish-shelf.ensures.log c.finish-shelf.ensures.kept c.search_over-found.ensures)
 
 pub returns-clause-stopped : goal.returns-clause-stopped
 returns-clause-stopped g c =
@@ -19,5 +19,5 @@ returns-clause-stopped g c =
     let r = c.search_over-found.result in
     subst (λ h. IfErr r.0 (λ fault. IsLogStopped fault (world c.args.shelf.now).files (world h).files c.args.problem.now c.args.log.now c.args.version (world c.args.shelf.now).faults (world h).faults)) (search rules)
     (stopped_left world (world c.args.shelf.now).files c.args.log.now _ c.args.problem.now c.args.version c.in-Ok.recorder r.1 c.finish-shelf.result.now c.args.inst.now c.args.limit c.args.plan r.0
-    c.in-Ok.ensures.name c.in-Ok.ensures.problem c.in-Ok.ensures.version c.in-Ok.ensures.begun c.finish-shelf.ensures.same c.finish-shelf.ensures.log c.finish-shelf.ensures.kept c.search_over-found.ensures
-    (world c.args.shelf.now).faults c.in-Ok.ensures.later)
+    c.in-Ok.ensures.begun.name c.in-Ok.ensures.begun.problem c.in-Ok.ensures.begun.version c.in-Ok.ensures.begun.files c.finish-shelf.ensures.same c.finish-shelf.ensures.log c.finish-shelf.ensures.kept c.search_over-found.ensures
+    (world c.args.shelf.now).faults c.in-Ok.ensures.begun.shelf.later)

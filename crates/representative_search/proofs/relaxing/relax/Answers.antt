@@ -13,9 +13,9 @@ returns g c =
     let r = c.relax_over-told.result in
     let last = c.relax_over-told.new.rec in
     let end = c.finish-shelf.result.now in
-    let new = c.in-Ok.ensures in
+    let new = c.in-Ok.ensures.begun in
     let finish = c.finish-shelf.ensures in
     subst (λ h. LeavesLog (λ told. WhereKnown told (IsSought before.files (world h).files name p)) p name before (world h) r) (search rules)
     (log_left world before name _ p c.in-Ok.recorder last end (IsRelaxed p) r
-    new.name new.problem new.version new.begun new.said new.warned new.later finish.same finish.log finish.kept c.relax_over-told.ensures
+    new.name new.problem new.version new.files new.shelf.said new.shelf.warned new.shelf.later finish.same finish.log finish.kept c.relax_over-told.ensures
     (λ told. WhereKnown told (IsSought before.files (world end).files name p)) (told_left before.files (world end).files name p last.lines))

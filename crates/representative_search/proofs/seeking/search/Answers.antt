@@ -12,9 +12,9 @@ returns g c =
     let p = c.args.problem.now in
     let r = c.seek_over-sought.result in
     let end = c.finish-shelf.result.now in
-    let new = c.in-Ok.ensures in
+    let new = c.in-Ok.ensures.begun in
     let finish = c.finish-shelf.ensures in
     subst (λ h. LeavesLog (IsSought before.files (world h).files name p) p name before (world h) r.0) (search rules)
     (log_left world before name _ p c.in-Ok.recorder r.1 end (IsFound p) r.0
-    new.name new.problem new.version new.begun new.said new.warned new.later finish.same finish.log finish.kept c.seek_over-sought.ensures
+    new.name new.problem new.version new.files new.shelf.said new.shelf.warned new.shelf.later finish.same finish.log finish.kept c.seek_over-sought.ensures
     (IsSought before.files (world end).files name p) (known_left before.files (world end).files name p r.1.lines))

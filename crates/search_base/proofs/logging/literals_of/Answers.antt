@@ -1,8 +1,8 @@
 use Rattle.std.proofs.Common.{◌≡◌, ◌+◌, ◌<◌, Bool, false, not, List, [], ◌∷◌, ◌++◌, length, take, get_or, sym, ap, ◌∙◌, arith}
 use Rattle.std.proofs.lemmas.List.{take_more, length-take}
 use Rattle.scut_base.specs.Literal.{Literal}
-use Rattle.search_base.specs.Cutting.{literals_at}
-use Rattle.search_base.proofs.ModelLiterals.{literals_push, literal_is}
+use Rattle.proof_laws.specs.Refusal.{literals_at}
+use Rattle.proof_laws.proofs.ModelLiterals.{literals_push, literal_is}
 use Rattle.search_base.proofs.logging.literals_of.Goals as goal
 
 pub loop-value-preserved : goal.loop-value-preserved

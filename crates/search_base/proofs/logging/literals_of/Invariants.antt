@@ -1,5 +1,5 @@
 use Rattle.std.proofs.Common.{◌≡◌, take}
-use Rattle.search_base.specs.Cutting.{literals_at}
+use Rattle.proof_laws.specs.Refusal.{literals_at}
 use Rattle.search_base.proofs.logging.literals_of.Given as goal
 
 abbrev pub invariant-loop-value : goal.invariant-loop-value

@@ -31,17 +31,17 @@ invariant_of-self-in-Err g c =
     let legal : IsLegal s.problem.now s.state c.args.line.now = legal_here s.problem.now s.lines s.state c.args.line.now c.if-is_full.ensures.state c.self.invariant.kept.replay c.if-is_full.ensures.full may in
     rw (c.pop_last.ensures s.lines c.args.line.now pushed, c.in-Err.ensures.same) (held_partly _ _ _ _ _ _ _ _ held c.requires.formed legal (rw c.spelling_at-spelling.ensures at c.in-Err.ensures.partly))
 
-pub returns-in-Ok-clause-written : goal.returns-in-Ok-clause-written
-returns-in-Ok-clause-written g c =
+pub returns-in-Ok-clause-puts : goal.returns-in-Ok-clause-puts
+returns-in-Ok-clause-puts g c =
     let s = c.self.inside in
     let here : after_lines (first_of s.version s.problem.now) s.lines ≡ c.spelling_at-spelling.result = spelled_here s.version s.problem.now s.lines s.state c.self.invariant.kept.replay ∙ sym c.spelling_at-spelling.ensures in
-    rw (← c.self.view_is, here) c.in-Ok.ensures.written
+    record { written = rw (← c.self.view_is, here) c.in-Ok.ensures.written; partly = tt; version = search rules }
 
-pub returns-in-Err-clause-partly : goal.returns-in-Err-clause-partly
-returns-in-Err-clause-partly g c =
+pub returns-in-Err-clause-puts : goal.returns-in-Err-clause-puts
+returns-in-Err-clause-puts g c =
     let s = c.self.inside in
     let here : after_lines (first_of s.version s.problem.now) s.lines ≡ c.spelling_at-spelling.result = spelled_here s.version s.problem.now s.lines s.state c.self.invariant.kept.replay ∙ sym c.spelling_at-spelling.ensures in
-    rw (← c.self.view_is, here) c.in-Err.ensures.partly
+    record { written = tt; partly = rw (← c.self.view_is, here) c.in-Err.ensures.partly; version = search rules }
 
 pub returns-in-Ok-clause-id : goal.returns-in-Ok-clause-id
 returns-in-Ok-clause-id g c =

@@ -1,12 +1,12 @@
 -- The literals of a model, in order of variables.
-use Rattle.std.proofs.Common.{◌≡◌, ℕ, ◌+◌, ◌<◌, ◌^◌, Bool, true, false, not, cond, List, [], ◌∷◌, ◌++◌, length, refl, ap, ap₂, ◌∙◌, arith, None, Some}
+use Rattle.std.proofs.Common.{◌≡◌, ℕ, ◌+◌, ◌<◌, ◌^◌, Bool, not, cond, List, [], ◌∷◌, ◌++◌, length, refl, ap, ap₂, ◌∙◌, arith, None, Some}
 use Rattle.std.specs.Prelude.{All, nat_lt, ◌==◌}
+use Rattle.std.proofs.Math.Bool.{not-not}
 use Rattle.std.proofs.lemmas.Bool.{cond-true, cond-false, eq-eqb, le-ltb, lt-ltb}
 use Rattle.std.proofs.lemmas.List.Elements.{All-nil, All-cons}
 use Rattle.scut_base.specs.Literal.{Literal}
-use Rattle.proof_laws.specs.Refusal.{assignment_of, misplaced}
+use Rattle.proof_laws.specs.Refusal.{assignment_of, literals_at, misplaced}
 use Rattle.proof_laws.specs.WellFormed.{IsVariable}
-use Rattle.search_base.specs.Cutting.{literals_at}
 
 -- one value more
 pub literals_push : (var : ℕ) (bs : List Bool) (b : Bool) →
@@ -17,15 +17,11 @@ literals_push var (x ∷ bs) b =
     (literals_push (var + 1) bs b ∙ ap (λ (v : ℕ). literals_at (var + 1) bs ++ record { var = v; neg = not b } ∷ [])
     (omega arith))
 
-not_twice : (b : Bool) → not (not b) ≡ b
-not_twice true = refl
-not_twice false = refl
-
 -- they make these values
 pub assignment_again : (var : ℕ) (bs : List Bool) → assignment_of (literals_at var bs) ≡ bs
 assignment_again var [] = refl
 assignment_again var (b ∷ bs) =
-    ap₂ (λ (x : Bool) (xs : List Bool). x ∷ xs) (not_twice b) (assignment_again (var + 1) bs)
+    ap₂ (λ (x : Bool) (xs : List Bool). x ∷ xs) (not-not b) (assignment_again (var + 1) bs)
 
 -- they stand in their places
 pub in_place : (n var : ℕ) (bs : List Bool) → var + length bs ≡ n + 1 → misplaced var n (literals_at var bs) ≡ None
