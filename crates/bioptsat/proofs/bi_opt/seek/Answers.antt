@@ -21,7 +21,7 @@ returns-in-First-clause-tells g c =
     let R = g.O.Recorder in
     let b = R.seen c.seek_within.new.oracle in
     let v = c.in-First.costs in
-    let limit = c.one_less.result in
+    let limit = c.one_less-first.result in
     let same = c.seek_within.ensures.goes_on.problem in
     let rows : All (λ r. IsCostRow r.terms r.offset) b.problem.costs =
     subst (λ (p : ProblemValue). All (λ r. IsCostRow r.terms r.offset) p.costs) (sym same)
@@ -31,7 +31,7 @@ returns-in-First-clause-tells g c =
     let fits : SFits w64 c.get.result = search rules in
     let number : to_z w64 (of_z w64 c.get.result) ≡ first v =
     to_z-of_z w64 c.get.result fits ∙ sym (get_or_from_slice_get v 0 c.get.result (pos 0) c.get.ensures) in
-    let less : IsOneLess (first v) limit = subst (λ (n : ℤ). IsOneLess n limit) number c.one_less.ensures in
+    let less : IsOneLess (first v) limit = subst (λ (n : ℤ). IsOneLess n limit) number c.one_less-first.ensures in
     IfOk-weaker c.seek_within.result (TellsWithin b limit (Some (pos (2 ^ 63 - 1)))) (TellsOfAim b c.args.aim.now)
     (λ below tells. subst (λ (aim : Aim). TellsOfAim b aim below) is (told_first b v rows two limit below less tells))
     c.seek_within.ensures.tells
@@ -41,7 +41,7 @@ returns-in-Second-clause-tells g c =
     let R = g.O.Recorder in
     let b = R.seen c.seek_within-in-Second.new.oracle in
     let v = c.in-Second.costs in
-    let limit = c.one_less-in-Second.result in
+    let limit = c.one_less-second.result in
     let same = c.seek_within-in-Second.ensures.goes_on.problem in
     let rows : All (λ r. IsCostRow r.terms r.offset) b.problem.costs =
     subst (λ (p : ProblemValue). All (λ r. IsCostRow r.terms r.offset) p.costs) (sym same)
@@ -56,7 +56,7 @@ returns-in-Second-clause-tells g c =
     let number : to_z w64 (of_z w64 c.get-in-Second-2.result) ≡ second v =
     to_z-of_z w64 c.get-in-Second-2.result fits
     ∙ sym (get_or_from_slice_get v 1 c.get-in-Second-2.result (pos 0) c.get-in-Second-2.ensures) in
-    let less : IsOneLess (second v) limit = subst (λ (n : ℤ). IsOneLess n limit) number c.one_less-in-Second.ensures in
+    let less : IsOneLess (second v) limit = subst (λ (n : ℤ). IsOneLess n limit) number c.one_less-second.ensures in
     IfOk-weaker c.seek_within-in-Second.result (TellsWithin b (Some (to_z w64 (of_z w64 c.get-in-Second.result))) limit) (TellsOfAim b c.args.aim.now)
     (λ below tells. subst (λ (aim : Aim). TellsOfAim b aim below) is (told_second b v rows two limit below less
     (subst (λ (n : ℤ). TellsWithin b (Some n) limit below) most tells)))
