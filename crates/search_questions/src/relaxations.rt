@@ -1,6 +1,6 @@
 // Linear relaxations, asked box by box before the oracle.
 ghost use Rattle.std.specs.Prelude.{◌≡◌, length, IfOk, IfErr, IfSome};
-ghost use Rattle.front_set.specs.Vector.{IsBelow};
+ghost use Rattle.front_set.specs.Vector.{IsBelow, is_below};
 ghost use Rattle.search_base.specs.Good.{GoesOn};
 ghost use Rattle.search_base.specs.Turns.{IsInOrder, IsSearchFault};
 ghost use Rattle.search_questions.specs.Telling.{IsGoodWithSome, SeeksOn, StaysGood, Tells, TellsAny, is_closed};
@@ -156,7 +156,10 @@ impl Relaxations {
         };
         let linear = &mut self.linear;
         let found = seek_relaxed(self.alloc, oracle, bounds, linear, problem, &part)?;
-        if !is_closed(&found) || part == *limits {
+        if !is_closed(&found) {
+            return Ok(found);
+        }
+        if is_within(limits, &part) {
             return Ok(found);
         }
         self.settle(place, part)?;
@@ -197,7 +200,9 @@ fn is_closed(found: &Option<Below>) -> bool
 }
 
 // Whether each of the costs is at most the limit.
-fn is_within(costs: &CostVec, limits: &CostVec) -> bool {
+fn is_within(costs: &CostVec, limits: &CostVec) -> bool
+    ensures { result ≡ is_below costs.now limits.now }
+{
     costs.len() == limits.len() && costs.weakly_dominates(limits)
 }
 

@@ -13,6 +13,12 @@ returns-in_err-take-in-Model-clause-goes_on g c =
     goes_twice (R.seen c.args.oracle.now) (R.seen c.seek.new.oracle) (R.seen c.take.new.rec)
     c.seek.ensures.goes_on c.take.ensures.goes_on
 
+pub returns-in_err-exclude_last-in-Model-clause-goes_on : goal.returns-in_err-exclude_last-in-Model-clause-goes_on
+returns-in_err-exclude_last-in-Model-clause-goes_on g c =
+    let R = g.O.Recorder in
+    goes_twice (R.seen c.args.oracle.now) (R.seen c.seek.new.oracle) (R.seen c.take.new.rec)
+    c.seek.ensures.goes_on c.take.ensures.goes_on
+
 pub returns-in_err-self-inside-in-Model-clause-goes_on : goal.returns-in_err-self-inside-in-Model-clause-goes_on
 returns-in_err-self-inside-in-Model-clause-goes_on g c =
     let R = g.O.Recorder in
