@@ -2,7 +2,7 @@
 ghost use Rattle.std.specs.Prelude.{◌≡◌, length, IfOk, IfErr, option_copied};
 ghost use Rattle.search_base.specs.Good.{GoesOn, IsGood, KeepsBoard};
 ghost use Rattle.search_base.specs.Turns.{IsInOrder, IsSearchFault, IsTurn};
-ghost use Rattle.search_questions.specs.Telling.{IsGoodWithSome, StaysGood};
+ghost use Rattle.search_questions.specs.Telling.{IsGoodWithSome, StaysGood, Tells, TellsAny};
 ghost use Rattle.bioptsat.specs.declared.aim.Aim.TheVariants.{Anything};
 ghost use Rattle.bioptsat.specs.Aims.{MovesAim, Serves, first_is_least, own_number, vector_of};
 ghost use Rattle.bioptsat.specs.Asking.{IsOneLess, TellsOfAim, TellsWithin};
@@ -10,18 +10,20 @@ ghost use Rattle.bioptsat.specs.Asking.{IsOneLess, TellsOfAim, TellsWithin};
 use crate::aim::Aim;
 use front_set::CostVec;
 use oracle::{Oracle, OracleFault};
-use scut_base::Items;
+use pb_lin::PbProblem;
+use scut_base::{Items, NoMemory};
 use search_base::{Board, Bounds, Search, Turn};
-use search_questions::{Below, seek_any, seek_below};
+use search_questions::{Below, Relaxations, seek_any, seek_below};
 use std::alloc::Global;
 use std::marker::Model;
 
 /// Lowers the first cost until it is least, and then the second cost at that first cost; then it starts
-/// afresh.
+/// afresh. Where it has the relaxations of the problem, it asks them before it asks the oracle.
 #[derive(Drop)]
 pub struct BiOpt {
     alloc: Global,
     aim: Aim,
+    relaxations: Option<Relaxations>,
 }
 
 impl Model for BiOpt {
@@ -33,14 +35,27 @@ impl Model for BiOpt {
 }
 
 impl BiOpt {
-    /// A search without an aim, for any problem of two objectives. Takes no memory.
+    /// A search without an aim, for any problem of two objectives, that asks the oracle alone. Takes no memory.
     pub fn new(alloc: Global) -> BiOpt
         ensures { result ≡ Anything }
     {
         BiOpt {
             alloc,
             aim: Aim::Anything,
+            relaxations: None,
         }
+    }
+
+    /// A search without an aim that asks linear relaxations of the problem before it asks the oracle. Of another
+    /// problem it's as good as one that asks the oracle alone. Costs what `Relaxations::new` does.
+    pub fn relaxed(alloc: Global, problem: &PbProblem) -> Result<BiOpt, NoMemory>
+        ensures { IfOk result (λ search. search ≡ Anything) }
+    {
+        Ok(BiOpt {
+            alloc,
+            aim: Aim::Anything,
+            relaxations: Some(Relaxations::new(alloc, problem)?),
+        })
     }
 
     /// The vector that the next turn tries to improve.
@@ -60,50 +75,14 @@ impl BiOpt {
         matches!(&self.aim, Aim::Second(_))
     }
 
-    // Whether a model is left that meets the aim.
-    fn seek<O: Oracle>(&self, oracle: &mut O, bounds: &mut Bounds) -> Result<Below, OracleFault>
-        requires good { IsGoodWithSome (O.seen oracle.old) bounds.old }
-        requires serves { Serves self.now (O.seen oracle.old).problem }
-        ensures tells { IfOk result (TellsOfAim (O.seen oracle.new) self.now) }
-        ensures good { IsInOrder result → StaysGood (O.seen oracle.old) (O.seen oracle.new)
-            bounds.old bounds.new }
-        ensures fault { IfErr result (IsSearchFault (O.seen oracle.old) (O.seen oracle.new)) }
-        ensures goes_on { GoesOn (O.seen oracle.old) (O.seen oracle.new) }
+    // Takes the vector that was logged last out of the relaxations' boxes.
+    fn exclude_last(&mut self, board: &Board<'_>) -> Result<(), NoMemory>
+        ensures { self.new ≡ self.old }
     {
-        match &self.aim {
-            Aim::Anything => seek_any(oracle, bounds),
-            Aim::First(costs) => {
-                self.seek_within(oracle, bounds, one_less(costs.get(0)), Some(i64::MAX))
-            }
-            Aim::Second(costs) => {
-                self.seek_within(oracle, bounds, Some(costs.get(0)), one_less(costs.get(1)))
-            }
+        match (&mut self.relaxations, board.last()) {
+            (Some(relaxations), Some(last)) => relaxations.exclude(last),
+            _ => Ok(()),
         }
-    }
-
-    // Whether a model is left whose costs are at most these two. Nothing costs less than an `i64` can be, so
-    // where one is missing, none is left, and the oracle isn't asked.
-    fn seek_within<O: Oracle>(
-        &self,
-        oracle: &mut O,
-        bounds: &mut Bounds,
-        first: Option<i64>,
-        second: Option<i64>,
-    ) -> Result<Below, OracleFault>
-        requires good { IsGoodWithSome (O.seen oracle.old) bounds.old }
-        requires count { length (O.seen oracle.old).problem.costs ≡ 2 }
-        ensures tells { IfOk result (TellsWithin (O.seen oracle.new) first second) }
-        ensures good { IsInOrder result → StaysGood (O.seen oracle.old) (O.seen oracle.new)
-            bounds.old bounds.new }
-        ensures fault { IfErr result (IsSearchFault (O.seen oracle.old) (O.seen oracle.new)) }
-        ensures goes_on { GoesOn (O.seen oracle.old) (O.seen oracle.new) }
-    {
-        let (Some(first), Some(second)) = (first, second) else {
-            let stands = Items::new(self.alloc);
-            return Ok(Below::Above { stands });
-        };
-        let limits = CostVec::from_slice(self.alloc, &[first, second])?;
-        seek_below(self.alloc, oracle, bounds, &limits)
     }
 }
 
@@ -135,9 +114,11 @@ impl Search for BiOpt {
         ensures goes_on { GoesOn (O.seen oracle.old) (O.seen oracle.new) }
         ensures board { KeepsBoard board.old board.new }
     {
-        match self.seek(oracle, bounds)? {
+        let relaxations = &mut self.relaxations;
+        match seek(self.alloc, &self.aim, relaxations, oracle, bounds, board)? {
             Below::Model(model) => {
                 board.take(oracle, bounds, &model)?;
+                self.exclude_last(board)?;
                 self.aim = self.aim.at_last(self.alloc, board)?;
                 Ok(Turn::Found)
             }
@@ -147,6 +128,119 @@ impl Search for BiOpt {
                 Ok(Turn::Moved)
             }
         }
+    }
+}
+
+// Whether a model is left that meets the aim.
+fn seek<O: Oracle>(
+    alloc: Global,
+    aim: &Aim,
+    relaxations: &mut Option<Relaxations>,
+    oracle: &mut O,
+    bounds: &mut Bounds,
+    board: &Board<'_>,
+) -> Result<Below, OracleFault>
+    requires good { IsGoodWithSome (O.seen oracle.old) bounds.old }
+    requires problem { (O.seen oracle.old).problem ≡ board.now.problem }
+    requires serves { Serves aim.now (O.seen oracle.old).problem }
+    ensures tells { IfOk result (TellsOfAim (O.seen oracle.new) aim.now) }
+    ensures good { IsInOrder result → StaysGood (O.seen oracle.old) (O.seen oracle.new)
+        bounds.old bounds.new }
+    ensures fault { IfErr result (IsSearchFault (O.seen oracle.old) (O.seen oracle.new)) }
+    ensures goes_on { GoesOn (O.seen oracle.old) (O.seen oracle.new) }
+{
+    match aim {
+        Aim::Anything => ask_any(relaxations, oracle, bounds, board),
+        Aim::First(costs) => {
+            let first = one_less(costs.get(0));
+            seek_within(
+                alloc,
+                relaxations,
+                oracle,
+                bounds,
+                board,
+                first,
+                Some(i64::MAX),
+            )
+        }
+        Aim::Second(costs) => {
+            let first = Some(costs.get(0));
+            let second = one_less(costs.get(1));
+            seek_within(alloc, relaxations, oracle, bounds, board, first, second)
+        }
+    }
+}
+
+// Whether a model is left whose costs are at most these two. Nothing costs less than an `i64` can be, so
+// where one is missing, none is left, and nothing is asked.
+fn seek_within<O: Oracle>(
+    alloc: Global,
+    relaxations: &mut Option<Relaxations>,
+    oracle: &mut O,
+    bounds: &mut Bounds,
+    board: &Board<'_>,
+    first: Option<i64>,
+    second: Option<i64>,
+) -> Result<Below, OracleFault>
+    requires good { IsGoodWithSome (O.seen oracle.old) bounds.old }
+    requires problem { (O.seen oracle.old).problem ≡ board.now.problem }
+    requires count { length (O.seen oracle.old).problem.costs ≡ 2 }
+    ensures tells { IfOk result (TellsWithin (O.seen oracle.new) first second) }
+    ensures good { IsInOrder result → StaysGood (O.seen oracle.old) (O.seen oracle.new)
+        bounds.old bounds.new }
+    ensures fault { IfErr result (IsSearchFault (O.seen oracle.old) (O.seen oracle.new)) }
+    ensures goes_on { GoesOn (O.seen oracle.old) (O.seen oracle.new) }
+{
+    let (Some(first), Some(second)) = (first, second) else {
+        let stands = Items::new(alloc);
+        return Ok(Below::Above { stands });
+    };
+    let limits = CostVec::from_slice(alloc, &[first, second])?;
+    ask_below(alloc, relaxations, oracle, bounds, board, &limits)
+}
+
+// What `seek_below` asks, of the relaxations first, where they are there.
+fn ask_below<O: Oracle>(
+    alloc: Global,
+    relaxations: &mut Option<Relaxations>,
+    oracle: &mut O,
+    bounds: &mut Bounds,
+    board: &Board<'_>,
+    limits: &CostVec,
+) -> Result<Below, OracleFault>
+    requires good { IsGoodWithSome (O.seen oracle.old) bounds.old }
+    requires problem { (O.seen oracle.old).problem ≡ board.now.problem }
+    requires count { length limits.now ≡ length (O.seen oracle.old).problem.costs }
+    ensures tells { IfOk result (Tells (O.seen oracle.new) limits.now) }
+    ensures good { IsInOrder result → StaysGood (O.seen oracle.old) (O.seen oracle.new)
+        bounds.old bounds.new }
+    ensures fault { IfErr result (IsSearchFault (O.seen oracle.old) (O.seen oracle.new)) }
+    ensures goes_on { GoesOn (O.seen oracle.old) (O.seen oracle.new) }
+{
+    match relaxations {
+        Some(relaxations) => relaxations.seek_below(oracle, bounds, board.problem(), limits),
+        None => seek_below(alloc, oracle, bounds, limits),
+    }
+}
+
+// What `seek_any` asks, of the relaxations first, where they are there.
+fn ask_any<O: Oracle>(
+    relaxations: &mut Option<Relaxations>,
+    oracle: &mut O,
+    bounds: &mut Bounds,
+    board: &Board<'_>,
+) -> Result<Below, OracleFault>
+    requires good { IsGoodWithSome (O.seen oracle.old) bounds.old }
+    requires problem { (O.seen oracle.old).problem ≡ board.now.problem }
+    ensures tells { IfOk result (TellsAny (O.seen oracle.new)) }
+    ensures good { IsInOrder result → StaysGood (O.seen oracle.old) (O.seen oracle.new)
+        bounds.old bounds.new }
+    ensures fault { IfErr result (IsSearchFault (O.seen oracle.old) (O.seen oracle.new)) }
+    ensures goes_on { GoesOn (O.seen oracle.old) (O.seen oracle.new) }
+{
+    match relaxations {
+        Some(relaxations) => relaxations.seek_any(oracle, bounds, board.problem()),
+        None => seek_any(oracle, bounds),
     }
 }
 

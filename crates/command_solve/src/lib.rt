@@ -201,9 +201,10 @@ impl<'a> Solve<'a> {
                 Ok(mut search) => self.search_by(alloc, inst, problem, &mut search, shelf),
                 Err(fault) => Status::from(fault),
             },
-            SearchKind::BiOptSat => {
-                self.search_by(alloc, inst, problem, &mut BiOpt::new(alloc), shelf)
-            }
+            SearchKind::BiOptSat => match BiOpt::relaxed(alloc, problem) {
+                Ok(mut search) => self.search_by(alloc, inst, problem, &mut search, shelf),
+                Err(fault) => Status::from(fault),
+            },
             SearchKind::Turns => self.search_in_turns(alloc, inst, problem, shelf),
         }
     }

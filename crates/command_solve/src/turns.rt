@@ -118,12 +118,16 @@ impl<'a> Solve<'a> {
             result (H.world shelf.old) (H.world shelf.new) }
         ensures warned { (H.world shelf.new).warned ≡ (H.world shelf.old).warned }
     {
-        if inst.objectives.len() == 2 {
-            let mut third = BiOpt::new(alloc);
-            let third = Some(&mut third);
-            return self.search_by_all(alloc, inst, problem, first, second, third, turns, shelf);
+        if inst.objectives.len() != 2 {
+            return self.search_by_all(alloc, inst, problem, first, second, None, turns, shelf);
         }
-        self.search_by_all(alloc, inst, problem, first, second, None, turns, shelf)
+        match BiOpt::relaxed(alloc, problem) {
+            Ok(mut third) => {
+                let third = Some(&mut third);
+                self.search_by_all(alloc, inst, problem, first, second, third, turns, shelf)
+            }
+            Err(fault) => Status::from(fault),
+        }
     }
 
     // Searches by all of these in turns.

@@ -14,18 +14,19 @@ use oracle::{Oracle, OracleFault};
 use pb_lin::PbProblem;
 use scut_base::{Items, NoMemory};
 use search_base::{Board, Bounds, Search, Turn};
-use search_questions::{Below, seek_below};
+use search_questions::{Below, Relaxations};
 use std::alloc::Global;
 use std::marker::Model;
 
 /// Finds models whose costs are at most those of a fence. Where none is left, the numbers of the fence that
-/// stand in the way rise.
+/// stand in the way rise. Linear relaxations of the problem are asked before the oracle.
 #[derive(Drop)]
 pub struct LowerBounding {
     alloc: Global,
     fence: CostVec,
     // What each cost is at most. The fence stays below it.
     tops: CostVec,
+    relaxations: Relaxations,
 }
 
 impl Model for LowerBounding {
@@ -37,7 +38,8 @@ impl Model for LowerBounding {
 }
 
 impl LowerBounding {
-    /// A search whose fence are the least costs. Costs a pass over the terms of the objectives.
+    /// A search whose fence are the least costs, and which asks linear relaxations of the problem before it asks the
+    /// oracle. Costs what `Relaxations::new` does.
     pub fn new(alloc: Global, problem: &PbProblem) -> Result<LowerBounding, NoMemory>
         ensures fence { IfOk result (λ s. s.fence ≡ map (λ r. r.offset) problem.now.costs) }
         ensures serves { IfOk result (λ s. Serves s problem.now) }
@@ -52,6 +54,7 @@ impl LowerBounding {
             alloc,
             fence: CostVec::from_items(fence),
             tops: CostVec::from_items(tops),
+            relaxations: Relaxations::new(alloc, problem)?,
         })
     }
 
@@ -63,17 +66,36 @@ impl LowerBounding {
     }
 
     // Whether a model is left whose costs are at most the fence.
-    fn seek<O: Oracle>(&self, oracle: &mut O, bounds: &mut Bounds) -> Result<Below, OracleFault>
+    fn seek<O: Oracle>(
+        &mut self,
+        oracle: &mut O,
+        bounds: &mut Bounds,
+        board: &Board<'_>,
+    ) -> Result<Below, OracleFault>
         requires good { IsGoodWithSome (O.seen oracle.old) bounds.old }
-        requires serves { Serves self.now (O.seen oracle.old).problem }
-        ensures tells { IfOk result (TellsOfFence (O.seen oracle.new) self.now) }
+        requires problem { (O.seen oracle.old).problem ≡ board.now.problem }
+        requires serves { Serves self.old (O.seen oracle.old).problem }
+        ensures tells { IfOk result (TellsOfFence (O.seen oracle.new) self.old) }
+        ensures same { self.new ≡ self.old }
         ensures good { IsInOrder result → StaysGood (O.seen oracle.old) (O.seen oracle.new)
             bounds.old bounds.new }
         ensures fault { IfErr result (IsSearchFault (O.seen oracle.old) (O.seen oracle.new)) }
         ensures goes_on { GoesOn (O.seen oracle.old) (O.seen oracle.new) }
     {
         let limits = limits(self.alloc, &self.fence, &self.tops)?;
-        seek_below(self.alloc, oracle, bounds, &limits)
+        let problem = board.problem();
+        self.relaxations
+            .seek_below(oracle, bounds, problem, &limits)
+    }
+
+    // Takes the vector that was logged last out of the relaxations' boxes.
+    fn exclude_last(&mut self, board: &Board<'_>) -> Result<(), NoMemory>
+        ensures { self.new ≡ self.old }
+    {
+        match board.last() {
+            Some(last) => self.relaxations.exclude(last),
+            None => Ok(()),
+        }
     }
 }
 
@@ -104,9 +126,10 @@ impl Search for LowerBounding {
         ensures goes_on { GoesOn (O.seen oracle.old) (O.seen oracle.new) }
         ensures board { KeepsBoard board.old board.new }
     {
-        match self.seek(oracle, bounds)? {
+        match self.seek(oracle, bounds, board)? {
             Below::Model(model) => {
                 board.take(oracle, bounds, &model)?;
+                self.exclude_last(board)?;
                 Ok(Turn::Found)
             }
             Below::End { id } => Ok(Turn::Finished { id }),

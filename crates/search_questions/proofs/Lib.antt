@@ -6,5 +6,6 @@ pub mod Cores
 pub mod Calls
 pub mod Telling
 pub mod Told
+pub mod Limits
 pub mod Remaining
 mod Proposals

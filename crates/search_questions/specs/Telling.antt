@@ -1,5 +1,5 @@
 -- What the answers to questions tell, and what stays good.
-use Rattle.std.specs.Prelude.{◌≡◌, ℕ, ◌-◌, ◌^◌, ◌<◌, Bool, true, false, List, length, slice_index_or, ℤ, pos, ◌<ℤ◌, ◌≤ℤ◌, Result, IfErr}
+use Rattle.std.specs.Prelude.{◌≡◌, ℕ, ◌-◌, ◌^◌, ◌<◌, Bool, true, false, List, length, slice_index_or, ℤ, pos, ◌<ℤ◌, ◌≤ℤ◌, Option, Some, Result, IfErr}
 use Rattle.front_set.specs.Vector.{IsBelow}
 use Rattle.pb_lin.specs.Problem.{problem_costs}
 use Rattle.proof_laws.specs.State.{StateValue, Satisfies}
@@ -54,6 +54,11 @@ abbrev pub Tells : Snapshot → List ℤ → Below → Type 0
 Tells b limits (Model x) = IsTakable b x × IsBelow (problem_costs b.problem x) limits
 Tells b limits (End id) = IsEndLine b.problem b.lines id
 Tells b limits (Above stands) = StandInTheWay b limits stands × CanRise limits stands
+
+-- it is known that nothing keeps to the limits, and something may be left
+abbrev pub is_closed : Option Below → Bool
+is_closed (Some (Above stands)) = true
+is_closed found = false
 
 -- what it tells where there are no limits
 abbrev pub TellsAny : Snapshot → Below → Type 0

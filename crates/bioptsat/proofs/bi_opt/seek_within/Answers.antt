@@ -1,6 +1,6 @@
 -- Nothing was asked.
 use Rattle.search_base.proofs.Turning.{goes_again}
-use Rattle.bioptsat.proofs.bi_opt.BiOpt.seek_within.Goals as goal
+use Rattle.bioptsat.proofs.bi_opt.seek_within.Goals as goal
 
 pub returns-in_default-clause-goes_on : goal.returns-in_default-clause-goes_on
 returns-in_default-clause-goes_on g c = goes_again (g.O.Recorder.seen c.args.oracle.now)

@@ -1,0 +1,236 @@
+// Linear relaxations, asked box by box before the oracle.
+ghost use Rattle.std.specs.Prelude.{◌≡◌, length, IfOk, IfErr, IfSome};
+ghost use Rattle.front_set.specs.Vector.{IsBelow, is_below};
+ghost use Rattle.search_base.specs.Good.{GoesOn};
+ghost use Rattle.search_base.specs.Turns.{IsInOrder, IsSearchFault};
+ghost use Rattle.search_questions.specs.Telling.{IsGoodWithSome, SeeksOn, StaysGood, Tells, TellsAny, is_closed};
+
+use crate::{Below, seek_any, seek_below, seek_relaxed};
+use front_set::CostVec;
+use linear_search::LinearSearch;
+use open_boxes::OpenBoxes;
+use oracle::{Oracle, OracleFault};
+use pb_lin::PbProblem;
+use scut_base::{Items, NoMemory};
+use search_base::Bounds;
+use std::alloc::Global;
+
+// What may be lost on questions that stay open: pivots times rows times columns, a second or two of work.
+const PURSE: u64 = 200_000_000;
+
+// Where there are more boxes, they are neither asked nor divided any more.
+const MOST_BOXES: usize = 500;
+
+/// The linear relaxations of a problem, and the boxes in which models may be left. Which boxes are open is only a matter
+/// of time: whatever is told is told by live clauses.
+#[derive(Drop)]
+pub struct Relaxations {
+    alloc: Global,
+    linear: LinearSearch,
+    boxes: OpenBoxes,
+    // Limits to which nothing that is left keeps. None is below another.
+    settled: Vec<CostVec>,
+}
+
+impl Relaxations {
+    /// Those of this problem, of which nothing has been asked. Costs what `LinearSearch::new` does.
+    pub fn new(alloc: Global, problem: &PbProblem) -> Result<Relaxations, NoMemory> {
+        Ok(Relaxations {
+            alloc,
+            linear: LinearSearch::new(alloc, problem, PURSE)?,
+            boxes: OpenBoxes::new(alloc, problem.costs().len())?,
+            settled: Vec::new(alloc),
+        })
+    }
+
+    /// Takes the vectors that this one is below out of the boxes, since they aren't left. Costs what
+    /// `OpenBoxes::exclude` does.
+    pub fn exclude(&mut self, costs: &CostVec) -> Result<(), NoMemory> {
+        if self.are_spent() {
+            return Ok(());
+        }
+        self.boxes.exclude(costs)
+    }
+
+    // Whether nothing can be told any more.
+    fn are_spent(&self) -> bool {
+        self.linear.is_spent() || self.boxes.limits().len() > MOST_BOXES
+    }
+
+    /// What `seek_below` asks, of the relaxations first, for each box that the limits meet: what they don't tell, the
+    /// oracle does. Of another problem's relaxations it's as good as `seek_below`. After `Spent` it may be asked again.
+    ///
+    /// Costs what `seek_relaxed` does for each of at most 500 boxes, and what `seek_below` does.
+    pub fn seek_below<O: Oracle>(
+        &mut self,
+        oracle: &mut O,
+        bounds: &mut Bounds,
+        problem: &PbProblem,
+        limits: &CostVec,
+    ) -> Result<Below, OracleFault>
+        requires good { IsGoodWithSome (O.seen oracle.old) bounds.old }
+        requires problem { (O.seen oracle.old).problem ≡ problem.now }
+        requires count { length limits.now ≡ length (O.seen oracle.old).problem.costs }
+        ensures tells { IfOk result (Tells (O.seen oracle.new) limits.now) }
+        ensures good { IsInOrder result → StaysGood (O.seen oracle.old) (O.seen oracle.new)
+            bounds.old bounds.new }
+        ensures fault { IfErr result (IsSearchFault (O.seen oracle.old) (O.seen oracle.new)) }
+        ensures goes_on { GoesOn (O.seen oracle.old) (O.seen oracle.new) }
+    {
+        match self.seek_in_boxes(oracle, bounds, problem, limits)? {
+            Some(below) => Ok(below),
+            None => seek_below(self.alloc, oracle, bounds, limits),
+        }
+    }
+
+    /// What `seek_any` asks, of the relaxations first, for each box: what they don't tell, the oracle does. Of another
+    /// problem's relaxations it's as good as `seek_any`. After `Spent` it may be asked again.
+    ///
+    /// Costs what `seek_relaxed` does for each of at most 500 boxes, and what `seek_any` does.
+    pub fn seek_any<O: Oracle>(
+        &mut self,
+        oracle: &mut O,
+        bounds: &mut Bounds,
+        problem: &PbProblem,
+    ) -> Result<Below, OracleFault>
+        requires good { IsGoodWithSome (O.seen oracle.old) bounds.old }
+        requires problem { (O.seen oracle.old).problem ≡ problem.now }
+        ensures tells { IfOk result (TellsAny (O.seen oracle.new)) }
+        ensures good { IsInOrder result → StaysGood (O.seen oracle.old) (O.seen oracle.new)
+            bounds.old bounds.new }
+        ensures fault { IfErr result (IsSearchFault (O.seen oracle.old) (O.seen oracle.new)) }
+        ensures goes_on { GoesOn (O.seen oracle.old) (O.seen oracle.new) }
+    {
+        let limits = no_limits(self.alloc, problem.costs().len())?;
+        match self.seek_in_boxes(oracle, bounds, problem, &limits)? {
+            Some(Below::Model(model)) => Ok(Below::Model(model)),
+            Some(Below::End { id }) => Ok(Below::End { id }),
+            _ => seek_any(oracle, bounds),
+        }
+    }
+
+    // Box by box, from the last to the first, whether a model is left there whose costs are at most the limits. `None`
+    // where no model was found, for which it may still not be known that none is left.
+    fn seek_in_boxes<O: Oracle>(
+        &mut self,
+        oracle: &mut O,
+        bounds: &mut Bounds,
+        problem: &PbProblem,
+        limits: &CostVec,
+    ) -> Result<Option<Below>, OracleFault>
+        requires good { IsGoodWithSome (O.seen oracle.old) bounds.old }
+        requires problem { (O.seen oracle.old).problem ≡ problem.now }
+        requires count { length limits.now ≡ length (O.seen oracle.old).problem.costs }
+        ensures tells { IfOk result (λ below. IfSome below (Tells (O.seen oracle.new) limits.now)) }
+        ensures seeks { SeeksOn (O.seen oracle.old) (O.seen oracle.new) bounds.old bounds.new result }
+    {
+        if self.are_spent() || limits.is_empty() {
+            return Ok(None);
+        }
+        for place in (0..self.boxes.limits().len()).rev() {
+            let found = self.seek_in_box(oracle, bounds, problem, limits, place)?;
+            if found.is_some() {
+                return Ok(found);
+            }
+        }
+        Ok(None)
+    }
+
+    // The same for the box at this place. Where it has no model within the limits, that is noted.
+    fn seek_in_box<O: Oracle>(
+        &mut self,
+        oracle: &mut O,
+        bounds: &mut Bounds,
+        problem: &PbProblem,
+        limits: &CostVec,
+        place: usize,
+    ) -> Result<Option<Below>, OracleFault>
+        requires good { IsGoodWithSome (O.seen oracle.old) bounds.old }
+        requires problem { (O.seen oracle.old).problem ≡ problem.now }
+        requires count { length limits.now ≡ length (O.seen oracle.old).problem.costs }
+        ensures tells { IfOk result (λ below. IfSome below (Tells (O.seen oracle.new) limits.now)) }
+        ensures seeks { SeeksOn (O.seen oracle.old) (O.seen oracle.new) bounds.old bounds.new result }
+    {
+        let Some(part) = self.unsettled(limits, place)? else {
+            return Ok(None);
+        };
+        let linear = &mut self.linear;
+        let found = seek_relaxed(self.alloc, oracle, bounds, linear, problem, &part)?;
+        if !is_closed(&found) {
+            return Ok(found);
+        }
+        if is_within(limits, &part) {
+            return Ok(found);
+        }
+        self.settle(place, part)?;
+        Ok(None)
+    }
+
+    // The part of the box at this place that keeps to the limits, where it isn't known that nothing is left there.
+    fn unsettled(&self, limits: &CostVec, place: usize) -> Result<Option<CostVec>, NoMemory>
+        ensures { IfOk result (λ part. IfSome part (λ v. IsBelow v limits.now)) }
+    {
+        let Some(around) = self.boxes.limits().get(place) else {
+            return Ok(None);
+        };
+        let part = part_of(self.alloc, around, limits)?;
+        if self.settled.iter().any(|other| is_within(&part, other)) {
+            return Ok(None);
+        }
+        Ok(Some(part))
+    }
+
+    // Notes that nothing is left in a part of the box at this place: it is closed where that is all of it.
+    fn settle(&mut self, place: usize, part: CostVec) -> Result<(), NoMemory> {
+        if self.boxes.limits().get(place) == Some(&part) {
+            self.boxes.close(place);
+            return Ok(());
+        }
+        self.settled.retain(|other| !is_within(other, &part));
+        self.settled.push(part)?;
+        Ok(())
+    }
+}
+
+// Whether it is known that no model keeps to the limits, and others may be left.
+fn is_closed(found: &Option<Below>) -> bool
+    ensures { result ≡ is_closed found.now }
+{
+    matches!(found, Some(Below::Above { .. }))
+}
+
+// Whether each of the costs is at most the limit.
+fn is_within(costs: &CostVec, limits: &CostVec) -> bool
+    ensures { result ≡ is_below costs.now limits.now }
+{
+    costs.len() == limits.len() && costs.weakly_dominates(limits)
+}
+
+// Limits for so many objectives that are none.
+fn no_limits(alloc: Global, objectives: usize) -> Result<CostVec, NoMemory>
+    ensures { IfOk result (λ limits. length limits ≡ objectives) }
+{
+    let limits = vec![in alloc; i64::MAX; objectives]?;
+    Ok(CostVec::from_items(Items::from_vec(limits)))
+}
+
+// The limits, lowered to those of a box where these are less.
+fn part_of(alloc: Global, around: &CostVec, limits: &CostVec) -> Result<CostVec, NoMemory>
+    ensures { IfOk result (λ part. IsBelow part limits.now) }
+{
+    let mut part = Items::new(alloc);
+    part.extend_from_slice(limits.as_slice())?;
+    for (objective, most) in around.as_slice().iter().enumerate() {
+        lower(&mut part, objective, *most);
+    }
+    Ok(CostVec::from_items(part))
+}
+
+// Lowers the number of an objective to at most this.
+fn lower(numbers: &mut Items<i64>, objective: usize, most: i64)
+    ensures { IsBelow numbers.new numbers.old }
+{
+    if objective < numbers.len() && most < *numbers.at(objective) {
+        numbers.set(objective, most);
+    }
+}
