@@ -1,5 +1,5 @@
 -- What a search that improves one vector after another aims at.
-use Rattle.std.specs.Prelude.{◌≡◌, ℕ, Bool, true, false, List, ℤ, length, Option, None, Some, IfSome}
+use Rattle.std.specs.Prelude.{◌≡◌, ℕ, List, ℤ, length, Option, None, Some, IfSome}
 use Rattle.front_set.specs.Vector.{IsBelow}
 use Rattle.pb_lin.specs.Problem.{ProblemValue}
 use Rattle.proof_rules.specs.Recording.{Snapshot}
@@ -9,7 +9,6 @@ use Rattle.search_base.specs.declared.turn.Turn.{Turn}
 use Rattle.search_base.specs.declared.turn.Turn.TheVariants.{Found, Moved, Finished}
 use Rattle.search_questions.specs.Telling.{Tells, TellsAny}
 use Rattle.search_questions.specs.declared.below.Below.{Below}
-use Rattle.search_questions.specs.declared.below.Below.TheVariants.{Above}
 
 -- 1 where there is an aim
 abbrev pub own_number : Option (List ℤ) → ℕ
@@ -44,8 +43,3 @@ abbrev pub Aims : Snapshot → Snapshot → Option (List ℤ) → Option (List �
 Aims a b aim now Found = AimsLower a b aim now
 Aims a b aim now Moved = GivesUp b aim now
 Aims a b aim now (Finished id) = now ≡ aim
-
--- it is known that nothing keeps to the limits, and something may be left
-abbrev pub is_closed : Option Below → Bool
-is_closed (Some (Above stands)) = true
-is_closed found = false

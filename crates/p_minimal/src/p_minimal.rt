@@ -214,13 +214,15 @@ fn relaxations_tell<O: Oracle>(
     let Some(relaxed) = relaxed else {
         return Ok(None);
     };
-    if relaxed.is_spent() {
+    if relaxed.relaxations.is_spent() {
         return Ok(None);
     }
     match aim {
         Some(aim) => relaxed.seek_better(alloc, oracle, bounds, board.problem(), aim),
-        None if board.problem().costs().is_empty() => Ok(None),
-        None => relaxed.seek_open(alloc, oracle, bounds, board.problem()),
+        None => {
+            let relaxations = &mut relaxed.relaxations;
+            relaxations.seek_left(oracle, bounds, board.problem())
+        }
     }
 }
 
@@ -236,7 +238,7 @@ fn next_aim(
         return Ok(None);
     };
     if let Some(relaxed) = relaxed {
-        relaxed.exclude(last)?;
+        relaxed.relaxations.exclude(last)?;
     }
     Ok(Some(last.copy(alloc)?))
 }

@@ -35,3 +35,10 @@ told_of_greater b part limits (Some (Model x)) other below told =
     (told.0, IsBelow-trans (problem_costs b.problem x) part limits told.1 below)
 told_of_greater b part limits (Some (End id)) other below told = told
 told_of_greater b part limits (Some (Above stands)) other below told = cc
+
+-- what is told of limits is told of all that is left, but where they stand in the way
+pub told_of_all : (b : Snapshot) (limits : List ℤ) (found : Option Below) → is_closed found ≡ false → IfSome found (Tells b limits) → IfSome found (TellsAny b)
+told_of_all b limits None other told = tt
+told_of_all b limits (Some (Model x)) other told = told.0
+told_of_all b limits (Some (End id)) other told = told
+told_of_all b limits (Some (Above stands)) other told = cc

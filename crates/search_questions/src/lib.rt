@@ -14,6 +14,6 @@ mod seeking;
 mod standing;
 
 pub use below::Below;
-pub use relaxations::Relaxations;
+pub use relaxations::{Relaxations, is_closed};
 pub use relaxing::seek_relaxed;
 pub use seeking::{seek_any, seek_below};

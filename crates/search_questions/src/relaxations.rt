@@ -46,15 +46,37 @@ impl Relaxations {
     /// Takes the vectors that this one is below out of the boxes, since they aren't left. Costs what
     /// `OpenBoxes::exclude` does.
     pub fn exclude(&mut self, costs: &CostVec) -> Result<(), NoMemory> {
-        if self.are_spent() {
+        if self.gives_boxes_up() {
             return Ok(());
         }
         self.boxes.exclude(costs)
     }
 
-    // Whether nothing can be told any more.
-    fn are_spent(&self) -> bool {
-        self.linear.is_spent() || self.boxes.limits().len() > MOST_BOXES
+    /// Whether they tell nothing any more, since too much was lost on questions that stayed open.
+    pub fn is_spent(&self) -> bool {
+        self.linear.is_spent()
+    }
+
+    // Whether the boxes are neither asked nor divided any more.
+    fn gives_boxes_up(&self) -> bool {
+        self.is_spent() || self.boxes.limits().len() > MOST_BOXES
+    }
+
+    /// What `seek_below` asks, of one relaxation alone: `seek_relaxed`.
+    pub fn seek<O: Oracle>(
+        &mut self,
+        oracle: &mut O,
+        bounds: &mut Bounds,
+        problem: &PbProblem,
+        limits: &CostVec,
+    ) -> Result<Option<Below>, OracleFault>
+        requires good { IsGoodWithSome (O.seen oracle.old) bounds.old }
+        requires problem { (O.seen oracle.old).problem ≡ problem.now }
+        requires count { length limits.now ≡ length (O.seen oracle.old).problem.costs }
+        ensures tells { IfOk result (λ below. IfSome below (Tells (O.seen oracle.new) limits.now)) }
+        ensures seeks { SeeksOn (O.seen oracle.old) (O.seen oracle.new) bounds.old bounds.new result }
+    {
+        seek_relaxed(self.alloc, oracle, bounds, &mut self.linear, problem, limits)
     }
 
     /// What `seek_below` asks, of the relaxations first, for each box that the limits meet: what they don't tell, the
@@ -101,12 +123,31 @@ impl Relaxations {
         ensures fault { IfErr result (IsSearchFault (O.seen oracle.old) (O.seen oracle.new)) }
         ensures goes_on { GoesOn (O.seen oracle.old) (O.seen oracle.new) }
     {
-        let limits = no_limits(self.alloc, problem.costs().len())?;
-        match self.seek_in_boxes(oracle, bounds, problem, &limits)? {
-            Some(Below::Model(model)) => Ok(Below::Model(model)),
-            Some(Below::End { id }) => Ok(Below::End { id }),
-            _ => seek_any(oracle, bounds),
+        match self.seek_left(oracle, bounds, problem)? {
+            Some(below) => Ok(below),
+            None => seek_any(oracle, bounds),
         }
+    }
+
+    /// What `seek_any` asks, of the relaxations alone, box by box: `None` where they don't tell. Costs what `seek_relaxed`
+    /// does for each of at most 500 boxes.
+    pub fn seek_left<O: Oracle>(
+        &mut self,
+        oracle: &mut O,
+        bounds: &mut Bounds,
+        problem: &PbProblem,
+    ) -> Result<Option<Below>, OracleFault>
+        requires good { IsGoodWithSome (O.seen oracle.old) bounds.old }
+        requires problem { (O.seen oracle.old).problem ≡ problem.now }
+        ensures tells { IfOk result (λ below. IfSome below (TellsAny (O.seen oracle.new))) }
+        ensures seeks { SeeksOn (O.seen oracle.old) (O.seen oracle.new) bounds.old bounds.new result }
+    {
+        let limits = no_limits(self.alloc, problem.costs().len())?;
+        let found = self.seek_in_boxes(oracle, bounds, problem, &limits)?;
+        if is_closed(&found) {
+            return Ok(None);
+        }
+        Ok(found)
     }
 
     // Box by box, from the last to the first, whether a model is left there whose costs are at most the limits. `None`
@@ -124,7 +165,7 @@ impl Relaxations {
         ensures tells { IfOk result (λ below. IfSome below (Tells (O.seen oracle.new) limits.now)) }
         ensures seeks { SeeksOn (O.seen oracle.old) (O.seen oracle.new) bounds.old bounds.new result }
     {
-        if self.are_spent() || limits.is_empty() {
+        if self.gives_boxes_up() || limits.is_empty() {
             return Ok(None);
         }
         for place in (0..self.boxes.limits().len()).rev() {
@@ -154,8 +195,7 @@ impl Relaxations {
         let Some(part) = self.unsettled(limits, place)? else {
             return Ok(None);
         };
-        let linear = &mut self.linear;
-        let found = seek_relaxed(self.alloc, oracle, bounds, linear, problem, &part)?;
+        let found = self.seek(oracle, bounds, problem, &part)?;
         if !is_closed(&found) {
             return Ok(found);
         }
@@ -192,8 +232,8 @@ impl Relaxations {
     }
 }
 
-// Whether it is known that no model keeps to the limits, and others may be left.
-fn is_closed(found: &Option<Below>) -> bool
+/// Whether it is known that no model keeps to the limits that were asked about, and others may be left.
+pub fn is_closed(found: &Option<Below>) -> bool
     ensures { result ≡ is_closed found.now }
 {
     matches!(found, Some(Below::Above { .. }))

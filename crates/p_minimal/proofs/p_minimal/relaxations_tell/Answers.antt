@@ -11,13 +11,6 @@ returns-in_default-clause-seeks g c =
     let asked = c.args.bounds.now in
     seeks_ok a a asked asked None (λ front good. (good, refl)) (goes_again a)
 
-pub returns-in-None-clause-seeks : goal.returns-in-None-clause-seeks
-returns-in-None-clause-seeks g c =
-    let R = g.O.Recorder in
-    let a = R.seen c.args.oracle.now in
-    let asked = c.args.bounds.now in
-    seeks_ok a a asked asked None (λ front good. (good, refl)) (goes_again a)
-
 pub returns-then-is_spent-clause-seeks : goal.returns-then-is_spent-clause-seeks
 returns-then-is_spent-clause-seeks g c =
     let R = g.O.Recorder in

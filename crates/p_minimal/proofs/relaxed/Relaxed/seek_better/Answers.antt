@@ -5,7 +5,7 @@ use Rattle.pb_lin.specs.Problem.{ProblemValue}
 use Rattle.search_base.proofs.Turning.{goes_again, goes_twice}
 use Rattle.search_questions.specs.declared.below.Below.{Below}
 use Rattle.search_questions.proofs.Calls.{seeks_after, seeks_handed, seeks_memory, seeks_ok, stays_good_twice}
-use Rattle.p_minimal.proofs.Limits.{told_of_aim}
+use Rattle.search_questions.proofs.Limits.{told_of_greater}
 use Rattle.p_minimal.proofs.relaxed.Relaxed.seek_better.Goals as goal
 
 pub loop-objective-init : goal.loop-objective-init
@@ -19,16 +19,16 @@ returns-in_err-limits-clause-seeks g c =
     seeks_memory (R.seen c.args.oracle.now) (R.seen c.loop-objective.oracle) c.args.bounds.now c.loop-objective.bounds
     c.from_residual.result c.from_residual.ensures.1 c.loop-objective.invariant.on
 
-pub seek_relaxed-requires-clause-good : goal.seek_relaxed-requires-clause-good
-seek_relaxed-requires-clause-good g c =
+pub seek-requires-clause-good : goal.seek-requires-clause-good
+seek-requires-clause-good g c =
     let front = c.requires.good in
     (front.0, (c.loop-objective.invariant.good front.0 front.1).0)
 
-pub seek_relaxed-requires-clause-problem : goal.seek_relaxed-requires-clause-problem
-seek_relaxed-requires-clause-problem g c = c.loop-objective.invariant.on.problem ∙ c.requires.problem
+pub seek-requires-clause-problem : goal.seek-requires-clause-problem
+seek-requires-clause-problem g c = c.loop-objective.invariant.on.problem ∙ c.requires.problem
 
-pub seek_relaxed-requires-clause-count : goal.seek_relaxed-requires-clause-count
-seek_relaxed-requires-clause-count g c =
+pub seek-requires-clause-count : goal.seek-requires-clause-count
+seek-requires-clause-count g c =
     length-IsBelow c.in-Some.limits c.args.aim.now (rw c.in-Some.is at c.in_ok-limits.ensures)
     ∙ c.requires.count ∙ ap (λ (p : ProblemValue). length p.costs) (sym c.loop-objective.invariant.on.problem)
 
@@ -37,20 +37,19 @@ returns-in_err-found-clause-seeks g c =
     let R = g.O.Recorder in
     let a = R.seen c.args.oracle.now in
     let m = R.seen c.loop-objective.oracle in
-    let b = R.seen c.seek_relaxed.new.oracle in
+    let b = R.seen c.seek.new.oracle in
     let was = c.loop-objective.invariant in
-    let call = c.in_err-found.ensures in
     let result = c.from_residual-in_err-found.result in
-    seeks_after a m b c.args.bounds.now c.loop-objective.bounds c.seek_relaxed.new.bounds result was.good was.on
-    (seeks_handed {U = Option Below} m b c.loop-objective.bounds c.seek_relaxed.new.bounds result c.in_err-found.field-0.0
+    seeks_after a m b c.args.bounds.now c.loop-objective.bounds c.seek.new.bounds result was.good was.on
+    (seeks_handed {U = Option Below} m b c.loop-objective.bounds c.seek.new.bounds result c.in_err-found.field-0.0
     c.from_residual-in_err-found.ensures.1
-    (record { good = call.good; fault = call.fault; goes_on = call.goes_on }))
+    c.in_err-found.ensures.seeks)
 
 pub returns-then-not-is_closed-clause-tells : goal.returns-then-not-is_closed-clause-tells
 returns-then-not-is_closed-clause-tells g c =
     let R = g.O.Recorder in
-    let b = R.seen c.seek_relaxed.new.oracle in
-    told_of_aim b c.in-Some.limits c.args.aim.now c.in_ok-found.found
+    let b = R.seen c.seek.new.oracle in
+    told_of_greater b c.in-Some.limits c.args.aim.now c.in_ok-found.found
     (sym c.if-not-is_closed.ensures)
     (rw c.in-Some.is at c.in_ok-limits.ensures) c.in_ok-found.ensures.tells
 
@@ -59,11 +58,11 @@ returns-then-not-is_closed-clause-seeks g c =
     let R = g.O.Recorder in
     let a = R.seen c.args.oracle.now in
     let m = R.seen c.loop-objective.oracle in
-    let b = R.seen c.seek_relaxed.new.oracle in
+    let b = R.seen c.seek.new.oracle in
     let was = c.loop-objective.invariant in
-    let call = c.in_ok-found.ensures in
-    seeks_ok a b c.args.bounds.now c.seek_relaxed.new.bounds c.in_ok-found.found
-    (stays_good_twice a m b c.args.bounds.now c.loop-objective.bounds c.seek_relaxed.new.bounds was.on.problem was.good
+    let call = c.in_ok-found.ensures.seeks in
+    seeks_ok a b c.args.bounds.now c.seek.new.bounds c.in_ok-found.found
+    (stays_good_twice a m b c.args.bounds.now c.loop-objective.bounds c.seek.new.bounds was.on.problem was.good
     (call.good tt)) (goes_twice a m b was.on call.goes_on)
 
 pub loop-objective-preserved : goal.loop-objective-preserved
@@ -71,12 +70,12 @@ loop-objective-preserved g c =
     let R = g.O.Recorder in
     let a = R.seen c.args.oracle.now in
     let m = R.seen c.loop-objective.oracle in
-    let b = R.seen c.seek_relaxed.new.oracle in
+    let b = R.seen c.seek.new.oracle in
     let was = c.loop-objective.invariant in
-    let call = c.in_ok-found.ensures in
+    let call = c.in_ok-found.ensures.seeks in
     record {
       on = goes_twice a m b was.on call.goes_on;
-      good = stays_good_twice a m b c.args.bounds.now c.loop-objective.bounds c.seek_relaxed.new.bounds was.on.problem
+      good = stays_good_twice a m b c.args.bounds.now c.loop-objective.bounds c.seek.new.bounds was.on.problem
           was.good (call.good tt);
     }
 

@@ -20,29 +20,28 @@ returns-in_default-clause-seeks g c =
     let asked = c.args.bounds.now in
     seeks_ok a a asked asked None (λ front good. (good, refl)) (goes_again a)
 
-pub seek_relaxed-requires-clause-count : goal.seek_relaxed-requires-clause-count
-seek_relaxed-requires-clause-count g c =
+pub seek-requires-clause-count : goal.seek-requires-clause-count
+seek-requires-clause-count g c =
     length-IsBelow c.in-Some.part c.args.limits.now (rw c.in-Some.is at c.in_ok-part.ensures) ∙ c.requires.count
 
 pub returns-in_err-found-clause-seeks : goal.returns-in_err-found-clause-seeks
 returns-in_err-found-clause-seeks g c =
     let R = g.O.Recorder in
     let a = R.seen c.args.oracle.now in
-    let b = R.seen c.seek_relaxed.new.oracle in
-    let call = c.in_err-found.ensures in
+    let b = R.seen c.seek.new.oracle in
     let result = c.from_residual-in_err-found.result in
-    seeks_handed {U = Option Below} a b c.args.bounds.now c.seek_relaxed.new.bounds result c.in_err-found.field-0.0
+    seeks_handed {U = Option Below} a b c.args.bounds.now c.seek.new.bounds result c.in_err-found.field-0.0
     c.from_residual-in_err-found.ensures.1
-    (record { good = call.good; fault = call.fault; goes_on = call.goes_on })
+    c.in_err-found.ensures.seeks
 
 pub returns-then-not-is_closed-clause-tells : goal.returns-then-not-is_closed-clause-tells
 returns-then-not-is_closed-clause-tells g c =
-    told_of_greater (g.O.Recorder.seen c.seek_relaxed.new.oracle) c.in-Some.part c.args.limits.now c.in_ok-found.found
+    told_of_greater (g.O.Recorder.seen c.seek.new.oracle) c.in-Some.part c.args.limits.now c.in_ok-found.found
     (sym c.if-not-is_closed.ensures) (rw c.in-Some.is at c.in_ok-part.ensures) c.in_ok-found.ensures.tells
 
 pub returns-then-is_within-clause-tells : goal.returns-then-is_within-clause-tells
 returns-then-is_within-clause-tells g c =
-    let b = g.O.Recorder.seen c.seek_relaxed.new.oracle in
+    let b = g.O.Recorder.seen c.seek.new.oracle in
     let below = rw c.in-Some.is at c.in_ok-part.ensures in
     subst (λ (v : List ℤ). IfSome c.in_ok-found.found (Tells b v))
     (IsBelow-antisym c.in-Some.part c.args.limits.now below (sym c.if-is_within.ensures)) c.in_ok-found.ensures.tells

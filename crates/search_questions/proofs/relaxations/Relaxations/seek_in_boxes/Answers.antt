@@ -6,8 +6,8 @@ use Rattle.search_questions.specs.declared.below.Below.{Below}
 use Rattle.search_questions.proofs.Calls.{seeks_after, seeks_handed, seeks_ok, stays_good_twice}
 use Rattle.search_questions.proofs.relaxations.Relaxations.seek_in_boxes.Goals as goal
 
-pub returns-then-are_spent-clause-seeks : goal.returns-then-are_spent-clause-seeks
-returns-then-are_spent-clause-seeks g c =
+pub returns-then-gives_boxes_up-clause-seeks : goal.returns-then-gives_boxes_up-clause-seeks
+returns-then-gives_boxes_up-clause-seeks g c =
     let R = g.O.Recorder in
     let a = R.seen c.args.oracle.now in
     let asked = c.args.bounds.now in
