@@ -76,7 +76,14 @@ impl Relaxations {
         ensures tells { IfOk result (λ below. IfSome below (Tells (O.seen oracle.new) limits.now)) }
         ensures seeks { SeeksOn (O.seen oracle.old) (O.seen oracle.new) bounds.old bounds.new result }
     {
-        seek_relaxed(self.alloc, oracle, bounds, &mut self.linear, problem, limits)
+        seek_relaxed(
+            self.alloc,
+            oracle,
+            bounds,
+            &mut self.linear,
+            problem,
+            limits,
+        )
     }
 
     /// What `seek_below` asks, of the relaxations first, for each box that the limits meet: what they don't tell, the

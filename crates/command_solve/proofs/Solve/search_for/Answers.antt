@@ -7,11 +7,11 @@ use Rattle.command_solve.proofs.SolveEnds.{no_memory, objective_count}
 use Rattle.command_solve.proofs.TurnNumbers.{two_objectives}
 use Rattle.command_solve.proofs.Solve.search_for.Goals as goal
 
-pub search_by-requires-in-BiOptSat-clause-serves : goal.search_by-requires-in-BiOptSat-clause-serves
-search_by-requires-in-BiOptSat-clause-serves g c =
+pub search_by-requires-in-Ok-relaxed-clause-serves : goal.search_by-requires-in-Ok-relaxed-clause-serves
+search_by-requires-in-Ok-relaxed-clause-serves g c =
     let kind : c.args.self.now.search ≡ BiOptSat = search rules in
     let two : length c.args.inst.now.objectives ≡ 2 = two_objectives (asked c.args.self.now) c.args.inst.now kind c.requires.problem.search in
-    subst (λ (aim : Aim). Serves aim c.args.problem.now) (sym c.new-in-BiOptSat.ensures) (record {
+    subst (λ (aim : Aim). Serves aim c.args.problem.now) (sym c.in-Ok-relaxed.ensures) (record {
       count = objective_count c.args.inst.now c.args.problem.now c.requires.problem.normal ∙ two;
       numbers = tt;
     })
