@@ -1,44 +1,40 @@
 -- What the literals of a clause come to under a partial assignment.
-use Rattle.std.specs.Prelude.{◌≡◌, ℕ, zero, suc, ◌+◌, ◌<◌, ◌≤◌, Bool, true, false, cond, ◌&&◌, Option, Some, None, List, [], ◌∷◌, ◌++◌, length, sum_by, All, pos, ◌<ℤ◌, int_lt, slice_get, refl}
+use Rattle.std.specs.Prelude.{◌≡◌, ℕ, zero, suc, ◌+◌, ◌<◌, ◌≤◌, Bool, true, false, cond, ◌&&◌, Option, Some, None, List, [], ◌∷◌, length, sum_by, All, pos, ◌<ℤ◌, int_lt, slice_get, refl}
 use Rattle.std.proofs.Common.{sym, ◌∙◌, ap, subst, take, arith, rules}
 use Rattle.std.specs.Option.{is_none, is_some, option_to_list}
 use Rattle.std.specs.List.{filter}
-use Rattle.std.proofs.lemmas.List.Elements.{filter-append, filter_passes, All-filter, All-head, All-tail}
+use Rattle.std.proofs.lemmas.List.Elements.{filter_passes, All-filter, All-head, All-tail}
 use Rattle.std.proofs.lemmas.List.Sums.{sum_by-cons}
 use Rattle.std.proofs.lemmas.Int.{ints}
 use Rattle.scut_base.specs.Literal.{Literal}
 use Rattle.scut_base.specs.Assignment.{partial_truth}
 use Rattle.pb_lin.specs.Constraint.{ConstraintValue, AreOnes, literals, ones, possible_value, slack, unless_false}
 use Rattle.pb_lin.specs.Propagation.{is_forced}
-use Rattle.pb_lin.proofs.AtPlace.{take_place, sum_place, sum_place-le}
+use Rattle.pb_lin.proofs.AtPlace.{sum_place-le}
 use Rattle.pb_lin.proofs.Ones.{sum_ones, ones-filter}
+use Rattle.hint_rup.specs.Negation.{if_true}
 use Rattle.hint_rup.specs.Propagation.{with_true, forced}
 use Rattle.hint_rup.specs.ClauseFate.{IsFate, possible_count, open_literals}
 use Rattle.hint_rup.specs.declared.propagation.Fate.TheVariants.{Quiet}
 use Rattle.hint_rup.proofs.ForcedLiterals.{with_all, forced_none}
 
--- 1 for an open literal, and 1 for a true one
+-- 1 for an open literal
 abbrev of_open : Option Bool → ℕ
 of_open None = 1
 of_open (Some b) = 0
 
-abbrev of_true : Option Bool → ℕ
-of_true None = 0
-of_true (Some true) = 1
-of_true (Some false) = 0
-
-opens_or_true : (t : Option Bool) → of_open t + of_true t ≡ unless_false t 1
+opens_or_true : (t : Option Bool) → of_open t + if_true t ≡ unless_false t 1
 opens_or_true None = refl
 opens_or_true (Some true) = refl
 opens_or_true (Some false) = refl
 
 -- the literals that aren't false are open or true
 open_and_true : (p : List (Option Bool)) (lits : List Literal)
-    → sum_by (λ l. of_open (partial_truth p l)) lits + sum_by (λ l. of_true (partial_truth p l)) lits ≡ possible_count p lits
+    → sum_by (λ l. of_open (partial_truth p l)) lits + sum_by (λ l. if_true (partial_truth p l)) lits ≡ possible_count p lits
 open_and_true p [] = refl
 open_and_true p (l ∷ lits) =
     let open_ones = sum_by-cons (λ m. of_open (partial_truth p m)) l lits in
-    let true_ones = sum_by-cons (λ m. of_true (partial_truth p m)) l lits in
+    let true_ones = sum_by-cons (λ m. if_true (partial_truth p m)) l lits in
     let all = sum_by-cons (λ m. unless_false (partial_truth p m) 1) l lits in
     let rest = open_and_true p lits in
     let first = opens_or_true (partial_truth p l) in
@@ -60,21 +56,11 @@ none_where_empty : {X : Type 0} (xs : List X) → length xs ≡ 0 → xs ≡ []
 none_where_empty [] empty = refl
 none_where_empty (x ∷ xs) some = absurd (omega (arith, some))
 
--- the first literals and one more
-pub more_possible : (p : List (Option Bool)) (lits : List Literal) (i : ℕ) (l : Literal) → slice_get lits i ≡ Some l
-    → possible_count p (take (i + 1) lits) ≡ possible_count p (take i lits) + unless_false (partial_truth p l) 1
-more_possible p lits i l is = sum_place (λ m. unless_false (partial_truth p m) 1) lits i l is
-
-pub more_open : (p : List (Option Bool)) (lits : List Literal) (i : ℕ) (l : Literal) → slice_get lits i ≡ Some l
-    → open_literals p (take (i + 1) lits) ≡ open_literals p (take i lits) ++ cond (is_none (partial_truth p l)) (l ∷ []) []
-more_open p lits i l is =
-    ap (open_literals p) (take_place lits i l is) ∙ filter-append (λ m. is_none (partial_truth p m)) (take i lits) (l ∷ [])
-
 -- a true literal, and one that isn't false after another such
 pub quiet_where_true : (p : List (Option Bool)) (lits : List Literal) (i : ℕ) (l : Literal) → slice_get lits i ≡ Some l → partial_truth p l ≡ Some true → IsFate p lits Quiet
 quiet_where_true p lits i l is truth =
-    let here = sum_place-le (λ m. of_true (partial_truth p m)) lits i l is in
-    let one = ap of_true truth in
+    let here = sum_place-le (λ m. if_true (partial_truth p m)) lits i l is in
+    let one = ap if_true truth in
     let both = open_and_true p lits in
     let open_ones = opens p lits in
     (omega arith, λ alone. none_where_empty (open_literals p lits) (omega arith))
@@ -133,7 +119,7 @@ quiet_forces_none p c all degree quiet = by_count (possible_count p (literals c.
     by_count (suc (suc n)) is = let count = count_is p c all in let tight : slack p c ≡ pos (suc n) = omega (arith, ints) in forced_none p c (suc n) all tight (omega arith)
 
 -- the literal of a unit is open, and is one of the clause's
-is_open_truth : (t : Option Bool) → is_none t ≡ true → t ≡ None
+pub is_open_truth : (t : Option Bool) → is_none t ≡ true → t ≡ None
 is_open_truth None open_one = refl
 is_open_truth (Some b) closed = absurd (search rules)
 

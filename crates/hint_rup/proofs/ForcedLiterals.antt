@@ -9,7 +9,7 @@ use Rattle.std.proofs.lemmas.Int.{ints}
 use Rattle.std.proofs.lemmas.List.Sums.{fold-append}
 use Rattle.scut_base.specs.Literal.{Literal}
 use Rattle.scut_base.specs.Assignment.{partial_truth}
-use Rattle.pb_lin.specs.Constraint.{ConstraintValue, AreOnes, IsNormal, literals, slack}
+use Rattle.pb_lin.specs.Constraint.{ConstraintValue, AreOnes, IsMerged, literals, slack}
 use Rattle.pb_lin.specs.Propagation.{is_forced}
 use Rattle.hint_rup.specs.Propagation.{with_true, forced}
 
@@ -37,21 +37,21 @@ truth_kept p l (t ∷ terms) at_one apart =
     truth_kept (with_true p t.0) l terms at_one (All-tail (IsApart l.var) t terms apart) ∙ truth_kept_one p l t.0 at_one first.0 first.1
 
 -- the terms before one are of other variables
-earlier_apart : (terms : List (Literal × ℕ)) (degree i : ℕ) (t : Literal × ℕ) → IsNormal terms degree → i < length terms → t ≡ get_or terms i t → All (IsApart t.0.var) (take i terms)
-earlier_apart terms degree i t normal within is = λ k d below.
+earlier_apart : (terms : List (Literal × ℕ)) (i : ℕ) (t : Literal × ℕ) → IsMerged terms → i < length terms → t ≡ get_or terms i t → All (IsApart t.0.var) (take i terms)
+earlier_apart terms i t merged within is = λ k d below.
     let before : k < i = omega (arith, length-take-le i terms (omega arith)) in
-    let rise : (get_or terms k t).0.var < (get_or terms i t).0.var = normal.merged.rising k i t before within in
+    let rise : (get_or terms k t).0.var < (get_or terms i t).0.var = merged.rising k i t before within in
     let here : t.0.var ≡ (get_or terms i t).0.var = ap (λ (u : Literal × ℕ). u.0.var) is in
-    let positive : 0 < (get_or terms k t).0.var = normal.merged.from_one k t (omega arith) in
+    let positive : 0 < (get_or terms k t).0.var = merged.from_one k t (omega arith) in
     let apart : IsApart t.0.var (get_or terms k t) = (positive, λ same. omega arith) in
     subst (IsApart t.0.var) (sym (get_or-take i terms k d before ∙ get_or_default terms k d t (omega arith))) apart
 
 -- a test of a term is that of the definition
-pub test_is : (p q : List (Option Bool)) (c : ConstraintValue) (i : ℕ) (t : Literal × ℕ) (s : ℕ) (b : Bool) → IsNormal c.terms c.degree → i < length c.terms → t ≡ get_or c.terms i t → q ≡ forced_of_first p c i → slack p c ≡ pos s
+pub test_is : (p q : List (Option Bool)) (c : ConstraintValue) (i : ℕ) (t : Literal × ℕ) (s : ℕ) (b : Bool) → IsMerged c.terms → i < length c.terms → t ≡ get_or c.terms i t → q ≡ forced_of_first p c i → slack p c ≡ pos s
     → b ≡ (is_none (partial_truth q t.0) && int_lt (pos s) (pos t.1)) → b ≡ is_forced p c t
-test_is p q c i t s b normal within is so_far slack_is test =
-    let positive : 0 < t.0.var = subst (λ (u : Literal × ℕ). 0 < u.0.var) (sym is) (normal.merged.from_one i t within) in
-    let apart : All (IsApart t.0.var) (filter (is_forced p c) (take i c.terms)) = All-filter (is_forced p c) (IsApart t.0.var) (take i c.terms) (earlier_apart c.terms c.degree i t normal within is) in
+test_is p q c i t s b merged within is so_far slack_is test =
+    let positive : 0 < t.0.var = subst (λ (u : Literal × ℕ). 0 < u.0.var) (sym is) (merged.from_one i t within) in
+    let apart : All (IsApart t.0.var) (filter (is_forced p c) (take i c.terms)) = All-filter (is_forced p c) (IsApart t.0.var) (take i c.terms) (earlier_apart c.terms i t merged within is) in
     let kept : partial_truth q t.0 ≡ partial_truth p t.0 = ap (λ r. partial_truth r t.0) so_far ∙ truth_kept p t.0 (filter (is_forced p c) (take i c.terms)) positive apart in
     test ∙ ap (λ o. is_none o && int_lt (pos s) (pos t.1)) kept ∙ ap (λ z. is_none (partial_truth p t.0) && int_lt z (pos t.1)) (sym slack_is)
 
@@ -87,9 +87,9 @@ literal_at terms lits i l same short is =
     (within, is ∙ ap (λ (ls : List Literal). get_or ls i l) same ∙ get_or-map (λ t. t.0) terms i (l, 1) l within)
 
 -- a literal that is tested at the slack 0
-pub test_at_zero : (p q : List (Option Bool)) (c : ConstraintValue) (i : ℕ) (t : Literal × ℕ) (b : Bool) → IsNormal c.terms c.degree → i < length c.terms → t ≡ get_or c.terms i t → q ≡ forced_of_first p c i → slack p c ≡ pos 0 → t.1 ≡ 1 → b ≡ is_none (partial_truth q t.0) → b ≡ is_forced p c t
-test_at_zero p q c i t b normal within is so_far slack_is one test =
-    test_is p q c i t 0 b normal within is so_far slack_is
+pub test_at_zero : (p q : List (Option Bool)) (c : ConstraintValue) (i : ℕ) (t : Literal × ℕ) (b : Bool) → IsMerged c.terms → i < length c.terms → t ≡ get_or c.terms i t → q ≡ forced_of_first p c i → slack p c ≡ pos 0 → t.1 ≡ 1 → b ≡ is_none (partial_truth q t.0) → b ≡ is_forced p c t
+test_at_zero p q c i t b merged within is so_far slack_is one test =
+    test_is p q c i t 0 b merged within is so_far slack_is
     (test ∙ sym (with_true_test (is_none (partial_truth q t.0))) ∙ ap (λ (n : ℕ). is_none (partial_truth q t.0) && int_lt (pos 0) (pos n)) (sym one))
   where
     with_true_test : (x : Bool) → (x && int_lt (pos 0) (pos 1)) ≡ x

@@ -5,3 +5,4 @@ pub mod HintLines
 pub mod HintedVariables
 pub mod Lengths
 pub mod ClauseFates
+pub mod Negations

@@ -6,3 +6,4 @@ pub use Rattle.pb_lin.specs.Given
 pub mod ClauseFate
 pub mod Propagation
 pub mod Hints
+pub mod Negation

@@ -1,12 +1,14 @@
 // Propagation that follows hints.
-ghost use Rattle.std.specs.Prelude.{◌≡◌, ℕ, List, None, length, replicate, option_copied, All, IsOk};
+ghost use Rattle.std.specs.Prelude.{◌≡◌, ℕ, List, None, length, replicate, All, IfSome, IsOk, MatchOption};
 ghost use Rattle.pb_lin.specs.Constraint.{ConstraintValue, UpTo};
 ghost use Rattle.pb_lin.specs.Given.{IsRefuted, IsWithin, given_with};
 ghost use Rattle.hint_rup.specs.Hints.{HintsUpTo, IsReplayed, line_of, id_of};
-ghost use Rattle.hint_rup.specs.Propagation.{Conflicts};
+ghost use Rattle.hint_rup.specs.Negation.{IsNegation, negation_in};
+ghost use Rattle.hint_rup.specs.Propagation.{Conflicts, PropagatesSome};
 
+use crate::negated::propagate_negated;
 use crate::propagation::propagate;
-use crate::{Hint, RupFault};
+use crate::{Hint, Negated, RupFault};
 use pb_lin::{Constraint, Lines};
 use scut_base::Partial;
 
@@ -21,30 +23,30 @@ use scut_base::Partial;
 /// each line up to the conflict.
 pub fn replay(
     scratch: &mut Partial,
-    negated: &Constraint,
+    negated: Negated<'_>,
     denied: Option<&Constraint>,
     hints: &[Hint],
     lines: &Lines,
 ) -> Result<(), RupFault>
-    requires negated { UpTo (length scratch.old) negated.now }
+    requires negation { IsNegation negated }
+    requires negated { UpTo (length scratch.old) (negation_in negated) }
     requires hinted { HintsUpTo (length scratch.old)
-        (given_with lines.now negated.now denied) hints.now }
-    ensures answer { IsReplayed (length scratch.old) negated.now
-        (given_with lines.now negated.now denied.entry) hints.now result }
+        (given_with lines.now (negation_in negated) denied) hints.now }
+    ensures answer { IsReplayed (length scratch.old) (negation_in negated.entry)
+        (given_with lines.now (negation_in negated.entry) denied.entry) hints.now result }
     ensures length { length scratch.new ≡ length scratch.old }
     ensures implied { IsOk result
-        → IsRefuted (given_with lines.now negated.now denied.entry) }
+        → IsRefuted (given_with lines.now (negation_in negated.entry) denied.entry) }
 {
     scratch.clear();
-    if propagate(scratch, negated) {
+    if propagate_negated(scratch, negated) {
         return Ok(());
     }
     for hint in hints {
-        let Some(line) = line_of(*hint, negated, denied, lines) else {
-            return Err(RupFault::NoSuchId(id_of(*hint)));
-        };
-        if propagate(scratch, line) {
-            return Ok(());
+        match propagate_hint(scratch, *hint, negated, denied, lines) {
+            Some(true) => return Ok(()),
+            Some(false) => {}
+            None => return Err(RupFault::NoSuchId(id_of(*hint))),
         }
     }
     Err(RupFault::Open)
@@ -57,21 +59,29 @@ pub fn conflicts_at_any_length()
         → Conflicts (replicate m None) cs → Conflicts (replicate n None) cs }
 {}
 
-// The line that a hint names.
-fn line_of<'a>(
+// Propagates the line that a hint names, and answers whether it is in conflict; `None` where the hint names no line.
+fn propagate_hint(
+    scratch: &mut Partial,
     hint: Hint,
-    negated: &'a Constraint,
-    denied: Option<&'a Constraint>,
-    lines: &'a Lines,
-) -> Option<&'a Constraint>
-    ensures { option_copied result
-        ≡ line_of (given_with lines.now negated.now denied.entry) hint }
+    negated: Negated<'_>,
+    denied: Option<&Constraint>,
+    lines: &Lines,
+) -> Option<bool>
+    requires negation { IsNegation negated }
+    requires hinted { IfSome (line_of (given_with lines.now (negation_in negated) denied) hint)
+        (UpTo (length scratch.old)) }
+    ensures propagates { MatchOption result
+        (line_of (given_with lines.now (negation_in negated.entry) denied.entry) hint ≡ None)
+        (PropagatesSome scratch.old scratch.new
+        (line_of (given_with lines.now (negation_in negated.entry) denied.entry) hint)) }
+    ensures length { length scratch.new ≡ length scratch.old }
 {
-    match hint {
-        Hint::Id(id) => lines.get(id),
-        Hint::Negated => Some(negated),
-        Hint::Denied => denied,
-    }
+    let line = match hint {
+        Hint::Negated => return Some(propagate_negated(scratch, negated)),
+        Hint::Id(id) => lines.get(id)?,
+        Hint::Denied => denied?,
+    };
+    Some(propagate(scratch, line))
 }
 
 // The id of a hint, or 0.

@@ -7,7 +7,9 @@
 
 mod hint;
 mod hinted;
+mod negated;
 mod propagation;
 
 pub use hint::{Hint, RupFault};
 pub use hinted::{conflicts_at_any_length, replay};
+pub use negated::Negated;

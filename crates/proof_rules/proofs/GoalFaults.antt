@@ -18,7 +18,7 @@ use Rattle.proof_rules.specs.declared.fault.StepFault.{StepFault}
 use Rattle.proof_rules.proofs.FirstFaults.{verdict_map}
 
 -- a size that isn't too large
-size_fine : (n : ℕ) → (2 ^ 100 < n → ⊥) → size_fault n ≡ None
+pub size_fine : (n : ℕ) → (2 ^ 100 < n → ⊥) → size_fault n ≡ None
 size_fine n fine = ⊎_elim
     (λ (over : 2 ^ 100 < n). absurd (fine over))
     (λ (fits : n ≤ 2 ^ 100). ap (λ (b : Bool). fault_unless (not b) Overflow) (le-ltb (2 ^ 100) n fits))

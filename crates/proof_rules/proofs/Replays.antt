@@ -1,10 +1,14 @@
 -- What hints lead to doesn't depend on how many more variables than the state's a partial assignment has room for.
-use Rattle.std.proofs.Common.{◌≡◌, ℕ, ◌≤◌, Option, Some, None, List, [], ◌∷◌, slice_index_or, arith, refl, subst}
+use Rattle.std.proofs.Common.{◌≡◌, ℕ, ◌+◌, ◌-◌, ◌^◌, ◌<◌, ◌≤◌, Option, Some, None, List, [], ◌∷◌, length, slice_index_or, ap, arith, refl, subst}
+use Rattle.std.proofs.lemmas.List.{length-map}
 use Rattle.std.specs.Prelude.{IfSome, Result, Ok, Err}
 use Rattle.std.specs.List.{All}
 use Rattle.std.proofs.lemmas.List.Elements.{All-nil, All-cons, All-map, All-weaker}
 use Rattle.scut_base.proofs.Options.{if_some}
-use Rattle.pb_lin.specs.Constraint.{ConstraintValue, IsNormal, UpTo, negation, opposite}
+use Rattle.scut_base.specs.Literal.{Literal}
+use Rattle.pb_lin.specs.Constraint.{ConstraintValue, AreOnes, IsNormal, UpTo, literals, negation, opposite, opposite_terms, total}
+use Rattle.pb_lin.proofs.Ones.{total_ones}
+use Rattle.pb_lin.proofs.OppositeTerms.{normal-opposite}
 use Rattle.pb_lin.specs.Given.{Given, GivenWithin, IsWithin}
 use Rattle.pb_lin.specs.LineMap.{LineMap}
 use Rattle.hint_rup.specs.Hints.{line_of, before, named, IsReplayed}
@@ -73,3 +77,12 @@ replayed_in s state lines same m le negated denied hints first normal upto resul
 -- the variables of a negation are those of the constraint
 pub negation_upto : (n : ℕ) (c : ConstraintValue) → UpTo n c → UpTo n (negation c)
 negation_upto n c upto = All-map (λ t. t.0.var ≤ n) (λ t. (opposite t.0, t.1)) c.terms upto
+
+-- and that of a clause is no larger than its literals, which have room in memory
+pub clause_negation : (c : ConstraintValue) (lits : List Literal) → IsNormal c.terms c.degree → AreOnes c.terms → c.degree ≡ 1 → lits ≡ literals c.terms → length lits < 2 ^ 64
+    → IsNormal (negation c).terms (negation c).degree
+clause_negation c lits normal ones degree same short =
+    let few = total_ones c.terms ones in
+    let long = ap length same in
+    let as_many = length-map c.terms (λ t. t.0) in
+    normal-opposite c.terms (opposite_terms c.terms) c.degree ((total c.terms + 1) - c.degree) normal refl (omega arith)

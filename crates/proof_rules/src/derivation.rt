@@ -1,19 +1,21 @@
 // Derivations by propagation and by cutting planes over the live constraints.
 ghost use Rattle.std.specs.Prelude.{◌≡◌, ◌≤◌, length, IfOk, IfSome, option_copied};
 ghost use Rattle.pb_lin.specs.Constraint.{IsNormal, UpTo, negation, size};
+ghost use Rattle.hint_rup.specs.Negation.{IsNegation, negation_in};
 ghost use Rattle.proof_laws.specs.Refusal.{IsHintsFault, IsRupFault, IsTokensFault, size_fault};
 ghost use Rattle.proof_rules.specs.Verdict.{IsVerdict, IsEvaluated};
 
 use crate::StepFault;
 use crate::reached::Reached;
 use cutting_planes::{PolFault, PolToken, evaluate};
-use hint_rup::{Hint, RupFault, replay};
+use hint_rup::{Hint, Negated, RupFault, replay};
 use pb_lin::{Constraint, LinFault};
 use proof_laws::Why;
 use scut_base::Partial;
 use std::alloc::Global;
 
-// The constraint follows by propagation along the hints. Costs these and its own terms.
+// The constraint follows by propagation along the hints. Costs these and its own terms; the negation of a clause takes no
+// memory.
 pub(crate) fn judge_rup(
     alloc: Global,
     reached: &Reached,
@@ -26,8 +28,15 @@ pub(crate) fn judge_rup(
     ensures verdict { IsVerdict (IsRupFault reached.now goal.now hints.now) result }
     ensures length { length scratch.new ≡ length scratch.old }
 {
+    if goal.is_clause() {
+        let negated = Negated::OfClause(goal);
+        // Tells that it isn't too large.
+        read_negated(negated);
+        return judge_hints(reached, scratch, negated, None, hints, Why::RupOpen);
+    }
     let negated = negation_of(alloc, goal)?;
-    judge_hints(reached, scratch, &negated, None, hints, Why::RupOpen)
+    let negated = Negated::Made(&negated);
+    judge_hints(reached, scratch, negated, None, hints, Why::RupOpen)
 }
 
 // The hints lead to a conflict, or else are refused for the reason that is given. The scratch may have
@@ -35,25 +44,43 @@ pub(crate) fn judge_rup(
 pub(crate) fn judge_hints(
     reached: &Reached,
     scratch: &mut Partial,
-    negated: &Constraint,
+    negated: Negated<'_>,
     denied: Option<&Constraint>,
     hints: &[Hint],
     otherwise: Why,
 ) -> Result<(), StepFault>
     requires variables { reached.now.vars ≤ length scratch.old }
-    requires negated { UpTo reached.now.vars negated.now }
+    requires negation { IsNegation negated }
+    requires negated { UpTo reached.now.vars (negation_in negated) }
     requires denied { IfSome (option_copied denied) (UpTo reached.now.vars) }
     ensures verdict { IsVerdict
-        (IsHintsFault reached.now negated.now (option_copied denied.entry) hints.now otherwise)
+        (IsHintsFault reached.now (negation_in negated.entry) (option_copied denied.entry)
+        hints.now otherwise)
         result }
     ensures length { length scratch.new ≡ length scratch.old }
 {
-    let _normal = negated.len();
+    read_negated(negated);
     read_denied(denied);
     match replay(scratch, negated, denied, hints, &reached.live) {
         Ok(()) => Ok(()),
         Err(RupFault::NoSuchId(id)) => Err(StepFault::Refused(Why::NoSuchId(id))),
         Err(RupFault::Open) => Err(StepFault::Refused(otherwise)),
+    }
+}
+
+// The negation is in normal form.
+fn read_negated(negated: Negated<'_>)
+    requires { IsNegation negated }
+    ensures { IsNormal (negation_in negated.entry).terms (negation_in negated.entry).degree }
+{
+    match negated {
+        Negated::Made(line) => {
+            let _normal = line.len();
+        }
+        Negated::OfClause(clause) => {
+            // Tells also that they are few.
+            let _normal = clause.literals();
+        }
     }
 }
 

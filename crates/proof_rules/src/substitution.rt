@@ -13,6 +13,7 @@ use crate::StepFault;
 use crate::derivation::{judge_hints, judge_tokens, negation_of};
 use crate::goals::{has_fallen, not_risen};
 use crate::reached::Reached;
+use hint_rup::Negated;
 use pb_lin::{Constraint, LinFault, PbProblem, Witness};
 use proof_laws::{Goal, GoalProof, Why};
 use scut_base::Partial;
@@ -300,7 +301,7 @@ fn judge_proof(
     let otherwise = Why::GoalOpen(name);
     match proof {
         GoalProof::Rup(hints) => {
-            let hints = hints.as_slice();
+            let (negated, hints) = (Negated::Made(negated), hints.as_slice());
             judge_hints(
                 reached,
                 scratch,

@@ -36,7 +36,7 @@ loop-lit-preserved c =
     let t : Literal × ℕ = get_or c.args.line.now.terms c.loop-lit.lit-index (c.lit-item.result, 1) in
     let is : t ≡ get_or line.terms i t = get_or_default line.terms i (l, 1) t at.0 in
     let test : c.is_open.result ≡ is_forced p line t =
-    test_at_zero p q line i t c.is_open.result c.literals-lit-items.ensures.normal at.0 is c.loop-lit.invariant.forced c.requires.slack (c.requires.ones i (l, 1) at.0) (c.is_open.ensures ∙ ap (λ (m : Literal). is_none (partial_truth q m)) at.1) in
+    test_at_zero p q line i t c.is_open.result c.literals-lit-items.ensures.normal.merged at.0 is c.loop-lit.invariant.forced c.requires.slack (c.requires.ones i (l, 1) at.0) (c.is_open.ensures ∙ ap (λ (m : Literal). is_none (partial_truth q m)) at.1) in
     elim c.if-is_open.branch [
       | then-is_open w ↦ record {
         forced = w.scratch-is ∙ w.set.ensures ∙ ap (with_true q) at.1 ∙ goes_on_set p q line i t at.0 is c.loop-lit.invariant.forced (sym test ∙ w.if-is_open.true);

@@ -19,7 +19,7 @@ loop-at-preserved c =
     let within : i < length line.terms = slice_get_within line.terms i t c.term-term.ensures in
     let is : t ≡ get_or line.terms i t = sym (get_or_from_slice_get line.terms i t t c.term-term.ensures) in
     let test : c.is_forced.result ≡ is_forced p line t =
-    test_is p q line i t c.args.line_slack c.is_forced.result c.len-at-end.ensures.normal within is c.loop-at.invariant.forced c.requires.slack c.is_forced.ensures.value in
+    test_is p q line i t c.args.line_slack c.is_forced.result c.len-at-end.ensures.normal.merged within is c.loop-at.invariant.forced c.requires.slack c.is_forced.ensures.value in
     elim c.if-is_forced.branch [
       | then-is_forced w ↦ record {
         forced = w.scratch-is ∙ w.set.ensures ∙ goes_on_set p q line i t within is c.loop-at.invariant.forced (sym test ∙ w.if-is_forced.true);
