@@ -1,6 +1,7 @@
 -- The steps of a trail by their places, and what makes a literal false.
 use Rattle.std.specs.Prelude.{min, ◌≡◌, ℕ, ◌-◌, ◌<◌, ◌≤◌, ◌⊎◌, Bool, true, false, not, if◌then◌else◌, Option, Some, None, option_map, List, [], ◌∷◌, take, length, slice_get, All, AllPairs, fold, refl}
 use Rattle.std.proofs.Common.{zero, suc, sym, ◌∙◌, ap, subst, inl, inr, get_or, arith}
+use Rattle.std.proofs.Math.Bool.{not-not}
 use Rattle.std.proofs.lemmas.Bool.{cases_order}
 use Rattle.std.proofs.lemmas.List.{get_or-take, length-take, take_all}
 use Rattle.std.proofs.lemmas.List.Elements.{All-nil, All-cons, All-head}
@@ -11,20 +12,14 @@ use Rattle.pb_lin.specs.Constraint.{opposite}
 use Rattle.clause_prop.specs.declared.step.Step.{Step}
 use Rattle.clause_prop.specs.Steps.{TrailValue, AreSteps, assigned, cut, partial, last_level}
 use Rattle.clause_prop.proofs.Assigned.{assigned-at, assigned-found, index}
+use Rattle.hint_rup.proofs.Negations.{opposite_is}
 use Rattle.cdcl_trail.specs.SearchTrail.{IsStepAt}
 
-not_twice : (b : Bool) → not (not b) ≡ b
-not_twice true = refl
-not_twice false = refl
-
 pub opposite_twice : (l : Literal) → opposite (opposite l) ≡ l
-opposite_twice l = ap (λ (b : Bool). record { var = l.var; neg = b }) (not_twice l.neg)
+opposite_twice l = ap (λ (b : Bool). record { var = l.var; neg = b }) (not-not l.neg)
 
 pub opposite_back : (l m : Literal) → l ≡ opposite m → opposite l ≡ m
 opposite_back l m is = ap opposite is ∙ opposite_twice m
-
-pub opposite_is : (l m : Literal) → l.var ≡ m.var → l.neg ≡ not m.neg → l ≡ opposite m
-opposite_is l m var neg = ap (λ (n : ℕ). record { var = n; neg = l.neg }) var ∙ ap (λ (b : Bool). record { var = m.var; neg = b }) neg
 
 -- two steps at one place are one
 pub step_same : (t : TrailValue) (p q : ℕ) (s r : Step) → IsStepAt t p s → IsStepAt t q r → p ≡ q → s ≡ r

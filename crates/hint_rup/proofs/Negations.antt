@@ -81,7 +81,8 @@ opposite_at ts lits i l same short is =
     (let long = length-map lits opposite in omega arith)
     (ap opposite is ∙ sym (get_or-map opposite lits i l (opposite l) short))
 
-pub opposite_is : (l m : Literal) → m.var ≡ l.var → m.neg ≡ not l.neg → m ≡ opposite l
+-- the opposite of a literal, by its fields
+pub opposite_is : (l m : Literal) → l.var ≡ m.var → l.neg ≡ not m.neg → l ≡ opposite m
 opposite_is l m var neg = λ i. record { var = var i; neg = neg i }
 
 pub opposite_ones : (ts : List (Literal × ℕ)) → AreOnes ts → AreOnes (opposite_terms ts)

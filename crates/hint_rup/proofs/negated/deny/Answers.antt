@@ -32,7 +32,7 @@ pub set-requires-clause-open : goal.set-requires-clause-open
 set-requires-clause-open c =
     let q = c.loop-lit.scratch in
     let l = c.lit-item.result in
-    ap (partial_truth q) (opposite_is l c.not.result c.not.ensures.var c.not.ensures.neg)
+    ap (partial_truth q) (opposite_is c.not.result l c.not.ensures.var c.not.ensures.neg)
     ∙ is_open_truth (partial_truth q (opposite l)) (sym (opposite_open q l) ∙ sym (ap is_none c.get.ensures) ∙ sym (none_where c.get.result c.is_none.result c.is_none.ensures) ∙ c.if-is_none.true)
 
 pub loop-lit-preserved : goal.loop-lit-preserved
@@ -50,7 +50,7 @@ loop-lit-preserved c =
     (none_where c.get.result c.is_none.result c.is_none.ensures ∙ ap is_none c.get.ensures ∙ opposite_open q l ∙ ap (λ (m : Literal). is_none (partial_truth q m)) at.1) in
     elim c.if-is_none.branch [
       | then-is_none w ↦ record {
-        forced = w.scratch-is ∙ w.set.ensures ∙ ap (with_true q) (opposite_is l w.not.result w.not.ensures.var w.not.ensures.neg ∙ at.1) ∙ goes_on_set p q n i t at.0 is c.loop-lit.invariant.forced (sym test ∙ w.if-is_none.true);
+        forced = w.scratch-is ∙ w.set.ensures ∙ ap (with_true q) (opposite_is w.not.result l w.not.ensures.var w.not.ensures.neg ∙ at.1) ∙ goes_on_set p q n i t at.0 is c.loop-lit.invariant.forced (sym test ∙ w.if-is_none.true);
         length = ap length (w.scratch-is ∙ w.set.ensures) ∙ length-set q _ _ ∙ c.loop-lit.invariant.length;
       }
       | else-is_none w ↦ record {

@@ -9,7 +9,7 @@ use Rattle.cdcl_analysis.specs.declared.reach.Reach.TheVariants.{Level}
 use Rattle.cdcl_analysis.specs.Walking.{IsClosing, IsOutcome, spare}
 use Rattle.cdcl_analysis.proofs.Closing.{spare_one}
 use Rattle.cdcl_analysis.proofs.Outcomes.{apart_from, lesson_asserting, lesson_hints}
-use Rattle.cdcl_analysis.proofs.TrailSteps.{opposite_is}
+use Rattle.hint_rup.proofs.Negations.{opposite_is}
 use Rattle.cdcl_analysis.proofs.marks.Marks.lesson.Goals as goal
 
 pub step_at-requires : goal.step_at-requires
