@@ -2,7 +2,7 @@
 //!
 //! Its public contract: `infeasible_leaf` answers tokens and the clause that they make of the live lines, whose
 //! literals are false under a partial assignment; `add_clause_line` records tokens where they make a clause, and
-//! nothing where they don't. The multipliers are taken as they come: nothing of them is believed, since each
+//! nothing where they don't; `add_line` does so where they make any constraint. The multipliers are taken as they come: nothing of them is believed, since each
 //! clause is what the tokens make. The crate knows no linear program.
 #![tactic(auto)]
 
@@ -17,4 +17,4 @@ mod weakening;
 pub use factors::Multiplier;
 pub use leaf::{Leaf, infeasible_leaf};
 pub use making::resolvent_tokens;
-pub use recording::{ClauseLine, add_clause_line};
+pub use recording::{ClauseLine, add_clause_line, add_line};

@@ -1,8 +1,9 @@
-// Clauses that tokens make of the live lines.
+// Constraints that tokens make of the live lines.
 ghost use Rattle.std.specs.Prelude.{◌≡◌, ◌∷◌, [], IfOk, MatchOption};
+ghost use Rattle.sum_outputs.specs.Laws.{AreTokensOf};
 ghost use Rattle.cutting_planes.specs.declared.token.PolToken.{PolToken};
 ghost use Rattle.cutting_planes.specs.declared.token.PolToken.TheVariants.{Id, Add, Saturate};
-ghost use Rattle.linear_lines.specs.Stating.{MakesClause, MakesNoClause};
+ghost use Rattle.linear_lines.specs.Stating.{MakesClause, MakesNoClause, MakesNone};
 
 use crate::spelling::are_spelled;
 use cutting_planes::{PolFault, PolToken, evaluate, one_value};
@@ -21,12 +22,27 @@ pub(crate) fn clause_of(
         (MakesNoClause state.now tokens.now) (MakesClause state.now tokens.now)) }
 {
     one_value();
+    match made_of(alloc, state, tokens)? {
+        Some(made) if made.is_clause() => Ok(Some(made)),
+        _ => Ok(None),
+    }
+}
+
+// The constraint that the tokens make of the live lines, if they make one. Costs their evaluation.
+pub(crate) fn made_of(
+    alloc: Global,
+    state: &ProofState,
+    tokens: &[PolToken],
+) -> Result<Option<Constraint>, NoMemory>
+    ensures { IfOk result (λ made. MatchOption made
+        (MakesNone state.now tokens.now) (AreTokensOf state.now tokens.now)) }
+{
+    one_value();
     if tokens.is_empty() || !are_spelled(tokens, state.vars()) {
         return Ok(None);
     }
     match evaluate(alloc, tokens, state.live(), None, None) {
-        Ok(made) if made.is_clause() => Ok(Some(made)),
-        Ok(_) => Ok(None),
+        Ok(made) => Ok(Some(made)),
         Err(PolFault::NoMemory) => Err(NoMemory),
         Err(_) => Ok(None),
     }

@@ -1,5 +1,6 @@
 use Rattle.std.proofs.Common.{Ok, None, refl, ap, ◌∙◌}
 use Rattle.sum_outputs.proofs.LaterStates.{continues_again, recorded_ok}
+use Rattle.linear_lines.specs.Stating.{MakesClause, MakesNoClause}
 use Rattle.linear_lines.proofs.Answering.{made_now, memory_handed, none_now}
 use Rattle.linear_lines.proofs.recording.add_clause_line.Goals as goal
 
@@ -12,7 +13,7 @@ returns-in_err-in_memory-clause-recorded g c =
 pub state_clause-requires-clause-makes : goal.state_clause-requires-clause-makes
 state_clause-requires-clause-makes g c =
     let a = let R = g.R.Recorder in R.seen c.args.rec.now in
-    made_now a c.state-2.result.now c.state-2.ensures.replays c.as_slice.result.now c.args.tokens c.as_slice.ensures c.clause_of.result c.clause_of.ensures
+    made_now MakesNoClause MakesClause a c.state-2.result.now c.state-2.ensures.replays c.as_slice.result.now c.args.tokens c.as_slice.ensures c.clause_of.result c.clause_of.ensures
     c.in-Some.clause (c.in_ok-in_memory.ensures.ok ∙ ap (λ o. Ok o) c.in-Some.is)
 
 pub returns-in-None-clause-recorded : goal.returns-in-None-clause-recorded
@@ -24,6 +25,6 @@ pub returns-in-None-clause-line : goal.returns-in-None-clause-line
 returns-in-None-clause-line g c =
     let a = let R = g.R.Recorder in R.seen c.args.rec.now in (
       refl,
-      none_now a c.state-2.result.now c.state-2.ensures.replays c.as_slice.result.now c.args.tokens c.as_slice.ensures c.clause_of.result c.clause_of.ensures
+      none_now MakesNoClause MakesClause a c.state-2.result.now c.state-2.ensures.replays c.as_slice.result.now c.args.tokens c.as_slice.ensures c.clause_of.result c.clause_of.ensures
           (c.in_ok-in_memory.ensures.ok ∙ ap (λ o. Ok o) c.in-None.is),
     )
