@@ -1,5 +1,5 @@
 -- How ids are spelled tells them apart.
-use Rattle.std.proofs.Common.{◌≡◌, ℕ, ◌-◌, ◌^◌, ◌<◌, ◌≤◌, Bool, true, false, cond, List, [], ◌∷◌, ◌++◌, codes, get_or, take, drop, length, Option, Some, None, refl, sym, ap, subst, ◌∙◌, arith}
+use Rattle.std.proofs.Common.{◌≡◌, ℕ, ◌-◌, ◌^◌, ◌<◌, ◌≤◌, Bool, true, false, cond, List, [], ◌∷◌, ◌++◌, codes, get_or, take, drop, length, Option, Some, None, MatchOption, refl, sym, ap, subst, ◌∙◌, arith}
 use Rattle.std.specs.Int.{IsInRange}
 use Rattle.std.specs.Fmt.{decimal}
 use Rattle.std.proofs.lemmas.Bool.{and_parts, ltb-true}
@@ -88,25 +88,20 @@ back_word rows next id made = ap (id_by next id) made
 pub back_none : (rows next : ℕ) (digits : List ℕ) → next ≤ 2 ^ 63 → ((x : ℕ) → IsId x → digits ≡ decimal x → ⊥) → IsBack rows next digits None
 back_none rows next digits most none = λ id made is. let range = below_next rows next id made in none (next - id) (omega arith) is
 
-one_distance : (rows next distance : ℕ) (digits : List ℕ) → next ≤ 2 ^ 63 → IsId distance → digits ≡ decimal distance → (id : ℕ) → is_made rows next id ≡ true → digits ≡ decimal (next - id) → (distance ≤ next) × (next - distance ≡ id)
-one_distance rows next distance digits most valid spelled id made is =
+-- where one may follow
+pub back_from : (rows next distance : ℕ) (digits : List ℕ) (r : Option ℕ) → next ≤ 2 ^ 63 → IsId distance → digits ≡ decimal distance → MatchOption r ((id : ℕ) → is_made rows next id ≡ true → next - id ≡ distance → ⊥) (λ id. (is_made rows next id ≡ true) × (next - id ≡ distance)) → IsBack rows next digits r
+back_from rows next distance digits None most valid spelled none = λ id made is. none id made (one_number (next - id) distance (omega arith) (omega arith) (sym is ∙ spelled))
+back_from rows next distance digits (Some id) most valid spelled back = (back.0, spelled ∙ ap decimal (sym back.1))
+
+-- no other id stands so far before the next
+pub none_before : (rows next distance : ℕ) → distance ≤ next → is_made rows next (next - distance) ≡ false → (id : ℕ) → is_made rows next id ≡ true → next - id ≡ distance → ⊥
+none_before rows next distance within other id made is =
     let range = below_next rows next id made in
-    let same : distance ≡ next - id = one_number distance (next - id) (omega arith) (omega arith) (sym spelled ∙ is) in
-    (omega arith, omega arith)
-
-pub too_far : (rows next distance : ℕ) (digits : List ℕ) → next ≤ 2 ^ 63 → IsId distance → digits ≡ decimal distance → next < distance → IsBack rows next digits None
-too_far rows next distance digits most valid spelled far = λ id made is. let near = one_distance rows next distance digits most valid spelled id made is in omega (arith, near.0)
-
-pub not_made : (rows next distance : ℕ) (digits : List ℕ) → next ≤ 2 ^ 63 → IsId distance → digits ≡ decimal distance → is_made rows next (next - distance) ≡ false → IsBack rows next digits None
-not_made rows next distance digits most valid spelled other = λ id made is.
-    let near = one_distance rows next distance digits most valid spelled id made is in
-    by (is_made rows next id) made (ap (is_made rows next) (sym near.1) ∙ other)
+    let same : id ≡ next - distance = omega (arith, range.1) in
+    by (is_made rows next id) made (ap (is_made rows next) same ∙ other)
   where
     by : (v : Bool) → v ≡ true → v ≡ false → ⊥
     by v passed failed = cc
-
-pub counted : (next distance : ℕ) (digits : List ℕ) → distance ≤ next → digits ≡ decimal distance → digits ≡ decimal (next - (next - distance))
-counted next distance digits within spelled = let same : distance ≡ next - (next - distance) = omega arith in spelled ∙ ap decimal same
 
 -- ---- a word that begins with `-`
 

@@ -9,6 +9,7 @@ pub mod Codes
 pub mod WordParts
 pub mod Pieces
 pub mod RunWords
+mod ShortWords
 pub mod RisingLists
 pub mod TermLists
 pub mod TokenCode

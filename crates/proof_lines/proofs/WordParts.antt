@@ -1,9 +1,9 @@
 -- Parts of a line whose items are single words.
-use Rattle.std.proofs.Common.{◌≡◌, ℕ, List, [], ◌∷◌, ◌++◌, map, Some, None, Err, refl, sym, ap, subst, ◌∙◌}
+use Rattle.std.proofs.Common.{◌≡◌, ℕ, List, [], ◌∷◌, ◌++◌, map, Option, Some, None, Err, refl, sym, ap, subst, ◌∙◌}
 use Rattle.std.specs.List.{All, flat_map}
 use Rattle.scut_base.proofs.Lists.{head_same, tail_same}
 use Rattle.proof_lines.specs.declared.reader.LineFault.TheVariants.{Syntax}
-use Rattle.proof_lines.specs.Reading.{EndsPart, IsValueOf, ReadsPart}
+use Rattle.proof_lines.specs.Reading.{EndsPart, IsValueOf, ReadsPart, Takes}
 use Rattle.proof_lines.proofs.Items.{IsCode, ItemsSoFar, Words, one_item_more, no_item_here, one_list}
 use Rattle.proof_lines.proofs.Codes.{IsWordCode, AnyFollows, one_word}
 
@@ -34,6 +34,19 @@ part_wrong word IsValid code old here next_words new items next so_far follows n
     (λ ended. no_mark (subst EndsPart follows ended))
     (λ x r x_valid any is. none x x_valid (head_same _ _ _ _ (sym follows ∙ is)))
     ys s valid ends (e ∙ ap (λ ws. ws ++ s) (sym (words_map word ys)))
+
+-- the same of words that begin with no item
+pub part_unread : {X : Type 0} (word : X → List ℕ) (IsValid : X → Type 0) → IsWordCode word IsValid → (old here after new : Words) (items : List X) → WordsSoFar word IsValid old here items → (EndsPart here → ⊥) → Takes (one_word word) IsValid here after None → ReadsPart (map word) (All IsValid) old new (Err Syntax)
+part_unread word IsValid code old here after new items so_far unended none ys s valid ends e =
+    no_item_here (one_word word) IsValid AnyFollows EndsPart (part_code word IsValid code) old here items so_far
+    unended
+    (λ x r x_valid any is. none x r x_valid is)
+    ys s valid ends (e ∙ ap (λ ws. ws ++ s) (sym (words_map word ys)))
+
+-- what the next word spells is taken
+pub word_taken : {X : Type 0} (word : X → List ℕ) (IsValid : X → Type 0) (old new : Words) (next : List ℕ) (r : Option X) → old ≡ next ∷ new → IsValueOf word IsValid next r → Takes (one_word word) IsValid old new r
+word_taken word IsValid old new next None is none = λ x rest valid spelled. none x valid (head_same _ _ _ _ (sym is ∙ spelled))
+word_taken word IsValid old new next (Some x) is value = (value.0, is ∙ ap (λ w. w ∷ new) value.1)
 
 -- one list is spelled up to an end
 pub one_part : {X : Type 0} (word : X → List ℕ) (IsValid : X → Type 0) → IsWordCode word IsValid → (xs ys : List X) (r s : Words) → All IsValid xs → All IsValid ys → EndsPart r → EndsPart s → map word xs ++ r ≡ map word ys ++ s → (xs ≡ ys) × (r ≡ s)

@@ -1,5 +1,5 @@
 -- What the functions of the reader answer.
-use Rattle.std.specs.Prelude.{◌≡◌, ◌≢◌, ℕ, ◌+◌, ◌<◌, ◌≤◌, ◌^◌, Bool, true, false, ◌==◌, List, [], ◌∷◌, ◌++◌, length, slice_index, Option, None, Some, Result, Ok, Err, codes}
+use Rattle.std.specs.Prelude.{◌≡◌, ◌≢◌, ℕ, ◌+◌, ◌<◌, ◌≤◌, ◌^◌, Bool, true, false, ◌==◌, List, [], ◌∷◌, ◌++◌, length, take, slice_index, Option, None, Some, Result, Ok, Err, codes}
 use Rattle.std.specs.List.{slice_split, flat_map}
 use Rattle.std.specs.Fmt.{decimal}
 use Rattle.std.specs.Str.Parse.{AllDigits, digits_value}
@@ -62,6 +62,13 @@ IsPlain word = (0 < length word) × (slice_index word 0 ≡ zero_digit → lengt
 abbrev pub ReadsDigits : ℕ → List ℕ → Option ℕ → Type 0
 ReadsDigits limit word None = AllDigits 10 word → digits_value 10 word < limit → ⊥
 ReadsDigits limit word (Some n) = AllDigits 10 word × (n ≡ digits_value 10 word) × (n < limit)
+
+-- the first `len` bytes are digits, at most 18, and spell the number
+pub record IsLeading (text : List ℕ) (number len : ℕ) : Type 0 where
+  pub within : len ≤ length text
+  pub digits : AllDigits 10 (take len text)
+  pub value : number ≡ digits_value 10 (take len text)
+  pub small : number < 10 ^ 18
 
 -- ---- the values of some words
 

@@ -7,7 +7,8 @@ ghost use Rattle.proof_lines.specs.Reading.{IsTerm, MayFollow, Reads, ReadsTerms
 ghost use Rattle.proof_lines.specs.Reading.{term_words};
 
 use crate::LineFault;
-use crate::number::{literal_of, number_of};
+use crate::lists::take_literal;
+use crate::number::number_of;
 use crate::terms::Terms;
 use crate::words::Words;
 use pb_lin::{Constraint, SIZE_LIMIT};
@@ -30,7 +31,7 @@ pub(crate) fn read_constraint(alloc: Global, words: &mut Words<'_>) -> Result<Co
 fn read_terms(alloc: Global, words: &mut Words<'_>) -> Result<(Terms, u128), LineFault>
     ensures { ReadsTerms words.old words.new result }
 {
-    let mut terms = Terms::new(alloc);
+    let mut terms = Terms::new(alloc)?;
     let mut last = 0;
     let mut sum = 0;
     while let Some(word) = words.next() {
@@ -55,7 +56,7 @@ fn take_term(word: &[u8], words: &mut Words<'_>) -> Option<(Lit, u128)>
     ensures { Takes term_words IsTerm (word.now ∷ words.old) words.new result }
 {
     let coefficient = number_of(word)?;
-    let lit = literal_of(words.next()?)?;
+    let lit = take_literal(words)?;
     Some((lit, coefficient))
 }
 

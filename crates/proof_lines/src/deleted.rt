@@ -84,7 +84,7 @@ fn read_pieces(
     requires { IsSpelling spelling }
     ensures { ReadsPart (map (piece_word spelling)) (All IsPiece) words.old words.new result }
 {
-    let mut pieces = Items::new(alloc);
+    let mut pieces = Items::with_capacity(alloc, words.room())?;
     while let Some(word) = words.next_in_part() {
         match piece_of(spelling, word) {
             Some(piece) => pieces.push(piece)?,

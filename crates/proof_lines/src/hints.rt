@@ -1,9 +1,9 @@
 // Hints of a line.
-ghost use Rattle.std.specs.Prelude.{map, All};
+ghost use Rattle.std.specs.Prelude.{◌∷◌, [], map, All};
 ghost use Rattle.proof_laws.specs.WellFormed.{IsHint};
 ghost use Rattle.proof_lines.specs.Ids.{IsSpelling};
 ghost use Rattle.proof_lines.specs.LineText.{hint_word};
-ghost use Rattle.proof_lines.specs.Reading.{IsValueOf, ReadsPart};
+ghost use Rattle.proof_lines.specs.Reading.{IsValueOf, ReadsPart, Takes};
 
 use crate::ids::id_of;
 use crate::words::Words;
@@ -21,14 +21,25 @@ pub(crate) fn read_hints(
     requires { IsSpelling spelling }
     ensures { ReadsPart (map (hint_word spelling)) (All IsHint) words.old words.new result }
 {
-    let mut hints = Items::new(alloc);
-    while let Some(word) = words.next_in_part() {
-        match hint_of(spelling, word) {
+    let mut hints = Items::with_capacity(alloc, words.room())?;
+    while !words.ends_part() {
+        match take_hint(spelling, words) {
             Some(hint) => hints.push(hint)?,
             None => return Err(LineFault::Syntax),
         }
     }
     Ok(hints)
+}
+
+// Takes the hint that the next word spells.
+fn take_hint(spelling: Spelling, words: &mut Words<'_>) -> Option<Hint>
+    requires { IsSpelling spelling }
+    ensures { Takes (λ h. hint_word spelling h ∷ []) IsHint words.old words.new result }
+{
+    if let Some(id) = words.short_id(spelling) {
+        return Some(Hint::Id(id));
+    }
+    hint_of(spelling, words.next()?)
 }
 
 // The hint that a word spells.

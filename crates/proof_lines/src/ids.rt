@@ -1,5 +1,5 @@
 // The word of an id.
-ghost use Rattle.std.specs.Prelude.{◌≡◌, ◌≢◌, ◌≤◌, ◌^◌, ◌∷◌, ◌++◌, MatchOption, codes, slice_index};
+ghost use Rattle.std.specs.Prelude.{◌≡◌, ◌≢◌, ◌≤◌, ◌^◌, ◌∷◌, ◌++◌, ◌-◌, ℕ, true, MatchOption, codes, slice_index};
 ghost use Rattle.std.specs.Fmt.{decimal};
 ghost use Rattle.proof_laws.specs.WellFormed.{IsId};
 ghost use Rattle.proof_lines.specs.declared.spelling.Spelling.TheVariants.{Relative};
@@ -42,8 +42,8 @@ pub(crate) fn distance_back(spelling: Spelling, id: u64) -> Option<u64>
     }
 }
 
-// Whether a line before has made the id.
-fn is_made(rows: u64, next_id: u64, id: u64) -> bool
+/// Whether a line before has made the id.
+pub(crate) fn is_made(rows: u64, next_id: u64, id: u64) -> bool
     ensures { result ≡ is_made rows next_id id }
 {
     rows < id && id < next_id
@@ -80,7 +80,15 @@ fn id_back(rows: u64, next_id: u64, digits: &[u8]) -> Option<u64>
     requires { next_id ≤ 2 ^ 63 }
     ensures { IsBack rows next_id digits.now result }
 {
-    let distance = plain_id(digits)?;
+    id_before(rows, next_id, plain_id(digits)?)
+}
+
+/// The id so many before the next one, where a line before has made it.
+pub(crate) fn id_before(rows: u64, next_id: u64, distance: u64) -> Option<u64>
+    ensures { MatchOption result
+        ((id : ℕ) → is_made rows next_id id ≡ true → next_id - id ≡ distance → ⊥)
+        (λ id. (is_made rows next_id id ≡ true) × (next_id - id ≡ distance)) }
+{
     if distance > next_id {
         return None;
     }

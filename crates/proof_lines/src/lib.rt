@@ -20,6 +20,7 @@ mod number;
 mod print;
 mod reader;
 mod runs;
+mod short;
 mod spelling;
 mod terms;
 mod tokens;

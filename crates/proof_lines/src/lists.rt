@@ -1,9 +1,9 @@
 // Lists of ids and of literals.
-ghost use Rattle.std.specs.Prelude.{◌<◌, ◌↔◌, map, All, AllPairs, IsTrue};
+ghost use Rattle.std.specs.Prelude.{◌<◌, ◌↔◌, ◌∷◌, [], map, All, AllPairs, IsTrue};
 ghost use Rattle.proof_laws.specs.WellFormed.{IsId, IsVariable, AreRisingLiterals};
 ghost use Rattle.proof_lines.specs.Ids.{IsSpelling, id_word};
 ghost use Rattle.proof_lines.specs.LineText.{literal_word};
-ghost use Rattle.proof_lines.specs.Reading.{ReadsPart};
+ghost use Rattle.proof_lines.specs.Reading.{ReadsPart, Takes};
 
 use crate::ids::id_of;
 use crate::number::literal_of;
@@ -21,9 +21,9 @@ pub(crate) fn read_ids(
     requires { IsSpelling spelling }
     ensures { ReadsPart (map (id_word spelling)) (All IsId) words.old words.new result }
 {
-    let mut ids = Items::new(alloc);
-    while let Some(word) = words.next_in_part() {
-        match id_of(spelling, word) {
+    let mut ids = Items::with_capacity(alloc, words.room())?;
+    while !words.ends_part() {
+        match take_id(spelling, words) {
             Some(id) => ids.push(id)?,
             None => return Err(LineFault::Syntax),
         }
@@ -31,19 +31,40 @@ pub(crate) fn read_ids(
     Ok(ids)
 }
 
+// Takes the id that the next word spells.
+fn take_id(spelling: Spelling, words: &mut Words<'_>) -> Option<u64>
+    requires { IsSpelling spelling }
+    ensures { Takes (λ id. id_word spelling id ∷ []) IsId words.old words.new result }
+{
+    if let Some(id) = words.short_id(spelling) {
+        return Some(id);
+    }
+    id_of(spelling, words.next()?)
+}
+
 /// Takes literals up to the end of a part. One pass; takes memory for the literals.
 pub(crate) fn read_literals(alloc: Global, words: &mut Words<'_>) -> Result<Items<Lit>, LineFault>
     ensures { ReadsPart (map literal_word) (All (λ l. IsVariable l.var))
         words.old words.new result }
 {
-    let mut lits = Items::new(alloc);
-    while let Some(word) = words.next_in_part() {
-        match literal_of(word) {
+    let mut lits = Items::with_capacity(alloc, words.room())?;
+    while !words.ends_part() {
+        match take_literal(words) {
             Some(lit) => lits.push(lit)?,
             None => return Err(LineFault::Syntax),
         }
     }
     Ok(lits)
+}
+
+/// Takes the literal that the next word spells.
+pub(crate) fn take_literal(words: &mut Words<'_>) -> Option<Lit>
+    ensures { Takes (λ l. literal_word l ∷ []) (λ l. IsVariable l.var) words.old words.new result }
+{
+    if let Some(lit) = words.short_literal() {
+        return Some(lit);
+    }
+    literal_of(words.next()?)
 }
 
 /// Takes literals of rising variables up to the end of a part. Costs two passes.

@@ -74,8 +74,8 @@ pub(crate) fn literal_of(word: &[u8]) -> Option<Lit>
     }
 }
 
-// Whether a word isn't empty, and begins with no zero but in `0`.
-fn is_plain(word: &[u8]) -> bool
+/// Whether a word isn't empty, and begins with no zero but in `0`.
+pub(crate) fn is_plain(word: &[u8]) -> bool
     ensures { IsTrue result ↔ IsPlain word.now }
 {
     match word {

@@ -4,10 +4,22 @@ ghost use Rattle.std.specs.Prelude.{IsTrue, MatchOption};
 ghost use Rattle.std.specs.List.{position_or_len};
 ghost use Rattle.std.specs.Option.{option_copied};
 ghost use Rattle.scut_base.specs.Bytes.{space};
+ghost use Rattle.proof_laws.specs.WellFormed.{IsId, IsVariable};
+ghost use Rattle.proof_lines.specs.Ids.{IsSpelling, id_word};
+ghost use Rattle.proof_lines.specs.LineText.{literal_word};
 ghost use Rattle.proof_lines.specs.Reading.{BeginsWith, EndsPart, Skips, is_space};
 ghost use Rattle.proof_lines.specs.Reading.{words_left, words_of};
 
+use crate::Spelling;
+use crate::short::{cut_id, cut_literal};
+use scut_base::Lit;
 use std::marker::Model;
+
+// How many bytes a short word has, with its space.
+const WORD_LEN: usize = 3;
+
+// A longer list grows.
+const MAX_ROOM: usize = 64;
 
 /// The words of a text that were not taken yet, with one space between each two. Contracts see it
 /// as their list. Each call finds the next space, so no list is made.
@@ -78,6 +90,44 @@ impl<'a> Words<'a> {
         }
         self.next();
         true
+    }
+
+    /// Takes the next word where it is an id of few digits, and else nothing.
+    pub(crate) fn short_id(&mut self, spelling: Spelling) -> Option<u64>
+        requires { IsSpelling spelling }
+        ensures { MatchOption result (self.new ≡ self.old)
+            (λ id. IsId id × (self.old ≡ id_word spelling id ∷ self.new)) }
+    {
+        let (id, rest) = cut_id(spelling, self.rest?)?;
+        self.rest = rest;
+        Some(id)
+    }
+
+    /// Takes the next word where it is a literal of few digits, and else nothing.
+    pub(crate) fn short_literal(&mut self) -> Option<Lit>
+        ensures { MatchOption result (self.new ≡ self.old)
+            (λ l. IsVariable l.var × (self.old ≡ literal_word l ∷ self.new)) }
+    {
+        let Some((lit, rest)) = cut_literal(self.rest?) else {
+            return None;
+        };
+        self.rest = rest;
+        Some(lit)
+    }
+
+    /// Whether a part of a line ends here.
+    pub(crate) fn ends_part(&self) -> bool
+        ensures { IsTrue result ↔ EndsPart self.now }
+    {
+        self.is_at_end() || self.is_next(b':')
+    }
+
+    /// Room for the words that are left, as a guess.
+    pub(crate) fn room(&self) -> usize {
+        match self.rest {
+            Some(text) => (text.len() / WORD_LEN).min(MAX_ROOM),
+            None => 0,
+        }
     }
 
     /// Takes the next word of a part of a line, which ends before a `:` and where no word is left.

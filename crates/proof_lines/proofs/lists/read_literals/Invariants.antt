@@ -4,8 +4,8 @@ use Rattle.proof_lines.specs.LineText.{literal_word}
 use Rattle.proof_lines.proofs.WordParts.{WordsSoFar}
 use Rattle.proof_lines.proofs.lists.read_literals.Given as goal
 
-abbrev pub invariant-loop-word : goal.invariant-loop-word
-invariant-loop-word l = WordsSoFar literal_word (λ l. IsVariable l.var) l.fn.words l.words l.lits
+abbrev pub invariant-loop-words : goal.invariant-loop-words
+invariant-loop-words l = WordsSoFar literal_word (λ l. IsVariable l.var) l.fn.words l.words l.lits
 
-abbrev pub decreases-loop-word : goal.decreases-loop-word
-decreases-loop-word l = length l.words
+abbrev pub decreases-loop-words : goal.decreases-loop-words
+decreases-loop-words l = length l.words
