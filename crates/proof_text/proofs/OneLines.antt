@@ -1,11 +1,14 @@
 -- Bytes, cut at line feeds.
-use Rattle.std.proofs.Common.{◌≡◌, ◌⊎◌, inl, inr, ⊎_elim, ℕ, ◌+◌, ◌==◌, false, cond, List, [], ◌∷◌, ◌++◌, refl, sym, ap, subst, ◌∙◌, arith}
+use Rattle.std.proofs.Common.{◌≡◌, ◌⊎◌, inl, inr, ⊎_elim, ℕ, suc, ◌+◌, ◌<◌, ◌==◌, false, cond, List, [], ◌∷◌, ◌++◌, length, get_or, take, drop, Option, None, Some, MatchOption, refl, sym, ap, subst, ◌∙◌, arith}
 use Rattle.std.specs.List.{Contains}
-use Rattle.std.proofs.lemmas.Bool.{ne_eqb, cases_eq, cond-false}
-use Rattle.std.proofs.lemmas.List.{append-nil, append_assoc}
+use Rattle.std.proofs.lemmas.Bool.{eq-eqb, eqb-true, ne_eqb, cases_eq, cond-false}
+use Rattle.std.proofs.Math.Seq.{drop-cons}
+use Rattle.std.proofs.lemmas.List.{append-nil, append_assoc, get_or-take, length-take-le, take-append-drop}
 use Rattle.std.proofs.lemmas.List.Sums.{sum_by-cons, sum_by-append}
 use Rattle.scut_base.specs.Bytes.{newline}
 use Rattle.scut_base.proofs.Lists.{Contains-nil, Contains-head, Contains-cons, Contains-cons_cases, head_same, tail_same}
+use Rattle.memchr.specs.Find.{IsFirstByte, is_byte}
+use Rattle.proof_text.specs.Cutting.{IsLineOf}
 use Rattle.proof_text.specs.LogText.{IsOneLine, IsWholeLines, newlines}
 
 pub cons_same : {X : Type 0} (a b : X) (xs ys : List X) → a ≡ b → xs ≡ ys → a ∷ xs ≡ b ∷ ys
@@ -51,6 +54,28 @@ same_line (c ∷ a) (d ∷ b) x y one_a one_b e =
 pub not_empty : (a b : List ℕ) → a ++ newline ∷ b ≡ [] → ⊥
 not_empty [] b e = cc
 not_empty (c ∷ a) b e = cc
+
+-- ---- the place of the first line feed
+
+one_from : (bytes : List ℕ) → ((k : ℕ) → k < length bytes → get_or bytes k 0 ≡ newline → ⊥) → IsOneLine bytes
+one_from [] none = one_nil
+one_from (b ∷ bs) none = one_cons b bs (none 0 (omega arith)) (one_from bs (λ k lt. none (suc k) (omega arith)))
+
+pub first_feed : (bytes : List ℕ) (r : Option ℕ) → IsFirstByte (is_byte newline) bytes r → MatchOption r (IsOneLine bytes) (IsLineOf bytes)
+first_feed bytes None nowhere = one_from bytes (λ k lt is. nowhere k (omega arith) lt (eq-eqb (get_or bytes k 0) newline is))
+first_feed bytes (Some n) found =
+    let short : n < length bytes = found.0.high in
+    let next : suc n ≡ n + 1 = omega arith in
+    let feed : get_or bytes n 0 ≡ newline = eqb-true (get_or bytes n 0) newline found.1 in
+    record {
+      short = short;
+      line = record {
+        one = one_from (take n bytes) (λ k lt is.
+            let here : k < n = omega (arith, length-take-le n bytes (omega arith)) in
+            found.0.before k (omega arith) here (eq-eqb (get_or bytes k 0) newline (sym (get_or-take n bytes k 0 here) ∙ is)));
+        is = sym (take-append-drop n bytes) ∙ ap (λ (t : List ℕ). take n bytes ++ t) (drop-cons bytes n 0 short ∙ ap (λ (b : ℕ). b ∷ drop (suc n) bytes) feed ∙ ap (λ (m : ℕ). newline ∷ drop m bytes) next);
+      };
+    }
 
 -- ---- the last line feed
 

@@ -3,11 +3,13 @@ ghost use Rattle.std.specs.Prelude.{◌≡◌, MatchOption, MatchBool};
 ghost use Rattle.proof_text.specs.LogText.{IsOneLine, IsWholeLines, newlines};
 ghost use Rattle.proof_text.specs.Cutting.{IsLineOf};
 
+use memchr::memchr;
+
 /// How many bytes stand before the first line feed; `None` where there is none.
 pub fn line_len(bytes: &[u8]) -> Option<usize>
     ensures { MatchOption result (IsOneLine bytes.now) (IsLineOf bytes.now) }
 {
-    bytes.iter().position(|byte| *byte == b'\n')
+    memchr(b'\n', bytes)
 }
 
 /// Whether there is nothing, or the last byte is a line feed.
