@@ -1,9 +1,10 @@
-//! Lines by cutting planes that come of linear programs: combinations of live lines that make clauses.
+//! Lines by cutting planes that come of linear programs: combinations of live lines that make constraints.
 //!
 //! Its public contract: `infeasible_leaf` answers tokens and the clause that they make of the live lines, whose
 //! literals are false under a partial assignment; `add_clause_line` records tokens where they make a clause, and
-//! nothing where they don't; `add_line` does so where they make any constraint. The multipliers are taken as they come: nothing of them is believed, since each
-//! clause is what the tokens make. The crate knows no linear program.
+//! nothing where they don't; `add_line` does so where they make any constraint. The multipliers are taken as they
+//! come: nothing of them is believed, since each constraint is what the tokens make. The crate knows no linear
+//! program.
 #![tactic(auto)]
 
 mod combining;
