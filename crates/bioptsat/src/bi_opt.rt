@@ -2,7 +2,7 @@
 ghost use Rattle.std.specs.Prelude.{◌≡◌, length, IfOk, IfErr, option_copied};
 ghost use Rattle.search_base.specs.Good.{GoesOn, IsGood, KeepsBoard};
 ghost use Rattle.search_base.specs.Turns.{IsInOrder, IsSearchFault, IsTurn};
-ghost use Rattle.search_questions.specs.Telling.{IsGoodWithSome, StaysGood, Tells, TellsAny};
+ghost use Rattle.search_questions.specs.Telling.{IsGoodWithSome, SeeksOn, Tells, TellsAny};
 ghost use Rattle.bioptsat.specs.declared.aim.Aim.TheVariants.{Anything};
 ghost use Rattle.bioptsat.specs.Aims.{MovesAim, Serves, first_is_least, own_number, vector_of};
 ghost use Rattle.bioptsat.specs.Asking.{IsOneLess, TellsOfAim, TellsWithin};
@@ -144,10 +144,7 @@ fn seek<O: Oracle>(
     requires problem { (O.seen oracle.old).problem ≡ board.now.problem }
     requires serves { Serves aim.now (O.seen oracle.old).problem }
     ensures tells { IfOk result (TellsOfAim (O.seen oracle.new) aim.now) }
-    ensures good { IsInOrder result → StaysGood (O.seen oracle.old) (O.seen oracle.new)
-        bounds.old bounds.new }
-    ensures fault { IfErr result (IsSearchFault (O.seen oracle.old) (O.seen oracle.new)) }
-    ensures goes_on { GoesOn (O.seen oracle.old) (O.seen oracle.new) }
+    ensures seeks { SeeksOn (O.seen oracle.old) (O.seen oracle.new) bounds.old bounds.new result }
 {
     match aim {
         Aim::Anything => ask_any(relaxations, oracle, bounds, board),
@@ -186,10 +183,7 @@ fn seek_within<O: Oracle>(
     requires problem { (O.seen oracle.old).problem ≡ board.now.problem }
     requires count { length (O.seen oracle.old).problem.costs ≡ 2 }
     ensures tells { IfOk result (TellsWithin (O.seen oracle.new) first second) }
-    ensures good { IsInOrder result → StaysGood (O.seen oracle.old) (O.seen oracle.new)
-        bounds.old bounds.new }
-    ensures fault { IfErr result (IsSearchFault (O.seen oracle.old) (O.seen oracle.new)) }
-    ensures goes_on { GoesOn (O.seen oracle.old) (O.seen oracle.new) }
+    ensures seeks { SeeksOn (O.seen oracle.old) (O.seen oracle.new) bounds.old bounds.new result }
 {
     let (Some(first), Some(second)) = (first, second) else {
         let stands = Items::new(alloc);
@@ -212,10 +206,7 @@ fn ask_below<O: Oracle>(
     requires problem { (O.seen oracle.old).problem ≡ board.now.problem }
     requires count { length limits.now ≡ length (O.seen oracle.old).problem.costs }
     ensures tells { IfOk result (Tells (O.seen oracle.new) limits.now) }
-    ensures good { IsInOrder result → StaysGood (O.seen oracle.old) (O.seen oracle.new)
-        bounds.old bounds.new }
-    ensures fault { IfErr result (IsSearchFault (O.seen oracle.old) (O.seen oracle.new)) }
-    ensures goes_on { GoesOn (O.seen oracle.old) (O.seen oracle.new) }
+    ensures seeks { SeeksOn (O.seen oracle.old) (O.seen oracle.new) bounds.old bounds.new result }
 {
     match relaxations {
         Some(relaxations) => relaxations.seek_below(oracle, bounds, board.problem(), limits),
@@ -233,10 +224,7 @@ fn ask_any<O: Oracle>(
     requires good { IsGoodWithSome (O.seen oracle.old) bounds.old }
     requires problem { (O.seen oracle.old).problem ≡ board.now.problem }
     ensures tells { IfOk result (TellsAny (O.seen oracle.new)) }
-    ensures good { IsInOrder result → StaysGood (O.seen oracle.old) (O.seen oracle.new)
-        bounds.old bounds.new }
-    ensures fault { IfErr result (IsSearchFault (O.seen oracle.old) (O.seen oracle.new)) }
-    ensures goes_on { GoesOn (O.seen oracle.old) (O.seen oracle.new) }
+    ensures seeks { SeeksOn (O.seen oracle.old) (O.seen oracle.new) bounds.old bounds.new result }
 {
     match relaxations {
         Some(relaxations) => relaxations.seek_any(oracle, bounds, board.problem()),

@@ -2,7 +2,7 @@
 ghost use Rattle.std.specs.Prelude.{◌≡◌, IfOk, IfErr, map};
 ghost use Rattle.search_base.specs.Good.{GoesOn, IsGood, KeepsBoard};
 ghost use Rattle.search_base.specs.Turns.{IsInOrder, IsSearchFault, IsTurn};
-ghost use Rattle.search_questions.specs.Telling.{IsGoodWithSome, StaysGood};
+ghost use Rattle.search_questions.specs.Telling.{IsGoodWithSome, SeeksOn};
 ghost use Rattle.lower_bounding.specs.Fences.{MovesFence, Serves, own_number};
 ghost use Rattle.lower_bounding.specs.Raising.{TellsOfFence};
 
@@ -77,10 +77,7 @@ impl LowerBounding {
         requires serves { Serves self.old (O.seen oracle.old).problem }
         ensures tells { IfOk result (TellsOfFence (O.seen oracle.new) self.old) }
         ensures same { self.new ≡ self.old }
-        ensures good { IsInOrder result → StaysGood (O.seen oracle.old) (O.seen oracle.new)
-            bounds.old bounds.new }
-        ensures fault { IfErr result (IsSearchFault (O.seen oracle.old) (O.seen oracle.new)) }
-        ensures goes_on { GoesOn (O.seen oracle.old) (O.seen oracle.new) }
+        ensures seeks { SeeksOn (O.seen oracle.old) (O.seen oracle.new) bounds.old bounds.new result }
     {
         let limits = limits(self.alloc, &self.fence, &self.tops)?;
         let problem = board.problem();

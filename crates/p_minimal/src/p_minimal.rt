@@ -2,7 +2,7 @@
 ghost use Rattle.std.specs.Prelude.{◌≡◌, None, IfOk, IfErr, IfSome, option_copied};
 ghost use Rattle.search_base.specs.Good.{GoesOn, IsGood, KeepsBoard};
 ghost use Rattle.search_base.specs.Turns.{IsInOrder, IsSearchFault, IsTurn};
-ghost use Rattle.search_questions.specs.Telling.{IsGoodWithSome, SeeksOn, StaysGood};
+ghost use Rattle.search_questions.specs.Telling.{IsGoodWithSome, SeeksOn};
 ghost use Rattle.p_minimal.specs.Aiming.{Aims, Serves, TellsOfAim, own_number};
 
 use crate::relaxed::Relaxed;
@@ -121,10 +121,7 @@ fn seek<O: Oracle>(
     requires problem { (O.seen oracle.old).problem ≡ board.now.problem }
     requires serves { Serves aim.now (O.seen oracle.old).problem }
     ensures tells { IfOk result (TellsOfAim (O.seen oracle.new) aim.now) }
-    ensures good { IsInOrder result → StaysGood (O.seen oracle.old) (O.seen oracle.new)
-        bounds.old bounds.new }
-    ensures fault { IfErr result (IsSearchFault (O.seen oracle.old) (O.seen oracle.new)) }
-    ensures goes_on { GoesOn (O.seen oracle.old) (O.seen oracle.new) }
+    ensures seeks { SeeksOn (O.seen oracle.old) (O.seen oracle.new) bounds.old bounds.new result }
 {
     match relaxations_tell(alloc, aim, relaxed, oracle, bounds, board)? {
         Some(below) => Ok(below),
@@ -185,10 +182,7 @@ fn ask_oracle<O: Oracle>(
     requires good { IsGoodWithSome (O.seen oracle.old) bounds.old }
     requires serves { Serves aim.now (O.seen oracle.old).problem }
     ensures tells { IfOk result (TellsOfAim (O.seen oracle.new) aim.now) }
-    ensures good { IsInOrder result → StaysGood (O.seen oracle.old) (O.seen oracle.new)
-        bounds.old bounds.new }
-    ensures fault { IfErr result (IsSearchFault (O.seen oracle.old) (O.seen oracle.new)) }
-    ensures goes_on { GoesOn (O.seen oracle.old) (O.seen oracle.new) }
+    ensures seeks { SeeksOn (O.seen oracle.old) (O.seen oracle.new) bounds.old bounds.new result }
 {
     match aim {
         Some(aim) => seek_below(alloc, oracle, bounds, aim),

@@ -1,5 +1,5 @@
 -- Calls one after another keep a good state good.
-use Rattle.std.proofs.Common.{◌≡◌, ◌∙◌, ℕ, false, Option, Result, Ok, Err, List, [], ◌∷◌, ap, arith, sym, subst}
+use Rattle.std.proofs.Common.{◌≡◌, ◌∙◌, ℕ, false, Option, Result, Ok, Err, List, [], ◌∷◌, ap, arith, refl, sym, subst}
 use Rattle.std.specs.Prelude.{IfErr, IsErrAnd}
 use Rattle.std.proofs.lemmas.Result.{err_from_is_err_and}
 use Rattle.std.specs.List.{All, AllZip}
@@ -22,7 +22,7 @@ use Rattle.search_base.specs.Good.{GoesOn}
 use Rattle.search_base.specs.Laws.{AskingStaysGood, BoundingStaysGood, TurnLinesJoin}
 use Rattle.search_base.specs.Turns.{IsInOrder, IsSearchFault}
 use Rattle.search_base.specs.declared.objective_bound.ObjectiveBound.{ObjectiveBound}
-use Rattle.search_base.proofs.Turning.{goes_twice, none_twice}
+use Rattle.search_base.proofs.Turning.{goes_again, goes_twice, none_twice}
 use Rattle.search_questions.specs.Telling.{IsGoodWithSome, SeeksOn, StaysGood}
 
 -- ---- before a call
@@ -86,12 +86,6 @@ module _ (law : AskingStaysGood) (a b : Snapshot) (asked : List ObjectiveBound)
   spent T Full earned fault order = absurd order
   spent T NoMemory earned fault order = absurd order
 
-  -- it spent what it may
-  pub spent_stays_good : {T : Type 0} (r : Result T OracleFault) (f : OracleFault) → r ≡ Err f
-      → (IsOrderly (Err f) → AreEarned a.problem b.lines) → WhyNot f → IsInOrder r → StaysGood a b asked asked
-  spent_stays_good {T} r f is earned fault order =
-      spent T f earned fault (subst (λ (q : Result T OracleFault). IsInOrder q) is order)
-
 pub stays_good_twice : (a b c : Snapshot) (old mid new : List ObjectiveBound)
     → b.problem ≡ a.problem → StaysGood a b old mid → StaysGood b c mid new → StaysGood a c old new
 stays_good_twice a b c old mid new problem one other front good =
@@ -128,22 +122,22 @@ ended T RecordingFailed order = order
 ended T RecordFull order = order
 ended T RecordNoMemory order = order
 
-pub recording_ends : {T : Type 0} (a b : Snapshot) (old new : List ObjectiveBound)
-    (r : Result T OracleFault) (f : RecordFault) → r ≡ Err (fault_of_recording f) → IsInOrder r
-    → StaysGood a b old new
-recording_ends {T} a b old new r f is order =
-    absurd (ended T f (subst (λ (q : Result T OracleFault). IsInOrder q) is order))
-
 -- ---- a call's result
 
 pub seeks_ok : {T : Type 0} (a b : Snapshot) (old new : List ObjectiveBound) (x : T) → StaysGood a b old new
     → GoesOn a b → SeeksOn {T = T} a b old new (Ok x)
 seeks_ok a b old new x good on = record { good = λ order. good; fault = tt; goes_on = on }
 
--- that of a call of this module, whose clauses are three
-pub seeks_by : {T : Type 0} (a b : Snapshot) (old new : List ObjectiveBound) (r : Result T OracleFault)
-    → (IsInOrder r → StaysGood a b old new) → IfErr r (IsSearchFault a b) → GoesOn a b → SeeksOn a b old new r
-seeks_by a b old new r good fault on = record { good = good; fault = fault; goes_on = on }
+-- nothing was asked
+pub seeks_nothing : {T : Type 0} (a : Snapshot) (asked : List ObjectiveBound) (x : T)
+    → SeeksOn {T = T} a a asked asked (Ok x)
+seeks_nothing a asked x = seeks_ok a a asked asked x (λ front good. (good, refl)) (goes_again a)
+
+-- bounds were asked for
+pub seeks_bounds : {T : Type 0} → BoundingStaysGood → TurnLinesJoin → (a b : Snapshot) (old new : List ObjectiveBound)
+    (x : T) → Continues a b → b.broken ≡ false → FitBounds b new → SeeksOn {T = T} a b old new (Ok x)
+seeks_bounds law join a b old new x on whole fits =
+    seeks_ok a b old new x (bounds_stay_good law a b old new on whole fits) (bounds_go_on join a b on)
 
 fault_here : (a b : Snapshot) (f : RecordFault) → IsFaultAt a b f → IsSearchFault a b (fault_of_recording f)
 fault_here a b RecordingFailed is = is
@@ -200,6 +194,12 @@ seeks_after a b c old mid new r good on call = record {
   goes_on = goes_twice a b c on call.goes_on;
 }
 
+-- what a first call doesn't tell, a second one is asked
+pub seeks_else : {T U : Type 0} (a b c : Snapshot) (old mid new : List ObjectiveBound) (r : Result T OracleFault)
+    {x : U} → SeeksOn {T = U} a b old mid (Ok x) → SeeksOn b c mid new r → SeeksOn a c old new r
+seeks_else a b c old mid new r first second =
+    seeks_after a b c old mid new r (first.good tt) first.goes_on second
+
 -- the oracle was asked and didn't answer
 pub seeks_refused : {T : Type 0} (law : AskingStaysGood) (join : TurnLinesJoin) (a b : Snapshot)
     (asked : List ObjectiveBound) (keeps : KeepsRecorder a b) (lines : AddsSearchLines a.problem a.lines b.lines)
@@ -222,3 +222,18 @@ seeks_refused {T} law join a b asked keeps lines within r f is earned why =
     by Failed is = is.0
     by Full is = is.0
     by NoMemory is = tt
+
+-- the oracle was asked and answered; nothing but memory was wanting since
+pub seeks_answered : {T : Type 0} (law : AskingStaysGood) (join : TurnLinesJoin) (a b : Snapshot)
+    (asked : List ObjectiveBound) (keeps : KeepsRecorder a b) (lines : AddsSearchLines a.problem a.lines b.lines)
+    (within : IsWithin a.limit a.problem b.lines) → b.broken ≡ false → AreEarned a.problem b.lines
+    → (r : Result T OracleFault) → IfErr r (λ f. f ≡ NoMemory) → SeeksOn a b asked asked r
+seeks_answered law join a b asked keeps lines within whole earned r fault = record {
+  good = λ order. oracle_stays_good law a b asked keeps lines within whole earned;
+  fault = by r fault;
+  goes_on = oracle_goes_on join a b keeps lines;
+}
+  where
+    by : {T : Type 0} (r : Result T OracleFault) → IfErr r (λ f. f ≡ NoMemory) → IfErr r (IsSearchFault a b)
+    by (Ok x) is = tt
+    by (Err f) is = subst (λ (g : OracleFault). IsSearchFault a b g) (sym is) tt

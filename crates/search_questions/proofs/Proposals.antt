@@ -1,5 +1,5 @@
 -- What the answers of linear relaxations tell.
-use Rattle.std.proofs.Common.{◌≡◌, ◌≤◌, ◌∙◌, ℕ, Bool, false, List, Some, length, ap, refl, sym, subst, ℤ}
+use Rattle.std.proofs.Common.{◌≡◌, ◌≤◌, ◌∙◌, ℕ, Bool, false, List, Some, length, ap, sym, subst, ℤ}
 use Rattle.std.proofs.lemmas.List.{length-map}
 use Rattle.scut_base.specs.Literal.{Literal}
 use Rattle.front_set.specs.Vector.{IsBelow}
@@ -26,9 +26,6 @@ use Rattle.search_questions.proofs.Told.{told_core}
 use Rattle.search_questions.proofs.Telling.{takable}
 
 -- ---- what stays good
-
-pub nothing_stays_good : (a : Snapshot) (asked : List ObjectiveBound) → StaysGood a a asked asked
-nothing_stays_good a asked front good = (good, refl)
 
 pub added_stays_good : AddingStaysGood → (a b : Snapshot) (asked : List ObjectiveBound) → Continues a b
     → b.broken ≡ false → StaysGood a b asked asked

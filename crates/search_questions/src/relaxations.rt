@@ -1,9 +1,7 @@
 // Linear relaxations, asked box by box before the oracle.
-ghost use Rattle.std.specs.Prelude.{◌≡◌, length, IfOk, IfErr, IfSome};
+ghost use Rattle.std.specs.Prelude.{◌≡◌, length, IfOk, IfSome};
 ghost use Rattle.front_set.specs.Vector.{IsBelow, is_below};
-ghost use Rattle.search_base.specs.Good.{GoesOn};
-ghost use Rattle.search_base.specs.Turns.{IsInOrder, IsSearchFault};
-ghost use Rattle.search_questions.specs.Telling.{IsGoodWithSome, SeeksOn, StaysGood, Tells, TellsAny, is_closed};
+ghost use Rattle.search_questions.specs.Telling.{IsGoodWithSome, SeeksOn, Tells, TellsAny, is_closed};
 
 use crate::{Below, seek_any, seek_below, seek_relaxed};
 use front_set::CostVec;
@@ -20,6 +18,9 @@ const PURSE: u64 = 200_000_000;
 
 // Where there are more boxes, they are neither asked nor divided any more.
 const MOST_BOXES: usize = 500;
+
+// Where there are more boxes, no parts of them are asked: a fence rises often, and then all of them are asked again.
+const MOST_PARTS: usize = 120;
 
 /// The linear relaxations of a problem, and the boxes in which models may be left. Which boxes are open is only a matter
 /// of time: whatever is told is told by live clauses.
@@ -46,7 +47,7 @@ impl Relaxations {
     /// Takes the vectors that this one is below out of the boxes, since they aren't left. Costs what
     /// `OpenBoxes::exclude` does.
     pub fn exclude(&mut self, costs: &CostVec) -> Result<(), NoMemory> {
-        if self.gives_boxes_up() {
+        if self.is_spent() || self.boxes.limits().len() > MOST_BOXES {
             return Ok(());
         }
         self.boxes.exclude(costs)
@@ -55,11 +56,6 @@ impl Relaxations {
     /// Whether they tell nothing any more, since too much was lost on questions that stayed open.
     pub fn is_spent(&self) -> bool {
         self.linear.is_spent()
-    }
-
-    // Whether the boxes are neither asked nor divided any more.
-    fn gives_boxes_up(&self) -> bool {
-        self.is_spent() || self.boxes.limits().len() > MOST_BOXES
     }
 
     /// What `seek_below` asks, of one relaxation alone: `seek_relaxed`.
@@ -89,7 +85,7 @@ impl Relaxations {
     /// What `seek_below` asks, of the relaxations first, for each box that the limits meet: what they don't tell, the
     /// oracle does. Of another problem's relaxations it's as good as `seek_below`. After `Spent` it may be asked again.
     ///
-    /// Costs what `seek_relaxed` does for each of at most 500 boxes, and what `seek_below` does.
+    /// Costs what `seek_relaxed` does for each of at most 120 boxes, and what `seek_below` does.
     pub fn seek_below<O: Oracle>(
         &mut self,
         oracle: &mut O,
@@ -101,12 +97,9 @@ impl Relaxations {
         requires problem { (O.seen oracle.old).problem ≡ problem.now }
         requires count { length limits.now ≡ length (O.seen oracle.old).problem.costs }
         ensures tells { IfOk result (Tells (O.seen oracle.new) limits.now) }
-        ensures good { IsInOrder result → StaysGood (O.seen oracle.old) (O.seen oracle.new)
-            bounds.old bounds.new }
-        ensures fault { IfErr result (IsSearchFault (O.seen oracle.old) (O.seen oracle.new)) }
-        ensures goes_on { GoesOn (O.seen oracle.old) (O.seen oracle.new) }
+        ensures seeks { SeeksOn (O.seen oracle.old) (O.seen oracle.new) bounds.old bounds.new result }
     {
-        match self.seek_in_boxes(oracle, bounds, problem, limits)? {
+        match self.seek_in_boxes(oracle, bounds, problem, limits, MOST_PARTS)? {
             Some(below) => Ok(below),
             None => seek_below(self.alloc, oracle, bounds, limits),
         }
@@ -125,10 +118,7 @@ impl Relaxations {
         requires good { IsGoodWithSome (O.seen oracle.old) bounds.old }
         requires problem { (O.seen oracle.old).problem ≡ problem.now }
         ensures tells { IfOk result (TellsAny (O.seen oracle.new)) }
-        ensures good { IsInOrder result → StaysGood (O.seen oracle.old) (O.seen oracle.new)
-            bounds.old bounds.new }
-        ensures fault { IfErr result (IsSearchFault (O.seen oracle.old) (O.seen oracle.new)) }
-        ensures goes_on { GoesOn (O.seen oracle.old) (O.seen oracle.new) }
+        ensures seeks { SeeksOn (O.seen oracle.old) (O.seen oracle.new) bounds.old bounds.new result }
     {
         match self.seek_left(oracle, bounds, problem)? {
             Some(below) => Ok(below),
@@ -150,7 +140,7 @@ impl Relaxations {
         ensures seeks { SeeksOn (O.seen oracle.old) (O.seen oracle.new) bounds.old bounds.new result }
     {
         let limits = no_limits(self.alloc, problem.costs().len())?;
-        let found = self.seek_in_boxes(oracle, bounds, problem, &limits)?;
+        let found = self.seek_in_boxes(oracle, bounds, problem, &limits, MOST_BOXES)?;
         if is_closed(&found) {
             return Ok(None);
         }
@@ -158,13 +148,15 @@ impl Relaxations {
     }
 
     // Box by box, from the last to the first, whether a model is left there whose costs are at most the limits. `None`
-    // where no model was found, for which it may still not be known that none is left.
+    // where no model was found, for which it may still not be known that none is left. Of more boxes than `most` none is
+    // asked.
     fn seek_in_boxes<O: Oracle>(
         &mut self,
         oracle: &mut O,
         bounds: &mut Bounds,
         problem: &PbProblem,
         limits: &CostVec,
+        most: usize,
     ) -> Result<Option<Below>, OracleFault>
         requires good { IsGoodWithSome (O.seen oracle.old) bounds.old }
         requires problem { (O.seen oracle.old).problem ≡ problem.now }
@@ -172,7 +164,7 @@ impl Relaxations {
         ensures tells { IfOk result (λ below. IfSome below (Tells (O.seen oracle.new) limits.now)) }
         ensures seeks { SeeksOn (O.seen oracle.old) (O.seen oracle.new) bounds.old bounds.new result }
     {
-        if self.gives_boxes_up() || limits.is_empty() {
+        if self.is_spent() || limits.is_empty() || self.boxes.limits().len() > most {
             return Ok(None);
         }
         for place in (0..self.boxes.limits().len()).rev() {

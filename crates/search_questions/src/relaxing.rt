@@ -1,11 +1,9 @@
 // Questions to linear relaxations.
-ghost use Rattle.std.specs.Prelude.{◌≡◌, ◌<◌, length, IfOk, IfErr, IfSome};
+ghost use Rattle.std.specs.Prelude.{◌≡◌, ◌<◌, length, IfOk, IfSome};
 ghost use Rattle.oracle.specs.Solving.{AreAssumptions, Reaches};
 ghost use Rattle.search_base.specs.CostBounds.{FitSome};
-ghost use Rattle.search_base.specs.Good.{GoesOn};
-ghost use Rattle.search_base.specs.Turns.{IsInOrder, IsSearchFault};
 ghost use Rattle.search_questions.specs.Questions.{IsQuestion};
-ghost use Rattle.search_questions.specs.Telling.{IsGoodWithSome, SeeksOn, StaysGood, Tells};
+ghost use Rattle.search_questions.specs.Telling.{IsGoodWithSome, SeeksOn, Tells};
 
 use crate::Below;
 use crate::question::{Question, questioned};
@@ -41,10 +39,7 @@ pub fn seek_relaxed<O: Oracle>(
     requires problem { (O.seen oracle.old).problem ≡ problem.now }
     requires count { length limits.now ≡ length (O.seen oracle.old).problem.costs }
     ensures tells { IfOk result (λ below. IfSome below (Tells (O.seen oracle.new) limits.now)) }
-    ensures good { IsInOrder result → StaysGood (O.seen oracle.old) (O.seen oracle.new)
-        bounds.old bounds.new }
-    ensures fault { IfErr result (IsSearchFault (O.seen oracle.old) (O.seen oracle.new)) }
-    ensures goes_on { GoesOn (O.seen oracle.old) (O.seen oracle.new) }
+    ensures seeks { SeeksOn (O.seen oracle.old) (O.seen oracle.new) bounds.old bounds.new result }
 {
     bounding_stays_good();
     turn_lines_join();

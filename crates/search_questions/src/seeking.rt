@@ -1,9 +1,7 @@
 // Questions to an oracle.
 ghost use Rattle.std.specs.Prelude.{◌≡◌, ◌≤◌, length, IfOk, IfErr};
-ghost use Rattle.search_base.specs.Good.{GoesOn};
-ghost use Rattle.search_base.specs.Turns.{IsInOrder, IsSearchFault};
 ghost use Rattle.search_questions.specs.Cores.{IsToldByCore};
-ghost use Rattle.search_questions.specs.Telling.{IsGoodWithSome, StaysGood, Tells, TellsAny};
+ghost use Rattle.search_questions.specs.Telling.{IsGoodWithSome, SeeksOn, Tells, TellsAny};
 
 use crate::Below;
 use crate::question::questioned;
@@ -29,10 +27,7 @@ pub fn seek_below<O: Oracle>(
     requires good { IsGoodWithSome (O.seen oracle.old) bounds.old }
     requires count { length limits.now ≡ length (O.seen oracle.old).problem.costs }
     ensures tells { IfOk result (Tells (O.seen oracle.new) limits.now) }
-    ensures good { IsInOrder result → StaysGood (O.seen oracle.old) (O.seen oracle.new)
-        bounds.old bounds.new }
-    ensures fault { IfErr result (IsSearchFault (O.seen oracle.old) (O.seen oracle.new)) }
-    ensures goes_on { GoesOn (O.seen oracle.old) (O.seen oracle.new) }
+    ensures seeks { SeeksOn (O.seen oracle.old) (O.seen oracle.new) bounds.old bounds.new result }
 {
     own_lines_stay();
     asking_stays_good();
@@ -75,10 +70,7 @@ pub(crate) fn told_by_core(
 pub fn seek_any<O: Oracle>(oracle: &mut O, bounds: &Bounds) -> Result<Below, OracleFault>
     requires good { IsGoodWithSome (O.seen oracle.old) bounds.now }
     ensures tells { IfOk result (TellsAny (O.seen oracle.new)) }
-    ensures good { IsInOrder result → StaysGood (O.seen oracle.old) (O.seen oracle.new)
-        bounds.now bounds.now }
-    ensures fault { IfErr result (IsSearchFault (O.seen oracle.old) (O.seen oracle.new)) }
-    ensures goes_on { GoesOn (O.seen oracle.old) (O.seen oracle.new) }
+    ensures seeks { SeeksOn (O.seen oracle.old) (O.seen oracle.new) bounds.now bounds.now result }
 {
     asking_stays_good();
     turn_lines_join();

@@ -22,7 +22,7 @@ returns-in-First-clause-tells g c =
     let b = R.seen c.seek_within.new.oracle in
     let v = c.in-First.costs in
     let limit = c.one_less-first.result in
-    let same = c.seek_within.ensures.goes_on.problem in
+    let same = c.seek_within.ensures.seeks.goes_on.problem in
     let rows : All (λ r. IsCostRow r.terms r.offset) b.problem.costs =
     subst (λ (p : ProblemValue). All (λ r. IsCostRow r.terms r.offset) p.costs) (sym same)
     (good_rows (R.seen c.args.oracle.now) c.args.bounds.now c.requires.good) in
@@ -42,7 +42,7 @@ returns-in-Second-clause-tells g c =
     let b = R.seen c.seek_within-in-Second.new.oracle in
     let v = c.in-Second.costs in
     let limit = c.one_less-second.result in
-    let same = c.seek_within-in-Second.ensures.goes_on.problem in
+    let same = c.seek_within-in-Second.ensures.seeks.goes_on.problem in
     let rows : All (λ r. IsCostRow r.terms r.offset) b.problem.costs =
     subst (λ (p : ProblemValue). All (λ r. IsCostRow r.terms r.offset) p.costs) (sym same)
     (good_rows (R.seen c.args.oracle.now) c.args.bounds.now c.requires.good) in

@@ -1,5 +1,5 @@
 -- The rows' lines come first, and then the oracle's.
-use Rattle.search_questions.proofs.Calls.{seeks_after, seeks_by}
+use Rattle.search_questions.proofs.Calls.{seeks_else}
 use Rattle.p_minimal.proofs.Aims.{serves_still}
 use Rattle.p_minimal.proofs.p_minimal.ask_over_rows.Goals as goal
 
@@ -17,11 +17,6 @@ ask_oracle-requires-clause-serves g c =
 pub returns-clause-seeks : goal.returns-clause-seeks
 returns-clause-seeks g c =
     let R = g.O.Recorder in
-    let a = R.seen c.args.oracle.now in
-    let m = R.seen c.add_rows.new.oracle in
-    let b = R.seen c.ask_oracle.new.oracle in
     let asked = c.args.bounds.now in
-    let added = c.in_ok-add_rows.ensures.seeks in
-    let call = c.ask_oracle.ensures in
-    seeks_after a m b asked asked c.ask_oracle.new.bounds c.ask_oracle.result (added.good tt) added.goes_on
-    (seeks_by m b asked c.ask_oracle.new.bounds c.ask_oracle.result call.good call.fault call.goes_on)
+    seeks_else (R.seen c.args.oracle.now) (R.seen c.add_rows.new.oracle) (R.seen c.ask_oracle.new.oracle) asked asked
+    c.ask_oracle.new.bounds c.ask_oracle.result c.in_ok-add_rows.ensures.seeks c.ask_oracle.ensures.seeks

@@ -11,8 +11,8 @@ use Rattle.search_base.proofs.Turning.{goes_again}
 use Rattle.search_questions.specs.Cores.{IsToldByCore}
 use Rattle.search_questions.specs.Questions.{IsAsked, IsQuestion}
 use Rattle.search_questions.specs.declared.below.Below.TheVariants.{Above}
-use Rattle.search_questions.proofs.Calls.{bounds_go_on, seeks_after, seeks_memory, seeks_no_memory, seeks_ok, seeks_recording}
-use Rattle.search_questions.proofs.Proposals.{added_stays_good, closed_told, nothing_stays_good}
+use Rattle.search_questions.proofs.Calls.{bounds_go_on, seeks_after, seeks_memory, seeks_no_memory, seeks_nothing, seeks_ok, seeks_recording}
+use Rattle.search_questions.proofs.Proposals.{added_stays_good, closed_told}
 use Rattle.search_questions.proofs.Told.{told_clash}
 use Rattle.search_questions.proofs.relaxing.ask_relaxed.Goals as goal
 
@@ -36,10 +36,7 @@ returns-in_default-clause-tells g c =
 
 pub returns-in_default-clause-seeks : goal.returns-in_default-clause-seeks
 returns-in_default-clause-seeks g c =
-    let R = g.O.Recorder in
-    let a = R.seen c.args.oracle.now in
-    let asked = c.args.bounds.now in
-    seeks_ok a a asked asked (Some (Above c.in_ok-stands.stands)) (nothing_stays_good a asked) (goes_again a)
+    seeks_nothing (g.O.Recorder.seen c.args.oracle.now) c.args.bounds.now (Some (Above c.in_ok-stands.stands))
 
 pub linear_limits-requires-clause-fits : goal.linear_limits-requires-clause-fits
 linear_limits-requires-clause-fits g c =

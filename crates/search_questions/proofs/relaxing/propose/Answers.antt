@@ -1,8 +1,8 @@
 -- The oracle's model has costs within the limits where the test says so.
-use Rattle.std.proofs.Common.{None, Some, sym}
+use Rattle.std.proofs.Common.{None, Ok, Some, sym}
 use Rattle.oracle.specs.Solving.{IsAnswer}
 use Rattle.oracle.specs.declared.answer.Answer.TheVariants.{Sat}
-use Rattle.search_questions.proofs.Calls.{not_ended, oracle_goes_on, oracle_stays_good, seeks_memory, seeks_ok, seeks_refused}
+use Rattle.search_questions.proofs.Calls.{not_ended, oracle_goes_on, seeks_answered, seeks_memory, seeks_refused}
 use Rattle.search_questions.proofs.Proposals.{as_long, long_model, model_within}
 use Rattle.search_questions.specs.declared.below.Below.TheVariants.{Model}
 use Rattle.search_questions.proofs.relaxing.propose.Goals as goal
@@ -28,8 +28,8 @@ returns-in_default-clause-seeks g c =
     let b = R.seen c.solve.new.self in
     let call = c.in_ok-model.ensures in
     let asked = c.args.bounds.now in
-    seeks_ok a b asked asked None (oracle_stays_good c.asking_stays_good.ensures a b asked call.keeps call.lines
-    call.within call.whole (call.earned tt)) (oracle_goes_on c.turn_lines_join.ensures a b call.keeps call.lines)
+    seeks_answered c.asking_stays_good.ensures c.turn_lines_join.ensures a b asked call.keeps call.lines
+    call.within call.whole (call.earned tt) (Ok None) tt
 
 pub costs_at-requires : goal.costs_at-requires
 costs_at-requires g c =
@@ -84,9 +84,8 @@ returns-then-weakly_dominates-clause-seeks g c =
     let b = R.seen c.solve.new.self in
     let call = c.in_ok-model.ensures in
     let asked = c.args.bounds.now in
-    seeks_ok a b asked asked (Some (Model c.in-Sat.model)) (oracle_stays_good c.asking_stays_good.ensures a b asked
-    call.keeps call.lines call.within call.whole (call.earned tt))
-    (oracle_goes_on c.turn_lines_join.ensures a b call.keeps call.lines)
+    seeks_answered c.asking_stays_good.ensures c.turn_lines_join.ensures a b asked call.keeps call.lines
+    call.within call.whole (call.earned tt) (Ok (Some (Model c.in-Sat.model))) tt
 
 pub returns-clause-seeks : goal.returns-clause-seeks
 returns-clause-seeks g c =
@@ -95,5 +94,5 @@ returns-clause-seeks g c =
     let b = R.seen c.solve.new.self in
     let call = c.in_ok-model.ensures in
     let asked = c.args.bounds.now in
-    seeks_ok a b asked asked None (oracle_stays_good c.asking_stays_good.ensures a b asked call.keeps call.lines
-    call.within call.whole (call.earned tt)) (oracle_goes_on c.turn_lines_join.ensures a b call.keeps call.lines)
+    seeks_answered c.asking_stays_good.ensures c.turn_lines_join.ensures a b asked call.keeps call.lines
+    call.within call.whole (call.earned tt) (Ok None) tt

@@ -1,8 +1,7 @@
 -- The bounds are asked for, and then the relaxations.
 use Rattle.std.proofs.Common.{◌∙◌, length, ap, sym}
 use Rattle.pb_lin.specs.Problem.{ProblemValue}
-use Rattle.search_base.proofs.Turning.{goes_twice}
-use Rattle.search_questions.proofs.Calls.{bounds_go_on, bounds_stay_good, good_rows, seeks_after, seeks_recording}
+use Rattle.search_questions.proofs.Calls.{bounds_go_on, bounds_stay_good, good_rows, seeks_bounds, seeks_else, seeks_recording}
 use Rattle.search_questions.proofs.relaxing.seek_relaxed.Goals as goal
 
 pub questioned-requires-clause-costs : goal.questioned-requires-clause-costs
@@ -10,29 +9,14 @@ questioned-requires-clause-costs g c =
     let R = g.O.Recorder in
     good_rows (R.seen c.args.oracle.now) c.args.bounds.now c.requires.good
 
-pub returns-in_err-question-clause-good : goal.returns-in_err-question-clause-good
-returns-in_err-question-clause-good g c =
+pub returns-in_err-question-clause-seeks : goal.returns-in_err-question-clause-seeks
+returns-in_err-question-clause-seeks g c =
     let R = g.O.Recorder in
     let a = R.seen c.args.oracle.now in
     let b = R.seen c.questioned.new.rec in
     let call = c.in_err-question.ensures.recorded in
-    (seeks_recording a b c.args.bounds.now c.questioned.new.bounds c.from_residual.result c.in_err-question.field-0.0
-    c.from_residual.ensures.1 call.fault (bounds_go_on c.turn_lines_join.ensures a b call.continues)).good
-
-pub returns-in_err-question-clause-fault : goal.returns-in_err-question-clause-fault
-returns-in_err-question-clause-fault g c =
-    let R = g.O.Recorder in
-    let a = R.seen c.args.oracle.now in
-    let b = R.seen c.questioned.new.rec in
-    let call = c.in_err-question.ensures.recorded in
-    (seeks_recording a b c.args.bounds.now c.questioned.new.bounds c.from_residual.result c.in_err-question.field-0.0
-    c.from_residual.ensures.1 call.fault (bounds_go_on c.turn_lines_join.ensures a b call.continues)).fault
-
-pub returns-in_err-question-clause-goes_on : goal.returns-in_err-question-clause-goes_on
-returns-in_err-question-clause-goes_on g c =
-    let R = g.O.Recorder in
-    bounds_go_on c.turn_lines_join.ensures (R.seen c.args.oracle.now) (R.seen c.questioned.new.rec)
-    c.in_err-question.ensures.recorded.continues
+    seeks_recording a b c.args.bounds.now c.questioned.new.bounds c.from_residual.result c.in_err-question.field-0.0
+    c.from_residual.ensures.1 call.fault (bounds_go_on c.turn_lines_join.ensures a b call.continues)
 
 pub ask_relaxed-requires-clause-good : goal.ask_relaxed-requires-clause-good
 ask_relaxed-requires-clause-good g c =
@@ -53,35 +37,14 @@ pub ask_relaxed-requires-clause-count : goal.ask_relaxed-requires-clause-count
 ask_relaxed-requires-clause-count g c =
     c.requires.count ∙ ap (λ (p : ProblemValue). length p.costs) (sym c.in_ok-question.ensures.recorded.continues.problem)
 
-pub returns-clause-good : goal.returns-clause-good
-returns-clause-good g c =
+pub returns-clause-seeks : goal.returns-clause-seeks
+returns-clause-seeks g c =
     let R = g.O.Recorder in
     let a = R.seen c.args.oracle.now in
     let m = R.seen c.questioned.new.rec in
     let b = R.seen c.ask_relaxed.new.oracle in
     let asked = c.in_ok-question.ensures in
-    (seeks_after a m b c.args.bounds.now c.questioned.new.bounds c.questioned.new.bounds c.ask_relaxed.result
-    (bounds_stay_good c.bounding_stays_good.ensures a m c.args.bounds.now c.questioned.new.bounds
-    asked.recorded.continues asked.recorded.whole asked.fits)
-    (bounds_go_on c.turn_lines_join.ensures a m asked.recorded.continues) c.ask_relaxed.ensures.seeks).good
-
-pub returns-clause-fault : goal.returns-clause-fault
-returns-clause-fault g c =
-    let R = g.O.Recorder in
-    let a = R.seen c.args.oracle.now in
-    let m = R.seen c.questioned.new.rec in
-    let b = R.seen c.ask_relaxed.new.oracle in
-    let asked = c.in_ok-question.ensures in
-    (seeks_after a m b c.args.bounds.now c.questioned.new.bounds c.questioned.new.bounds c.ask_relaxed.result
-    (bounds_stay_good c.bounding_stays_good.ensures a m c.args.bounds.now c.questioned.new.bounds
-    asked.recorded.continues asked.recorded.whole asked.fits)
-    (bounds_go_on c.turn_lines_join.ensures a m asked.recorded.continues) c.ask_relaxed.ensures.seeks).fault
-
-pub returns-clause-goes_on : goal.returns-clause-goes_on
-returns-clause-goes_on g c =
-    let R = g.O.Recorder in
-    let a = R.seen c.args.oracle.now in
-    let m = R.seen c.questioned.new.rec in
-    let b = R.seen c.ask_relaxed.new.oracle in
-    goes_twice a m b (bounds_go_on c.turn_lines_join.ensures a m c.in_ok-question.ensures.recorded.continues)
-    c.ask_relaxed.ensures.seeks.goes_on
+    seeks_else a m b c.args.bounds.now c.questioned.new.bounds c.questioned.new.bounds c.ask_relaxed.result
+    (seeks_bounds c.bounding_stays_good.ensures c.turn_lines_join.ensures a m c.args.bounds.now c.questioned.new.bounds
+    c.in_ok-question.question asked.recorded.continues asked.recorded.whole asked.fits)
+    c.ask_relaxed.ensures.seeks

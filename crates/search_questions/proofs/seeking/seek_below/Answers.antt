@@ -1,16 +1,15 @@
 -- The question's bounds and the oracle's call keep a good state good, and the answer tells of the limits what was asked.
-use Rattle.std.proofs.Common.{◌≡◌, Some, None, Err, List, length, ap, sym, subst, ◌∙◌, ℤ}
-use Rattle.std.proofs.lemmas.Result.{IfOk-weaker, err_from_is_err_and}
+use Rattle.std.proofs.Common.{◌≡◌, Some, None, Ok, List, length, ap, sym, subst, ◌∙◌, ℤ}
+use Rattle.std.proofs.lemmas.Result.{IfOk-weaker}
 use Rattle.std.specs.Prelude.{IfOk}
 use Rattle.pb_lin.specs.Problem.{ProblemValue}
 use Rattle.oracle.specs.Solving.{AreAssumptions, IsAnswer}
 use Rattle.oracle.specs.declared.answer.Answer.TheVariants.{Sat, Unsat}
-use Rattle.oracle.specs.declared.fault.OracleFault.{OracleFault}
-use Rattle.search_base.proofs.Turning.{goes_twice}
 use Rattle.search_questions.specs.Questions.{IsAsked}
 use Rattle.search_questions.specs.Cores.{IsToldByCore}
 use Rattle.search_questions.specs.Telling.{Tells}
-use Rattle.search_questions.proofs.Calls.{not_ended, good_rows, bounds_stay_good, oracle_stays_good, stays_good_twice, bounds_go_on, oracle_goes_on, recording_ends, spent_stays_good}
+use Rattle.search_questions.specs.declared.below.Below.TheVariants.{Above, Model}
+use Rattle.search_questions.proofs.Calls.{not_ended, good_rows, bounds_stay_good, bounds_go_on, seeks_answered, seeks_bounds, seeks_else, seeks_memory, seeks_recording, seeks_refused}
 use Rattle.search_questions.proofs.Questions.{are_assumptions}
 use Rattle.search_questions.proofs.Told.{state_after, told_clash, told_model, told_core}
 use Rattle.search_questions.proofs.seeking.seek_below.Goals as goal
@@ -21,39 +20,32 @@ questioned-requires-clause-costs g c =
     let a = R.seen c.args.oracle.now in
     good_rows a c.args.bounds.now c.requires.good
 
-pub returns-in_err-question-clause-good : goal.returns-in_err-question-clause-good
-returns-in_err-question-clause-good g c =
+pub returns-in_err-question-clause-seeks : goal.returns-in_err-question-clause-seeks
+returns-in_err-question-clause-seeks g c =
     let R = g.O.Recorder in
-    let is = err_from_is_err_and c.from_residual.result c.from_residual.ensures.1 in
-    recording_ends (R.seen c.args.oracle.now) (R.seen c.questioned.new.rec) c.args.bounds.now c.questioned.new.bounds
-    c.from_residual.result c.in_err-question.field-0.0 (is.1 ∙ ap (λ (f : OracleFault). Err f) is.2)
+    let a = R.seen c.args.oracle.now in
+    let m = R.seen c.questioned.new.rec in
+    let call = c.in_err-question.ensures.recorded in
+    seeks_recording a m c.args.bounds.now c.questioned.new.bounds c.from_residual.result c.in_err-question.field-0.0
+    c.from_residual.ensures.1 call.fault (bounds_go_on c.turn_lines_join.ensures a m call.continues)
 
-pub returns-in_err-question-clause-goes_on : goal.returns-in_err-question-clause-goes_on
-returns-in_err-question-clause-goes_on g c =
+pub returns-in_err-stands-clause-seeks : goal.returns-in_err-stands-clause-seeks
+returns-in_err-stands-clause-seeks g c =
     let R = g.O.Recorder in
-    bounds_go_on c.turn_lines_join.ensures (R.seen c.args.oracle.now) (R.seen c.questioned.new.rec)
-    c.in_err-question.ensures.recorded.continues
+    let a = R.seen c.args.oracle.now in
+    let m = R.seen c.questioned.new.rec in
+    seeks_memory a m c.args.bounds.now c.questioned.new.bounds c.from_residual-in_err-stands.result
+    c.from_residual-in_err-stands.ensures.1
+    (bounds_go_on c.turn_lines_join.ensures a m c.in_ok-question.ensures.recorded.continues)
 
-pub returns-in_err-stands-clause-goes_on : goal.returns-in_err-stands-clause-goes_on
-returns-in_err-stands-clause-goes_on g c =
-    let R = g.O.Recorder in
-    bounds_go_on c.turn_lines_join.ensures (R.seen c.args.oracle.now) (R.seen c.questioned.new.rec)
-    c.in_ok-question.ensures.recorded.continues
-
-pub returns-in_default-clause-goes_on : goal.returns-in_default-clause-goes_on
-returns-in_default-clause-goes_on g c =
-    let R = g.O.Recorder in
-    bounds_go_on c.turn_lines_join.ensures (R.seen c.args.oracle.now) (R.seen c.questioned.new.rec)
-    c.in_ok-question.ensures.recorded.continues
-
-pub returns-in_default-clause-good : goal.returns-in_default-clause-good
-returns-in_default-clause-good g c =
+pub returns-in_default-clause-seeks : goal.returns-in_default-clause-seeks
+returns-in_default-clause-seeks g c =
     let R = g.O.Recorder in
     let a = R.seen c.args.oracle.now in
     let m = R.seen c.questioned.new.rec in
     let asked = c.in_ok-question.ensures in
-    λ order. bounds_stay_good c.bounding_stays_good.ensures a m c.args.bounds.now c.questioned.new.bounds
-    asked.recorded.continues asked.recorded.whole asked.fits
+    seeks_bounds c.bounding_stays_good.ensures c.turn_lines_join.ensures a m c.args.bounds.now c.questioned.new.bounds
+    (Above c.in_ok-stands.stands) asked.recorded.continues asked.recorded.whole asked.fits
 
 pub returns-in_default-clause-tells : goal.returns-in_default-clause-tells
 returns-in_default-clause-tells g c =
@@ -113,59 +105,51 @@ solve-requires-clause-within g c =
     asked.recorded.continues asked.recorded.whole asked.fits front.0 front.1 in
     good.0.within
 
-pub returns-in_err-model-clause-good : goal.returns-in_err-model-clause-good
-returns-in_err-model-clause-good g c =
+pub returns-in_err-model-clause-seeks : goal.returns-in_err-model-clause-seeks
+returns-in_err-model-clause-seeks g c =
     let R = g.O.Recorder in
     let a = R.seen c.args.oracle.now in
     let m = R.seen c.questioned.new.rec in
     let b = R.seen c.solve.new.self in
     let asked = c.in_ok-question.ensures in
     let call = c.in_err-model.ensures in
-    let is = err_from_is_err_and c.from_residual-in_err-model.result c.from_residual-in_err-model.ensures.1 in
-    let first = bounds_stay_good c.bounding_stays_good.ensures a m c.args.bounds.now c.questioned.new.bounds
-    asked.recorded.continues asked.recorded.whole asked.fits in
-    λ order. stays_good_twice a m b c.args.bounds.now c.questioned.new.bounds c.questioned.new.bounds
-    asked.recorded.continues.problem first
-    (spent_stays_good c.asking_stays_good.ensures m b c.questioned.new.bounds
-    call.keeps call.lines call.within c.from_residual-in_err-model.result
-    c.in_err-model.field-0.0 (is.1 ∙ ap (λ (f : OracleFault). Err f) is.2) call.earned call.fault order)
+    let bounds = c.questioned.new.bounds in
+    seeks_else a m b c.args.bounds.now bounds bounds c.from_residual-in_err-model.result
+    (seeks_bounds c.bounding_stays_good.ensures c.turn_lines_join.ensures a m c.args.bounds.now c.questioned.new.bounds
+    c.in_ok-question.question asked.recorded.continues asked.recorded.whole asked.fits)
+    (seeks_refused c.asking_stays_good.ensures c.turn_lines_join.ensures m b bounds call.keeps call.lines call.within
+    c.from_residual-in_err-model.result c.in_err-model.field-0.0 c.from_residual-in_err-model.ensures.1 call.earned
+    call.fault)
 
-pub returns-in_err-model-clause-goes_on : goal.returns-in_err-model-clause-goes_on
-returns-in_err-model-clause-goes_on g c =
-    let R = g.O.Recorder in
-    let a = R.seen c.args.oracle.now in
-    let m = R.seen c.questioned.new.rec in
-    let b = R.seen c.solve.new.self in
-    let asked = c.in_ok-question.ensures in
-    let call = c.in_err-model.ensures in
-    goes_twice a m b (bounds_go_on c.turn_lines_join.ensures a m asked.recorded.continues)
-    (oracle_goes_on c.turn_lines_join.ensures m b call.keeps call.lines)
-
-pub returns-in-Sat-clause-goes_on : goal.returns-in-Sat-clause-goes_on
-returns-in-Sat-clause-goes_on g c =
+pub returns-in-Sat-clause-seeks : goal.returns-in-Sat-clause-seeks
+returns-in-Sat-clause-seeks g c =
     let R = g.O.Recorder in
     let a = R.seen c.args.oracle.now in
     let m = R.seen c.questioned.new.rec in
     let b = R.seen c.solve.new.self in
     let asked = c.in_ok-question.ensures in
     let call = c.in_ok-model.ensures in
-    goes_twice a m b (bounds_go_on c.turn_lines_join.ensures a m asked.recorded.continues)
-    (oracle_goes_on c.turn_lines_join.ensures m b call.keeps call.lines)
+    let bounds = c.questioned.new.bounds in
+    seeks_else a m b c.args.bounds.now bounds bounds (Ok (Model c.in-Sat.model))
+    (seeks_bounds c.bounding_stays_good.ensures c.turn_lines_join.ensures a m c.args.bounds.now c.questioned.new.bounds
+    c.in_ok-question.question asked.recorded.continues asked.recorded.whole asked.fits)
+    (seeks_answered c.asking_stays_good.ensures c.turn_lines_join.ensures m b bounds call.keeps call.lines call.within
+    call.whole (call.earned tt) (Ok (Model c.in-Sat.model)) tt)
 
-pub returns-in-Sat-clause-good : goal.returns-in-Sat-clause-good
-returns-in-Sat-clause-good g c =
+pub returns-clause-seeks : goal.returns-clause-seeks
+returns-clause-seeks g c =
     let R = g.O.Recorder in
     let a = R.seen c.args.oracle.now in
     let m = R.seen c.questioned.new.rec in
     let b = R.seen c.solve.new.self in
     let asked = c.in_ok-question.ensures in
     let call = c.in_ok-model.ensures in
-    let first = bounds_stay_good c.bounding_stays_good.ensures a m c.args.bounds.now c.questioned.new.bounds
-    asked.recorded.continues asked.recorded.whole asked.fits in
-    λ order. stays_good_twice a m b c.args.bounds.now c.questioned.new.bounds c.questioned.new.bounds
-    asked.recorded.continues.problem first
-    (oracle_stays_good c.asking_stays_good.ensures m b c.questioned.new.bounds
-    call.keeps call.lines call.within call.whole (call.earned tt))
+    let bounds = c.questioned.new.bounds in
+    seeks_else a m b c.args.bounds.now bounds bounds c.told_by_core.result
+    (seeks_bounds c.bounding_stays_good.ensures c.turn_lines_join.ensures a m c.args.bounds.now c.questioned.new.bounds
+    c.in_ok-question.question asked.recorded.continues asked.recorded.whole asked.fits)
+    (seeks_answered c.asking_stays_good.ensures c.turn_lines_join.ensures m b bounds call.keeps call.lines call.within
+    call.whole (call.earned tt) c.told_by_core.result c.told_by_core.ensures.fault)
 
 pub returns-in-Sat-clause-tells : goal.returns-in-Sat-clause-tells
 returns-in-Sat-clause-tells g c =
@@ -190,32 +174,6 @@ returns-in-Sat-clause-tells g c =
     c.in-Some.lits c.own_lines_stay.ensures c.turn_lines_keep_own.ensures
     good.0.ready.state good.0.ready.reached lines asked.asked.excesses is.1 is.0
     c.in-Sat.model long answer
-
-pub returns-clause-goes_on : goal.returns-clause-goes_on
-returns-clause-goes_on g c =
-    let R = g.O.Recorder in
-    let a = R.seen c.args.oracle.now in
-    let m = R.seen c.questioned.new.rec in
-    let b = R.seen c.solve.new.self in
-    let asked = c.in_ok-question.ensures in
-    let call = c.in_ok-model.ensures in
-    goes_twice a m b (bounds_go_on c.turn_lines_join.ensures a m asked.recorded.continues)
-    (oracle_goes_on c.turn_lines_join.ensures m b call.keeps call.lines)
-
-pub returns-clause-good : goal.returns-clause-good
-returns-clause-good g c =
-    let R = g.O.Recorder in
-    let a = R.seen c.args.oracle.now in
-    let m = R.seen c.questioned.new.rec in
-    let b = R.seen c.solve.new.self in
-    let asked = c.in_ok-question.ensures in
-    let call = c.in_ok-model.ensures in
-    let first = bounds_stay_good c.bounding_stays_good.ensures a m c.args.bounds.now c.questioned.new.bounds
-    asked.recorded.continues asked.recorded.whole asked.fits in
-    λ order. stays_good_twice a m b c.args.bounds.now c.questioned.new.bounds c.questioned.new.bounds
-    asked.recorded.continues.problem first
-    (oracle_stays_good c.asking_stays_good.ensures m b c.questioned.new.bounds
-    call.keeps call.lines call.within call.whole (call.earned tt))
 
 pub returns-clause-tells : goal.returns-clause-tells
 returns-clause-tells g c =

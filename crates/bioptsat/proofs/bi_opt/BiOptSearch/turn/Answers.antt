@@ -11,33 +11,33 @@ pub returns-in_err-take-in-Model-clause-goes_on : goal.returns-in_err-take-in-Mo
 returns-in_err-take-in-Model-clause-goes_on g c =
     let R = g.O.Recorder in
     goes_twice (R.seen c.args.oracle.now) (R.seen c.seek.new.oracle) (R.seen c.take.new.rec)
-    c.seek.ensures.goes_on c.take.ensures.goes_on
+    c.seek.ensures.seeks.goes_on c.take.ensures.goes_on
 
 pub returns-in_err-exclude_last-in-Model-clause-goes_on : goal.returns-in_err-exclude_last-in-Model-clause-goes_on
 returns-in_err-exclude_last-in-Model-clause-goes_on g c =
     let R = g.O.Recorder in
     goes_twice (R.seen c.args.oracle.now) (R.seen c.seek.new.oracle) (R.seen c.take.new.rec)
-    c.seek.ensures.goes_on c.take.ensures.goes_on
+    c.seek.ensures.seeks.goes_on c.take.ensures.goes_on
 
 pub returns-in_err-self-inside-in-Model-clause-goes_on : goal.returns-in_err-self-inside-in-Model-clause-goes_on
 returns-in_err-self-inside-in-Model-clause-goes_on g c =
     let R = g.O.Recorder in
     goes_twice (R.seen c.args.oracle.now) (R.seen c.seek.new.oracle) (R.seen c.take.new.rec)
-    c.seek.ensures.goes_on c.take.ensures.goes_on
+    c.seek.ensures.seeks.goes_on c.take.ensures.goes_on
 
 pub returns-in-Model-clause-goes_on : goal.returns-in-Model-clause-goes_on
 returns-in-Model-clause-goes_on g c =
     let R = g.O.Recorder in
     goes_twice (R.seen c.args.oracle.now) (R.seen c.seek.new.oracle) (R.seen c.take.new.rec)
-    c.seek.ensures.goes_on c.take.ensures.goes_on
+    c.seek.ensures.seeks.goes_on c.take.ensures.goes_on
 
 pub returns-in-Model-clause-turn : goal.returns-in-Model-clause-turn
 returns-in-Model-clause-turn g c =
     let R = g.O.Recorder in
     let asked = c.in_ok-model.ensures in
-    let stays = asked.good tt c.args.board.now c.requires.good in
+    let stays = asked.seeks.good tt c.args.board.now c.requires.good in
     finds_after (R.seen c.args.oracle.now) (R.seen c.seek.new.oracle) (R.seen c.take.new.rec)
-    asked.goes_on.problem stays.1 c.in_ok-take-in-Model.ensures.taken.found
+    asked.seeks.goes_on.problem stays.1 c.in_ok-take-in-Model.ensures.taken.found
 
 pub returns-in-Model-clause-serves : goal.returns-in-Model-clause-serves
 returns-in-Model-clause-serves g c =
@@ -47,7 +47,7 @@ returns-in-Model-clause-serves g c =
     let call = c.in_ok-take-in-Model.ensures in
     let now = c.in_ok-self-inside-in-Model.field-0 in
     let two : length m.problem.costs ≡ 2 =
-    ap (λ (p : ProblemValue). length p.costs) c.in_ok-model.ensures.goes_on.problem ∙ c.requires.serves.count in
+    ap (λ (p : ProblemValue). length p.costs) c.in_ok-model.ensures.seeks.goes_on.problem ∙ c.requires.serves.count in
     let after : now ≡ aim_after c.args.self.now c.take.new.self.last =
     subst (λ (aim : Aim). now ≡ aim_after aim c.take.new.self.last)
     (c.self-in-Model.view_is ∙ c.exclude_last.ensures ∙ c.self.view_is) c.in_ok-self-inside-in-Model.ensures in
@@ -61,16 +61,16 @@ returns-in-Model-clause-aim g c =
     let b = R.seen c.take.new.rec in
     let call = c.in_ok-take-in-Model.ensures in
     let asked = c.in_ok-model.ensures in
-    let stays = asked.good tt c.args.board.now c.requires.good in
+    let stays = asked.seeks.good tt c.args.board.now c.requires.good in
     let tells = rw c.self.view_is at rw c.in-Model.is at asked.tells in
     let now = c.in_ok-self-inside-in-Model.field-0 in
     let two : length m.problem.costs ≡ 2 =
-    ap (λ (p : ProblemValue). length p.costs) asked.goes_on.problem ∙ c.requires.serves.count in
+    ap (λ (p : ProblemValue). length p.costs) asked.seeks.goes_on.problem ∙ c.requires.serves.count in
     let after : now ≡ aim_after c.args.self.now c.take.new.self.last =
     subst (λ (aim : Aim). now ≡ aim_after aim c.take.new.self.last)
     (c.self-in-Model.view_is ∙ c.exclude_last.ensures ∙ c.self.view_is) c.in_ok-self-inside-in-Model.ensures in
     improves m b c.in-Model.model c.take.new.self c.args.self.now now two
-    call.taken call.goes_on.problem call.good.board after (R.seen c.args.oracle.now) asked.goes_on.problem stays.1 tells
+    call.taken call.goes_on.problem call.good.board after (R.seen c.args.oracle.now) asked.seeks.goes_on.problem stays.1 tells
 
 pub returns-clause-aim : goal.returns-clause-aim
 returns-clause-aim g c =

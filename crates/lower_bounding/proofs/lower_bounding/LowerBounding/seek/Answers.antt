@@ -4,6 +4,7 @@ use Rattle.std.proofs.lemmas.Result.{IfOk-weaker}
 use Rattle.pb_lin.specs.Problem.{ProblemValue}
 use Rattle.search_base.proofs.Turning.{goes_again}
 use Rattle.search_questions.specs.Telling.{Tells}
+use Rattle.search_questions.proofs.Calls.{seeks_memory}
 use Rattle.lower_bounding.specs.Fences.{FenceValue, Serves}
 use Rattle.lower_bounding.specs.Raising.{AreLimits, TellsOfFence}
 use Rattle.lower_bounding.proofs.Raised.{rows_length, told, tops_length}
@@ -16,8 +17,10 @@ limits-requires g c =
     ∙ tops_length c.args.self.now p c.requires.serves
     ∙ sym (ap (λ (v : FenceValue). length v.fence) c.self.view_is)
 
-pub returns-in_err-limits-clause-goes_on : goal.returns-in_err-limits-clause-goes_on
-returns-in_err-limits-clause-goes_on g c = goes_again (g.O.Recorder.seen c.args.oracle.now)
+pub returns-in_err-limits-clause-seeks : goal.returns-in_err-limits-clause-seeks
+returns-in_err-limits-clause-seeks g c =
+    let a = g.O.Recorder.seen c.args.oracle.now in
+    seeks_memory a a c.args.bounds.now c.args.bounds.now c.from_residual.result c.from_residual.ensures.1 (goes_again a)
 
 pub seek_below-requires-clause-count : goal.seek_below-requires-clause-count
 seek_below-requires-clause-count g c =
@@ -32,7 +35,7 @@ returns-clause-tells g c =
     let s = c.args.self.now in
     let limits = c.in_ok-limits.limits in
     let serves : Serves s b.problem =
-    subst (λ (p : ProblemValue). Serves s p) (sym c.seek_below.ensures.goes_on.problem) c.requires.serves in
+    subst (λ (p : ProblemValue). Serves s p) (sym c.seek_below.ensures.seeks.goes_on.problem) c.requires.serves in
     let are : AreLimits s.fence s.tops limits =
     subst (λ (v : FenceValue). AreLimits v.fence v.tops limits) c.self.view_is c.in_ok-limits.ensures in
     IfOk-weaker c.seek_below.result (Tells b limits) (TellsOfFence b s) (told b s limits serves are)

@@ -11,49 +11,49 @@ pub returns-in_err-take-in-Model-clause-goes_on : goal.returns-in_err-take-in-Mo
 returns-in_err-take-in-Model-clause-goes_on g c =
     let R = g.O.Recorder in
     goes_twice (R.seen c.args.oracle.now) (R.seen c.seek.new.oracle) (R.seen c.take.new.rec)
-    c.seek.ensures.goes_on c.take.ensures.goes_on
+    c.seek.ensures.seeks.goes_on c.take.ensures.goes_on
 
 pub returns-in_err-exclude_last-in-Model-clause-goes_on : goal.returns-in_err-exclude_last-in-Model-clause-goes_on
 returns-in_err-exclude_last-in-Model-clause-goes_on g c =
     let R = g.O.Recorder in
     goes_twice (R.seen c.args.oracle.now) (R.seen c.seek.new.oracle) (R.seen c.take.new.rec)
-    c.seek.ensures.goes_on c.take.ensures.goes_on
+    c.seek.ensures.seeks.goes_on c.take.ensures.goes_on
 
 pub returns-in_ok-exclude_last-in-Model-clause-goes_on : goal.returns-in_ok-exclude_last-in-Model-clause-goes_on
 returns-in_ok-exclude_last-in-Model-clause-goes_on g c =
     let R = g.O.Recorder in
     goes_twice (R.seen c.args.oracle.now) (R.seen c.seek.new.oracle) (R.seen c.take.new.rec)
-    c.seek.ensures.goes_on c.take.ensures.goes_on
+    c.seek.ensures.seeks.goes_on c.take.ensures.goes_on
 
 pub returns-in_ok-exclude_last-in-Model-clause-turn : goal.returns-in_ok-exclude_last-in-Model-clause-turn
 returns-in_ok-exclude_last-in-Model-clause-turn g c =
     let R = g.O.Recorder in
     let asked = c.in_ok-model.ensures in
-    let stays = asked.good tt c.args.board.now c.requires.good in
+    let stays = asked.seeks.good tt c.args.board.now c.requires.good in
     finds_after (R.seen c.args.oracle.now) (R.seen c.seek.new.oracle) (R.seen c.take.new.rec)
-    asked.goes_on.problem stays.1 c.in_ok-take-in-Model.ensures.taken.found
+    asked.seeks.goes_on.problem stays.1 c.in_ok-take-in-Model.ensures.taken.found
 
 pub returns-in_ok-exclude_last-in-Model-clause-fence : goal.returns-in_ok-exclude_last-in-Model-clause-fence
 returns-in_ok-exclude_last-in-Model-clause-fence g c =
     let R = g.O.Recorder in
     let asked = c.in_ok-model.ensures in
-    let stays = asked.good tt c.args.board.now c.requires.good in
+    let stays = asked.seeks.good tt c.args.board.now c.requires.good in
     let tells = rw c.in-Model.is at asked.tells in
     let a = R.seen c.args.oracle.now in
     let b = R.seen c.take.new.rec in
     let fence = c.args.self.now.fence in
     subst (λ (v : FenceValue). FindsInside a b fence v.fence) (sym (c.exclude_last.ensures ∙ c.seek.ensures.same))
     (finds_inside a (R.seen c.seek.new.oracle) b
-    c.in-Model.model fence asked.goes_on.problem stays.1 tells.1 c.in_ok-take-in-Model.ensures.taken)
+    c.in-Model.model fence asked.seeks.goes_on.problem stays.1 tells.1 c.in_ok-take-in-Model.ensures.taken)
 
 pub raised-requires-clause-bounds : goal.raised-requires-clause-bounds
 raised-requires-clause-bounds g c =
     let R = g.O.Recorder in
     let a = R.seen c.args.oracle.now in
     let asked = c.in_ok-model.ensures in
-    let stays = asked.good tt c.args.board.now c.requires.good in
+    let stays = asked.seeks.good tt c.args.board.now c.requires.good in
     bounds_length (R.seen c.seek.new.oracle) c.seek.new.bounds stays.0.bounds
-    ∙ ap (λ (p : ProblemValue). length p.costs) asked.goes_on.problem
+    ∙ ap (λ (p : ProblemValue). length p.costs) asked.seeks.goes_on.problem
     ∙ sym (rows_length c.args.self.now a.problem c.requires.serves)
     ∙ sym (ap (λ (v : FenceValue). length v.fence) (c.self.view_is ∙ c.seek.ensures.same))
 
@@ -70,7 +70,7 @@ returns-in_ok-self-inside-in-Above-clause-turn g c =
     let R = g.O.Recorder in
     let p = (R.seen c.args.oracle.now).problem in
     let asked = c.in_ok-model.ensures in
-    let stays = asked.good tt c.args.board.now c.requires.good in
+    let stays = asked.seeks.good tt c.args.board.now c.requires.good in
     let tells = rw c.in-Above.is at asked.tells in
     let now = c.in_ok-self-inside-in-Above.field-0 in
     let s : FenceValue = record { fence = c.self.inside.fence; tops = c.self.inside.tops } in
@@ -114,5 +114,5 @@ returns-in_ok-self-inside-in-Above-clause-serves g c =
     let can : CanRaise s.fence s.tops stands =
     subst (λ (v : FenceValue). CanRaise v.fence v.tops stands) (sym (c.self.view_is ∙ c.seek.ensures.same)) tells.1 in
     let is : IsRaised s.fence s.tops stands now = rw c.as_slice-stands.ensures at c.in_ok-self-inside-in-Above.ensures in
-    λ order. subst (λ (r : ProblemValue). Serves (record { fence = now; tops = s.tops }) r) (sym asked.goes_on.problem)
+    λ order. subst (λ (r : ProblemValue). Serves (record { fence = now; tops = s.tops }) r) (sym asked.seeks.goes_on.problem)
     (raised_serves s p serves stands can now is)

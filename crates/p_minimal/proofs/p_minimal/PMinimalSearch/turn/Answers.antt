@@ -11,7 +11,7 @@ returns-in_err-take-in-Model-clause-goes_on g c =
     let a = R.seen c.args.oracle.now in
     let m = R.seen c.seek.new.oracle in
     let b = R.seen c.take.new.rec in
-    goes_twice a m b c.seek.ensures.goes_on c.take.ensures.goes_on
+    goes_twice a m b c.seek.ensures.seeks.goes_on c.take.ensures.goes_on
 
 pub returns-in_err-self-inside-in-Model-clause-goes_on : goal.returns-in_err-self-inside-in-Model-clause-goes_on
 returns-in_err-self-inside-in-Model-clause-goes_on g c =
@@ -19,7 +19,7 @@ returns-in_err-self-inside-in-Model-clause-goes_on g c =
     let a = R.seen c.args.oracle.now in
     let m = R.seen c.seek.new.oracle in
     let b = R.seen c.take.new.rec in
-    goes_twice a m b c.seek.ensures.goes_on c.take.ensures.goes_on
+    goes_twice a m b c.seek.ensures.seeks.goes_on c.take.ensures.goes_on
 
 pub returns-in-Model-clause-goes_on : goal.returns-in-Model-clause-goes_on
 returns-in-Model-clause-goes_on g c =
@@ -27,7 +27,7 @@ returns-in-Model-clause-goes_on g c =
     let a = R.seen c.args.oracle.now in
     let m = R.seen c.seek.new.oracle in
     let b = R.seen c.take.new.rec in
-    goes_twice a m b c.seek.ensures.goes_on c.take.ensures.goes_on
+    goes_twice a m b c.seek.ensures.seeks.goes_on c.take.ensures.goes_on
 
 pub returns-in-Model-clause-turn : goal.returns-in-Model-clause-turn
 returns-in-Model-clause-turn g c =
@@ -36,8 +36,8 @@ returns-in-Model-clause-turn g c =
     let m = R.seen c.seek.new.oracle in
     let b = R.seen c.take.new.rec in
     let asked = c.in_ok-model.ensures in
-    let stays = asked.good tt c.args.board.now c.requires.good in
-    finds_after a m b asked.goes_on.problem stays.1 c.in_ok-take-in-Model.ensures.taken.found
+    let stays = asked.seeks.good tt c.args.board.now c.requires.good in
+    finds_after a m b asked.seeks.goes_on.problem stays.1 c.in_ok-take-in-Model.ensures.taken.found
 
 pub returns-in-Model-clause-serves : goal.returns-in-Model-clause-serves
 returns-in-Model-clause-serves g c =
@@ -55,12 +55,12 @@ returns-in-Model-clause-aim g c =
     let m = R.seen c.seek.new.oracle in
     let b = R.seen c.take.new.rec in
     let asked = c.in_ok-model.ensures in
-    let stays = asked.good tt c.args.board.now c.requires.good in
+    let stays = asked.seeks.good tt c.args.board.now c.requires.good in
     let tells = rw c.self.view_is at rw c.in-Model.is at asked.tells in
     let call = c.in_ok-take-in-Model.ensures in
     aims_lower m b c.in-Model.model c.take.new.self c.in_ok-self-inside-in-Model.field-0
     call.taken call.goes_on.problem call.good.board c.in_ok-self-inside-in-Model.ensures
-    a c.args.self.now asked.goes_on.problem stays.1 tells
+    a c.args.self.now asked.seeks.goes_on.problem stays.1 tells
 
 -- ---- where none was taken
 
@@ -69,21 +69,21 @@ returns-in_err-model-clause-serves g c =
     let R = g.O.Recorder in
     let m = R.seen c.seek.new.oracle in
     λ order. subst (λ (aim : Option (List ℤ)). Serves aim m.problem) (sym c.self.view_is)
-    (serves_still (R.seen c.args.oracle.now) m c.args.self.now c.seek.ensures.goes_on.problem c.requires.serves)
+    (serves_still (R.seen c.args.oracle.now) m c.args.self.now c.seek.ensures.seeks.goes_on.problem c.requires.serves)
 
 pub returns-in-End-clause-serves : goal.returns-in-End-clause-serves
 returns-in-End-clause-serves g c =
     let R = g.O.Recorder in
     let m = R.seen c.seek.new.oracle in
     λ order. subst (λ (aim : Option (List ℤ)). Serves aim m.problem) (sym c.self.view_is)
-    (serves_still (R.seen c.args.oracle.now) m c.args.self.now c.seek.ensures.goes_on.problem c.requires.serves)
+    (serves_still (R.seen c.args.oracle.now) m c.args.self.now c.seek.ensures.seeks.goes_on.problem c.requires.serves)
 
 pub returns-in-End-clause-turn : goal.returns-in-End-clause-turn
 returns-in-End-clause-turn g c =
     let R = g.O.Recorder in
     let m = R.seen c.seek.new.oracle in
     let asked = c.in_ok-model.ensures in
-    let stays = asked.good tt c.args.board.now c.requires.good in
+    let stays = asked.seeks.good tt c.args.board.now c.requires.good in
     (stays.1, end_told m c.args.self.now c.in-End.id (rw c.self.view_is at rw c.in-End.is at asked.tells))
 
 pub returns-clause-turn : goal.returns-clause-turn
@@ -91,7 +91,7 @@ returns-clause-turn g c =
     let R = g.O.Recorder in
     let m = R.seen c.seek.new.oracle in
     let asked = c.in_ok-model.ensures in
-    let stays = asked.good tt c.args.board.now c.requires.good in
+    let stays = asked.seeks.good tt c.args.board.now c.requires.good in
     (stays.1, (none_told m c.args.self.now c.in-Above.stands (rw c.self.view_is at rw c.in-Above.is at asked.tells)).0)
 
 pub returns-clause-aim : goal.returns-clause-aim

@@ -1,12 +1,12 @@
 -- What is told of a part is told of the limits.
-use Rattle.std.proofs.Common.{◌∙◌, None, Option, List, ℤ, length, refl, subst, sym}
+use Rattle.std.proofs.Common.{◌∙◌, None, Option, List, ℤ, length, subst, sym}
 use Rattle.std.specs.Prelude.{IfSome}
 use Rattle.front_set.proofs.FrontLaws.{IsBelow-antisym, length-IsBelow}
 use Rattle.search_base.proofs.Turning.{goes_again}
 use Rattle.search_questions.specs.declared.below.Below.{Below}
 use Rattle.search_questions.specs.Telling.{Tells}
 use Rattle.search_questions.proofs.Limits.{told_of_greater}
-use Rattle.search_questions.proofs.Calls.{seeks_handed, seeks_memory, seeks_ok}
+use Rattle.search_questions.proofs.Calls.{seeks_handed, seeks_memory, seeks_nothing}
 use Rattle.search_questions.proofs.relaxations.Relaxations.seek_in_box.Goals as goal
 
 pub returns-in_err-part-clause-seeks : goal.returns-in_err-part-clause-seeks
@@ -16,9 +16,7 @@ returns-in_err-part-clause-seeks g c =
 
 pub returns-in_default-clause-seeks : goal.returns-in_default-clause-seeks
 returns-in_default-clause-seeks g c =
-    let a = g.O.Recorder.seen c.args.oracle.now in
-    let asked = c.args.bounds.now in
-    seeks_ok a a asked asked None (λ front good. (good, refl)) (goes_again a)
+    seeks_nothing (g.O.Recorder.seen c.args.oracle.now) c.args.bounds.now None
 
 pub seek-requires-clause-count : goal.seek-requires-clause-count
 seek-requires-clause-count g c =

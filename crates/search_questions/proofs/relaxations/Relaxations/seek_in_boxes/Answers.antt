@@ -3,15 +3,11 @@ use Rattle.std.proofs.Common.{◌∙◌, None, Option, length, ap, refl, sym}
 use Rattle.pb_lin.specs.Problem.{ProblemValue}
 use Rattle.search_base.proofs.Turning.{goes_again, goes_twice}
 use Rattle.search_questions.specs.declared.below.Below.{Below}
-use Rattle.search_questions.proofs.Calls.{seeks_after, seeks_handed, seeks_ok, stays_good_twice}
+use Rattle.search_questions.proofs.Calls.{seeks_after, seeks_handed, seeks_nothing, seeks_ok, stays_good_twice}
 use Rattle.search_questions.proofs.relaxations.Relaxations.seek_in_boxes.Goals as goal
 
-pub returns-then-gives_boxes_up-clause-seeks : goal.returns-then-gives_boxes_up-clause-seeks
-returns-then-gives_boxes_up-clause-seeks g c =
-    let R = g.O.Recorder in
-    let a = R.seen c.args.oracle.now in
-    let asked = c.args.bounds.now in
-    seeks_ok a a asked asked None (λ front good. (good, refl)) (goes_again a)
+pub returns-then-is_spent-clause-seeks : goal.returns-then-is_spent-clause-seeks
+returns-then-is_spent-clause-seeks g c = seeks_nothing (g.O.Recorder.seen c.args.oracle.now) c.args.bounds.now None
 
 pub loop-place-init : goal.loop-place-init
 loop-place-init g c =
