@@ -7,14 +7,17 @@ use Rattle.std.specs.Int.{IsInRange}
 use Rattle.std.specs.List.{All, onto_first}
 use Rattle.std.specs.Str.Parse.{AllDigits, digits_value}
 use Rattle.std.proofs.lemmas.Bool.{ne_eqb}
-use Rattle.std.proofs.lemmas.List.{append-nil, take-append-drop}
+use Rattle.std.proofs.lemmas.List.{append-nil, take-append-drop, take_rest}
 use Rattle.std.proofs.lemmas.List.Elements.{All-nil, All-cons}
 use Rattle.std.proofs.lemmas.List.Splits.{slice_split_none, slice_split_at, slice_split-cons_no}
 use Rattle.std.proofs.lemmas.Str.Parse.{digit_from_value}
-use Rattle.proof_laws.specs.WellFormed.{IsId}
+use Rattle.std.proofs.lemmas.Fmt.{decimal_digit}
+use Rattle.scut_base.specs.Literal.{Literal}
+use Rattle.proof_laws.specs.WellFormed.{IsId, IsVariable}
+use Rattle.proof_lines.specs.LineText.{literal_word}
 use Rattle.proof_lines.specs.declared.spelling.Spelling.TheVariants.{Relative}
 use Rattle.proof_lines.specs.Ids.{id_word, is_made}
-use Rattle.proof_lines.specs.Reading.{IsLeading, IsPlain, is_space, words_left, words_of}
+use Rattle.proof_lines.specs.Reading.{IsLeading, IsPlain, is_space, term_words, words_left, words_of}
 use Rattle.proof_lines.proofs.IdWords.{after_first, back_word}
 use Rattle.proof_lines.proofs.Items.{Words}
 use Rattle.proof_lines.proofs.Numbers.{digits_spell, powers}
@@ -66,10 +69,28 @@ pub none_of : (xs : List ℕ) → length xs < 1 → xs ≡ []
 none_of [] few = refl
 none_of (x ∷ xs) few = absurd (omega arith)
 
+-- `1`, and a literal after it
+pub unit_first : (text rest : List ℕ) (l : Literal) (left : Words) → text ≡ 49 ∷ 32 ∷ rest → words_of rest ≡ literal_word l ∷ left → words_of text ≡ term_words (l, 1) ++ left
+unit_first text rest l left is spelled =
+    ap words_of is
+    ∙ slice_split_at is_space (49 ∷ []) 32 rest (All-cons (λ b. is_space b ≡ false) 49 [] refl (All-nil (λ b. is_space b ≡ false))) refl
+    ∙ ap (λ ws. (49 ∷ []) ∷ ws) spelled
+    ∙ ap (λ w. w ∷ literal_word l ∷ left) (sym (decimal_digit 1 (omega arith)))
+
+-- the bytes after the first two
+pub after_two : (text : List ℕ) (a b : ℕ) → 2 ≤ length text → get_or text 0 0 ≡ a → get_or text 1 0 ≡ b → text ≡ a ∷ b ∷ take (length text - 2) (drop 2 text)
+after_two [] a b long first second = absurd (omega arith)
+after_two (x ∷ []) a b long first second = absurd (omega arith)
+after_two (x ∷ y ∷ zs) a b long first second = ap (λ c. c ∷ y ∷ zs) first ∙ ap (λ c. a ∷ c ∷ zs) second ∙ ap (λ cs. a ∷ b ∷ cs) (sym (take_rest (x ∷ y ∷ zs) 2))
+
 -- ---- what is cut off a text
 
 abbrev pub Cut : {X : Type 0} → (X → Words) → (X → Type 0) → List ℕ → Option (X × Option (Bor (List ℕ))) → Type 0
 Cut words IsValid text r = IfSome r (λ cut. IsValid cut.0 × (words_of text ≡ words cut.0 ++ words_left (option_copied cut.1)))
+
+pub unit_cut : (text rest : List ℕ) (r : Option (Literal × Option (Bor (List ℕ)))) → text ≡ 49 ∷ 32 ∷ rest → Cut (λ l. literal_word l ∷ []) (λ l. IsVariable l.var) rest r → Cut (λ l. term_words (l, 1)) (λ l. IsVariable l.var) text r
+unit_cut text rest None is cut = tt
+unit_cut text rest (Some c) is cut = (cut.0, unit_first text rest c.0 (words_left (option_copied c.1)) is cut.1)
 
 pub plain_cut : (text : List ℕ) (r : Option (ℕ × Option (Bor (List ℕ)))) → Cut (λ n. decimal n ∷ []) (λ n. n < 10 ^ 18) text r → Cut (λ n. decimal n ∷ []) IsId text r
 plain_cut text None cut = tt

@@ -1,5 +1,5 @@
 // A constraint, word by word.
-ghost use Rattle.std.specs.Prelude.{◌+◌, ◌≤◌, ◌^◌, ◌∷◌, [], ◌↔◌, IsTrue};
+ghost use Rattle.std.specs.Prelude.{◌≡◌, ◌+◌, ◌≤◌, ◌^◌, ◌∷◌, ◌++◌, [], ◌↔◌, IsTrue, MatchOption};
 ghost use Rattle.std.specs.Fmt.{decimal};
 ghost use Rattle.proof_laws.specs.WellFormed.{IsConstraint};
 ghost use Rattle.proof_lines.specs.LineText.{constraint_words};
@@ -34,7 +34,16 @@ fn read_terms(alloc: Global, words: &mut Words<'_>) -> Result<(Terms, u128), Lin
     let mut terms = Terms::new(alloc)?;
     let mut last = 0;
     let mut sum = 0;
-    while let Some(word) = words.next() {
+    while !words.is_at_end() {
+        if let Some(lit) = next_unit(words, last, sum) {
+            terms.push((lit, 1))?;
+            last = lit.var();
+            sum += 1;
+            continue;
+        }
+        let Some(word) = words.next() else {
+            return Err(LineFault::Syntax);
+        };
         if word == b">=".as_slice() {
             return Ok((terms, sum));
         }
@@ -49,6 +58,19 @@ fn read_terms(alloc: Global, words: &mut Words<'_>) -> Result<(Terms, u128), Lin
         sum += term.1;
     }
     Err(LineFault::Syntax)
+}
+
+// Takes the next term where its coefficient is 1 and it may come after the others, of which these are told; else maybe
+// nothing. Most terms of a log are such.
+fn next_unit(words: &mut Words<'_>, last: u64, sum: u128) -> Option<Lit>
+    requires { sum ≤ 2 ^ 100 }
+    ensures { MatchOption result (words.new ≡ words.old) (λ l. IsTerm (l, 1)
+        × MayFollow last sum (l, 1) × (words.old ≡ term_words (l, 1) ++ words.new)) }
+{
+    if sum == SIZE_LIMIT {
+        return None;
+    }
+    words.short_unit(last)
 }
 
 // The term that this word and the next spell.

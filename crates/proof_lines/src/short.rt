@@ -1,13 +1,13 @@
 // Numbers, ids and literals that are the first word of a text, in one pass over that word. Those of
 // more than 18 digits are left to the readers of whole words, and so is what is none of these.
-ghost use Rattle.std.specs.Prelude.{◌≡◌, ◌<◌, ◌≤◌, ◌^◌, ◌∷◌, IfSome};
+ghost use Rattle.std.specs.Prelude.{◌≡◌, ◌<◌, ◌≤◌, ◌^◌, ◌∷◌, ◌++◌, IfSome};
 ghost use Rattle.std.specs.Option.{option_copied};
 ghost use Rattle.std.specs.Fmt.{decimal};
 ghost use Rattle.proof_laws.specs.WellFormed.{IsId, IsVariable};
 ghost use Rattle.proof_lines.specs.declared.spelling.Spelling.TheVariants.{Relative};
 ghost use Rattle.proof_lines.specs.Ids.{IsSpelling, id_word};
 ghost use Rattle.proof_lines.specs.LineText.{literal_word, variable_word};
-ghost use Rattle.proof_lines.specs.Reading.{IsLeading, words_left, words_of};
+ghost use Rattle.proof_lines.specs.Reading.{IsLeading, term_words, words_left, words_of};
 
 use crate::Spelling;
 use crate::ids::{id_before, is_made};
@@ -61,6 +61,17 @@ pub(crate) fn cut_literal(text: &[u8]) -> Option<(Lit, Option<&[u8]>)>
             let (var, rest) = cut_variable(text)?;
             Some((Lit::new(var, false), rest))
         }
+    }
+}
+
+/// The literal of a term whose coefficient is 1, and what follows the space after it.
+pub(crate) fn cut_unit(text: &[u8]) -> Option<(Lit, Option<&[u8]>)>
+    ensures { IfSome result (λ cut. IsVariable cut.0.var
+        × (words_of text.now ≡ term_words (cut.0, 1) ++ words_left (option_copied cut.1))) }
+{
+    match text {
+        [b'1', b' ', rest @ ..] => cut_literal(rest),
+        _ => None,
     }
 }
 

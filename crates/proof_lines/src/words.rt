@@ -1,5 +1,5 @@
 // The words of a text, from left to right.
-ghost use Rattle.std.specs.Prelude.{◌≡◌, ◌≢◌, ◌≤◌, ◌↔◌, [], ◌∷◌, length, codes};
+ghost use Rattle.std.specs.Prelude.{◌≡◌, ◌≢◌, ◌≤◌, ◌↔◌, [], ◌∷◌, ◌++◌, ◌<◌, length, codes};
 ghost use Rattle.std.specs.Prelude.{IsTrue, MatchOption};
 ghost use Rattle.std.specs.List.{position_or_len};
 ghost use Rattle.std.specs.Option.{option_copied};
@@ -8,10 +8,10 @@ ghost use Rattle.proof_laws.specs.WellFormed.{IsId, IsVariable};
 ghost use Rattle.proof_lines.specs.Ids.{IsSpelling, id_word};
 ghost use Rattle.proof_lines.specs.LineText.{literal_word};
 ghost use Rattle.proof_lines.specs.Reading.{BeginsWith, EndsPart, Skips, is_space};
-ghost use Rattle.proof_lines.specs.Reading.{words_left, words_of};
+ghost use Rattle.proof_lines.specs.Reading.{term_words, words_left, words_of};
 
 use crate::Spelling;
-use crate::short::{cut_id, cut_literal};
+use crate::short::{cut_id, cut_literal, cut_unit};
 use scut_base::Lit;
 use std::marker::Model;
 
@@ -111,6 +111,22 @@ impl<'a> Words<'a> {
         let Some((lit, rest)) = cut_literal(self.rest?) else {
             return None;
         };
+        self.rest = rest;
+        Some(lit)
+    }
+
+    /// Takes the next term where its coefficient is 1, and its literal of few digits and of a variable above this one; else
+    /// nothing.
+    pub(crate) fn short_unit(&mut self, above: u64) -> Option<Lit>
+        ensures { MatchOption result (self.new ≡ self.old) (λ l. IsVariable l.var
+            × (above < l.var) × (self.old ≡ term_words (l, 1) ++ self.new)) }
+    {
+        let Some((lit, rest)) = cut_unit(self.rest?) else {
+            return None;
+        };
+        if lit.var() <= above {
+            return None;
+        }
         self.rest = rest;
         Some(lit)
     }
