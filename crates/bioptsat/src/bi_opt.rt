@@ -84,6 +84,99 @@ impl BiOpt {
             _ => Ok(()),
         }
     }
+
+    // Whether a model is left that meets the aim.
+    fn seek<O: Oracle>(
+        &mut self,
+        oracle: &mut O,
+        bounds: &mut Bounds,
+        board: &Board<'_>,
+    ) -> Result<Below, OracleFault>
+        requires good { IsGoodWithSome (O.seen oracle.old) bounds.old }
+        requires problem { (O.seen oracle.old).problem ≡ board.now.problem }
+        requires serves { Serves self.old (O.seen oracle.old).problem }
+        ensures tells { IfOk result (TellsOfAim (O.seen oracle.new) self.old) }
+        ensures same { self.new ≡ self.old }
+        ensures seeks { SeeksOn (O.seen oracle.old) (O.seen oracle.new) bounds.old bounds.new result }
+    {
+        match &self.aim {
+            Aim::Anything => self.ask_any(oracle, bounds, board),
+            Aim::First(costs) => {
+                let first = one_less(costs.get(0));
+                self.seek_within(oracle, bounds, board, first, Some(i64::MAX))
+            }
+            Aim::Second(costs) => {
+                let first = Some(costs.get(0));
+                let second = one_less(costs.get(1));
+                self.seek_within(oracle, bounds, board, first, second)
+            }
+        }
+    }
+
+    // Whether a model is left whose costs are at most these two. Nothing costs less than an `i64` can be, so
+    // where one is missing, none is left, and nothing is asked.
+    fn seek_within<O: Oracle>(
+        &mut self,
+        oracle: &mut O,
+        bounds: &mut Bounds,
+        board: &Board<'_>,
+        first: Option<i64>,
+        second: Option<i64>,
+    ) -> Result<Below, OracleFault>
+        requires good { IsGoodWithSome (O.seen oracle.old) bounds.old }
+        requires problem { (O.seen oracle.old).problem ≡ board.now.problem }
+        requires count { length (O.seen oracle.old).problem.costs ≡ 2 }
+        ensures tells { IfOk result (TellsWithin (O.seen oracle.new) first second) }
+        ensures same { self.new ≡ self.old }
+        ensures seeks { SeeksOn (O.seen oracle.old) (O.seen oracle.new) bounds.old bounds.new result }
+    {
+        let (Some(first), Some(second)) = (first, second) else {
+            let stands = Items::new(self.alloc);
+            return Ok(Below::Above { stands });
+        };
+        let limits = CostVec::from_slice(self.alloc, &[first, second])?;
+        self.ask_below(oracle, bounds, board, &limits)
+    }
+
+    // What `seek_below` asks, of the relaxations first, where they are there.
+    fn ask_below<O: Oracle>(
+        &mut self,
+        oracle: &mut O,
+        bounds: &mut Bounds,
+        board: &Board<'_>,
+        limits: &CostVec,
+    ) -> Result<Below, OracleFault>
+        requires good { IsGoodWithSome (O.seen oracle.old) bounds.old }
+        requires problem { (O.seen oracle.old).problem ≡ board.now.problem }
+        requires count { length limits.now ≡ length (O.seen oracle.old).problem.costs }
+        ensures tells { IfOk result (Tells (O.seen oracle.new) limits.now) }
+        ensures same { self.new ≡ self.old }
+        ensures seeks { SeeksOn (O.seen oracle.old) (O.seen oracle.new) bounds.old bounds.new result }
+    {
+        match &mut self.relaxations {
+            Some(relaxations) => relaxations.seek_below(oracle, bounds, board.problem(), limits),
+            None => seek_below(self.alloc, oracle, bounds, limits),
+        }
+    }
+
+    // What `seek_any` asks, of the relaxations first, where they are there.
+    fn ask_any<O: Oracle>(
+        &mut self,
+        oracle: &mut O,
+        bounds: &mut Bounds,
+        board: &Board<'_>,
+    ) -> Result<Below, OracleFault>
+        requires good { IsGoodWithSome (O.seen oracle.old) bounds.old }
+        requires problem { (O.seen oracle.old).problem ≡ board.now.problem }
+        ensures tells { IfOk result (TellsAny (O.seen oracle.new)) }
+        ensures same { self.new ≡ self.old }
+        ensures seeks { SeeksOn (O.seen oracle.old) (O.seen oracle.new) bounds.old bounds.new result }
+    {
+        match &mut self.relaxations {
+            Some(relaxations) => relaxations.seek_any(oracle, bounds, board.problem()),
+            None => seek_any(oracle, bounds),
+        }
+    }
 }
 
 impl Search for BiOpt {
@@ -114,8 +207,7 @@ impl Search for BiOpt {
         ensures goes_on { GoesOn (O.seen oracle.old) (O.seen oracle.new) }
         ensures board { KeepsBoard board.old board.new }
     {
-        let relaxations = &mut self.relaxations;
-        match seek(self.alloc, &self.aim, relaxations, oracle, bounds, board)? {
+        match self.seek(oracle, bounds, board)? {
             Below::Model(model) => {
                 board.take(oracle, bounds, &model)?;
                 self.exclude_last(board)?;
@@ -128,107 +220,6 @@ impl Search for BiOpt {
                 Ok(Turn::Moved)
             }
         }
-    }
-}
-
-// Whether a model is left that meets the aim.
-fn seek<O: Oracle>(
-    alloc: Global,
-    aim: &Aim,
-    relaxations: &mut Option<Relaxations>,
-    oracle: &mut O,
-    bounds: &mut Bounds,
-    board: &Board<'_>,
-) -> Result<Below, OracleFault>
-    requires good { IsGoodWithSome (O.seen oracle.old) bounds.old }
-    requires problem { (O.seen oracle.old).problem ≡ board.now.problem }
-    requires serves { Serves aim.now (O.seen oracle.old).problem }
-    ensures tells { IfOk result (TellsOfAim (O.seen oracle.new) aim.now) }
-    ensures seeks { SeeksOn (O.seen oracle.old) (O.seen oracle.new) bounds.old bounds.new result }
-{
-    match aim {
-        Aim::Anything => ask_any(relaxations, oracle, bounds, board),
-        Aim::First(costs) => {
-            let first = one_less(costs.get(0));
-            seek_within(
-                alloc,
-                relaxations,
-                oracle,
-                bounds,
-                board,
-                first,
-                Some(i64::MAX),
-            )
-        }
-        Aim::Second(costs) => {
-            let first = Some(costs.get(0));
-            let second = one_less(costs.get(1));
-            seek_within(alloc, relaxations, oracle, bounds, board, first, second)
-        }
-    }
-}
-
-// Whether a model is left whose costs are at most these two. Nothing costs less than an `i64` can be, so
-// where one is missing, none is left, and nothing is asked.
-fn seek_within<O: Oracle>(
-    alloc: Global,
-    relaxations: &mut Option<Relaxations>,
-    oracle: &mut O,
-    bounds: &mut Bounds,
-    board: &Board<'_>,
-    first: Option<i64>,
-    second: Option<i64>,
-) -> Result<Below, OracleFault>
-    requires good { IsGoodWithSome (O.seen oracle.old) bounds.old }
-    requires problem { (O.seen oracle.old).problem ≡ board.now.problem }
-    requires count { length (O.seen oracle.old).problem.costs ≡ 2 }
-    ensures tells { IfOk result (TellsWithin (O.seen oracle.new) first second) }
-    ensures seeks { SeeksOn (O.seen oracle.old) (O.seen oracle.new) bounds.old bounds.new result }
-{
-    let (Some(first), Some(second)) = (first, second) else {
-        let stands = Items::new(alloc);
-        return Ok(Below::Above { stands });
-    };
-    let limits = CostVec::from_slice(alloc, &[first, second])?;
-    ask_below(alloc, relaxations, oracle, bounds, board, &limits)
-}
-
-// What `seek_below` asks, of the relaxations first, where they are there.
-fn ask_below<O: Oracle>(
-    alloc: Global,
-    relaxations: &mut Option<Relaxations>,
-    oracle: &mut O,
-    bounds: &mut Bounds,
-    board: &Board<'_>,
-    limits: &CostVec,
-) -> Result<Below, OracleFault>
-    requires good { IsGoodWithSome (O.seen oracle.old) bounds.old }
-    requires problem { (O.seen oracle.old).problem ≡ board.now.problem }
-    requires count { length limits.now ≡ length (O.seen oracle.old).problem.costs }
-    ensures tells { IfOk result (Tells (O.seen oracle.new) limits.now) }
-    ensures seeks { SeeksOn (O.seen oracle.old) (O.seen oracle.new) bounds.old bounds.new result }
-{
-    match relaxations {
-        Some(relaxations) => relaxations.seek_below(oracle, bounds, board.problem(), limits),
-        None => seek_below(alloc, oracle, bounds, limits),
-    }
-}
-
-// What `seek_any` asks, of the relaxations first, where they are there.
-fn ask_any<O: Oracle>(
-    relaxations: &mut Option<Relaxations>,
-    oracle: &mut O,
-    bounds: &mut Bounds,
-    board: &Board<'_>,
-) -> Result<Below, OracleFault>
-    requires good { IsGoodWithSome (O.seen oracle.old) bounds.old }
-    requires problem { (O.seen oracle.old).problem ≡ board.now.problem }
-    ensures tells { IfOk result (TellsAny (O.seen oracle.new)) }
-    ensures seeks { SeeksOn (O.seen oracle.old) (O.seen oracle.new) bounds.old bounds.new result }
-{
-    match relaxations {
-        Some(relaxations) => relaxations.seek_any(oracle, bounds, board.problem()),
-        None => seek_any(oracle, bounds),
     }
 }
 

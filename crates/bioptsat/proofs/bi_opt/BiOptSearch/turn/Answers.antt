@@ -50,7 +50,7 @@ returns-in-Model-clause-serves g c =
     ap (λ (p : ProblemValue). length p.costs) c.in_ok-model.ensures.seeks.goes_on.problem ∙ c.requires.serves.count in
     let after : now ≡ aim_after c.args.self.now c.take.new.self.last =
     subst (λ (aim : Aim). now ≡ aim_after aim c.take.new.self.last)
-    (c.self-in-Model.view_is ∙ c.exclude_last.ensures ∙ c.self.view_is) c.in_ok-self-inside-in-Model.ensures in
+    (c.self.view_is ∙ c.exclude_last.ensures ∙ c.seek.ensures.same) c.in_ok-self-inside-in-Model.ensures in
     λ order. serves_after m b c.in-Model.model c.take.new.self c.args.self.now now two
     call.taken call.goes_on.problem call.good.board after
 
@@ -62,19 +62,19 @@ returns-in-Model-clause-aim g c =
     let call = c.in_ok-take-in-Model.ensures in
     let asked = c.in_ok-model.ensures in
     let stays = asked.seeks.good tt c.args.board.now c.requires.good in
-    let tells = rw c.self.view_is at rw c.in-Model.is at asked.tells in
+    let tells = rw c.in-Model.is at asked.tells in
     let now = c.in_ok-self-inside-in-Model.field-0 in
     let two : length m.problem.costs ≡ 2 =
     ap (λ (p : ProblemValue). length p.costs) asked.seeks.goes_on.problem ∙ c.requires.serves.count in
     let after : now ≡ aim_after c.args.self.now c.take.new.self.last =
     subst (λ (aim : Aim). now ≡ aim_after aim c.take.new.self.last)
-    (c.self-in-Model.view_is ∙ c.exclude_last.ensures ∙ c.self.view_is) c.in_ok-self-inside-in-Model.ensures in
+    (c.self.view_is ∙ c.exclude_last.ensures ∙ c.seek.ensures.same) c.in_ok-self-inside-in-Model.ensures in
     improves m b c.in-Model.model c.take.new.self c.args.self.now now two
     call.taken call.goes_on.problem call.good.board after (R.seen c.args.oracle.now) asked.seeks.goes_on.problem stays.1 tells
 
 pub returns-clause-aim : goal.returns-clause-aim
 returns-clause-aim g c =
     let asked = c.in_ok-model.ensures in
-    let tells = rw c.self.view_is at rw c.in-Above.is at asked.tells in
+    let tells = rw c.in-Above.is at asked.tells in
     gives_up (g.O.Recorder.seen c.seek.new.oracle) c.args.self.now c.give_up.new.self c.in-Above.stands tells
-    (c.give_up.ensures ∙ ap given_up c.self.view_is)
+    (c.give_up.ensures ∙ ap given_up (c.self-in-Above.view_is ∙ c.seek.ensures.same))

@@ -2,7 +2,7 @@
 use Rattle.search_base.proofs.Turning.{goes_again}
 use Rattle.search_questions.specs.declared.below.Below.TheVariants.{Above}
 use Rattle.search_questions.proofs.Calls.{seeks_memory, seeks_nothing}
-use Rattle.bioptsat.proofs.bi_opt.seek_within.Goals as goal
+use Rattle.bioptsat.proofs.bi_opt.BiOpt.seek_within.Goals as goal
 
 pub returns-in_default-clause-seeks : goal.returns-in_default-clause-seeks
 returns-in_default-clause-seeks g c =
