@@ -79,6 +79,7 @@ module _ (law : AskingStaysGood) (a b : Snapshot) (asked : List ObjectiveBound)
   abbrev WhyNot : OracleFault → Type 0
   WhyNot f = HasFault f a.limit a.problem b.lines (Rose a.faults b.faults) b.broken
 
+  -- it spent what it may
   spent : (T : Type 0) (f : OracleFault) → (IsOrderly (Err f) → AreEarned a.problem b.lines) → WhyNot f
       → IsInOrder {T = T} (Err f) → StaysGood a b asked asked
   spent T (Spent learned) earned fault order = oracle_stays_good fault.1 (earned tt)

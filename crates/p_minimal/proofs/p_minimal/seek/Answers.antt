@@ -1,5 +1,5 @@
 -- What the relaxations don't tell, the oracle does.
-use Rattle.search_questions.proofs.Calls.{seeks_else, seeks_handed, seeks_ok}
+use Rattle.search_questions.proofs.Calls.{seeks_else}
 use Rattle.p_minimal.proofs.Aims.{serves_still}
 use Rattle.p_minimal.proofs.p_minimal.seek.Goals as goal
 

@@ -1,7 +1,7 @@
 -- What the relaxations don't tell, the oracle does.
 use Rattle.std.proofs.Common.{◌∙◌, length, ap, sym}
 use Rattle.pb_lin.specs.Problem.{ProblemValue}
-use Rattle.search_questions.proofs.Calls.{seeks_else, seeks_handed, seeks_ok}
+use Rattle.search_questions.proofs.Calls.{seeks_else}
 use Rattle.search_questions.proofs.relaxations.Relaxations.seek_below.Goals as goal
 
 pub seek_below-requires-clause-count : goal.seek_below-requires-clause-count

@@ -1,9 +1,6 @@
 -- What isn't told of the limits is told of all that is left.
-use Rattle.std.proofs.Common.{None, Option, refl, sym}
 use Rattle.search_base.proofs.Turning.{goes_again}
-use Rattle.search_questions.specs.declared.below.Below.{Below}
-use Rattle.search_questions.proofs.Limits.{told_of_all}
-use Rattle.search_questions.proofs.Calls.{seeks_handed, seeks_memory, seeks_ok}
+use Rattle.search_questions.proofs.Calls.{seeks_memory}
 use Rattle.search_questions.proofs.relaxations.Relaxations.seek_left.Goals as goal
 
 pub returns-in_err-limits-clause-seeks : goal.returns-in_err-limits-clause-seeks
