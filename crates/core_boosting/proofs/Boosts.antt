@@ -206,4 +206,4 @@ module _ (a : Snapshot) (problem : IsProblem a.problem) (reforms : List Reform) 
       first.least
     where
       any_reform : ℕ → Reform
-      any_reform k = record { offset = pos 0; terms = []; lower_line = 0 }
+      any_reform k = record { offset = pos 0; terms = []; lower_line = 0; upper_line = 0 }

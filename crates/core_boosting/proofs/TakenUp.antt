@@ -55,6 +55,23 @@ exactly_kept a b s problem keeps reached row r is = record {
       (subst (λ (p : ProblemValue). IsReplay p b.lines t) problem after) (is.reform s reached));
 }
 
+-- whatever line is named as its upper one
+pub exactly_named : (a : Snapshot) (row : CostRowValue) (r : Reform) (id : ℕ) → IsExactly a row r
+    → IsExactly a row (record { offset = r.offset; terms = r.terms; lower_line = r.lower_line; upper_line = id })
+exactly_named a row r id is = record {
+  is_row = is.is_row;
+  greatest = is.greatest;
+  reform = λ s reached. let old = is.reform s reached in record {
+    weights = old.weights;
+    variables = old.variables;
+    offset = old.offset;
+    small = old.small;
+    own = old.own;
+    lower = old.lower;
+    upper = old.upper;
+  };
+}
+
 pub exactly_stays : (a b : Snapshot) → IsReady a → Continues a b → (row : CostRowValue) (r : Reform) → IsExactly a row r → IsExactly b row r
 exactly_stays a b ready on = exactly_kept a b ready.state on.problem
     (own_law a.problem a.lines b.lines (totalizer_lines a b on)) ready.reached

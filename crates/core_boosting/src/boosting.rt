@@ -54,6 +54,7 @@ fn own_reform(alloc: Global, row: &CostRow) -> Result<Reform, NoMemory>
         offset: row.offset(),
         terms,
         lower_line: 0,
+        upper_line: 0,
     })
 }
 

@@ -8,6 +8,7 @@ ghost use Rattle.proof_rules.specs.Recording.{Snapshot};
 ghost use Rattle.sum_outputs.specs.Totals.{AreWeights};
 ghost use Rattle.core_boosting.specs.Counting.{AddsOutput, CountsCore, CountsNow, HasCore, HasNext, IsLiveNow, counting, raised_tokens, times};
 
+use crate::bounding::upper_tokens;
 use crate::exchanging::derive;
 use cutting_planes::PolToken;
 use proof_rules::{RecordFault, Recorder};
@@ -24,17 +25,19 @@ pub(crate) struct Counted {
     pub(crate) line: u64,
 }
 
-// All outputs over the literals of a core but the first, which its clause, the line of this id, makes true.
+// All outputs over the literals of a core but the first, which its clause, the line of this id, makes true; and tokens
+// of the line that at most one more of the literals is true than of the outputs.
 pub(crate) fn count_core<R: Recorder>(
     alloc: Global,
     rec: &mut R,
     lits: &[Lit],
     id: u64,
-) -> Result<Counted, RecordFault>
+) -> Result<(Counted, Items<PolToken>), RecordFault>
     requires ready { IsReady (R.seen rec.old) }
     requires core { HasCore (R.seen rec.old) lits.now id }
     ensures recorded { IsRecorded (R.seen rec.old) (R.seen rec.new) result }
-    ensures counts { IfOk result (CountsCore (R.seen rec.old) (R.seen rec.new) lits.now) }
+    ensures counts { IfOk result
+        (λ r. CountsCore (R.seen rec.old) (R.seen rec.new) lits.now r.0) }
 {
     let mut totalizer = in_memory(totalizer_of(alloc, lits))?;
     let mut counted = Counted {
@@ -44,7 +47,8 @@ pub(crate) fn count_core<R: Recorder>(
     for _ in 1..lits.len() {
         count_next(alloc, rec, &mut totalizer, &mut counted)?;
     }
-    Ok(counted)
+    let upper = in_memory(upper_tokens(alloc, &totalizer, lits.len()))?;
+    Ok((counted, upper))
 }
 
 // The totalizer of these literals, each with the weight 1.

@@ -6,6 +6,7 @@ ghost use Rattle.sum_outputs.specs.Adding.{IsReady, IsRecorded};
 ghost use Rattle.core_boosting.specs.Boosting.{HasCoreLine};
 ghost use Rattle.core_boosting.specs.Exchanging.{DerivesOwn, IsOfRow, KeepsRow, MakesSome, MayExchange, lower_tokens};
 
+use crate::bounding::upper_line;
 use crate::counting::{Counted, count_core, push_factor};
 use crate::terms::{exchanged, least_weight, literals_of};
 use cutting_planes::PolToken;
@@ -38,8 +39,10 @@ pub(crate) fn take_up<R: Recorder>(
     // Of the line itself, whose literals rise.
     let lits = in_memory(literals_of(alloc, state, id))?;
     let weight = least_weight(reform.terms.as_slice(), lits.as_slice());
-    let counted = count_core(alloc, rec, lits.as_slice(), id)?;
-    exchange(alloc, rec, reform, lits.as_slice(), &counted, weight)
+    let (counted, upper) = count_core(alloc, rec, lits.as_slice(), id)?;
+    exchange(alloc, rec, reform, lits.as_slice(), &counted, weight)?;
+    reform.upper_line = upper_line(alloc, rec, reform.upper_line, upper.as_slice(), weight)?;
+    Ok(())
 }
 
 // Exchanges the literals for the outputs over them, each with this weight.

@@ -7,10 +7,11 @@
 //! value. Either ends early where nothing is left, or where there are more than 2^40 variables.
 //!
 //! Read `boosting` first. `cores` asks for cores; `counting` makes a core's outputs, and the line that more of the core's
-//! literals are true than of its outputs; `exchanging` takes a core up.
+//! literals are true than of its outputs; `bounding` makes the line that at most one more is; `exchanging` takes a core up.
 #![tactic(auto)]
 
 mod boosting;
+mod bounding;
 mod cores;
 mod counting;
 mod exchanging;

@@ -17,6 +17,8 @@ pub struct Limit {
     pub most: i64,
     /// The id of the line "where the output above the limit is false, the sum isn't reached"; 0 where there is none.
     pub upper_line: u64,
+    /// The id of the line "the objective costs at most what the output's terms do"; 0 where these are its own.
+    pub reform_line: u64,
 }
 
 /// The relaxation of a problem, with what may be spent on it.

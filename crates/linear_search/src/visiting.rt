@@ -99,7 +99,7 @@ impl LinearSearch {
         Ok(lits)
     }
 
-    // The lines of the rows with their multipliers: a constraint's own, and a limit's upper line.
+    // The lines of the rows with their multipliers: a constraint's own, and those of a limit.
     fn lines_of(&self, limits: &[Limit], multipliers: &[f64]) -> Result<Vec<Multiplier>, NoMemory> {
         let mut lines = Vec::new(self.alloc);
         for (row, value) in multipliers.iter().enumerate() {
@@ -112,11 +112,7 @@ impl LinearSearch {
                     })?;
                 }
             } else if *value < 0.0 {
-                let line = upper_line_of(limits, row - self.constraints);
-                lines.push(Multiplier {
-                    line,
-                    value: -*value,
-                })?;
+                add_limit(&mut lines, limits, row - self.constraints, -*value)?;
             }
         }
         Ok(lines)
@@ -163,14 +159,32 @@ fn uncertainty(value: f64) -> f64 {
     }
 }
 
-// The upper line of an objective's limit, and 0 where there is none.
-fn upper_line_of(limits: &[Limit], objective: usize) -> u64 {
-    for limit in limits {
-        if limit.objective == objective {
-            return limit.upper_line;
+// Adds the lines of an objective's limit, which together speak of its own terms.
+fn add_limit(
+    lines: &mut Vec<Multiplier>,
+    limits: &[Limit],
+    objective: usize,
+    value: f64,
+) -> Result<(), NoMemory> {
+    let Some(limit) = limit_of(limits, objective) else {
+        return Ok(());
+    };
+    for line in [limit.upper_line, limit.reform_line] {
+        if line != 0 {
+            lines.push(Multiplier { line, value })?;
         }
     }
-    0
+    Ok(())
+}
+
+// The limit of an objective, if it has one.
+fn limit_of(limits: &[Limit], objective: usize) -> Option<Limit> {
+    for limit in limits {
+        if limit.objective == objective {
+            return Some(*limit);
+        }
+    }
+    None
 }
 
 // The literal of a column at the nearer end.

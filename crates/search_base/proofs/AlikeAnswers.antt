@@ -88,7 +88,7 @@ module _ (a : Snapshot) (s : StateValue) (reached : IsReached a s) (bounds : Lis
   no_row = record { terms = []; offset = pos 0 }
 
   no_reform : Reform
-  no_reform = record { offset = pos 0; terms = []; lower_line = 0 }
+  no_reform = record { offset = pos 0; terms = []; lower_line = 0; upper_line = 0 }
 
   abbrev row : ℕ → CostRowValue
   row i = get_or a.problem.costs i no_row

@@ -98,6 +98,15 @@ impl Bounds {
         self.bounds[objective].made_for(value)
     }
 
+    /// The upper line of the objective's reform. Objectives are counted from 0.
+    pub fn reform_line(&self, objective: usize) -> u64
+        requires there { objective < length self.now }
+        ensures { (e : ObjectiveBound)
+            → result ≡ (slice_index_or self.now objective e).reform.upper_line }
+    {
+        self.bounds[objective].reform.upper_line
+    }
+
     /// The least value above `value` that the objective's reform can have, where that is known: its offset,
     /// or what an output that was made stands for. Objectives are counted from 0. Costs a binary search.
     pub fn next_value(&self, objective: usize, value: i64) -> Option<i64>

@@ -41,5 +41,6 @@ fn own_reform(alloc: Global, row: &CostRow) -> Result<Reform, NoMemory>
         offset: row.offset(),
         terms,
         lower_line: 0,
+        upper_line: 0,
     })
 }

@@ -145,5 +145,6 @@ fn linear_limit(bounds: &Bounds, objective: usize, limit: i64) -> Option<Limit>
         objective,
         most: next.saturating_sub(1),
         upper_line,
+        reform_line: bounds.reform_line(objective),
     })
 }

@@ -43,5 +43,6 @@ fn reordered(alloc: Global, sharing: &mut Sharing<'_>, reform: Reform) -> Result
         offset: reform.offset,
         terms: Items::from_vec(terms),
         lower_line: reform.lower_line,
+        upper_line: reform.upper_line,
     })
 }

@@ -12,10 +12,10 @@ use Rattle.totalizer.specs.declared.reform.Reform.{Reform}
 use Rattle.totalizer.specs.Reforming.{IsReformOf}
 use Rattle.totalizer.specs.Keeping.{OwnTermsServe}
 
-own_serves : (p : ProblemValue) (lines : List Line) (s : StateValue) (row : CostRowValue) →
+own_serves : (p : ProblemValue) (lines : List Line) (s : StateValue) (row : CostRowValue) (upper : ℕ) →
     IsCostRow row.terms row.offset → TermsUpTo s.vars row.terms →
-    IsReformOf p lines s row (record { offset = row.offset; terms = row.terms; lower_line = 0 })
-own_serves p lines s row is within = record {
+    IsReformOf p lines s row (record { offset = row.offset; terms = row.terms; lower_line = 0; upper_line = upper })
+own_serves p lines s row upper is within = record {
   weights = record { positive = is.positive; from_one = is.from_one; apart = is.distinct; small = is.small };
   variables = λ k d short. (is.from_one k d short, within k d short);
   offset = omega (arith, ints);
@@ -27,8 +27,8 @@ own_serves p lines s row is within = record {
 
 pub own_terms_serve_law : OwnTermsServe
 own_terms_serve_law p lines s row r is within own =
-    let same : r ≡ record { offset = row.offset; terms = row.terms; lower_line = 0 } =
-    ap (λ (n : ℤ). record { offset = n; terms = r.terms; lower_line = r.lower_line }) own.0
-    ∙ ap (λ (ts : Terms). record { offset = row.offset; terms = ts; lower_line = r.lower_line }) own.1
-    ∙ ap (λ (id : ℕ). record { offset = row.offset; terms = row.terms; lower_line = id }) own.2 in
-    subst (λ (q : Reform). IsReformOf p lines s row q) (sym same) (own_serves p lines s row is within)
+    let same : r ≡ record { offset = row.offset; terms = row.terms; lower_line = 0; upper_line = r.upper_line } =
+    ap (λ (n : ℤ). record { offset = n; terms = r.terms; lower_line = r.lower_line; upper_line = r.upper_line }) own.0
+    ∙ ap (λ (ts : Terms). record { offset = row.offset; terms = ts; lower_line = r.lower_line; upper_line = r.upper_line }) own.1
+    ∙ ap (λ (id : ℕ). record { offset = row.offset; terms = row.terms; lower_line = id; upper_line = r.upper_line }) own.2 in
+    subst (λ (q : Reform). IsReformOf p lines s row q) (sym same) (own_serves p lines s row r.upper_line is within)

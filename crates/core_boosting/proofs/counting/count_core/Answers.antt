@@ -57,3 +57,15 @@ returns-clause-counts g c =
     let from = c.loop.auto in
     counts_core (g.R.Recorder.seen c.args.rec.now) (g.R.Recorder.seen c.loop.rec) c.requires.ready c.args.lits.now
     c.loop.totalizer c.loop.counted c.loop.counter c.loop.invariant (omega arith)
+
+pub upper_tokens-requires : goal.upper_tokens-requires
+upper_tokens-requires g c =
+    let b = g.R.Recorder.seen c.loop.rec in
+    let ready = way_ready (g.R.Recorder.seen c.args.rec.now) b c.requires.ready c.loop.invariant.way in
+    (b, ready.state, ready.reached, c.loop.invariant.so.fits)
+
+pub returns-in_err-upper-clause-recorded : goal.returns-in_err-upper-clause-recorded
+returns-in_err-upper-clause-recorded g c =
+    memory_handed (g.R.Recorder.seen c.args.rec.now) (g.R.Recorder.seen c.loop.rec)
+    c.in_err-upper.field-0.0 c.from_residual-in_err-upper.result c.loop.invariant.way.on
+    c.in_err-upper.ensures.fault c.from_residual-in_err-upper.ensures.1

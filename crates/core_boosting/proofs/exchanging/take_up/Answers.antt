@@ -2,16 +2,15 @@
 use Rattle.std.proofs.Common.{List, sym, subst, ◌∙◌}
 use Rattle.std.specs.Prelude.{Contains}
 use Rattle.std.specs.List.{All}
-use Rattle.std.proofs.lemmas.Result.{on_ok_weaker}
 use Rattle.scut_base.specs.Literal.{Literal}
 use Rattle.pb_lin.specs.Constraint.{literals}
 use Rattle.cutting_planes.proofs.Terms.{Terms}
-use Rattle.sum_outputs.proofs.LaterStates.{continues_again, ready_later, recorded_after}
+use Rattle.sum_outputs.proofs.LaterStates.{continues_again, continues_twice, handed_err, ready_later, recorded_ok}
 use Rattle.search_base.proofs.Recordings.{memory_handed}
 use Rattle.core_boosting.specs.Counting.{CountsCore, HasCore}
-use Rattle.core_boosting.specs.Exchanging.{AllWeigh, KeepsRow, MayExchange}
+use Rattle.core_boosting.specs.Exchanging.{AllWeigh, MayExchange}
 use Rattle.core_boosting.proofs.Literals.{AreRising}
-use Rattle.core_boosting.proofs.TakenUp.{core_rising, exactly_stays, has_core, may_exchange}
+use Rattle.core_boosting.proofs.TakenUp.{core_rising, exactly_named, exactly_stays, has_core, may_exchange}
 use Rattle.core_boosting.proofs.exchanging.take_up.Goals as goal
 
 pub returns-in_err-lits-clause-recorded : goal.returns-in_err-lits-clause-recorded
@@ -69,18 +68,53 @@ exchange-requires-clause-may g c =
     (may_exchange a b c.requires.ready call.recorded.continues r c.requires.row c.in_ok-lits.lits w counted among rising
     c.least_weight-weight.ensures.some least counts)
 
+pub returns-in_err-exchange-clause-recorded : goal.returns-in_err-exchange-clause-recorded
+returns-in_err-exchange-clause-recorded g c =
+    handed_err (g.R.Recorder.seen c.args.rec.now) (g.R.Recorder.seen c.count_core.new.rec) (g.R.Recorder.seen c.exchange.new.rec)
+    c.in_err-exchange.field-0.0 c.from_residual-in_err-exchange.result c.in_ok-counted.ensures.recorded.continues
+    c.in_err-exchange.ensures.recorded c.from_residual-in_err-exchange.ensures.1
+
+pub upper_line-requires : goal.upper_line-requires
+upper_line-requires g c =
+    let a = g.R.Recorder.seen c.args.rec.now in
+    let b = g.R.Recorder.seen c.count_core.new.rec in
+    let e = g.R.Recorder.seen c.exchange.new.rec in
+    let call = c.exchange.ensures.recorded in
+    record {
+      ready = ready_later b e (ready_later a b c.requires.ready c.in_ok-counted.ensures.recorded.continues c.in_ok-counted.ensures.recorded.whole)
+          call.continues c.in_ok-exchange.ensures.recorded.whole;
+    }
+
+pub returns-in_err-reform-clause-recorded : goal.returns-in_err-reform-clause-recorded
+returns-in_err-reform-clause-recorded g c =
+    let a = g.R.Recorder.seen c.args.rec.now in
+    let b = g.R.Recorder.seen c.count_core.new.rec in
+    let e = g.R.Recorder.seen c.exchange.new.rec in
+    handed_err a e (g.R.Recorder.seen c.upper_line.new.rec) c.in_err-reform.field-0.0 c.from_residual-in_err-reform.result
+    (continues_twice a b e c.in_ok-counted.ensures.recorded.continues c.exchange.ensures.recorded.continues)
+    c.in_err-reform.ensures.recorded c.from_residual-in_err-reform.ensures.1
+
 pub returns-clause-recorded : goal.returns-clause-recorded
 returns-clause-recorded g c =
-    recorded_after (g.R.Recorder.seen c.args.rec.now) (g.R.Recorder.seen c.count_core.new.rec) (g.R.Recorder.seen c.exchange.new.rec)
-    c.exchange.result c.in_ok-counted.ensures.recorded.continues c.exchange.ensures.recorded
+    let a = g.R.Recorder.seen c.args.rec.now in
+    let b = g.R.Recorder.seen c.count_core.new.rec in
+    let e = g.R.Recorder.seen c.exchange.new.rec in
+    let f = g.R.Recorder.seen c.upper_line.new.rec in
+    let call = c.in_ok-reform.ensures.recorded in
+    recorded_ok a f _
+    (continues_twice a e f (continues_twice a b e c.in_ok-counted.ensures.recorded.continues c.exchange.ensures.recorded.continues) call.continues)
+    call.whole
 
 pub returns-clause-row : goal.returns-clause-row
 returns-clause-row g c =
     let a = g.R.Recorder.seen c.args.rec.now in
     let b = g.R.Recorder.seen c.count_core.new.rec in
     let e = g.R.Recorder.seen c.exchange.new.rec in
-    let r = c.args.reform.now in
+    let f = g.R.Recorder.seen c.upper_line.new.rec in
     let now = c.exchange.new.reform in
-    on_ok_weaker {P = KeepsRow b e r now} {Q = KeepsRow a e r now} c.exchange.result
-    (λ keeps row is. keeps row (exactly_stays a b c.requires.ready c.in_ok-counted.ensures.recorded.continues row r is))
-    c.exchange.ensures.row
+    let counted = c.in_ok-counted.ensures.recorded in
+    let ready = ready_later b e (ready_later a b c.requires.ready counted.continues counted.whole)
+    c.exchange.ensures.recorded.continues c.in_ok-exchange.ensures.recorded.whole in
+    λ row is. exactly_named f row now c.in_ok-reform.field-0
+    (exactly_stays e f ready c.in_ok-reform.ensures.recorded.continues row now
+    (c.in_ok-exchange.ensures.row row (exactly_stays a b c.requires.ready counted.continues row c.args.reform.now is)))
