@@ -5,7 +5,7 @@ ghost use Rattle.proof_laws.specs.declared.line.Line.{Line};
 ghost use Rattle.proof_laws.specs.declared.why.Why.{Why};
 ghost use Rattle.log_checker.specs.Accepted.{IsEndedProof};
 ghost use Rattle.log_checker.specs.LogFaults.{HasNoWholeFault, IsWholeFault, IsLogFault};
-ghost use Rattle.log_checker.specs.Checking.{StandsFor};
+ghost use Rattle.log_checker.specs.Checking.{KeepsAnswer, StandsFor};
 ghost use Rattle.log_checker.specs.Judging.{HasEnded, IsAfter, IsReading, IsUnderway, JudgesEnd, JudgesLines};
 ghost use Rattle.log_checker.specs.Judging.{earlier, noted};
 ghost use Rattle.log_checker.specs.declared.fault.ListWhy.{ListWhy};
@@ -98,16 +98,7 @@ impl Checker {
         ensures refused { (k : ℕ) (why : Why) → result ≡ Err (CheckFault.Refused k why)
             → (bytes : List ℕ) → StandsFor self.old bytes
             → IsWholeFault self.old.problem self.old.vectors (bytes ++ piece.now) k why }
-        ensures again { (k : ℕ) (why : Why) → self.old.refused ≡ Some (k, why)
-            → result ≡ Err (CheckFault.Refused k why) }
-        ensures kept { (k : ℕ) (why : Why) → result ≡ Err (CheckFault.Refused k why)
-            → self.new.refused ≡ Some (k, why) }
-        ensures failed { result ≡ Err CheckFault.NoMemory
-            → (self.new.failed ≡ true) × (self.new.refused ≡ None) }
-        ensures fails { self.old.failed ≡ true → self.old.refused ≡ None
-            → result ≡ Err CheckFault.NoMemory }
-        ensures no_list { (k : ℕ) (why : ListWhy)
-            → result ≡ Err (CheckFault.ListRefused k why) → ⊥ }
+        ensures keeps { KeepsAnswer self.old self.new result }
         ensures problem { self.new.problem ≡ self.old.problem }
         ensures vectors { self.new.vectors ≡ self.old.vectors }
         ensures unfinished { self.new.finished ≡ false }
@@ -135,20 +126,10 @@ impl Checker {
             → IsLogFault self.old.problem self.old.vectors bytes k why }
         ensures stands { (result ≡ Err CheckFault.NoMemory → ⊥) → (bytes : List ℕ)
             → StandsFor self.old bytes → StandsFor self.new bytes }
-        ensures again { (k : ℕ) (why : Why) → self.old.refused ≡ Some (k, why)
-            → result ≡ Err (CheckFault.Refused k why) }
-        ensures kept { (k : ℕ) (why : Why) → result ≡ Err (CheckFault.Refused k why)
-            → self.new.refused ≡ Some (k, why) }
-        ensures failed { result ≡ Err CheckFault.NoMemory
-            → (self.new.failed ≡ true) × (self.new.refused ≡ None) }
-        ensures fails { self.old.failed ≡ true → self.old.refused ≡ None
-            → result ≡ Err CheckFault.NoMemory }
-        ensures passed { OnOk result ((self.new.failed ≡ false) × (self.new.refused ≡ None)) }
+        ensures keeps { KeepsAnswer self.old self.new result }
         ensures passes { self.old.finished ≡ true → self.old.failed ≡ false
             → self.old.refused ≡ None
             → IsOk result }
-        ensures no_list { (k : ℕ) (why : ListWhy)
-            → result ≡ Err (CheckFault.ListRefused k why) → ⊥ }
         ensures problem { self.new.problem ≡ self.old.problem }
         ensures vectors { self.new.vectors ≡ self.old.vectors }
         ensures finished { self.new.finished ≡ true }
