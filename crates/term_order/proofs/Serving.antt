@@ -1,22 +1,20 @@
 -- An objective whose terms stand in another order serves wherever the given one does.
 use Rattle.std.proofs.Common.{◌≡◌, ◌≢◌, ◌<◌, ◌^◌, ℕ, Bool, List, [], ◌∷◌, ap, sym, subst, ◌∙◌}
-use Rattle.std.specs.Prelude.{All, ℤ, pos, ◌+ℤ◌, ◌-ℤ◌, ◌≤ℤ◌, ◌<ℤ◌}
+use Rattle.std.specs.Prelude.{ℤ, pos, ◌+ℤ◌, ◌-ℤ◌, ◌≤ℤ◌, ◌<ℤ◌}
 use Rattle.std.specs.List.{AllZip}
 use Rattle.std.specs.List.Sorted.{IsPermutation}
 use Rattle.std.proofs.lemmas.List.Elements.{length_all_zip}
 use Rattle.std.proofs.lemmas.List.Sorted.{All-permutation, sum_by-IsPermutation}
 use Rattle.scut_base.specs.Literal.{Literal}
 use Rattle.scut_base.proofs.Lists.{AllPairs-permutation}
-use Rattle.pb_lin.specs.Constraint.{ConstraintValue, IsVariable, term_value, total, value}
+use Rattle.pb_lin.specs.Constraint.{IsVariable, term_value, total, value}
 use Rattle.pb_lin.specs.CostRow.{CostRowValue, row_cost}
 use Rattle.pb_lin.specs.Problem.{ProblemValue}
-use Rattle.proof_laws.specs.Refusal.{line_or_none}
 use Rattle.proof_laws.specs.State.{StateValue}
 use Rattle.proof_laws.specs.declared.line.Line.{Line}
 use Rattle.proof_rules.specs.Recording.{Snapshot}
 use Rattle.sum_outputs.specs.Totals.{AreWeights}
-use Rattle.totalizer.specs.Meaning.{IsOwnOrNone}
-use Rattle.totalizer.specs.Reforming.{IsLowerLine, IsReformOf}
+use Rattle.totalizer.specs.Reforming.{IsReformOf}
 use Rattle.totalizer.specs.declared.reform.Reform.{Reform}
 use Rattle.search_base.specs.CostBounds.{AreReforms}
 use Rattle.term_order.specs.Orders.{IsReordered}
@@ -39,10 +37,10 @@ reordered_weights old new p w = record {
 }
 
 -- the same objective by parts: its terms alone are in another order
-reordered_parts : (p : ProblemValue) (lines : List Line) (s : StateValue) (row : CostRowValue) (old : Reform) (new : Terms)
+reordered_parts : (p : ProblemValue) (lines : List Line) (s : StateValue) (row : CostRowValue) (old : Reform) (new : Terms) (upper : ℕ)
     → IsPermutation old.terms new → IsReformOf p lines s row old
-    → IsReformOf p lines s row (record { offset = old.offset; terms = new; lower_line = old.lower_line })
-reordered_parts p lines s row old new same is = record {
+    → IsReformOf p lines s row (record { offset = old.offset; terms = new; lower_line = old.lower_line; upper_line = upper })
+reordered_parts p lines s row old new upper same is = record {
   weights = reordered_weights old.terms new same is.weights;
   variables = All-permutation (λ t. IsVariable s.vars t.0.var) old.terms new same is.variables;
   offset = is.offset;
@@ -55,9 +53,9 @@ reordered_parts p lines s row old new same is = record {
 reordered_serves : (p : ProblemValue) (lines : List Line) (s : StateValue) (row : CostRowValue) (old new : Reform)
     → IsReordered old new → IsReformOf p lines s row old → IsReformOf p lines s row new
 reordered_serves p lines s row old new order is =
-    subst (λ (id : ℕ). IsReformOf p lines s row (record { offset = new.offset; terms = new.terms; lower_line = id })) (sym order.line)
-    (subst (λ (n : ℤ). IsReformOf p lines s row (record { offset = n; terms = new.terms; lower_line = old.lower_line })) (sym order.offset)
-    (reordered_parts p lines s row old new.terms order.terms is))
+    subst (λ (id : ℕ). IsReformOf p lines s row (record { offset = new.offset; terms = new.terms; lower_line = id; upper_line = new.upper_line })) (sym order.line)
+    (subst (λ (n : ℤ). IsReformOf p lines s row (record { offset = n; terms = new.terms; lower_line = old.lower_line; upper_line = new.upper_line })) (sym order.offset)
+    (reordered_parts p lines s row old new.terms new.upper_line order.terms is))
 
 all_serve : (p : ProblemValue) (lines : List Line) (s : StateValue) (rows : List CostRowValue) (olds news : List Reform)
     → AllZip IsReordered olds news → AllZip (IsReformOf p lines s) rows olds → AllZip (IsReformOf p lines s) rows news

@@ -8,3 +8,4 @@ pub record IsReordered (old new : Reform) : Type 0 where
   pub offset : new.offset ≡ old.offset
   pub terms : IsPermutation old.terms new.terms
   pub line : new.lower_line ≡ old.lower_line
+  pub upper : new.upper_line ≡ old.upper_line
