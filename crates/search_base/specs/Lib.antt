@@ -12,3 +12,4 @@ pub mod Turns
 pub mod Laws
 pub mod Outputs
 pub mod Adding
+pub mod Pending

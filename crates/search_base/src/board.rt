@@ -29,9 +29,9 @@ use totalizer::{fitting_stays, own_lines_stay, reform_stays};
 /// model of the instance. None weakly dominates another.
 #[derive(Drop)]
 pub struct Board<'a> {
-    alloc: Global,
-    problem: &'a PbProblem,
-    instance: &'a Instance,
+    pub(crate) alloc: Global,
+    pub(crate) problem: &'a PbProblem,
+    pub(crate) instance: &'a Instance,
     front: FrontSet,
     last: Option<CostVec>,
 }
@@ -116,7 +116,7 @@ impl<'a> Board<'a> {
     }
 
     // Puts the part of the assignment that is the instance's onto the board, with its costs.
-    fn put(&mut self, costs: CostVec, a: &Assignment) -> Result<(), NoMemory>
+    pub(crate) fn put(&mut self, costs: CostVec, a: &Assignment) -> Result<(), NoMemory>
         requires { self.old.instance.vars ≤ length a.now }
         ensures put { OnOk result (IsPut self.old self.new costs a.now) }
         ensures board { KeepsBoard self.old self.new }

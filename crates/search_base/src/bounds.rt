@@ -1,10 +1,11 @@
 // Literals that stand for "this objective's cost is at least a value".
-ghost use Rattle.std.specs.Prelude.{◌≡◌, ◌<◌, length, slice_index_or, All, IfOk, MatchOption, OnOk};
+ghost use Rattle.std.specs.Prelude.{◌≡◌, ◌↔◌, ◌<◌, true, length, slice_index_or, All, IfOk, MatchOption, OnOk};
 ghost use Rattle.pb_lin.specs.CostRow.{CostRowValue};
 ghost use Rattle.proof_rules.specs.Recording.{Snapshot};
 ghost use Rattle.sum_outputs.specs.Adding.{IsReady, IsRecorded};
 ghost use Rattle.sum_outputs.specs.Totals.{AreWeights};
 ghost use Rattle.search_base.specs.CostBounds.{AddsBound, AreReforms, FitBounds, FitSome, HasLiteral, IsAnswerFor, IsCostBound, IsNextUnmade, IsNextValue, KeepsOthers, reforms_of};
+ghost use Rattle.search_base.specs.Pending.{AreOwnTerms};
 ghost use Rattle.search_base.specs.Outputs.{IsMadeAt, IsUnmadeAt};
 ghost use Rattle.search_base.specs.declared.objective_bound.ObjectiveBound.{ObjectiveBound};
 
@@ -96,6 +97,13 @@ impl Bounds {
             (λ o. IsMadeAt (slice_index_or self.now objective e) value o.now) }
     {
         self.bounds[objective].made_for(value)
+    }
+
+    /// Whether no objective's reform has a line: then each is in terms of its own row.
+    pub fn are_own_terms(&self) -> bool
+        ensures { result ≡ true ↔ AreOwnTerms self.now }
+    {
+        self.bounds.iter().all(|bound| bound.reform.lower_line == 0)
     }
 
     /// The upper line of the objective's reform. Objectives are counted from 0.

@@ -1,6 +1,7 @@
 // Laws of good states.
 ghost use Rattle.search_base.specs.Adding.{AddingStaysGood};
 ghost use Rattle.search_base.specs.Laws.{AskingStaysGood, BeginningIsGood, BoundingStaysGood, LoggedIsReached, NoLinesArePrepared, TurnLinesJoin, TurnLinesKeepOwn};
+ghost use Rattle.search_base.specs.Pending.{AddingStaysGoodBut, AskingStaysGoodBut, EndIsGood, GoodButForNone};
 
 use totalizer::{fitting_stays, own_lines_stay, reform_stays};
 
@@ -52,4 +53,32 @@ pub fn turn_lines_join()
 /// Law: lines of turns keep what no line has learned.
 pub fn turn_lines_keep_own()
     ensures { TurnLinesKeepOwn }
+{}
+
+/// Law: a state that is good but for no models is good, and the other way round.
+pub fn good_but_for_none()
+    ensures { GoodButForNone }
+{}
+
+/// Law: lines of a totalizer keep a state good but for some models.
+pub fn adding_stays_good_but()
+    ensures { AddingStaysGoodBut }
+{
+    own_lines_stay();
+    fitting_stays();
+    reform_stays();
+}
+
+/// Law: an oracle's call keeps a state good but for some models.
+pub fn asking_stays_good_but()
+    ensures { AskingStaysGoodBut }
+{
+    own_lines_stay();
+    fitting_stays();
+    reform_stays();
+}
+
+/// Law: where a kept clause is `0 >= 1`, a state that is good but for some models is good.
+pub fn end_is_good()
+    ensures { EndIsGood }
 {}

@@ -17,6 +17,7 @@ mod laws;
 mod logging;
 mod naming;
 mod objective_bound;
+mod pending;
 mod reforms;
 mod running;
 mod search;
@@ -26,8 +27,9 @@ pub use board::Board;
 pub use bounds::Bounds;
 pub use costs::costs_at;
 pub use laws::{
-    adding_stays_good, asking_stays_good, beginning_is_good, bounding_stays_good,
-    logged_is_reached, no_lines_are_prepared, turn_lines_join, turn_lines_keep_own,
+    adding_stays_good, adding_stays_good_but, asking_stays_good, asking_stays_good_but,
+    beginning_is_good, bounding_stays_good, end_is_good, good_but_for_none, logged_is_reached,
+    no_lines_are_prepared, turn_lines_join, turn_lines_keep_own,
 };
 pub use objective_bound::{ObjectiveBound, ObjectiveLine};
 pub use reforms::own_reforms;

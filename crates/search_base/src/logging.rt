@@ -57,6 +57,35 @@ fn model_line(alloc: Global, model: &Assignment, answers: &[Bound]) -> Result<Li
     })
 }
 
+// Logs the model by this cut and the ids of these lines, where a text can spell that line and it is legal; else
+// `false`, and nothing was added. Costs a pass over the model, and what judging the line does.
+pub(crate) fn log_by_cut<R: Recorder>(
+    alloc: Global,
+    rec: &mut R,
+    problem: &PbProblem,
+    model: &Assignment,
+    cut: Items<Lit>,
+    rows: Items<u64>,
+) -> Result<bool, RecordFault>
+    requires ready { IsReady (R.seen rec.old) }
+    requires same { (R.seen rec.old).problem ≡ problem.now }
+    requires problem { IsProblem problem.now }
+    requires model { IsProblemModel problem.now model.now }
+    ensures logged { IfOk result (λ logged. MatchBool logged
+        (LogsByCut (R.seen rec.old) (R.seen rec.new) model.now cut rows)
+        (MayNotLog (R.seen rec.old) model.now cut rows × (R.seen rec.new ≡ R.seen rec.old))) }
+    ensures fault { IfErr result (IsFaultAt (R.seen rec.old) (R.seen rec.new)) }
+    ensures goes_on { GoesOn (R.seen rec.old) (R.seen rec.new) }
+{
+    // Tells that the lines so far reach a state.
+    let _vars = rec.state().vars();
+    if !is_spelled(cut.as_slice(), rows.as_slice()) {
+        return Ok(false);
+    }
+    let line = in_memory(line_by_cut(alloc, model, cut, rows))?;
+    add_legal(alloc, rec, problem, &line)
+}
+
 // The true literals, in order of variables.
 fn literals_of(alloc: Global, a: &Assignment) -> Result<Items<Lit>, NoMemory>
     requires { length a.now < 2 ^ 63 }
