@@ -14,8 +14,10 @@ use proof_rules::{RecordFault, Recorder};
 use scut_base::{Items, Lit, NoMemory};
 use std::alloc::Global;
 
-// Defines the next variable as "the sum of these terms is at least `sum`". Costs a sort of the terms.
-pub(crate) fn define<R: Recorder>(
+/// Defines the next variable as "the sum of these terms is at least `sum`". Nothing makes its literal true where
+/// the sum is reached but the definition itself. `from` is noted in the output. A recorder's refusal is handed on,
+/// as is a want of memory. Costs a sort of the terms.
+pub fn define<R: Recorder>(
     alloc: Global,
     rec: &mut R,
     terms: &[(Lit, u64)],

@@ -4,8 +4,9 @@
 //!
 //! Its public contract: `push_nodes` makes the tree of a list of terms; `extend_all` makes the outputs of
 //! all nodes below the root up to a bound, and no more; `ask` makes one output of the root, where it isn't
-//! there. Each output's literal is true where the rows and the clauses that stay hold and the sum is
-//! reached. They only add definitions, one for each new output, and lines by cutting planes.
+//! there. The literal of each of these outputs is true where the rows and the clauses that stay hold and the sum
+//! is reached. They only add definitions, one for each new output, and lines by cutting planes. `define` adds a
+//! definition alone.
 //!
 //! Read `node` and `inner` first: the tree, and a node with what its children have. The main function is
 //! `ask`, in `root`; `extend_all`, in `below_root`, makes what it stands on. Both make each output by
@@ -31,6 +32,7 @@ mod tokens;
 
 pub use below_root::extend_all;
 pub use clauses::place_of;
+pub use definition::define;
 pub use inner::Inner;
 pub use laws::{pol_may_be_added, sum_may_be_added};
 pub use leaf::leaf_output;
