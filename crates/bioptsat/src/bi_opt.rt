@@ -184,6 +184,16 @@ impl Search for BiOpt {
 
     ghost serves = { Serves };
 
+    /// Nothing.
+    fn begin<O: Oracle>(
+        &mut self,
+        _oracle: &mut O,
+        _bounds: &mut Bounds,
+        _board: &mut Board<'_>,
+    ) -> Result<Option<u64>, OracleFault> {
+        Ok(None)
+    }
+
     /// One turn. Without an aim it asks for any model: `Found`, whose costs are the new aim, or `Finished`.
     /// With an aim it asks for a smaller first cost, or where that is least for a smaller second cost:
     /// `Found`, whose costs are the new aim, `Finished`, or `Moved`. Then the first cost is least; or where

@@ -101,6 +101,16 @@ impl Search for LowerBounding {
 
     ghost serves = { Serves };
 
+    /// Nothing.
+    fn begin<O: Oracle>(
+        &mut self,
+        _oracle: &mut O,
+        _bounds: &mut Bounds,
+        _board: &mut Board<'_>,
+    ) -> Result<Option<u64>, OracleFault> {
+        Ok(None)
+    }
+
     /// One turn. It asks for a model whose costs are at most the fence: `Found` where there is one, and the
     /// fence stays; `Finished` where no model at all is left. Else `Moved`: the numbers that stand in the way
     /// rise, each to the next value that its objective is known to have, or by one.

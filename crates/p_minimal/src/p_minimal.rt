@@ -70,6 +70,19 @@ impl Search for PMinimal {
 
     ghost serves = { Serves };
 
+    /// The relaxations, where it has them, find of the front what they can.
+    fn begin<O: Oracle>(
+        &mut self,
+        oracle: &mut O,
+        bounds: &mut Bounds,
+        board: &mut Board<'_>,
+    ) -> Result<Option<u64>, OracleFault> {
+        match &mut self.relaxed {
+            Some(relaxed) => relaxed.relaxations.begin(oracle, bounds, board),
+            None => Ok(None),
+        }
+    }
+
     /// One turn. With an aim it asks for a model of no greater costs: `Found` where there is one, whose costs
     /// are the new aim, and else `Moved`, without an aim. Without an aim it asks for any model: `Found`, or
     /// `Finished`.

@@ -34,12 +34,18 @@ abbrev NewAfter : ProblemValue → List Line → Type 0
 NewAfter p lines = (s : StateValue) → IsReplay p lines s → (x : List Bool) → All (Holds x) p.rows →
     KeptHold p lines s x → IsCovered p lines (problem_costs p x) → ⊥
 
+-- clauses that are kept hold before the lines too
+pub kept_back : OwnLinesStay → (p : ProblemValue) (old new : List Line) (s t : StateValue) (x : List Bool) →
+    KeepsOwn p old new → IsReplay p old s → IsReplay p new t → KeptHold p new t x → KeptHold p old s x
+kept_back stays p old new s t x keeps before after hold id c kept =
+    let later : IsLater p old s new t = stays p old new s t keeps before after in
+    let own = later.own id c (kept.0, kept.2) in
+    hold id c (own.0, kept.1, own.1)
+
 new_lines : OwnLinesStay → (p : ProblemValue) (old new : List Line) (s : StateValue) → KeepsOwn p old new →
     IsReplay p old s → LogsNone p old new → NewAfter p old → NewAfter p new
 new_lines stays p old new s keeps before none is t after x rows hold covered =
-    let later : IsLater p old s new t = stays p old new s t keeps before after in
-    is s before x rows
-    (λ id c kept. let own = later.own id c (kept.0, kept.2) in hold id c (own.0, kept.1, own.1))
+    is s before x rows (kept_back stays p old new s t x keeps before after hold)
     (subst (λ (vs : List (List ℤ)). (u : List ℤ) × Contains vs u × IsBelow u (problem_costs p x)) none covered)
 
 new_after : OwnLinesStay → (a b : Snapshot) (s : StateValue) → b.problem ≡ a.problem →
@@ -50,7 +56,7 @@ new_after stays a b s problem keeps reached none is =
 
 -- ---- what is logged stays on the board
 
-board_after : (a b : Snapshot) (board : BoardValue) → b.problem ≡ a.problem → LogsNone a.problem a.lines b.lines →
+pub board_after : (a b : Snapshot) (board : BoardValue) → b.problem ≡ a.problem → LogsNone a.problem a.lines b.lines →
     IsBoard board (logged a.problem a.lines) → IsBoard board (logged b.problem b.lines)
 board_after a b board problem none is =
     subst (λ (p : ProblemValue). IsBoard board (logged p b.lines)) (sym problem)
@@ -129,7 +135,7 @@ module _ (a b : Snapshot) (on : Continues a b) (s : StateValue) (reached : IsRea
   leads_on : (t : StateValue) → IsReplay a.problem b.lines t → Leads a.problem s on.more t
   leads_on t after = replay_after a.problem a.lines b.lines on.more s t on.lines reached after
 
-  earned_on : AreEarned a.problem a.lines → AreEarned b.problem b.lines
+  pub earned_on : AreEarned a.problem a.lines → AreEarned b.problem b.lines
   earned_on (n, earned) =
       let has = on.states s reached in
       let after : IsReplay a.problem b.lines has.state =
@@ -140,7 +146,7 @@ module _ (a b : Snapshot) (on : Continues a b) (s : StateValue) (reached : IsRea
             (still_earned a.problem n on.more a.lines s has.state on.kinds reached (leads_on has.state after) earned),
       )
 
-  within_on : IsWithin a.limit a.problem a.lines → IsWithin b.limit b.problem b.lines
+  pub within_on : IsWithin a.limit a.problem a.lines → IsWithin b.limit b.problem b.lines
   within_on within =
       subst (λ (most : Option ℕ). IsWithin most b.problem b.lines) (sym on.limit)
       (subst (λ (p : ProblemValue). IsWithin a.limit p b.lines) (sym on.problem)

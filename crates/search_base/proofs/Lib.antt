@@ -33,3 +33,4 @@ pub mod LoggedStates
 pub mod Takable
 pub mod Taking
 pub mod AddedLines
+pub mod GoodBut

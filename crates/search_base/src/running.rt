@@ -6,9 +6,30 @@ ghost use Rattle.search_base.specs.Turns.{FindsNew, IsEndLine, IsInOrder, IsSear
 use crate::{Board, Bounds, Search, Turn};
 use oracle::{Oracle, OracleFault};
 
-/// Goes on until nothing is left, and answers the id of a live line `0 >= 1`. It ends: a turn that takes a
+/// Begins, and goes on until nothing is left; answers the id of a live line `0 >= 1`. It ends: a turn that takes a
 /// model lowers the number of uncovered vectors of the cost box, and any other the search's own number.
 pub fn run_search<O: Oracle, S: Search>(
+    oracle: &mut O,
+    bounds: &mut Bounds,
+    board: &mut Board<'_>,
+    search: &mut S,
+) -> Result<u64, OracleFault>
+    requires good { IsGood (O.seen oracle.old) bounds.old board.old }
+    requires serves { S.serves search.old (O.seen oracle.old).problem }
+    ensures end { IfOk result (IsEndLine (O.seen oracle.new).problem (O.seen oracle.new).lines) }
+    ensures good { IsInOrder result → IsGood (O.seen oracle.new) bounds.new board.new }
+    ensures fault { IfErr result (IsSearchFault (O.seen oracle.old) (O.seen oracle.new)) }
+    ensures goes_on { GoesOn (O.seen oracle.old) (O.seen oracle.new) }
+    ensures board { KeepsBoard board.old board.new }
+{
+    match search.begin(oracle, bounds, board)? {
+        Some(id) => Ok(id),
+        None => run_turns(oracle, bounds, board, search),
+    }
+}
+
+// Goes on turn by turn until nothing is left.
+fn run_turns<O: Oracle, S: Search>(
     oracle: &mut O,
     bounds: &mut Bounds,
     board: &mut Board<'_>,

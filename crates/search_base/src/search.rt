@@ -1,8 +1,8 @@
 // What a search is.
-ghost use Rattle.std.specs.Prelude.{ℕ, IfOk, IfErr};
+ghost use Rattle.std.specs.Prelude.{ℕ, IfOk, IfErr, IfSome};
 ghost use Rattle.pb_lin.specs.Problem.{ProblemValue};
 ghost use Rattle.search_base.specs.Good.{GoesOn, IsGood, KeepsBoard};
-ghost use Rattle.search_base.specs.Turns.{IsInOrder, IsSearchFault, IsTurn};
+ghost use Rattle.search_base.specs.Turns.{IsEndLine, IsInOrder, IsSearchFault, IsTurn};
 
 use crate::{Board, Bounds, Turn};
 use oracle::{Oracle, OracleFault};
@@ -15,6 +15,24 @@ pub trait Search {
 
     /// It was made for this problem.
     ghost serves: { Self → ProblemValue → Type 0 };
+
+    /// What is done before the first turn: models may be taken onto the board, or it is proved that nothing is left: then
+    /// the id of a live line `0 >= 1`. After `Spent` it may go on; after other faults it isn't used again.
+    fn begin<O: Oracle>(
+        &mut self,
+        oracle: &mut O,
+        bounds: &mut Bounds,
+        board: &mut Board<'_>,
+    ) -> Result<Option<u64>, OracleFault>
+        requires good { IsGood (O.seen oracle.old) bounds.old board.old }
+        requires serves { serves self.old (O.seen oracle.old).problem }
+        ensures end { IfOk result (λ found. IfSome found
+            (IsEndLine (O.seen oracle.new).problem (O.seen oracle.new).lines)) }
+        ensures good { IsInOrder result → IsGood (O.seen oracle.new) bounds.new board.new }
+        ensures serves { IsInOrder result → serves self.new (O.seen oracle.new).problem }
+        ensures fault { IfErr result (IsSearchFault (O.seen oracle.old) (O.seen oracle.new)) }
+        ensures goes_on { GoesOn (O.seen oracle.old) (O.seen oracle.new) }
+        ensures board { KeepsBoard board.old board.new };
 
     /// One turn: takes one model onto the board, or moves on, or proves that nothing is left. After `Spent`
     /// it may be asked again; after other faults it isn't.

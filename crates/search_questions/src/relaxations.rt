@@ -1,16 +1,19 @@
 // Linear relaxations, asked box by box before the oracle.
-ghost use Rattle.std.specs.Prelude.{◌≡◌, length, IfOk, IfSome};
+ghost use Rattle.std.specs.Prelude.{◌≡◌, length, IfErr, IfOk, IfSome};
 ghost use Rattle.front_set.specs.Vector.{IsBelow, is_below};
+ghost use Rattle.search_base.specs.Good.{GoesOn, IsGood, KeepsBoard};
+ghost use Rattle.search_base.specs.Turns.{IsEndLine, IsInOrder, IsSearchFault};
 ghost use Rattle.search_questions.specs.Telling.{IsGoodWithSome, SeeksOn, Tells, TellsAny, is_closed};
 
 use crate::{Below, seek_any, seek_below, seek_relaxed};
 use front_set::CostVec;
+use linear_front::linear_front;
 use linear_search::LinearSearch;
 use open_boxes::OpenBoxes;
 use oracle::{Oracle, OracleFault};
 use pb_lin::PbProblem;
 use scut_base::{Items, NoMemory};
-use search_base::Bounds;
+use search_base::{Board, Bounds};
 use std::alloc::Global;
 
 // What may be lost on questions that stay open: pivots times rows times columns, a second or two of work.
@@ -56,6 +59,25 @@ impl Relaxations {
     /// Whether they tell nothing any more, since too much was lost on questions that stayed open.
     pub fn is_spent(&self) -> bool {
         self.linear.is_spent()
+    }
+
+    /// What they tell of the front before a search's first turn: `linear_front`.
+    pub fn begin<O: Oracle>(
+        &mut self,
+        oracle: &mut O,
+        bounds: &mut Bounds,
+        board: &mut Board<'_>,
+    ) -> Result<Option<u64>, OracleFault>
+        requires good { IsGood (O.seen oracle.old) bounds.old board.old }
+        ensures end { IfOk result (λ found. IfSome found
+            (IsEndLine (O.seen oracle.new).problem (O.seen oracle.new).lines)) }
+        ensures good { IsInOrder result → IsGood (O.seen oracle.new) bounds.new board.new }
+        ensures fault { IfErr result (IsSearchFault (O.seen oracle.old) (O.seen oracle.new)) }
+        ensures goes_on { GoesOn (O.seen oracle.old) (O.seen oracle.new) }
+        ensures board { KeepsBoard board.old board.new }
+    {
+        let linear = &mut self.linear;
+        linear_front(self.alloc, linear, &mut self.boxes, oracle, bounds, board)
     }
 
     /// What `seek_below` asks, of one relaxation alone: `seek_relaxed`.

@@ -1,6 +1,6 @@
 use Rattle.search_base.specs.CostBox.{uncovered}
 use Rattle.search_base.proofs.Turning.{AreTurns}
-use Rattle.search_base.proofs.running.run_search.Given as goal
+use Rattle.search_base.proofs.running.run_turns.Given as goal
 
 abbrev pub invariant-loop-id : goal.invariant-loop-id
 invariant-loop-id g l =

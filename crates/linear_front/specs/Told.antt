@@ -1,0 +1,10 @@
+-- What comes of questions.
+use Rattle.std.specs.Prelude.{Unit}
+use Rattle.pb_lin.specs.Problem.{ProblemValue, IsProblemModel}
+use Rattle.linear_front.specs.declared.asking.Told.{Told}
+use Rattle.linear_front.specs.declared.asking.Told.TheVariants.{Closed, Model, Unknown}
+
+-- a model is one of the problem
+abbrev pub IsTold : ProblemValue → Told → Type 0
+IsTold p (Model x) = IsProblemModel p x
+IsTold p told = Unit {0}

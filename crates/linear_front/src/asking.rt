@@ -1,0 +1,134 @@
+// Questions to the relaxations.
+ghost use Rattle.std.specs.Prelude.{◌≡◌, IfOk};
+ghost use Rattle.sum_outputs.specs.Adding.{IsReady, IsRecorded};
+ghost use Rattle.linear_front.specs.Told.{IsTold};
+
+use crate::model::model_of;
+use crate::named::{Named, Standing};
+use front_set::CostVec;
+use linear_search::{Limit, LinearSearch, Reply};
+use pb_lin::PbProblem;
+use proof_rules::{RecordFault, Recorder};
+use scut_base::{Assignment, Items, Lit};
+use search_base::costs_at;
+use std::alloc::Global;
+use sum_outputs::in_memory;
+
+// What comes of a question.
+#[derive(Debug, Drop)]
+pub(crate) enum Told {
+    // Nothing keeps to the limits.
+    Closed,
+    // This model does.
+    Model(Assignment),
+    // It isn't known.
+    Unknown,
+}
+
+// The relaxation of a problem, and the outputs that questions to it have defined.
+#[derive(Drop)]
+pub(crate) struct Asking<'a> {
+    pub(crate) alloc: Global,
+    pub(crate) linear: &'a mut LinearSearch,
+    pub(crate) named: Named,
+}
+
+// What a question assumes, and its limits as the relaxation takes them.
+#[derive(Debug, Drop)]
+struct Limits {
+    lits: Items<Lit>,
+    asked: Items<Limit>,
+}
+
+impl<'a> Asking<'a> {
+    // Whether a model's costs are at most the limits, as far as the relaxation tells. Costs an output for each
+    // objective, and what `LinearSearch::ask` does.
+    pub(crate) fn ask<R: Recorder>(
+        &mut self,
+        rec: &mut R,
+        problem: &PbProblem,
+        limits: &CostVec,
+    ) -> Result<Told, RecordFault>
+        requires ready { IsReady (R.seen rec.old) }
+        requires problem { (R.seen rec.old).problem ≡ problem.now }
+        ensures recorded { IsRecorded (R.seen rec.old) (R.seen rec.new) result }
+        ensures told { IfOk result (IsTold problem.now) }
+    {
+        let Some(question) = self.limits(rec, problem, limits)? else {
+            return Ok(Told::Closed);
+        };
+        match self.linear.ask(rec, question.lits.as_slice(), question.asked.as_slice())? {
+            Reply::Closed(_core) => Ok(Told::Closed),
+            Reply::Model(model) => told_of(self.alloc, problem, limits, model.as_slice()),
+            Reply::Unknown => Ok(Told::Unknown),
+        }
+    }
+
+    // The limits of the objectives that may exceed theirs; `None` where one always does.
+    fn limits<R: Recorder>(
+        &mut self,
+        rec: &mut R,
+        problem: &PbProblem,
+        limits: &CostVec,
+    ) -> Result<Option<Limits>, RecordFault>
+        requires ready { IsReady (R.seen rec.old) }
+        requires problem { (R.seen rec.old).problem ≡ problem.now }
+        ensures recorded { IsRecorded (R.seen rec.old) (R.seen rec.new) result }
+    {
+        let mut lits = Items::new(self.alloc);
+        let mut asked = Items::new(self.alloc);
+        for (objective, limit) in limits.as_slice().iter().enumerate() {
+            match self.excess(rec, problem, objective, *limit)? {
+                Standing::Always => return Ok(None),
+                Standing::Never => {}
+                Standing::Output(output) => {
+                    in_memory(lits.push(output.lit.not()))?;
+                    in_memory(asked.push(Limit {
+                        objective,
+                        most: *limit,
+                        upper_line: output.upper,
+                        reform_line: 0,
+                    }))?;
+                }
+            }
+        }
+        Ok(Some(Limits { lits, asked }))
+    }
+
+    // What stands for "the objective's cost exceeds its limit".
+    fn excess<R: Recorder>(
+        &mut self,
+        rec: &mut R,
+        problem: &PbProblem,
+        objective: usize,
+        limit: i64,
+    ) -> Result<Standing, RecordFault>
+        requires ready { IsReady (R.seen rec.old) }
+        requires problem { (R.seen rec.old).problem ≡ problem.now }
+        ensures recorded { IsRecorded (R.seen rec.old) (R.seen rec.new) result }
+    {
+        match limit.checked_add(1) {
+            Some(least) => self.named.at_least(rec, problem, objective, least),
+            None => Ok(Standing::Never),
+        }
+    }
+}
+
+// What a proposed model tells: it is one only where its costs are at most the limits.
+fn told_of(
+    alloc: Global,
+    problem: &PbProblem,
+    limits: &CostVec,
+    lits: &[Lit],
+) -> Result<Told, RecordFault>
+    ensures told { IfOk result (IsTold problem.now) }
+{
+    let Some(model) = in_memory(model_of(alloc, problem, lits))? else {
+        return Ok(Told::Unknown);
+    };
+    let costs = in_memory(costs_at(alloc, problem, &model))?;
+    if costs.weakly_dominates(limits) {
+        return Ok(Told::Model(model));
+    }
+    Ok(Told::Unknown)
+}

@@ -1,0 +1,195 @@
+// Outputs of objectives that are only defined: true exactly where the objective costs at least a value.
+ghost use Rattle.std.specs.Prelude.{◌≡◌, ◌<◌, ◌≤◌, length, IfOk};
+ghost use Rattle.pb_lin.specs.Constraint.{total};
+ghost use Rattle.sum_outputs.specs.Adding.{IsReady, IsRecorded};
+
+use cutting_planes::PolToken;
+use linear_lines::add_line;
+use pb_lin::{CostRow, PbProblem};
+use proof_rules::{RecordFault, Recorder};
+use scut_base::{Items, Lit, NoMemory};
+use std::alloc::Global;
+use sum_outputs::{SumOutput, define, in_memory};
+
+// What stands for "the objective costs at least a value".
+#[derive(Clone, Copy, Debug)]
+pub(crate) enum Standing {
+    // It always does.
+    Always,
+    // It never does.
+    Never,
+    // It does exactly where the output's literal is true.
+    Output(SumOutput),
+}
+
+// For each objective the outputs that were defined, in rising order of sums.
+#[derive(Debug, Drop)]
+pub(crate) struct Named {
+    alloc: Global,
+    lists: Vec<Vec<SumOutput>>,
+}
+
+impl Named {
+    // None yet, of so many objectives.
+    pub(crate) fn new(alloc: Global, objectives: usize) -> Result<Named, NoMemory> {
+        let mut lists = Vec::new(alloc);
+        for _objective in 0..objectives {
+            lists.push(Vec::new(alloc))?;
+        }
+        Ok(Named { alloc, lists })
+    }
+
+    // The outputs of an objective.
+    pub(crate) fn outputs(&self, objective: usize) -> &[SumOutput] {
+        match self.lists.as_slice().get(objective) {
+            Some(outputs) => outputs.as_slice(),
+            None => &[],
+        }
+    }
+
+    // What stands for "the objective costs at least `value`": an output of that sum, which is defined where it isn't
+    // there. Costs a sort of the objective's terms where it is defined.
+    pub(crate) fn at_least<R: Recorder>(
+        &mut self,
+        rec: &mut R,
+        problem: &PbProblem,
+        objective: usize,
+        value: i64,
+    ) -> Result<Standing, RecordFault>
+        requires ready { IsReady (R.seen rec.old) }
+        requires problem { (R.seen rec.old).problem ≡ problem.now }
+        ensures recorded { IsRecorded (R.seen rec.old) (R.seen rec.new) result }
+    {
+        let Some(row) = problem.costs().get(objective) else {
+            return Ok(Standing::Never);
+        };
+        let above = i128::from(value) - i128::from(row.offset());
+        if above <= 0 {
+            return Ok(Standing::Always);
+        }
+        let total = total_of(row.terms());
+        if i128::from(total) < above {
+            return Ok(Standing::Never);
+        }
+        if let [term] = row.terms() {
+            return Ok(Standing::Output(of_term(*term)));
+        }
+        let output = self.output(rec, problem, objective, row, above as u64)?;
+        Ok(Standing::Output(output))
+    }
+
+    // The output at this sum.
+    fn output<R: Recorder>(
+        &mut self,
+        rec: &mut R,
+        problem: &PbProblem,
+        objective: usize,
+        row: &CostRow,
+        sum: u64,
+    ) -> Result<SumOutput, RecordFault>
+        requires ready { IsReady (R.seen rec.old) }
+        requires problem { (R.seen rec.old).problem ≡ problem.now }
+        requires some { 0 < sum }
+        requires most { sum ≤ total row.now.terms }
+        ensures recorded { IsRecorded (R.seen rec.old) (R.seen rec.new) result }
+    {
+        let outputs = self.outputs(objective);
+        let place = outputs.partition_point(|output| output.sum < sum);
+        if let Some(output) = outputs.get(place) {
+            if output.sum == sum {
+                return Ok(*output);
+            }
+        }
+        let output = define(self.alloc, rec, row.terms(), sum, sum)?;
+        self.tie(rec, objective, place, &output)?;
+        in_memory(self.insert(objective, place, output))?;
+        Ok(output)
+    }
+
+    // Adds the clauses by which the next greater output implies a new one, and that the next smaller one.
+    fn tie<R: Recorder>(
+        &self,
+        rec: &mut R,
+        objective: usize,
+        place: usize,
+        output: &SumOutput,
+    ) -> Result<(), RecordFault>
+        requires ready { IsReady (R.seen rec.old) }
+        ensures recorded { IsRecorded (R.seen rec.old) (R.seen rec.new) result }
+    {
+        let outputs = self.outputs(objective);
+        if let Some(greater) = outputs.get(place) {
+            imply(self.alloc, rec, greater, output)?;
+        }
+        if 0 < place {
+            if let Some(smaller) = outputs.get(place - 1) {
+                imply(self.alloc, rec, output, smaller)?;
+            }
+        }
+        Ok(())
+    }
+
+    // Puts an output at its place.
+    fn insert(&mut self, objective: usize, place: usize, output: SumOutput) -> Result<(), NoMemory> {
+        if let Some(outputs) = self.lists.get_mut(objective) {
+            if place <= outputs.len() {
+                outputs.insert(place, output)?;
+            }
+        }
+        Ok(())
+    }
+}
+
+// Adds the clause by which one output implies another of no greater sum, where their lines make it.
+pub(crate) fn imply<R: Recorder>(
+    alloc: Global,
+    rec: &mut R,
+    greater: &SumOutput,
+    smaller: &SumOutput,
+) -> Result<(), RecordFault>
+    requires ready { IsReady (R.seen rec.old) }
+    ensures recorded { IsRecorded (R.seen rec.old) (R.seen rec.new) result }
+{
+    if greater.sum < smaller.sum {
+        return Ok(());
+    }
+    let tokens = in_memory(implying(alloc, greater, smaller))?;
+    add_line(alloc, rec, tokens)?;
+    Ok(())
+}
+
+// The tokens of that clause: the sum of the lower line of the one and the upper line of the other, whose degree is one
+// more than the difference of the sums.
+fn implying(alloc: Global, greater: &SumOutput, smaller: &SumOutput) -> Result<Items<PolToken>, NoMemory> {
+    let mut tokens = Items::new(alloc);
+    tokens.push(PolToken::Id(greater.lower))?;
+    tokens.push(PolToken::Id(smaller.upper))?;
+    tokens.push(PolToken::Add)?;
+    tokens.push(PolToken::Saturate)?;
+    if smaller.sum < greater.sum {
+        tokens.push(PolToken::Div(i128::from(greater.sum - smaller.sum) + 1))?;
+    }
+    Ok(tokens)
+}
+
+// The literal of an only term, which has no lines.
+fn of_term(term: (Lit, u64)) -> SumOutput {
+    SumOutput {
+        sum: term.1,
+        from: 1,
+        lit: term.0,
+        lower: 0,
+        upper: 0,
+    }
+}
+
+// The sum of all weights.
+fn total_of(terms: &[(Lit, u64)]) -> u64
+    ensures { result ≡ total terms.now }
+{
+    let mut total = 0;
+    for term in terms {
+        total += term.1;
+    }
+    total
+}
