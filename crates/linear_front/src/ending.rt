@@ -1,9 +1,10 @@
 // What is done where the relaxations tell no more.
-ghost use Rattle.std.specs.Prelude.{◌≡◌, IfOk, IfErr, IfSome, OnOk};
+ghost use Rattle.std.specs.Prelude.{◌≡◌, ◌<◌, length, IfOk, true, IfErr, IfSome, IsOk, OnOk};
 ghost use Rattle.sum_outputs.specs.Adding.{IsReady, IsRecorded};
 ghost use Rattle.search_base.specs.CostBounds.{FitBounds, reforms_of};
-ghost use Rattle.search_base.specs.Turns.{IsSearchFault};
-ghost use Rattle.linear_front.specs.Ending.{EndsWith};
+ghost use Rattle.search_base.specs.Good.{GoesOn};
+ghost use Rattle.search_base.specs.Turns.{IsEndLine, IsInOrder, IsSearchFault};
+ghost use Rattle.linear_front.specs.Ending.{IsGoodButForSome, IsKeptEnd, StaysGoodBut};
 
 use crate::named::{Named, imply};
 use cutting_planes::PolToken;
@@ -12,14 +13,26 @@ use oracle::{Answer, Oracle, OracleFault};
 use pb_lin::PbProblem;
 use proof_rules::{RecordFault, Recorder};
 use scut_base::{Items, NoMemory};
-use search_base::Bounds;
+use search_base::{Bounds, adding_stays_good_but, asking_stays_good_but};
 use std::alloc::Global;
 use sum_outputs::{SumOutput, in_memory};
 
 // A kept line `0 >= 1`, where the oracle answers that nothing is left; `None` where it doesn't.
-pub(crate) fn end_line<O: Oracle>(alloc: Global, oracle: &mut O) -> Result<Option<u64>, OracleFault> {
+pub(crate) fn end_line<O: Oracle>(alloc: Global, oracle: &mut O) -> Result<Option<u64>, OracleFault>
+    requires good { IsGoodButForSome (O.seen oracle.old) }
+    ensures ended { IfOk result (λ found. IfSome found (IsKeptEnd (O.seen oracle.new))) }
+    ensures stays { OnOk result (StaysGoodBut (O.seen oracle.old) (O.seen oracle.new)) }
+    ensures fault { IfErr result (IsSearchFault (O.seen oracle.old) (O.seen oracle.new)) }
+    ensures unspent { IsInOrder result → IsOk result }
+    ensures goes_on { GoesOn (O.seen oracle.old) (O.seen oracle.new) }
+{
+    asking_stays_good_but();
+    adding_stays_good_but();
     match oracle.solve(&[]) {
-        Ok(Answer::Unsat(core)) => keep(alloc, oracle, core.id),
+        Ok(Answer::Unsat(core)) => {
+            let id = keep(alloc, oracle, core.id)?;
+            Ok(id)
+        }
         Ok(Answer::Sat(_)) => Ok(None),
         Err(OracleFault::Spent { .. }) => Ok(None),
         Err(fault) => Err(fault),
@@ -27,14 +40,28 @@ pub(crate) fn end_line<O: Oracle>(alloc: Global, oracle: &mut O) -> Result<Optio
 }
 
 // States the live line of this id once more, so that it is a kept one; its id where it is `0 >= 1`.
-fn keep<O: Oracle>(alloc: Global, oracle: &mut O, id: u64) -> Result<Option<u64>, OracleFault> {
-    let tokens = line_again(alloc, id)?;
-    let Some(kept) = add_line(alloc, oracle, tokens)? else {
+fn keep<R: Recorder>(alloc: Global, rec: &mut R, id: u64) -> Result<Option<u64>, RecordFault>
+    requires ready { IsReady (R.seen rec.old) }
+    ensures recorded { IsRecorded (R.seen rec.old) (R.seen rec.new) result }
+    ensures kept { IfOk result (λ found. IfSome found (IsKeptEnd (R.seen rec.new))) }
+{
+    let tokens = in_memory(line_again(alloc, id))?;
+    let Some(kept) = add_line(alloc, rec, tokens)? else {
         return Ok(None);
     };
-    match oracle.state().live().get(kept) {
-        Some(line) if line.len() == 0 && line.degree() == 1 => Ok(Some(kept)),
-        _ => Ok(None),
+    if is_end(rec, kept) {
+        return Ok(Some(kept));
+    }
+    Ok(None)
+}
+
+// Whether the line of this id is `0 >= 1`.
+fn is_end<R: Recorder>(rec: &R, id: u64) -> bool
+    ensures { result ≡ true → IsEndLine (R.seen rec.now).problem (R.seen rec.now).lines id }
+{
+    match rec.state().live().get(id) {
+        Some(line) => line.len() == 0 && line.degree() == 1,
+        None => false,
     }
 }
 

@@ -1,6 +1,6 @@
 // Models that a relaxation proposes.
-ghost use Rattle.std.specs.Prelude.{◌≡◌, ◌↔◌, true, All, IfOk, IfSome};
-ghost use Rattle.pb_lin.specs.Constraint.{Holds};
+ghost use Rattle.std.specs.Prelude.{◌≡◌, ◌↔◌, length, All, IfOk, IfSome, IsTrue};
+ghost use Rattle.pb_lin.specs.Constraint.{Holds, UpTo};
 ghost use Rattle.pb_lin.specs.Problem.{IsProblemModel};
 
 use pb_lin::{Constraint, PbProblem};
@@ -37,7 +37,8 @@ fn assigned(alloc: Global, vars: u64, lits: &[Lit]) -> Result<Assignment, NoMemo
 
 // Whether all rows hold.
 fn all_hold(rows: &[Constraint], a: &Assignment) -> bool
-    ensures { result ≡ true ↔ All (Holds a.now) rows.now }
+    requires { All (UpTo (length a.now)) rows.now }
+    ensures { IsTrue result ↔ All (Holds a.now) rows.now }
 {
     rows.iter().all(|row| row.holds(a))
 }

@@ -9,7 +9,7 @@ use pb_lin::{CostRow, PbProblem};
 use proof_rules::{RecordFault, Recorder};
 use scut_base::{Items, Lit, NoMemory};
 use std::alloc::Global;
-use sum_outputs::{SumOutput, define, in_memory};
+use sum_outputs::{SumOutput, define, in_memory, leaf_output, total_of};
 
 // What stands for "the objective costs at least a value".
 #[derive(Clone, Copy, Debug)]
@@ -72,7 +72,7 @@ impl Named {
             return Ok(Standing::Never);
         }
         if let [term] = row.terms() {
-            return Ok(Standing::Output(of_term(*term)));
+            return Ok(Standing::Output(leaf_output(*term)));
         }
         let output = self.output(rec, problem, objective, row, above as u64)?;
         Ok(Standing::Output(output))
@@ -170,26 +170,4 @@ fn implying(alloc: Global, greater: &SumOutput, smaller: &SumOutput) -> Result<I
         tokens.push(PolToken::Div(i128::from(greater.sum - smaller.sum) + 1))?;
     }
     Ok(tokens)
-}
-
-// The literal of an only term, which has no lines.
-fn of_term(term: (Lit, u64)) -> SumOutput {
-    SumOutput {
-        sum: term.1,
-        from: 1,
-        lit: term.0,
-        lower: 0,
-        upper: 0,
-    }
-}
-
-// The sum of all weights.
-fn total_of(terms: &[(Lit, u64)]) -> u64
-    ensures { result ≡ total terms.now }
-{
-    let mut total = 0;
-    for term in terms {
-        total += term.1;
-    }
-    total
 }

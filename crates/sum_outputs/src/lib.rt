@@ -36,7 +36,7 @@ pub use definition::define;
 pub use inner::Inner;
 pub use laws::{pol_may_be_added, sum_may_be_added};
 pub use leaf::leaf_output;
-pub use node::{Node, push_nodes};
+pub use node::{Node, push_nodes, total_of};
 pub use recording::{in_memory, record};
 pub use root::ask;
 pub use sum_output::SumOutput;

@@ -60,8 +60,8 @@ fn push_node(
     Ok(at)
 }
 
-// The weights, summed.
-fn total_of(terms: &[(Lit, u64)]) -> u64
+/// The weights, summed. Costs a pass over them.
+pub fn total_of(terms: &[(Lit, u64)]) -> u64
     requires { total terms.now < 2 ^ 63 }
     ensures { result ≡ total terms.now }
 {
