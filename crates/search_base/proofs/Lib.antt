@@ -22,6 +22,8 @@ pub mod Answered
 pub mod CutClauses
 pub mod AlikeAnswers
 pub mod SolLines
+pub mod RisingLiterals
+pub mod JudgedLines
 pub mod ModelLines
 pub mod Covering
 pub mod NamedAnswers
