@@ -34,4 +34,5 @@ pub mod ModelPairs
 pub mod LoggedStates
 pub mod Takable
 pub mod Taking
+pub mod PendingModels
 pub mod AddedLines
