@@ -22,6 +22,8 @@ pub mod Answered
 pub mod CutClauses
 pub mod AlikeAnswers
 pub mod SolLines
+pub mod RisingLiterals
+pub mod JudgedLines
 pub mod ModelLines
 pub mod Covering
 pub mod NamedAnswers
@@ -32,5 +34,6 @@ pub mod ModelPairs
 pub mod LoggedStates
 pub mod Takable
 pub mod Taking
+pub mod PendingModels
 pub mod AddedLines
 pub mod GoodBut

@@ -111,6 +111,13 @@ tightened_of i j p q y x one other is =
     subst (λ (k : InstanceValue). IsTightened k q y x) one
     (subst (λ (r : ProblemValue). IsTightened i r y x) other is)
 
+-- the tightened model and its costs are a pair of the instance
+pub tight_model_pair : (i : InstanceValue) (p : ProblemValue) (y x : List Bool) → IsNormalFormOf i p →
+    p.vars ≤ length y → IsTightened i p y x →
+    IsModelPair i (record { costs = problem_costs p x; model = take i.vars x })
+tight_model_pair i p y x normal long tight =
+    tight_pair i p y x tight.limits tight.problem normal (omega (arith, normal.vars)) tight.value tight.model tight.costs
+
 pub good_taken : BoundingStaysGood → OwnLinesStay → FittingStays → ReformStays →
     (a m b : Snapshot) (s : StateValue) (before asked : List ObjectiveBound) (old new : BoardValue) (y x : List Bool)
     (answers : List Bound) → IsReached a s → IsTakable a y → IsTightened old.instance a.problem y x →
@@ -121,11 +128,9 @@ good_taken bounding own fitting reforms a m b s before asked old new y x answers
     let same : m.problem ≡ a.problem = log.on.problem in
     let normal : IsNormalFormOf old.instance a.problem =
     subst (λ (q : ProblemValue). IsNormalFormOf old.instance q) good.problem good.board.normal in
-    let long : old.instance.vars ≤ length y = let within = long_enough a s y reached takable in
-    omega (arith, normal.vars) in
     let pair : IsModelPair old.instance
     (record { costs = problem_costs a.problem x; model = take old.instance.vars x }) =
-    tight_pair old.instance a.problem y x tight.limits tight.problem normal long tight.value tight.model tight.costs in
+    tight_model_pair old.instance a.problem y x normal (long_enough a s y reached takable) tight in
     good_after m b x answers log.logs own fitting reforms asked old new middle log.goes_on log.answered
     (subst (λ (q : ProblemValue). IsPut old new (problem_costs q x) x) (sym same) put)
     (subst (λ (q : ProblemValue). IsModelPair old.instance

@@ -8,6 +8,7 @@ use Rattle.proof_laws.specs.State.{StateValue}
 use Rattle.proof_laws.specs.Legal.{IsLegal}
 use Rattle.proof_laws.specs.Refusal.{literals_at}
 use Rattle.proof_laws.specs.WellFormed.{IsWellFormed}
+use Rattle.proof_laws.specs.declared.line.Line.{Line}
 use Rattle.proof_laws.specs.declared.line.Line.TheVariants.{Sol}
 use Rattle.proof_rules.specs.Recording.{Snapshot}
 use Rattle.oracle.specs.Solving.{AreEarned, IsWithin}
@@ -49,19 +50,26 @@ AreOwnTerms bounds = All (λ r. r.lower_line ≡ 0) (reforms_of bounds)
 
 -- ---- a model that is taken by a cut
 
--- this line, which logs the model by a cut and the ids of lines, can't be spelled or isn't legal
-abbrev pub MayNotLog : Snapshot → List Bool → List Literal → List ℕ → Type 0
-MayNotLog a x cut rows = (s : StateValue) → IsReached a s
-    → IsWellFormed (Sol (literals_at 1 x) cut rows) → IsLegal a.problem s (Sol (literals_at 1 x) cut rows) → ⊥
+-- this line can't be spelled or isn't legal
+abbrev pub MayNotAdd : Snapshot → Line → Type 0
+MayNotAdd a line = (s : StateValue) → IsReached a s → IsWellFormed line → IsLegal a.problem s line → ⊥
 
--- such a line was added, from one state to another, and the recorder isn't broken
-pub record LogsByCut (a b : Snapshot) (x : List Bool) (cut : List Literal) (rows : List ℕ) : Type 0 where
+-- this line was added, from one state to another, and the recorder isn't broken
+pub record AddsLine (a b : Snapshot) (line : Line) : Type 0 where
   pub before : StateValue
   pub stood : IsReached a before
-  pub lines : b.lines ≡ a.lines ++ Sol (literals_at 1 x) cut rows ∷ []
+  pub lines : b.lines ≡ a.lines ++ line ∷ []
   pub whole : b.broken ≡ false
   pub state : StateValue
   pub reached : IsReached b state
+
+-- the line that logs the model by a cut and the ids of lines can't be spelled or isn't legal
+abbrev pub MayNotLog : Snapshot → List Bool → List Literal → List ℕ → Type 0
+MayNotLog a x cut rows = MayNotAdd a (Sol (literals_at 1 x) cut rows)
+
+-- such a line was added
+abbrev pub LogsByCut : (a b : Snapshot) → List Bool → List Literal → List ℕ → Type 0
+LogsByCut a b x cut rows = AddsLine a b (Sol (literals_at 1 x) cut rows)
 
 -- one vector is logged, which is below the costs of x; the model that has it is pending
 pub record TakesPending (a b : Snapshot) (x : List Bool) (before now : List (List Bool)) : Type 0 where
