@@ -40,7 +40,7 @@ pub record IsGoodBut (a : Snapshot) (asked : List ObjectiveBound) (front : Board
   pub bounds : FitBounds a asked
   pub earned : AreEarned a.problem a.lines
   pub within : IsWithin a.limit a.problem a.lines
-  pub pending : All (IsPending front) pending
+  pub models : All (IsPending front) pending
   pub new : AllIsNewBut a pending
 
 -- the objectives are in terms of their own rows: no reform has a line
