@@ -32,4 +32,5 @@ pub mod ModelPairs
 pub mod LoggedStates
 pub mod Takable
 pub mod Taking
+pub mod SettledStates
 pub mod AddedLines

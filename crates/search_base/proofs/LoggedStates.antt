@@ -45,7 +45,7 @@ NewAfter p lines = (s : StateValue) → IsReplay p lines s → (x : List Bool) �
 
 module _ (p : ProblemValue) (lines : List Line) (s : StateValue) (x : List Bool) (answers : List Bound)
     (cut : List Literal) (exact : IsCutOf answers cut) where
-  abbrev line : Line
+  abbrev pub line : Line
   line = Sol (literals_at 1 x) cut (map answered_line answers)
 
   -- the costs of the model are logged
@@ -58,7 +58,7 @@ module _ (p : ProblemValue) (lines : List Line) (s : StateValue) (x : List Bool)
       made_of : (t : StateValue) → IsReplay p (lines ++ line ∷ []) t → IsNext p s line t
       made_of t after = replay_before p lines line s t reached after
 
-      kept_before : (t : StateValue) (y : List Bool) → IsReplay p (lines ++ line ∷ []) t →
+      pub kept_before : (t : StateValue) (y : List Bool) → IsReplay p (lines ++ line ∷ []) t →
           KeptHold p (lines ++ line ∷ []) t y → KeptHold p lines s y
       kept_before t y after hold id c kept =
           let later : IsLater p lines s (lines ++ line ∷ []) t =
@@ -66,7 +66,7 @@ module _ (p : ProblemValue) (lines : List Line) (s : StateValue) (x : List Bool)
           let own = later.own id c (kept.0, kept.2) in
           hold id c (own.0, kept.1, own.1)
 
-      clause_holds : (t : StateValue) (y : List Bool) → IsReplay p (lines ++ line ∷ []) t →
+      pub clause_holds : (t : StateValue) (y : List Bool) → IsReplay p (lines ++ line ∷ []) t →
           KeptHold p (lines ++ line ∷ []) t y → Holds y (clause cut)
       clause_holds t y after hold =
           let makes = (made_of t after).makes in
@@ -98,10 +98,10 @@ module _ (p : ProblemValue) (lines : List Line) (s : StateValue) (x : List Bool)
 -- ---- a good state
 
 module _ (a b : Snapshot) (x : List Bool) (answers : List Bound) (logs : LogsModel a b x answers) where
-  cut_is : IsCutOf answers logs.is.cut
+  pub cut_is : IsCutOf answers logs.is.cut
   cut_is = logs.is.exact
 
-  lines_are : b.lines ≡ a.lines ++ line a.problem a.lines logs.before x answers logs.is.cut cut_is ∷ []
+  pub lines_are : b.lines ≡ a.lines ++ line a.problem a.lines logs.before x answers logs.is.cut cut_is ∷ []
   lines_are = logs.lines ∙ ap (λ (l : Line). a.lines ++ l ∷ []) logs.is.is
 
   pub logs_model : Logs a.problem a.lines b.lines (problem_costs a.problem x)
