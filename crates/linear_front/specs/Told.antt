@@ -1,5 +1,4 @@
 -- What comes of questions.
-use Rattle.std.specs.Prelude.{Unit}
 use Rattle.pb_lin.specs.Problem.{ProblemValue, IsProblemModel}
 use Rattle.linear_front.specs.declared.asking.Told.{Told}
 use Rattle.linear_front.specs.declared.asking.Told.TheVariants.{Closed, Model, Unknown}

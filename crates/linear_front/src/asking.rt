@@ -9,7 +9,7 @@ use front_set::CostVec;
 use linear_search::{Limit, LinearSearch, Reply};
 use pb_lin::PbProblem;
 use proof_rules::{RecordFault, Recorder};
-use scut_base::{Assignment, Items, Lit};
+use scut_base::{Assignment, Items, Lit, NoMemory};
 use search_base::costs_at;
 use std::alloc::Global;
 use sum_outputs::in_memory;
@@ -38,6 +38,13 @@ pub(crate) struct Asking<'a> {
 struct Limits {
     lits: Items<Lit>,
     asked: Items<Limit>,
+}
+
+// The cut of a model, in order of variables, and for each objective the line that bounds it.
+#[derive(Debug, Drop)]
+pub(crate) struct Cut {
+    pub(crate) lits: Items<Lit>,
+    pub(crate) rows: Items<u64>,
 }
 
 impl<'a> Asking<'a> {
@@ -95,6 +102,30 @@ impl<'a> Asking<'a> {
         Ok(Some(Limits { lits, asked }))
     }
 
+    // The cut of a model of these costs. Costs an output for each objective.
+    pub(crate) fn cut_at<R: Recorder>(
+        &mut self,
+        rec: &mut R,
+        problem: &PbProblem,
+        costs: &CostVec,
+    ) -> Result<Cut, RecordFault>
+        requires ready { IsReady (R.seen rec.old) }
+        requires problem { (R.seen rec.old).problem ≡ problem.now }
+        ensures recorded { IsRecorded (R.seen rec.old) (R.seen rec.new) result }
+    {
+        let mut lits = Vec::new(self.alloc);
+        let mut rows = Items::new(self.alloc);
+        for (objective, cost) in costs.as_slice().iter().enumerate() {
+            let standing = self.named.at_least(rec, problem, objective, *cost)?;
+            in_memory(add_standing(&mut lits, &mut rows, standing))?;
+        }
+        lits.sort_unstable_by_key(|lit| lit.var());
+        Ok(Cut {
+            lits: Items::from_vec(lits),
+            rows,
+        })
+    }
+
     // What stands for "the objective's cost exceeds its limit".
     fn excess<R: Recorder>(
         &mut self,
@@ -112,6 +143,22 @@ impl<'a> Asking<'a> {
             None => Ok(Standing::Never),
         }
     }
+}
+
+// Adds what stands for an objective's cost to a cut: its line, and the opposite of its literal, once.
+fn add_standing(
+    lits: &mut Vec<Lit>,
+    rows: &mut Items<u64>,
+    standing: Standing,
+) -> Result<(), NoMemory> {
+    let Standing::Output(output) = standing else {
+        return rows.push(0);
+    };
+    let denial = output.lit.not();
+    if !lits.as_slice().contains(&denial) {
+        lits.push(denial)?;
+    }
+    rows.push(output.lower)
 }
 
 // What a proposed model tells: it is one only where its costs are at most the limits.

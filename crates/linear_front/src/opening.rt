@@ -12,7 +12,7 @@ use open_boxes::OpenBoxes;
 use oracle::{Oracle, OracleFault};
 use pb_lin::PbProblem;
 use scut_base::Items;
-use search_base::{Board, Bounds, adding_stays_good_but, good_but_for_none, turn_lines_join};
+use search_base::{Board, Bounds, adding_stays_good_but, end_is_good, good_but_for_none, turn_lines_join};
 use std::alloc::Global;
 
 // Objectives of fewer terms have small totalizers: where no objective has as many, nothing is done.
@@ -44,6 +44,10 @@ pub fn linear_front<O: Oracle>(
     if linear.is_spent() || !bounds.are_own_terms() || !has_long_objective(board.problem()) {
         return Ok(None);
     }
+    adding_stays_good_but();
+    good_but_for_none();
+    end_is_good();
+    turn_lines_join();
     let named = Named::new(alloc, board.problem().costs().len())?;
     let mut asking = Asking {
         alloc,

@@ -1,5 +1,5 @@
 -- No literals that are answered for the costs of a model are opposite, and none of these costs is too high.
-use Rattle.std.proofs.Common.{◌≡◌, ◌⊎◌, ⊎_elim, inl, inr, ℕ, zero, suc, ◌<◌, ◌≤◌, Bool, true, false, not, cond, List, [], ◌∷◌, length, get_or, refl, sym, ap, ◌∙◌, subst, arith, ℤ, pos, ◌+ℤ◌, ◌≤ℤ◌, ◌<ℤ◌}
+use Rattle.std.proofs.Common.{◌≡◌, ◌⊎◌, ⊎_elim, inl, inr, ℕ, zero, suc, ◌<◌, ◌≤◌, Bool, true, false, not, cond, List, [], ◌∷◌, length, get_or, Some, refl, sym, ap, ◌∙◌, subst, arith, ℤ, pos, ◌+ℤ◌, ◌-ℤ◌, ◌≤ℤ◌, ◌<ℤ◌}
 use Rattle.std.specs.List.{All, Contains}
 use Rattle.std.proofs.lemmas.Bool.{cond-false}
 use Rattle.std.proofs.lemmas.Int.{ints}
@@ -12,18 +12,21 @@ use Rattle.scut_base.specs.Assignment.{lit_true, value_of}
 use Rattle.scut_base.proofs.Lists.{Contains-nil, Contains-cons_cases}
 use Rattle.front_set.specs.Vector.{IsBelow}
 use Rattle.instance_normal.proofs.Distinct.{literal}
-use Rattle.pb_lin.specs.Constraint.{Holds, term_value, total, value}
+use Rattle.pb_lin.specs.Constraint.{ConstraintValue, Holds, term_value, total, value}
 use Rattle.pb_lin.specs.CostRow.{CostRowValue, row_cost}
-use Rattle.pb_lin.specs.Problem.{problem_costs}
+use Rattle.pb_lin.specs.Problem.{ProblemValue, problem_costs}
 use Rattle.proof_laws.specs.State.{StateValue}
+use Rattle.proof_laws.specs.Refusal.{line_or_none}
+use Rattle.proof_laws.specs.declared.line.Line.{Line}
 use Rattle.proof_rules.specs.Recording.{Snapshot}
 use Rattle.sum_outputs.specs.Adding.{IsReached, KeptHold}
-use Rattle.totalizer.specs.Reforming.{IsReformOf}
+use Rattle.totalizer.specs.Reforming.{IsLowerLine, IsReformOf}
 use Rattle.totalizer.specs.declared.bound.Bound.{Bound}
 use Rattle.totalizer.specs.declared.bound.Bound.TheVariants.{Always, Never, At}
 use Rattle.totalizer.specs.declared.reform.Reform.{Reform}
 use Rattle.search_base.specs.CostBounds.{BoundsRow, FitBounds, HasLiteral, IsAnswerFor, IsOutside, greatest_of, reforms_of}
 use Rattle.search_base.specs.Cutting.{AreAlike, AreAsked, answered_literals}
+use Rattle.search_base.specs.Pending.{AreOwnTerms}
 use Rattle.search_base.specs.declared.objective_bound.ObjectiveBound.{ObjectiveBound}
 use Rattle.search_base.proofs.Answered.{AllPossible, value_most}
 use Rattle.search_base.proofs.BoundRows.{bound_at}
@@ -77,11 +80,43 @@ same_signs false true false one other = cc
 same_signs false false true one other = cc
 same_signs false false false one other = refl
 
+-- ---- what reforms cost
+
+-- no row costs more at y than its reform does
+abbrev pub AreWithinReforms : Snapshot → StateValue → List ObjectiveBound → List Bool → Type 0
+AreWithinReforms a s bounds y = (row : CostRowValue) (r : Reform) → Contains (reforms_of bounds) r →
+    IsReformOf a.problem a.lines s row r → row_cost y row ≤ℤ (r.offset +ℤ pos (value y r.terms))
+
+-- where the rows and the kept clauses hold
+pub within_kept : (a : Snapshot) (s : StateValue) (bounds : List ObjectiveBound) (y : List Bool) →
+    All (Holds y) a.problem.rows → KeptHold a.problem a.lines s y → AreWithinReforms a s bounds y
+within_kept a s bounds y rows hold row r there is = is.upper y rows hold
+
+no_gap : (v o : ℤ) → (pos 0 -ℤ pos 0) ≡ (v -ℤ o) → v ≤ℤ o
+no_gap v o same = omega (arith, ints)
+
+-- "0 >= 0" leaves no gap between a row and its reform
+own_most : (p : ProblemValue) (lines : List Line) (s : StateValue) (row : CostRowValue) (r : Reform) (y : List Bool) →
+    IsReformOf p lines s row r → r.lower_line ≡ 0 → row_cost y row ≤ℤ (r.offset +ℤ pos (value y r.terms))
+own_most p lines s row r y is none =
+    let lower = is.lower in
+    let same : lower.0 ≡ record { terms = []; degree = 0 } =
+    let e : Some lower.0 ≡ Some (record { terms = []; degree = 0 }) = sym lower.1
+    ∙ ap (λ (id : ℕ). line_or_none s.live id) none in cc in
+    no_gap (row_cost y row) (r.offset +ℤ pos (value y r.terms))
+    (subst (λ (c : ConstraintValue). IsLowerLine row r.offset r.terms c) same lower.2 y)
+
+-- and where all are in their own terms
+pub within_own : (a : Snapshot) (s : StateValue) (bounds : List ObjectiveBound) (y : List Bool) → AreOwnTerms bounds →
+    AreWithinReforms a s bounds y
+within_own a s bounds y own row r there is = own_most a.problem a.lines s row r y is
+    (All-contains (λ (q : Reform). q.lower_line ≡ 0) (reforms_of bounds) r own there)
+
 -- ---- one assignment that makes all true
 
 module _ (a : Snapshot) (s : StateValue) (reached : IsReached a s) (bounds : List ObjectiveBound) (x y : List Bool)
-    (answers : List Bound) (fit : FitBounds a bounds) (rows : All (Holds y) a.problem.rows)
-    (hold : KeptHold a.problem a.lines s y) (below : IsBelow (problem_costs a.problem x) (problem_costs a.problem y))
+    (answers : List Bound) (fit : FitBounds a bounds) (most : AreWithinReforms a s bounds y)
+    (below : IsBelow (problem_costs a.problem x) (problem_costs a.problem y))
     (count : length answers ≡ length a.problem.costs)
     (asked : AreAsked (reforms_of bounds) (problem_costs a.problem x) answers) where
   no_row : CostRowValue
@@ -110,6 +145,15 @@ module _ (a : Snapshot) (s : StateValue) (reached : IsReached a s) (bounds : Lis
         ∙ sym (ap (λ (q : ObjectiveBound). q.reform) o.1) in
         subst (IsReformOf a.problem a.lines s (row i)) (sym same) (at.reform s reached)
 
+    reform_there : Contains (reforms_of bounds) (reform i)
+    reform_there =
+        let sizes = length-map bounds (λ (o : ObjectiveBound). o.reform) in
+        let zip = AllZip-long (BoundsRow a) a.problem.costs bounds fit.rows in
+        Contains-get_or (reforms_of bounds) i no_reform (omega arith)
+
+    reform_most : row_cost y (row i) ≤ℤ ((reform i).offset +ℤ pos (value y (reform i).terms))
+    reform_most = most (row i) (reform i) reform_there reform_here
+
     -- the model costs no more than the assignment
     cost_most : row_cost x (row i) ≤ℤ row_cost y (row i)
     cost_most =
@@ -125,11 +169,10 @@ module _ (a : Snapshot) (s : StateValue) (reached : IsReached a s) (bounds : Lis
 
   pub all_possible : AllPossible answers
   all_possible i b short never =
-      let r = reform_here i short in
       let high : greatest_of (reform i) <ℤ row_cost x (row i) =
       subst (λ (c : Bound). IsAnswerFor (reform i) (row_cost x (row i)) c) never (answer_here i short b) in
       too_high (row_cost x (row i)) (row_cost y (row i)) (pos 0) (reform i).offset (value y (reform i).terms)
-      (total (reform i).terms) high (cost_most i short) (r.upper y rows hold) (value_most y (reform i).terms)
+      (total (reform i).terms) high (cost_most i short) (reform_most i short) (value_most y (reform i).terms)
 
   -- a literal is true, and that of a reform's term; or it is positive, and of a variable in no term
   IsKnown : Literal → Type 0
@@ -143,21 +186,18 @@ module _ (a : Snapshot) (s : StateValue) (reached : IsReached a s) (bounds : Lis
       let at = literal_place answers l has in
       let i = at.0 in
       let short = at.1 in
-      let r = reform_here i short in
       let is : IsAnswerFor (reform i) (row_cost x (row i)) (At l at.2) =
       subst (λ (c : Bound). IsAnswerFor (reform i) (row_cost x (row i)) c) at.3 (answer_here i short Never) in
       let of : HasLiteral (reforms_of bounds) (reform i) (At l at.2) =
       subst (HasLiteral (reforms_of bounds) (reform i)) at.3 (literal_here i short Never) in
-      let sizes = length-map bounds (λ (o : ObjectiveBound). o.reform) in
-      let zip = AllZip-long (BoundsRow a) a.problem.costs bounds fit.rows in
       ⊎_elim
       (λ (leaf : (weight : ℕ) × ((reform i).terms ≡ (l, weight) ∷ [])).
       let some = some_weight (row_cost x (row i)) (row_cost y (row i)) (reform i).offset (value y (reform i).terms) is.0
-      (cost_most i short) (r.upper y rows hold) in
+      (cost_most i short) (reform_most i short) in
       inl (
         term_true y (l, leaf.0) (subst (λ (ts : List (Literal × ℕ)). 0 < value y ts) leaf.1 some),
         reform i,
-        Contains-get_or (reforms_of bounds) i no_reform (omega arith),
+        reform_there i short,
         leaf.0,
         leaf.1,
       ))

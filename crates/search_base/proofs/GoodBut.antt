@@ -20,24 +20,12 @@ use Rattle.search_base.specs.Pending.{AddingStaysGoodBut, AllIsNewBut, AskingSta
 use Rattle.search_base.specs.declared.objective_bound.ObjectiveBound.{ObjectiveBound}
 use Rattle.search_base.proofs.BoundRows.{bounds_later}
 use Rattle.search_base.proofs.GoodStates.{board_after, earned_on, kept_back, within_on}
+use Rattle.search_base.proofs.LoggedStates.{good_but_none}
 use Rattle.search_base.proofs.LoggedVectors.{search_logs_none, totalizer_logs_none}
 use Rattle.search_base.proofs.TurnLines.{own_law, search_lines, totalizer_lines}
 use Rattle.search_base.proofs.TurnStates.{ready_after}
 
 -- ---- but for none
-
-but_none : (a : Snapshot) (bounds : List ObjectiveBound) (front : BoardValue) → IsGood a bounds front →
-    IsGoodBut a bounds front []
-but_none a bounds front good = record {
-  ready = good.ready;
-  problem = good.problem;
-  board = good.board;
-  bounds = good.bounds;
-  earned = good.earned;
-  within = good.within;
-  models = All-nil (IsPending front);
-  new = λ s reached x rows hold covered. absurd (good.new s reached x rows hold covered);
-}
 
 good_with : (a : Snapshot) (bounds : List ObjectiveBound) (front : BoardValue) (pending : List (List Bool)) →
     IsGoodBut a bounds front pending → ((s : StateValue) → IsReached a s → (x : List Bool) →
@@ -59,7 +47,7 @@ good_again a bounds front but = good_with a bounds front [] but
     (λ s reached x rows hold covered. let some = but.new s reached x rows hold covered in Contains-nil some.0 some.1)
 
 pub none_law : GoodButForNone
-none_law = record { good = but_none; again = good_again }
+none_law = record { good = good_but_none; again = good_again }
 
 -- ---- lines that log nothing
 

@@ -35,5 +35,6 @@ pub mod LoggedStates
 pub mod Takable
 pub mod Taking
 pub mod PendingModels
+pub mod SettledStates
 pub mod AddedLines
 pub mod GoodBut

@@ -46,11 +46,11 @@ LeftAfter p lines P = (s : StateValue) → IsReplay p lines s → (x : List Bool
     KeptHold p lines s x → IsCovered p lines (problem_costs p x) → P x
 
 module _ (p : ProblemValue) (lines : List Line) (s : StateValue) (x : List Bool) (cut : List Literal) (ids : List ℕ) where
-  abbrev line : Line
+  abbrev pub line : Line
   line = Sol (literals_at 1 x) cut ids
 
   -- the costs of the model are logged
-  logs_costs : Logs p lines (lines ++ line ∷ []) (problem_costs p x)
+  pub logs_costs : Logs p lines (lines ++ line ∷ []) (problem_costs p x)
   logs_costs = logged_append p lines (line ∷ [])
       ∙ ap (λ (a : List Bool). logged p lines ++ problem_costs p a ∷ []) (assignment_again 1 x)
 
@@ -58,7 +58,7 @@ module _ (p : ProblemValue) (lines : List Line) (s : StateValue) (x : List Bool)
     made_of : (t : StateValue) → IsReplay p (lines ++ line ∷ []) t → IsNext p s line t
     made_of t after = replay_before p lines line s t reached after
 
-    kept_before : (t : StateValue) (y : List Bool) → IsReplay p (lines ++ line ∷ []) t →
+    pub kept_before : (t : StateValue) (y : List Bool) → IsReplay p (lines ++ line ∷ []) t →
         KeptHold p (lines ++ line ∷ []) t y → KeptHold p lines s y
     kept_before t y after hold id c kept =
         let later : IsLater p lines s (lines ++ line ∷ []) t =
@@ -66,7 +66,7 @@ module _ (p : ProblemValue) (lines : List Line) (s : StateValue) (x : List Bool)
         let own = later.own id c (kept.0, kept.2) in
         hold id c (own.0, kept.1, own.1)
 
-    clause_holds : (t : StateValue) (y : List Bool) → IsReplay p (lines ++ line ∷ []) t →
+    pub clause_holds : (t : StateValue) (y : List Bool) → IsReplay p (lines ++ line ∷ []) t →
         KeptHold p (lines ++ line ∷ []) t y → Holds y (clause cut)
     clause_holds t y after hold =
         let makes = (made_of t after).makes in
@@ -138,7 +138,7 @@ module _ (a b : Snapshot) (x : List Bool) (cut : List Literal) (ids : List ℕ) 
       (left_still a.problem a.lines logs.before x cut ids logs.stood P left above))
 
   -- such a state comes after it, but for models of which what is left and isn't new has one below it
-  but_after : OwnLinesStay → FittingStays → ReformStays → (bounds : List ObjectiveBound) (old new : BoardValue)
+  pub but_after : OwnLinesStay → FittingStays → ReformStays → (bounds : List ObjectiveBound) (old new : BoardValue)
       (pending now : List (List Bool)) → IsGoodBut a bounds old pending → GoesOn a b →
       IsPut old new (problem_costs a.problem x) x →
       IsModelPair old.instance (record { costs = problem_costs a.problem x; model = take old.instance.vars x }) →
@@ -194,7 +194,7 @@ module _ (a b : Snapshot) (x : List Bool) (cut : List Literal) (ids : List ℕ) 
 -- ---- a good state
 
 module _ (a b : Snapshot) (x : List Bool) (answers : List Bound) (logs : LogsModel a b x answers) where
-  abbrev by_cut : LogsByCut a b x logs.is.cut (map answered_line answers)
+  abbrev pub by_cut : LogsByCut a b x logs.is.cut (map answered_line answers)
   by_cut = record {
     before = logs.before;
     stood = logs.stood;

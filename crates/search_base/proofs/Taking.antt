@@ -23,7 +23,7 @@ use Rattle.search_base.specs.Good.{GoesOn, IsGood}
 use Rattle.search_base.specs.Laws.{BoundingStaysGood}
 use Rattle.search_base.specs.Turns.{IsTakable, IsTaken}
 use Rattle.search_base.specs.declared.objective_bound.ObjectiveBound.{ObjectiveBound}
-use Rattle.search_base.proofs.AlikeAnswers.{all_alike, all_possible}
+use Rattle.search_base.proofs.AlikeAnswers.{AreWithinReforms, all_alike, all_possible, within_kept}
 use Rattle.search_base.proofs.Answered.{named_answers_at, named_literals}
 use Rattle.search_base.proofs.Covering.{falls}
 use Rattle.search_base.proofs.LoggedStates.{good_after, logs_model}
@@ -84,7 +84,27 @@ pub tight_below : (i : InstanceValue) (p : ProblemValue) (y x : List Bool) → I
 tight_below i p y x tight =
     subst (λ (v : List ℤ). IsBelow (problem_costs p x) v) (costs_kept p y tight.problem) tight.below
 
--- What is named covers the costs, and none of its literals are opposite: the taken assignment makes them true.
+-- What is named covers the costs, and none of its literals are opposite: an assignment makes them true, at which no row
+-- costs more than its reform.
+pub named_within : (a m : Snapshot) (s : StateValue) (before : List ObjectiveBound) (y x : List Bool)
+    (answers named : List Bound) → IsReached a s → AreWithinReforms a s before y → FitBounds a before →
+    IsBelow (problem_costs a.problem x) (problem_costs a.problem y) → WasAsked a m before x answers named →
+    AreAnswersAt m.problem m.lines x named × AreAlike (answered_literals named)
+named_within a m s before y x answers named reached most fit below was =
+    let answered = was.answered in
+    let sizes = length-map a.problem.costs (row_cost x) in
+    let count : length answers ≡ length a.problem.costs = answered.count ∙ sizes in
+    let on = was.on in
+    let same : m.problem ≡ a.problem = on.problem in (
+      named_answers_at m.problem m.lines x answers named
+          (all_possible a s reached before x y answers fit most below count was.asked)
+          (subst (λ (q : ProblemValue). AreAnswers m.problem m.lines (problem_costs q x) answers) (sym same) was.answered)
+          (subst (λ (q : ProblemValue). AreNamed q (problem_costs q x) answers named) (sym same) was.lines),
+      subst AreAlike (sym (named_literals a.problem (problem_costs a.problem x) answers named was.lines))
+          (all_alike a s reached before x y answers fit most below count was.asked),
+    )
+
+-- the taken assignment is one
 pub named_serve : (a m : Snapshot) (s : StateValue) (before : List ObjectiveBound) (y x : List Bool)
     (answers named : List Bound) → IsReached a s → IsTakable a y → FitBounds a before →
     IsBelow (problem_costs a.problem x) (problem_costs a.problem y) → WasAsked a m before x answers named →
@@ -92,18 +112,7 @@ pub named_serve : (a m : Snapshot) (s : StateValue) (before : List ObjectiveBoun
 named_serve a m s before y x answers named reached takable fit below was =
     let is = takable s reached in
     let hold : KeptHold a.problem a.lines s y = λ id c kept. is.clauses id c kept.0 kept.1 in
-    let answered = was.answered in
-    let sizes = length-map a.problem.costs (row_cost x) in
-    let count : length answers ≡ length a.problem.costs = answered.count ∙ sizes in
-    let on = was.on in
-    let same : m.problem ≡ a.problem = on.problem in (
-      named_answers_at m.problem m.lines x answers named
-          (all_possible a s reached before x y answers fit is.rows hold below count was.asked)
-          (subst (λ (q : ProblemValue). AreAnswers m.problem m.lines (problem_costs q x) answers) (sym same) was.answered)
-          (subst (λ (q : ProblemValue). AreNamed q (problem_costs q x) answers named) (sym same) was.lines),
-      subst AreAlike (sym (named_literals a.problem (problem_costs a.problem x) answers named was.lines))
-          (all_alike a s reached before x y answers fit is.rows hold below count was.asked),
-    )
+    named_within a m s before y x answers named reached (within_kept a s before y is.rows hold) fit below was
 
 pub tightened_of : (i j : InstanceValue) (p q : ProblemValue) (y x : List Bool) → i ≡ j → p ≡ q →
     IsTightened i p y x → IsTightened j q y x

@@ -26,6 +26,7 @@ pub(crate) fn answers_at<R: Recorder>(
     ensures fits { OnOk result (FitBounds (R.seen rec.new) bounds.new) }
     ensures answers { IfOk result
         (AreAnswers (R.seen rec.new).problem (R.seen rec.new).lines costs.now) }
+    ensures reforms { reforms_of bounds.new ≡ reforms_of bounds.old }
     ensures asked { IfOk result (AreAsked (reforms_of bounds.old) costs.now) }
 {
     own_lines_stay();

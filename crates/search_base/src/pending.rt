@@ -9,6 +9,7 @@ ghost use Rattle.search_base.specs.Pending.{AreOwnTerms, IsGoodBut, MayNotLog, T
 
 use crate::asking::answers_at;
 use crate::costs::costs_at;
+use crate::laws::adding_stays_good_but;
 use crate::logging::{log_by_cut, log_model};
 use crate::naming::named_answers;
 use crate::{Board, Bounds};
@@ -106,6 +107,7 @@ impl<'a> Board<'a> {
         own_lines_stay();
         fitting_stays();
         reform_stays();
+        adding_stays_good_but();
         let costs = in_memory(costs_at(self.alloc, self.problem, model))?;
         let answers = answers_at(self.alloc, rec, bounds, &costs)?;
         let named = in_memory(named_answers(self.alloc, self.problem, &costs, answers.as_slice()))?;
