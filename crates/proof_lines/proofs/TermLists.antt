@@ -2,7 +2,7 @@
 use Rattle.std.proofs.Common.{◌≡◌, ℕ, suc, ◌+◌, ◌<◌, ◌≤◌, ◌^◌, List, [], ◌∷◌, ◌++◌, length, get_or, Err, refl, sym, ap, subst, ◌∙◌, arith}
 use Rattle.std.specs.List.{All, AllPairs, flat_map}
 use Rattle.std.specs.Fmt.{decimal}
-use Rattle.std.proofs.lemmas.List.{append-nil, append_assoc}
+use Rattle.std.proofs.lemmas.List.{append-nil, append_assoc, length_push}
 use Rattle.std.proofs.lemmas.List.Elements.{All-nil, All-cons, All-head, All-tail, All-push, All-get_or}
 use Rattle.std.proofs.lemmas.List.Sums.{sum_by-append}
 use Rattle.std.proofs.lemmas.List.Quantifiers.{all_pairs_push}
@@ -15,10 +15,11 @@ use Rattle.proof_laws.specs.WellFormed.{IsVariable, IsConstraint}
 use Rattle.proof_lines.specs.LineText.{literal_word, constraint_words}
 use Rattle.proof_lines.specs.declared.reader.LineFault.{LineFault}
 use Rattle.proof_lines.specs.declared.reader.LineFault.TheVariants.{Syntax, NoMemory}
-use Rattle.proof_lines.specs.Reading.{BeginsWith, IsTerm, AreTerms, MayFollow, Reads, ReadsTerms, term_words}
+use Rattle.proof_lines.specs.Reading.{BeginsWith, IsTerm, AreTerms, MayFollow, Reads, ReadsTerms, last_variable, term_words}
 use Rattle.proof_lines.proofs.Numbers.{one_number}
 use Rattle.proof_lines.proofs.Codes.{AnyFollows, no_decimal, one_literal}
-use Rattle.proof_lines.proofs.Items.{IsCode, ItemsSoFar, Words, other_items, All-back, no_item_here, one_list}
+use Rattle.proof_lines.proofs.WordParts.{any_ended}
+use Rattle.proof_lines.proofs.Items.{IsCode, ItemsSoFar, Words, other_items, All-back, no_item_here, one_item_more, one_list}
 
 -- ---- literals with the coefficient 1
 
@@ -46,12 +47,6 @@ ones_small lits others terms degree is none normal =
     omega arith
 
 -- ---- how terms rise
-
--- the variable of the last term, and 0 where there is none
-abbrev pub last_variable : List (Literal × ℕ) → ℕ
-last_variable [] = 0
-last_variable (t ∷ []) = t.0.var
-last_variable (t ∷ u ∷ terms) = last_variable (u ∷ terms)
 
 -- what the loop over terms keeps of them
 pub record IsSum (terms : List (Literal × ℕ)) (last sum : ℕ) : Type 0 where
@@ -112,6 +107,20 @@ pub sum_pushed : (terms pushed : List (Literal × ℕ)) (last sum var : ℕ) (t 
 sum_pushed terms pushed last sum var t is var_is so_far valid follows =
     subst (λ ts. IsSum ts var (sum + t.1)) (sym is) (subst (λ v. IsSum (terms ++ t ∷ []) v (sum + t.1)) (sym var_is) (sum_more terms last sum t so_far valid follows))
 
+ones_push : (lits : List Literal) (l : Literal) → ones (lits ++ l ∷ []) ≡ ones lits ++ (l, 1) ∷ []
+ones_push [] l = refl
+ones_push (m ∷ lits) l = ap (λ ts. (m, 1) ∷ ts) (ones_push lits l)
+
+-- one literal more
+pub unit_more : (old here new : Words) (lits pushed : List Literal) (l : Literal) (last var : ℕ) → pushed ≡ lits ++ l ∷ [] → var ≡ l.var → length lits < 2 ^ 64 → IsVariable l.var → last < l.var → here ≡ term_words (l, 1) ++ new → ItemsSoFar term_words IsTerm AnyFollows old here (ones lits) × IsSum (ones lits) last (length lits) → ItemsSoFar term_words IsTerm AnyFollows old new (ones pushed) × IsSum (ones pushed) var (length pushed)
+unit_more old here new lits pushed l last var is var_is few variable above spelled so_far =
+    let valid : IsTerm (l, 1) = (variable, omega arith) in
+    let more : ones pushed ≡ ones lits ++ (l, 1) ∷ [] = ap ones is ∙ ones_push lits l in
+    let count : length pushed ≡ length lits + 1 = ap length is ∙ length_push lits l in (
+      subst (ItemsSoFar term_words IsTerm AnyFollows old new) (sym more) (one_item_more term_words IsTerm AnyFollows old here new (ones lits) (l, 1) so_far.0 valid spelled tt),
+      subst (λ n. IsSum (ones pushed) var n) (sym count) (sum_pushed (ones lits) (ones pushed) last (length lits) var (l, 1) more var_is so_far.1 valid (omega arith, above, omega arith)),
+    )
+
 rising_after : (terms : List (Literal × ℕ)) (t : Literal × ℕ) (more : List (Literal × ℕ)) → AllPairs (λ x y. x.0.var < y.0.var) (terms ++ t ∷ more) → 0 < t.0.var → last_variable terms < t.0.var
 rising_after [] t more rising some = some
 rising_after (u ∷ []) t more rising some = All-head (λ r. u.0.var < r.0.var) t more (rising_head u (t ∷ more) rising)
@@ -147,6 +156,13 @@ pub terms_valid : (terms : List (Literal × ℕ)) → AreTerms terms → All IsT
 terms_valid terms all =
     let small : total terms + 0 ≤ 2 ^ 100 = all.normal.small in
     both terms all.variables (coefficient_fits terms (omega arith))
+
+-- what the loop over terms begins with
+pub units_begin : (old new : Words) (lits : List Literal) (terms : List (Literal × ℕ)) (last sum : ℕ) → terms ≡ ones lits → sum ≡ length lits → AreTerms (ones lits) × (last ≡ last_variable (ones lits)) × (old ≡ flat_map term_words (ones lits) ++ new) → ItemsSoFar term_words IsTerm AnyFollows old new terms × IsSum terms last sum
+units_begin old new lits terms last sum is count read =
+    let so_far : ItemsSoFar term_words IsTerm AnyFollows old new (ones lits) = record { is = read.2; valid = terms_valid (ones lits) read.0; ended = any_ended (ones lits) new } in
+    let sums : IsSum (ones lits) last sum = record { formed = read.0; last_is = read.1; sum_is = count ∙ sym (length_ones lits) ∙ sym (total_ones (ones lits) (AreOnes-ones lits)) } in
+    (subst (ItemsSoFar term_words IsTerm AnyFollows old new) (sym is) so_far, subst (λ (ts : List (Literal × ℕ)). IsSum ts last sum) (sym is) sums)
 
 same_term : (t u : Literal × ℕ) → t.0 ≡ u.0 → t.1 ≡ u.1 → t ≡ u
 same_term t u lit coefficient =

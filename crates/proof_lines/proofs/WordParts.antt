@@ -4,7 +4,7 @@ use Rattle.std.specs.List.{All, flat_map}
 use Rattle.scut_base.proofs.Lists.{head_same, tail_same}
 use Rattle.proof_lines.specs.declared.reader.LineFault.TheVariants.{Syntax}
 use Rattle.proof_lines.specs.Reading.{EndsPart, IsValueOf, ReadsPart, Takes}
-use Rattle.proof_lines.proofs.Items.{IsCode, ItemsSoFar, Words, one_item_more, no_item_here, one_list}
+use Rattle.proof_lines.proofs.Items.{Ended, IsCode, ItemsSoFar, Words, one_item_more, no_item_here, one_list}
 use Rattle.proof_lines.proofs.Codes.{IsWordCode, AnyFollows, one_word}
 
 pub words_map : {X : Type 0} (word : X → List ℕ) (xs : List X) → flat_map (one_word word) xs ≡ map word xs
@@ -22,6 +22,23 @@ part_code word IsValid code = record {
 -- the items so far, and what follows them
 abbrev pub WordsSoFar : {X : Type 0} → (X → List ℕ) → (X → Type 0) → Words → Words → List X → Type 0
 WordsSoFar word IsValid old new items = ItemsSoFar (one_word word) IsValid AnyFollows old new items
+
+-- anything may follow items of which each may be followed by anything
+pub any_ended : {X : Type 0} (xs : List X) (r : Words) → Ended AnyFollows xs r
+any_ended [] r = tt
+any_ended (x ∷ []) r = tt
+any_ended (x ∷ y ∷ xs) r = any_ended (y ∷ xs) r
+
+-- items that were read at once, and their words
+pub words_read : {X : Type 0} (word : X → List ℕ) (IsValid : X → Type 0) (old new : Words) (items : List X) → All IsValid items × (old ≡ map word items ++ new) → WordsSoFar word IsValid old new items
+words_read word IsValid old new items read = record {
+  is = read.1 ∙ ap (λ ws. ws ++ new) (sym (words_map word items));
+  valid = read.0;
+  ended = any_ended items new;
+}
+
+pub words_taken : {X : Type 0} (word : X → List ℕ) (IsValid : X → Type 0) (old new : Words) (items : List X) → WordsSoFar word IsValid old new items → All IsValid items × (old ≡ map word items ++ new)
+words_taken word IsValid old new items so_far = (so_far.valid, so_far.is ∙ ap (λ ws. ws ++ new) (words_map word items))
 
 pub one_word_more : {X : Type 0} (word : X → List ℕ) (IsValid : X → Type 0) (old here new : Words) (items more : List X) (x : X) (next : List ℕ) → WordsSoFar word IsValid old here items → here ≡ next ∷ new → IsValueOf word IsValid next (Some x) → more ≡ items ++ x ∷ [] → WordsSoFar word IsValid old new more
 one_word_more word IsValid old here new items more x next so_far follows value is =

@@ -113,6 +113,12 @@ AreTerms terms = IsConstraint (record { terms = terms; degree = 0 })
 abbrev pub MayFollow : ℕ → ℕ → Literal × ℕ → Type 0
 MayFollow last sum t = (0 < t.1) × (last < t.0.var) × (sum + t.1 ≤ 2 ^ 100)
 
+-- the variable of the last term, and 0 where there is none
+abbrev pub last_variable : List (Literal × ℕ) → ℕ
+last_variable [] = 0
+last_variable (t ∷ []) = t.0.var
+last_variable (t ∷ u ∷ terms) = last_variable (u ∷ terms)
+
 -- terms up to and with `>=`, and the sum of their coefficients
 abbrev pub ReadsTerms : List (List ℕ) → List (List ℕ) → Result (List (Literal × ℕ) × ℕ) LineFault → Type 0
 ReadsTerms old new (Ok p) = AreTerms p.0 × (p.1 ≡ total p.0) × (old ≡ flat_map term_words p.0 ++ codes ">=" ∷ new)

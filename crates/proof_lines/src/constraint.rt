@@ -31,16 +31,10 @@ pub(crate) fn read_constraint(alloc: Global, words: &mut Words<'_>) -> Result<Co
 fn read_terms(alloc: Global, words: &mut Words<'_>) -> Result<(Terms, u128), LineFault>
     ensures { ReadsTerms words.old words.new result }
 {
-    let mut terms = Terms::new(alloc)?;
-    let mut last = 0;
-    let mut sum = 0;
+    let (units, mut last) = words.short_units(alloc)?;
+    let mut sum = units.len() as u128;
+    let mut terms = Terms::of_units(alloc, units);
     while !words.is_at_end() {
-        if let Some(lit) = next_unit(words, last, sum) {
-            terms.push((lit, 1))?;
-            last = lit.var();
-            sum += 1;
-            continue;
-        }
         let Some(word) = words.next() else {
             return Err(LineFault::Syntax);
         };
@@ -58,19 +52,6 @@ fn read_terms(alloc: Global, words: &mut Words<'_>) -> Result<(Terms, u128), Lin
         sum += term.1;
     }
     Err(LineFault::Syntax)
-}
-
-// Takes the next term where its coefficient is 1 and it may come after the others, of which these are told; else maybe
-// nothing. Most terms of a log are such.
-fn next_unit(words: &mut Words<'_>, last: u64, sum: u128) -> Option<Lit>
-    requires { sum ≤ 2 ^ 100 }
-    ensures { MatchOption result (words.new ≡ words.old) (λ l. IsTerm (l, 1)
-        × MayFollow last sum (l, 1) × (words.old ≡ term_words (l, 1) ++ words.new)) }
-{
-    if sum == SIZE_LIMIT {
-        return None;
-    }
-    words.short_unit(last)
 }
 
 // The term that this word and the next spell.

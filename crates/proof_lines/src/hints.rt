@@ -1,5 +1,5 @@
 // Hints of a line.
-ghost use Rattle.std.specs.Prelude.{◌∷◌, [], map, All};
+ghost use Rattle.std.specs.Prelude.{◌≡◌, ◌∷◌, ◌++◌, [], map, All, IfOk};
 ghost use Rattle.proof_laws.specs.WellFormed.{IsHint};
 ghost use Rattle.proof_lines.specs.Ids.{IsSpelling};
 ghost use Rattle.proof_lines.specs.LineText.{hint_word};
@@ -9,7 +9,7 @@ use crate::ids::id_of;
 use crate::words::Words;
 use crate::{LineFault, Spelling};
 use hint_rup::Hint;
-use scut_base::Items;
+use scut_base::{Items, NoMemory};
 use std::alloc::Global;
 
 /// Takes hints up to the end of a part. One pass; takes memory for the hints.
@@ -21,7 +21,7 @@ pub(crate) fn read_hints(
     requires { IsSpelling spelling }
     ensures { ReadsPart (map (hint_word spelling)) (All IsHint) words.old words.new result }
 {
-    let mut hints = Items::with_capacity(alloc, words.room())?;
+    let mut hints = first_hints(alloc, spelling, words)?;
     while !words.ends_part() {
         match take_hint(spelling, words) {
             Some(hint) => hints.push(hint)?,
@@ -29,6 +29,21 @@ pub(crate) fn read_hints(
         }
     }
     Ok(hints)
+}
+
+// Takes hints that are ids of few digits where no id is counted back, and else none: the others follow. Most are such.
+fn first_hints(
+    alloc: Global,
+    spelling: Spelling,
+    words: &mut Words<'_>,
+) -> Result<Items<Hint>, NoMemory>
+    ensures { IfOk result (λ hints. All IsHint hints
+        × (words.old ≡ map (hint_word spelling) hints ++ words.new)) }
+{
+    match spelling {
+        Spelling::Plain => words.plain_hints(alloc),
+        Spelling::Relative { .. } => Items::with_capacity(alloc, words.room()),
+    }
 }
 
 // Takes the hint that the next word spells.

@@ -1,6 +1,6 @@
 // Numbers, ids and literals that are the first word of a text, in one pass over that word. Those of
 // more than 18 digits are left to the readers of whole words, and so is what is none of these.
-ghost use Rattle.std.specs.Prelude.{◌≡◌, ◌<◌, ◌≤◌, ◌^◌, ◌∷◌, ◌++◌, IfSome};
+ghost use Rattle.std.specs.Prelude.{◌≡◌, ◌<◌, ◌≤◌, ◌^◌, ◌∷◌, ◌++◌, IfSome, MatchBool};
 ghost use Rattle.std.specs.Option.{option_copied};
 ghost use Rattle.std.specs.Fmt.{decimal};
 ghost use Rattle.proof_laws.specs.WellFormed.{IsId, IsVariable};
@@ -52,15 +52,18 @@ pub(crate) fn cut_literal(text: &[u8]) -> Option<(Lit, Option<&[u8]>)>
     ensures { IfSome result (λ cut. IsVariable cut.0.var
         × (words_of text.now ≡ literal_word cut.0 ∷ words_left (option_copied cut.1))) }
 {
+    let (negated, variable) = after_tilde(text);
+    let (var, rest) = cut_variable(variable)?;
+    Some((Lit::new(var, negated), rest))
+}
+
+// Whether a text begins with `~`, and what follows that, or else the text.
+fn after_tilde(text: &[u8]) -> (bool, &[u8])
+    ensures { MatchBool result.0 (text.now ≡ 126 ∷ result.1.now) (text.now ≡ result.1.now) }
+{
     match text {
-        [b'~', positive @ ..] => {
-            let (var, rest) = cut_variable(positive)?;
-            Some((Lit::new(var, true), rest))
-        }
-        _ => {
-            let (var, rest) = cut_variable(text)?;
-            Some((Lit::new(var, false), rest))
-        }
+        [b'~', rest @ ..] => (true, rest),
+        _ => (false, text),
     }
 }
 
@@ -90,8 +93,8 @@ fn cut_variable(text: &[u8]) -> Option<(u64, Option<&[u8]>)>
     Some((var, rest))
 }
 
-// The number, and what follows the space after it.
-fn cut_number(text: &[u8]) -> Option<(u64, Option<&[u8]>)>
+/// The number, and what follows the space after it.
+pub(crate) fn cut_number(text: &[u8]) -> Option<(u64, Option<&[u8]>)>
     ensures { IfSome result (λ cut. (cut.0 < 10 ^ 18)
         × (words_of text.now ≡ decimal cut.0 ∷ words_left (option_copied cut.1))) }
 {

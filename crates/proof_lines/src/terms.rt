@@ -7,9 +7,6 @@ use scut_base::{Items, Lit, NoMemory};
 use std::alloc::Global;
 use std::marker::Model;
 
-// How many literals have room before their list grows.
-const ROOM: usize = 16;
-
 /// Terms in order. Contracts see it as their list. Takes 8 bytes a term while all coefficients are
 /// 1, as in a clause.
 #[derive(Drop)]
@@ -31,14 +28,14 @@ impl Model for Terms {
 }
 
 impl Terms {
-    /// No terms, with room for some that are literals.
-    pub(crate) fn new(alloc: Global) -> Result<Terms, NoMemory>
-        ensures { IfOk result (λ terms. terms ≡ []) }
+    /// The terms of these literals, with the coefficient 1 each.
+    pub(crate) fn of_units(alloc: Global, lits: Items<Lit>) -> Terms
+        ensures { result ≡ ones lits }
     {
-        Ok(Terms {
-            lits: Items::with_capacity(alloc, ROOM)?,
+        Terms {
+            lits,
             others: Items::new(alloc),
-        })
+        }
     }
 
     /// Puts a term at the end, in constant time on average.

@@ -1,18 +1,22 @@
 // The words of a text, from left to right.
-ghost use Rattle.std.specs.Prelude.{◌≡◌, ◌≢◌, ◌≤◌, ◌↔◌, [], ◌∷◌, ◌++◌, ◌<◌, length, codes};
-ghost use Rattle.std.specs.Prelude.{IsTrue, MatchOption};
-ghost use Rattle.std.specs.List.{position_or_len};
+ghost use Rattle.std.specs.Prelude.{◌≡◌, ◌≢◌, ◌≤◌, ◌↔◌, [], ◌∷◌, ◌++◌, length, codes};
+ghost use Rattle.std.specs.Prelude.{IfOk, IsTrue, MatchOption, map};
+ghost use Rattle.std.specs.List.{All, flat_map, position_or_len};
 ghost use Rattle.std.specs.Option.{option_copied};
 ghost use Rattle.scut_base.specs.Bytes.{space};
-ghost use Rattle.proof_laws.specs.WellFormed.{IsId, IsVariable};
+ghost use Rattle.pb_lin.specs.Constraint.{ones};
+ghost use Rattle.proof_laws.specs.WellFormed.{IsHint, IsId, IsVariable};
+ghost use Rattle.proof_lines.specs.declared.spelling.Spelling.TheVariants.{Plain};
 ghost use Rattle.proof_lines.specs.Ids.{IsSpelling, id_word};
-ghost use Rattle.proof_lines.specs.LineText.{literal_word};
-ghost use Rattle.proof_lines.specs.Reading.{BeginsWith, EndsPart, Skips, is_space};
+ghost use Rattle.proof_lines.specs.LineText.{hint_word, literal_word};
+ghost use Rattle.proof_lines.specs.Reading.{AreTerms, BeginsWith, EndsPart, Skips, is_space, last_variable};
 ghost use Rattle.proof_lines.specs.Reading.{term_words, words_left, words_of};
 
 use crate::Spelling;
-use crate::short::{cut_id, cut_literal, cut_unit};
-use scut_base::Lit;
+use crate::short::{cut_id, cut_literal, cut_number, cut_unit};
+use hint_rup::Hint;
+use scut_base::{Items, Lit, NoMemory};
+use std::alloc::Global;
 use std::marker::Model;
 
 // How many bytes a short word has, with its space.
@@ -20,6 +24,9 @@ const WORD_LEN: usize = 3;
 
 // A longer list grows.
 const MAX_ROOM: usize = 64;
+
+// How many literals of a constraint have room before their list grows.
+const UNITS_ROOM: usize = 16;
 
 /// The words of a text that were not taken yet, with one space between each two. Contracts see it
 /// as their list. Each call finds the next space, so no list is made.
@@ -115,20 +122,50 @@ impl<'a> Words<'a> {
         Some(lit)
     }
 
-    /// Takes the next term where its coefficient is 1, and its literal of few digits and of a variable above this one; else
-    /// nothing.
-    pub(crate) fn short_unit(&mut self, above: u64) -> Option<Lit>
-        ensures { MatchOption result (self.new ≡ self.old) (λ l. IsVariable l.var
-            × (above < l.var) × (self.old ≡ term_words (l, 1) ++ self.new)) }
+    /// Takes words while they are the digits of ids, few of them: their hints.
+    pub(crate) fn plain_hints(&mut self, alloc: Global) -> Result<Items<Hint>, NoMemory>
+        ensures { IfOk result (λ hints. All IsHint hints
+            × (self.old ≡ map (hint_word Plain) hints ++ self.new)) }
     {
-        let Some((lit, rest)) = cut_unit(self.rest?) else {
-            return None;
-        };
-        if lit.var() <= above {
-            return None;
+        let mut hints = Items::with_capacity(alloc, self.room())?;
+        // By itself, since it is kept in registers then.
+        let mut rest = self.rest;
+        while let Some(text) = rest {
+            let Some((id, left)) = cut_number(text) else {
+                break;
+            };
+            hints.push(Hint::Id(id))?;
+            rest = left;
         }
         self.rest = rest;
-        Some(lit)
+        Ok(hints)
+    }
+
+    /// Takes terms while their coefficient is 1, their literals have few digits and their variables rise:
+    /// these literals, and the last variable.
+    pub(crate) fn short_units(&mut self, alloc: Global) -> Result<(Items<Lit>, u64), NoMemory>
+        ensures { IfOk result (λ units. AreTerms (ones units.0)
+            × (units.1 ≡ last_variable (ones units.0))
+            × (self.old ≡ flat_map term_words (ones units.0) ++ self.new)) }
+    {
+        let mut lits = Items::with_capacity(alloc, UNITS_ROOM)?;
+        let mut last = 0;
+        let mut rest = self.rest;
+        while let Some(text) = rest {
+            let Some((lit, left)) = cut_unit(text) else {
+                break;
+            };
+            if lit.var() <= last {
+                break;
+            }
+            // Tells that their number is small.
+            let _len = lits.len();
+            lits.push(lit)?;
+            last = lit.var();
+            rest = left;
+        }
+        self.rest = rest;
+        Ok((lits, last))
     }
 
     /// Whether a part of a line ends here.
