@@ -3,9 +3,10 @@
 //!
 //! Its public contract: `Bounds::new` takes the objectives as reforms, of which `own_reforms` are the first;
 //! `Bounds::at_least` answers a literal that stands for "this objective's cost is at least a value";
-//! `Board::take` logs a model and puts it onto the board; a `Search` takes turns, and `run_search` goes on
-//! until a line says that nothing is left. All keep a good state good: the board has a
-//! model for each logged vector, and whatever is left is new. It knows no order of search.
+//! `Board::take` logs a model and puts it onto the board; a `Search` begins and takes turns, and `run_search`
+//! goes on until a line says that nothing is left. All keep a good state good: the board has a model for each
+//! logged vector, and whatever is left is new. `Board::take_by_cut` takes models by cuts of which nothing is
+//! known, and `Board::settle` makes the state good again after them. It knows no order of search.
 #![tactic(auto)]
 
 mod asking;
