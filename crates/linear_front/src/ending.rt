@@ -16,6 +16,7 @@ use scut_base::{Items, NoMemory};
 use search_base::{Bounds, adding_stays_good_but, asking_stays_good_but};
 use std::alloc::Global;
 use sum_outputs::{SumOutput, in_memory};
+use totalizer::{fitting_stays, own_lines_stay, reform_stays};
 
 // A kept line `0 >= 1`, where the oracle answers that nothing is left; `None` where it doesn't.
 pub(crate) fn end_line<O: Oracle>(alloc: Global, oracle: &mut O) -> Result<Option<u64>, OracleFault>
@@ -85,7 +86,7 @@ pub(crate) fn tie_bounds<R: Recorder>(
     requires fits { FitBounds (R.seen rec.old) bounds.old }
     ensures recorded { IsRecorded (R.seen rec.old) (R.seen rec.new) result }
     ensures fits { OnOk result (FitBounds (R.seen rec.new) bounds.new) }
-    ensures reforms { OnOk result (reforms_of bounds.new ≡ reforms_of bounds.old) }
+    ensures reforms { reforms_of bounds.new ≡ reforms_of bounds.old }
 {
     for (objective, row) in problem.costs().iter().enumerate() {
         let outputs = named.outputs(objective);
@@ -108,16 +109,39 @@ fn tie_objective<R: Recorder>(
     requires there { objective < length (R.seen rec.old).problem.costs }
     ensures recorded { IsRecorded (R.seen rec.old) (R.seen rec.new) result }
     ensures fits { OnOk result (FitBounds (R.seen rec.new) bounds.new) }
-    ensures reforms { OnOk result (reforms_of bounds.new ≡ reforms_of bounds.old) }
+    ensures reforms { reforms_of bounds.new ≡ reforms_of bounds.old }
 {
     for output in outputs {
         let Ok(value) = i64::try_from(i128::from(offset) + i128::from(output.sum)) else {
             continue;
         };
-        bounds.at_least(rec, objective, value)?;
-        if let Some(made) = bounds.made_for(objective, value) {
-            imply(alloc, rec, output, made)?;
-        }
+        tie_output(alloc, rec, bounds, objective, value, output)?;
     }
     Ok(())
+}
+
+// Ties one output, which stands for this value.
+fn tie_output<R: Recorder>(
+    alloc: Global,
+    rec: &mut R,
+    bounds: &mut Bounds,
+    objective: usize,
+    value: i64,
+    output: &SumOutput,
+) -> Result<(), RecordFault>
+    requires ready { IsReady (R.seen rec.old) }
+    requires fits { FitBounds (R.seen rec.old) bounds.old }
+    requires there { objective < length (R.seen rec.old).problem.costs }
+    ensures recorded { IsRecorded (R.seen rec.old) (R.seen rec.new) result }
+    ensures fits { OnOk result (FitBounds (R.seen rec.new) bounds.new) }
+    ensures reforms { reforms_of bounds.new ≡ reforms_of bounds.old }
+{
+    own_lines_stay();
+    fitting_stays();
+    reform_stays();
+    bounds.at_least(rec, objective, value)?;
+    match bounds.made_for(objective, value) {
+        Some(made) => imply(alloc, rec, output, made),
+        None => Ok(()),
+    }
 }

@@ -23,14 +23,10 @@ use Rattle.search_base.specs.Laws.{AskingStaysGood, BoundingStaysGood, TurnLines
 use Rattle.search_base.specs.Turns.{IsInOrder, IsSearchFault}
 use Rattle.search_base.specs.declared.objective_bound.ObjectiveBound.{ObjectiveBound}
 use Rattle.search_base.proofs.Turning.{goes_again, goes_twice, none_twice}
+use Rattle.linear_front.proofs.Calls.{ended, fault_after, fault_here, oracle_goes_on, refused}
 use Rattle.search_questions.specs.Telling.{IsGoodWithSome, SeeksOn, StaysGood}
 
 -- ---- before a call
-
-pub not_ended : (a : Snapshot) → IsReady a → Reaches a.problem a.lines (λ s. s.ended ≡ false)
-not_ended a ready s reached =
-    subst (λ (t : StateValue). t.ended ≡ false)
-    (replay_once a.problem a.lines ready.state s ready.reached reached) ready.unended
 
 abbrev AreCostRows : List CostRowValue → Type 0
 AreCostRows rows = All (λ r. IsCostRow r.terms r.offset) rows
@@ -105,24 +101,6 @@ bounds_go_on join a b on = record {
   lines = join.totalizer a b on;
 }
 
-pub oracle_goes_on : TurnLinesJoin → (a b : Snapshot) → KeepsRecorder a b → AddsSearchLines a.problem a.lines b.lines
-    → GoesOn a b
-oracle_goes_on join a b keeps lines = record {
-  problem = keeps.problem;
-  limit = keeps.limit;
-  later = keeps.later;
-  around = keeps.around;
-  lines = join.search a.problem a.lines b.lines lines;
-}
-
--- ---- faults
-
--- after a fault of recording not all may go on
-ended : (T : Type 0) (f : RecordFault) → IsInOrder {T = T} (Err (fault_of_recording f)) → ⊥
-ended T RecordingFailed order = order
-ended T RecordFull order = order
-ended T RecordNoMemory order = order
-
 -- ---- a call's result
 
 pub seeks_ok : {T : Type 0} (a b : Snapshot) (old new : List ObjectiveBound) (x : T) → StaysGood a b old new
@@ -139,11 +117,6 @@ pub seeks_bounds : {T : Type 0} → BoundingStaysGood → TurnLinesJoin → (a b
     (x : T) → Continues a b → b.broken ≡ false → FitBounds b new → SeeksOn {T = T} a b old new (Ok x)
 seeks_bounds law join a b old new x on whole fits =
     seeks_ok a b old new x (bounds_stay_good law a b old new on whole fits) (bounds_go_on join a b on)
-
-fault_here : (a b : Snapshot) (f : RecordFault) → IsFaultAt a b f → IsSearchFault a b (fault_of_recording f)
-fault_here a b RecordingFailed is = is
-fault_here a b RecordFull is = is.0
-fault_here a b RecordNoMemory is = tt
 
 -- a fault of recording, which `?` makes one of the oracle
 pub seeks_recording : {T : Type 0} (a b : Snapshot) (old new : List ObjectiveBound) (r : Result T OracleFault)
@@ -178,14 +151,6 @@ seeks_handed {T} {U} a b old new r f is call =
     subst (λ (q : Result T OracleFault). SeeksOn a b old new q) (sym (p.1 ∙ ap (λ (g : OracleFault). Err g) p.2))
     (record { good = λ order. call.good (order_same T U f order); fault = call.fault; goes_on = call.goes_on })
 
-fault_after : {T : Type 0} (a b c : Snapshot) (r : Result T OracleFault) → GoesOn a b → IfErr r (IsSearchFault b c)
-    → IfErr r (IsSearchFault a c)
-fault_after a b c (Ok x) on is = tt
-fault_after a b c (Err (Spent learned)) on is = is
-fault_after a b c (Err Failed) on is = let x = on.later in omega arith
-fault_after a b c (Err Full) on is = is
-fault_after a b c (Err NoMemory) on is = tt
-
 -- a call after others, whose answer is handed on
 pub seeks_after : {T : Type 0} (a b c : Snapshot) (old mid new : List ObjectiveBound) (r : Result T OracleFault)
     → StaysGood a b old mid → GoesOn a b → SeeksOn b c mid new r → SeeksOn a c old new r
@@ -212,17 +177,9 @@ seeks_refused {T} law join a b asked keeps lines within r f is earned why =
     subst (λ (q : Result T OracleFault). SeeksOn a b asked asked q) (sym (p.1 ∙ ap (λ (g : OracleFault). Err g) p.2))
     (record {
       good = spent law a b asked keeps lines within T f earned why;
-      fault = by f why;
+      fault = refused a b keeps f why;
       goes_on = oracle_goes_on join a b keeps lines;
     })
-  where
-    by : (g : OracleFault) → HasFault g a.limit a.problem b.lines (Rose a.faults b.faults) b.broken
-        → IsSearchFault a b g
-    by (Spent learned) is = subst (λ (q : ProblemValue). IsSpent b.limit q b.lines learned) (sym keeps.problem)
-        (subst (λ (n : Option ℕ). IsSpent n a.problem b.lines learned) (sym keeps.limit) is.0)
-    by Failed is = is.0
-    by Full is = is.0
-    by NoMemory is = tt
 
 -- the oracle was asked and answered; nothing but memory was wanting since
 pub seeks_answered : {T : Type 0} (law : AskingStaysGood) (join : TurnLinesJoin) (a b : Snapshot)

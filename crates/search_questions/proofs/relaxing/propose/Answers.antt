@@ -2,7 +2,8 @@
 use Rattle.std.proofs.Common.{None, Ok, Some, sym}
 use Rattle.oracle.specs.Solving.{IsAnswer}
 use Rattle.oracle.specs.declared.answer.Answer.TheVariants.{Sat}
-use Rattle.search_questions.proofs.Calls.{not_ended, oracle_goes_on, seeks_answered, seeks_memory, seeks_refused}
+use Rattle.linear_front.proofs.Calls.{not_ended, oracle_goes_on}
+use Rattle.search_questions.proofs.Calls.{seeks_answered, seeks_memory, seeks_refused}
 use Rattle.search_questions.proofs.Proposals.{as_long, long_model, model_within}
 use Rattle.search_questions.specs.declared.below.Below.TheVariants.{Model}
 use Rattle.search_questions.proofs.relaxing.propose.Goals as goal

@@ -3,7 +3,8 @@ use Rattle.std.proofs.Common.{Ok, []}
 use Rattle.oracle.specs.Solving.{IsAnswer}
 use Rattle.oracle.specs.declared.answer.Answer.TheVariants.{Unsat}
 use Rattle.search_questions.specs.declared.below.Below.TheVariants.{End, Model}
-use Rattle.search_questions.proofs.Calls.{not_ended, seeks_answered, seeks_refused}
+use Rattle.linear_front.proofs.Calls.{not_ended}
+use Rattle.search_questions.proofs.Calls.{seeks_answered, seeks_refused}
 use Rattle.search_questions.proofs.Told.{told_any}
 use Rattle.search_questions.proofs.seeking.seek_any.Goals as goal
 

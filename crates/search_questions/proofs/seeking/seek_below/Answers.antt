@@ -9,7 +9,8 @@ use Rattle.search_questions.specs.Questions.{IsAsked}
 use Rattle.search_questions.specs.Cores.{IsToldByCore}
 use Rattle.search_questions.specs.Telling.{Tells}
 use Rattle.search_questions.specs.declared.below.Below.TheVariants.{Above, Model}
-use Rattle.search_questions.proofs.Calls.{not_ended, good_rows, bounds_stay_good, bounds_go_on, seeks_answered, seeks_bounds, seeks_else, seeks_memory, seeks_recording, seeks_refused}
+use Rattle.linear_front.proofs.Calls.{not_ended}
+use Rattle.search_questions.proofs.Calls.{good_rows, bounds_stay_good, bounds_go_on, seeks_answered, seeks_bounds, seeks_else, seeks_memory, seeks_recording, seeks_refused}
 use Rattle.search_questions.proofs.Questions.{are_assumptions}
 use Rattle.search_questions.proofs.Told.{state_after, told_clash, told_model, told_core}
 use Rattle.search_questions.proofs.seeking.seek_below.Goals as goal
