@@ -223,7 +223,7 @@ fn told_of(
         return Ok(Told::Unknown);
     };
     let costs = costs_at(alloc, problem, &model)?;
-    if costs.weakly_dominates(limits) {
+    if costs.len() == limits.len() && costs.weakly_dominates(limits) {
         return Ok(Told::Model(model));
     }
     Ok(Told::Unknown)
