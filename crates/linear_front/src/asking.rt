@@ -79,7 +79,10 @@ impl<'a> Asking<'a> {
         ensures recorded { IsRecorded (R.seen rec.old) (R.seen rec.new) result }
         ensures told { IfOk result (IsTold problem.now) }
     {
-        match self.linear.ask(rec, question.lits.as_slice(), question.asked.as_slice())? {
+        match self
+            .linear
+            .ask(rec, question.lits.as_slice(), question.asked.as_slice())?
+        {
             Reply::Closed(_core) => Ok(Told::Closed),
             Reply::Model(model) => {
                 let told = in_memory(told_of(self.alloc, problem, limits, model.as_slice()))?;

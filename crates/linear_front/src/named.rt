@@ -157,7 +157,12 @@ impl Named {
     }
 
     // Puts an output at its place.
-    fn insert(&mut self, objective: usize, place: usize, output: SumOutput) -> Result<(), NoMemory> {
+    fn insert(
+        &mut self,
+        objective: usize,
+        place: usize,
+        output: SumOutput,
+    ) -> Result<(), NoMemory> {
         if let Some(outputs) = self.lists.get_mut(objective) {
             if place <= outputs.len() {
                 outputs.insert(place, output)?;
@@ -214,7 +219,11 @@ pub(crate) fn imply<R: Recorder>(
 
 // The tokens of that clause: the sum of the lower line of the one and the upper line of the other, whose degree is one
 // more than the difference of the sums.
-fn implying(alloc: Global, greater: &SumOutput, smaller: &SumOutput) -> Result<Items<PolToken>, NoMemory> {
+fn implying(
+    alloc: Global,
+    greater: &SumOutput,
+    smaller: &SumOutput,
+) -> Result<Items<PolToken>, NoMemory> {
     let mut tokens = Items::new(alloc);
     tokens.push(PolToken::Id(greater.lower))?;
     tokens.push(PolToken::Id(smaller.upper))?;
