@@ -12,7 +12,7 @@ use proof_rules::{RecordFault, Recorder};
 use scut_base::{Assignment, Items, Lit, NoMemory};
 use search_base::costs_at;
 use std::alloc::Global;
-use sum_outputs::in_memory;
+use sum_outputs::{SumOutput, in_memory};
 
 // What comes of a question.
 #[derive(Debug, Drop)]
@@ -64,9 +64,30 @@ impl<'a> Asking<'a> {
         let Some(question) = self.limits(rec, problem, limits)? else {
             return Ok(Told::Closed);
         };
-        match self.linear.ask(rec, question.lits.as_slice(), question.asked.as_slice())? {
+        self.answer(rec, problem, limits, &question)
+    }
+
+    // What comes of the question whether a model keeps to these limits.
+    fn answer<R: Recorder>(
+        &mut self,
+        rec: &mut R,
+        problem: &PbProblem,
+        limits: &CostVec,
+        question: &Limits,
+    ) -> Result<Told, RecordFault>
+        requires ready { IsReady (R.seen rec.old) }
+        ensures recorded { IsRecorded (R.seen rec.old) (R.seen rec.new) result }
+        ensures told { IfOk result (IsTold problem.now) }
+    {
+        match self
+            .linear
+            .ask(rec, question.lits.as_slice(), question.asked.as_slice())?
+        {
             Reply::Closed(_core) => Ok(Told::Closed),
-            Reply::Model(model) => told_of(self.alloc, problem, limits, model.as_slice()),
+            Reply::Model(model) => {
+                let told = in_memory(told_of(self.alloc, problem, limits, model.as_slice()))?;
+                Ok(told)
+            }
             Reply::Unknown => Ok(Told::Unknown),
         }
     }
@@ -82,24 +103,39 @@ impl<'a> Asking<'a> {
         requires problem { (R.seen rec.old).problem ≡ problem.now }
         ensures recorded { IsRecorded (R.seen rec.old) (R.seen rec.new) result }
     {
-        let mut lits = Items::new(self.alloc);
-        let mut asked = Items::new(self.alloc);
+        let mut question = Limits {
+            lits: Items::new(self.alloc),
+            asked: Items::new(self.alloc),
+        };
         for (objective, limit) in limits.as_slice().iter().enumerate() {
-            match self.excess(rec, problem, objective, *limit)? {
-                Standing::Always => return Ok(None),
-                Standing::Never => {}
-                Standing::Output(output) => {
-                    in_memory(lits.push(output.lit.not()))?;
-                    in_memory(asked.push(Limit {
-                        objective,
-                        most: *limit,
-                        upper_line: output.upper,
-                        reform_line: 0,
-                    }))?;
-                }
+            if !self.may_keep(rec, problem, objective, *limit, &mut question)? {
+                return Ok(None);
             }
         }
-        Ok(Some(Limits { lits, asked }))
+        Ok(Some(question))
+    }
+
+    // Adds the limit of an objective, if it may be exceeded. False where it always is.
+    fn may_keep<R: Recorder>(
+        &mut self,
+        rec: &mut R,
+        problem: &PbProblem,
+        objective: usize,
+        limit: i64,
+        question: &mut Limits,
+    ) -> Result<bool, RecordFault>
+        requires ready { IsReady (R.seen rec.old) }
+        requires problem { (R.seen rec.old).problem ≡ problem.now }
+        ensures recorded { IsRecorded (R.seen rec.old) (R.seen rec.new) result }
+    {
+        match self.excess(rec, problem, objective, limit)? {
+            Standing::Always => Ok(false),
+            Standing::Never => Ok(true),
+            Standing::Output(output) => {
+                in_memory(add_limit(question, objective, limit, &output))?;
+                Ok(true)
+            }
+        }
     }
 
     // The cut of a model of these costs. Costs an output for each objective.
@@ -145,6 +181,22 @@ impl<'a> Asking<'a> {
     }
 }
 
+// Adds the limit of an objective that this output says is exceeded.
+fn add_limit(
+    question: &mut Limits,
+    objective: usize,
+    limit: i64,
+    output: &SumOutput,
+) -> Result<(), NoMemory> {
+    question.lits.push(output.lit.not())?;
+    question.asked.push(Limit {
+        objective,
+        most: limit,
+        upper_line: output.upper,
+        reform_line: 0,
+    })
+}
+
 // Adds what stands for an objective's cost to a cut: its line, and the opposite of its literal, once.
 fn add_standing(
     lits: &mut Vec<Lit>,
@@ -167,14 +219,14 @@ fn told_of(
     problem: &PbProblem,
     limits: &CostVec,
     lits: &[Lit],
-) -> Result<Told, RecordFault>
+) -> Result<Told, NoMemory>
     ensures told { IfOk result (IsTold problem.now) }
 {
-    let Some(model) = in_memory(model_of(alloc, problem, lits))? else {
+    let Some(model) = model_of(alloc, problem, lits)? else {
         return Ok(Told::Unknown);
     };
-    let costs = in_memory(costs_at(alloc, problem, &model))?;
-    if costs.weakly_dominates(limits) {
+    let costs = costs_at(alloc, problem, &model)?;
+    if costs.len() == limits.len() && costs.weakly_dominates(limits) {
         return Ok(Told::Model(model));
     }
     Ok(Told::Unknown)

@@ -1,6 +1,6 @@
 // Outputs of objectives that are only defined: true exactly where the objective costs at least a value.
 ghost use Rattle.std.specs.Prelude.{◌≡◌, ◌<◌, ◌≤◌, length, IfOk};
-ghost use Rattle.pb_lin.specs.Constraint.{total};
+ghost use Rattle.pb_lin.specs.Constraint.{TermsUpTo, total};
 ghost use Rattle.sum_outputs.specs.Adding.{IsReady, IsRecorded};
 
 use cutting_planes::PolToken;
@@ -60,21 +60,38 @@ impl Named {
         requires problem { (R.seen rec.old).problem ≡ problem.now }
         ensures recorded { IsRecorded (R.seen rec.old) (R.seen rec.new) result }
     {
+        // Tells that the rows' variables are the problem's.
+        let _vars = problem.vars();
         let Some(row) = problem.costs().get(objective) else {
             return Ok(Standing::Never);
         };
         let above = i128::from(value) - i128::from(row.offset());
-        if above <= 0 {
+        self.reaching(rec, objective, row, above)
+    }
+
+    // What stands for "the sum of the row's terms is at least `least`".
+    fn reaching<R: Recorder>(
+        &mut self,
+        rec: &mut R,
+        objective: usize,
+        row: &CostRow,
+        least: i128,
+    ) -> Result<Standing, RecordFault>
+        requires ready { IsReady (R.seen rec.old) }
+        requires variables { TermsUpTo (R.seen rec.old).problem.vars row.now.terms }
+        ensures recorded { IsRecorded (R.seen rec.old) (R.seen rec.new) result }
+    {
+        if least <= 0 {
             return Ok(Standing::Always);
         }
         let total = total_of(row.terms());
-        if i128::from(total) < above {
+        if i128::from(total) < least {
             return Ok(Standing::Never);
         }
         if let [term] = row.terms() {
             return Ok(Standing::Output(leaf_output(*term)));
         }
-        let output = self.output(rec, problem, objective, row, above as u64)?;
+        let output = self.output(rec, objective, row, least as u64)?;
         Ok(Standing::Output(output))
     }
 
@@ -82,13 +99,12 @@ impl Named {
     fn output<R: Recorder>(
         &mut self,
         rec: &mut R,
-        problem: &PbProblem,
         objective: usize,
         row: &CostRow,
         sum: u64,
     ) -> Result<SumOutput, RecordFault>
         requires ready { IsReady (R.seen rec.old) }
-        requires problem { (R.seen rec.old).problem ≡ problem.now }
+        requires variables { TermsUpTo (R.seen rec.old).problem.vars row.now.terms }
         requires some { 0 < sum }
         requires most { sum ≤ total row.now.terms }
         ensures recorded { IsRecorded (R.seen rec.old) (R.seen rec.new) result }
@@ -100,6 +116,24 @@ impl Named {
                 return Ok(*output);
             }
         }
+        self.define_at(rec, objective, row, sum, place)
+    }
+
+    // Defines the output at this sum, whose place among the objective's is this.
+    fn define_at<R: Recorder>(
+        &mut self,
+        rec: &mut R,
+        objective: usize,
+        row: &CostRow,
+        sum: u64,
+        place: usize,
+    ) -> Result<SumOutput, RecordFault>
+        requires ready { IsReady (R.seen rec.old) }
+        requires variables { TermsUpTo (R.seen rec.old).problem.vars row.now.terms }
+        requires some { 0 < sum }
+        requires most { sum ≤ total row.now.terms }
+        ensures recorded { IsRecorded (R.seen rec.old) (R.seen rec.new) result }
+    {
         let output = define(self.alloc, rec, row.terms(), sum, sum)?;
         self.tie(rec, objective, place, &output)?;
         in_memory(self.insert(objective, place, output))?;
@@ -118,19 +152,17 @@ impl Named {
         ensures recorded { IsRecorded (R.seen rec.old) (R.seen rec.new) result }
     {
         let outputs = self.outputs(objective);
-        if let Some(greater) = outputs.get(place) {
-            imply(self.alloc, rec, greater, output)?;
-        }
-        if 0 < place {
-            if let Some(smaller) = outputs.get(place - 1) {
-                imply(self.alloc, rec, output, smaller)?;
-            }
-        }
-        Ok(())
+        imply_some(self.alloc, rec, outputs.get(place), Some(output))?;
+        imply_some(self.alloc, rec, Some(output), before(outputs, place))
     }
 
     // Puts an output at its place.
-    fn insert(&mut self, objective: usize, place: usize, output: SumOutput) -> Result<(), NoMemory> {
+    fn insert(
+        &mut self,
+        objective: usize,
+        place: usize,
+        output: SumOutput,
+    ) -> Result<(), NoMemory> {
         if let Some(outputs) = self.lists.get_mut(objective) {
             if place <= outputs.len() {
                 outputs.insert(place, output)?;
@@ -138,6 +170,33 @@ impl Named {
         }
         Ok(())
     }
+}
+
+// The output before a place.
+fn before(outputs: &[SumOutput], place: usize) -> Option<&SumOutput> {
+    if place == 0 {
+        return None;
+    }
+    outputs.get(place - 1)
+}
+
+// Adds the clause by which one output implies another, where both are there.
+fn imply_some<R: Recorder>(
+    alloc: Global,
+    rec: &mut R,
+    greater: Option<&SumOutput>,
+    smaller: Option<&SumOutput>,
+) -> Result<(), RecordFault>
+    requires ready { IsReady (R.seen rec.old) }
+    ensures recorded { IsRecorded (R.seen rec.old) (R.seen rec.new) result }
+{
+    let Some(greater) = greater else {
+        return Ok(());
+    };
+    let Some(smaller) = smaller else {
+        return Ok(());
+    };
+    imply(alloc, rec, greater, smaller)
 }
 
 // Adds the clause by which one output implies another of no greater sum, where their lines make it.
@@ -160,7 +219,11 @@ pub(crate) fn imply<R: Recorder>(
 
 // The tokens of that clause: the sum of the lower line of the one and the upper line of the other, whose degree is one
 // more than the difference of the sums.
-fn implying(alloc: Global, greater: &SumOutput, smaller: &SumOutput) -> Result<Items<PolToken>, NoMemory> {
+fn implying(
+    alloc: Global,
+    greater: &SumOutput,
+    smaller: &SumOutput,
+) -> Result<Items<PolToken>, NoMemory> {
     let mut tokens = Items::new(alloc);
     tokens.push(PolToken::Id(greater.lower))?;
     tokens.push(PolToken::Id(smaller.upper))?;

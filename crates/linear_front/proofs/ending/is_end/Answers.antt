@@ -15,7 +15,10 @@ no_terms (t ∷ terms) none = absurd (omega arith)
 abbrev make : List (Literal × ℕ) → ℕ → ConstraintValue
 make terms degree = record { terms = terms; degree = degree }
 
-is_empty : (c : ConstraintValue) → c.terms ≡ [] → c.degree ≡ 1 → ◌≡◌ {A = ConstraintValue} c (record { terms = []; degree = 1 })
+abbrev end : ConstraintValue
+end = record { terms = []; degree = 1 }
+
+is_empty : (c : ConstraintValue) → c.terms ≡ [] → c.degree ≡ 1 → c ≡ end
 is_empty c none one = ap₂ make none one
 
 pub returns-then-len-eq0 : goal.returns-then-len-eq0
@@ -29,6 +32,6 @@ returns-then-len-eq0 g c one s reached =
     subst (λ (m : LineMap). get m c.args.id ≡ Some line) c.live.ensures (c.in-Some.ensures tt) in
     let none : line.terms ≡ [] = no_terms line.terms (sym c.len.ensures.value ∙ c.if-len-eq0.true) in
     let degree : line.degree ≡ 1 = sym c.degree.ensures.value ∙ eqb-true c.degree.result 1 one in
-    let same_line : ◌≡◌ {A = ConstraintValue} line (record { terms = []; degree = 1 }) = is_empty line none degree in
-    subst (λ (t : StateValue). get t.live c.args.id ≡ Some (record { terms = []; degree = 1 })) same
+    let same_line : line ≡ end = is_empty line none degree in
+    subst (λ (t : StateValue). get t.live c.args.id ≡ Some end) same
     (here ∙ ap (λ (d : ConstraintValue). Some d) same_line)
