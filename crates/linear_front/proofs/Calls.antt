@@ -47,12 +47,12 @@ ended T RecordingFailed order = order
 ended T RecordFull order = order
 ended T RecordNoMemory order = order
 
-fault_here : (a b : Snapshot) (f : RecordFault) → IsFaultAt a b f → IsSearchFault a b (fault_of_recording f)
+pub fault_here : (a b : Snapshot) (f : RecordFault) → IsFaultAt a b f → IsSearchFault a b (fault_of_recording f)
 fault_here a b RecordingFailed is = is
 fault_here a b RecordFull is = is.0
 fault_here a b RecordNoMemory is = tt
 
-fault_after : {T : Type 0} (a b c : Snapshot) (r : Result T OracleFault) → GoesOn a b → IfErr r (IsSearchFault b c)
+pub fault_after : {T : Type 0} (a b c : Snapshot) (r : Result T OracleFault) → GoesOn a b → IfErr r (IsSearchFault b c)
     → IfErr r (IsSearchFault a c)
 fault_after a b c (Ok x) on is = tt
 fault_after a b c (Err (Spent learned)) on is = is

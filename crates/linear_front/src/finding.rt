@@ -38,7 +38,10 @@ pub(crate) fn find_all<R: Recorder>(
         if count == 0 {
             return Ok(true);
         }
-        if MOST_BOXES < count || !step(asking, boxes, count - 1, rec, bounds, board, pending)? {
+        if MOST_BOXES < count {
+            return Ok(false);
+        }
+        if !step(asking, boxes, count - 1, rec, bounds, board, pending)? {
             return Ok(false);
         }
     }

@@ -1,7 +1,10 @@
 // The front as far as relaxations find it, before a search's first turn.
-ghost use Rattle.std.specs.Prelude.{◌≡◌, IfOk, IfErr, IfSome};
+ghost use Rattle.std.specs.Prelude.{◌≡◌, true, IfOk, IfErr, IfSome, IsOk, OnOk};
+ghost use Rattle.sum_outputs.specs.Adding.{IsFaultAt};
 ghost use Rattle.search_base.specs.Good.{GoesOn, IsGood, KeepsBoard};
+ghost use Rattle.search_base.specs.Pending.{AreOwnTerms, IsGoodBut};
 ghost use Rattle.search_base.specs.Turns.{IsEndLine, IsInOrder, IsSearchFault};
+ghost use Rattle.linear_front.specs.Ending.{IsKeptEnd};
 
 use crate::asking::Asking;
 use crate::ending::{end_line, tie_bounds};
@@ -11,8 +14,9 @@ use linear_search::LinearSearch;
 use open_boxes::OpenBoxes;
 use oracle::{Oracle, OracleFault};
 use pb_lin::PbProblem;
-use scut_base::Items;
-use search_base::{Board, Bounds, adding_stays_good_but, end_is_good, good_but_for_none, turn_lines_join};
+use proof_rules::{RecordFault, Recorder};
+use scut_base::{Assignment, Items};
+use search_base::{Board, Bounds, adding_stays_good_but, end_is_good, good_but_for_none};
 use std::alloc::Global;
 
 // Objectives of fewer terms have small totalizers: where no objective has as many, nothing is done.
@@ -41,13 +45,11 @@ pub fn linear_front<O: Oracle>(
     ensures goes_on { GoesOn (O.seen oracle.old) (O.seen oracle.new) }
     ensures board { KeepsBoard board.old board.new }
 {
-    if linear.is_spent() || !bounds.are_own_terms() || !has_long_objective(board.problem()) {
-        return Ok(None);
-    }
-    adding_stays_good_but();
     good_but_for_none();
     end_is_good();
-    turn_lines_join();
+    if !may_tell(linear, bounds, board.problem()) {
+        return Ok(None);
+    }
     let named = Named::new(alloc, board.problem().costs().len())?;
     let mut asking = Asking {
         alloc,
@@ -55,18 +57,68 @@ pub fn linear_front<O: Oracle>(
         named,
     };
     let mut pending = Items::new(alloc);
-    let closed = find_all(&mut asking, boxes, oracle, bounds, board, &mut pending)?;
-    if closed {
-        if let Some(id) = end_line(alloc, oracle)? {
-            return Ok(Some(id));
-        }
+    if let Some(id) = find_end(&mut asking, boxes, oracle, bounds, board, &mut pending)? {
+        return Ok(Some(id));
     }
-    tie_bounds(alloc, oracle, bounds, board.problem(), &asking.named)?;
-    board.settle(oracle, bounds, &mut pending)?;
+    settle(&asking, oracle, bounds, board, &mut pending)?;
     Ok(None)
+}
+
+// Whether the relaxation can be asked, objectives are in their own terms, and some of them isn't short.
+fn may_tell(linear: &LinearSearch, bounds: &Bounds, problem: &PbProblem) -> bool
+    ensures { result ≡ true → AreOwnTerms bounds.now }
+{
+    bounds.are_own_terms() && !linear.is_spent() && has_long_objective(problem)
 }
 
 // Whether some objective has so many terms that its totalizer isn't small.
 fn has_long_objective(problem: &PbProblem) -> bool {
-    problem.costs().iter().any(|row| LEAST_TERMS <= row.terms().len())
+    problem
+        .costs()
+        .iter()
+        .any(|row| LEAST_TERMS <= row.terms().len())
+}
+
+// Finds what the relaxation does, and a kept line `0 >= 1` where it closed all boxes and the oracle answers that
+// nothing is left.
+fn find_end<O: Oracle>(
+    asking: &mut Asking<'_>,
+    boxes: &mut OpenBoxes,
+    oracle: &mut O,
+    bounds: &Bounds,
+    board: &mut Board<'_>,
+    pending: &mut Items<Assignment>,
+) -> Result<Option<u64>, OracleFault>
+    requires good { IsGoodBut (O.seen oracle.old) bounds.now board.old pending.old }
+    ensures ended { IfOk result (λ found. IfSome found (IsKeptEnd (O.seen oracle.new))) }
+    ensures good { OnOk result (IsGoodBut (O.seen oracle.new) bounds.now board.new pending.new) }
+    ensures fault { IfErr result (IsSearchFault (O.seen oracle.old) (O.seen oracle.new)) }
+    ensures unspent { IsInOrder result → IsOk result }
+    ensures goes_on { GoesOn (O.seen oracle.old) (O.seen oracle.new) }
+    ensures board { KeepsBoard board.old board.new }
+{
+    if !find_all(asking, boxes, oracle, bounds, board, pending)? {
+        return Ok(None);
+    }
+    end_line(asking.alloc, oracle)
+}
+
+// Makes the state good again: the bounds get what the relaxation has named, and the models are settled.
+fn settle<R: Recorder>(
+    asking: &Asking<'_>,
+    rec: &mut R,
+    bounds: &mut Bounds,
+    board: &mut Board<'_>,
+    pending: &mut Items<Assignment>,
+) -> Result<(), RecordFault>
+    requires good { IsGoodBut (R.seen rec.old) bounds.old board.old pending.old }
+    requires own { AreOwnTerms bounds.old }
+    ensures good { OnOk result (IsGood (R.seen rec.new) bounds.new board.new) }
+    ensures fault { IfErr result (IsFaultAt (R.seen rec.old) (R.seen rec.new)) }
+    ensures goes_on { GoesOn (R.seen rec.old) (R.seen rec.new) }
+    ensures board { KeepsBoard board.old board.new }
+{
+    adding_stays_good_but();
+    tie_bounds(asking.alloc, rec, bounds, board.problem(), &asking.named)?;
+    board.settle(rec, bounds, pending)
 }
