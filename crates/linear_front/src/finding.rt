@@ -78,7 +78,6 @@ fn step<R: Recorder>(
     }
 }
 
-
 // Takes a model, and takes what it is below out of the boxes; answers whether it could be logged.
 fn take<R: Recorder>(
     asking: &mut Asking<'_>,
