@@ -77,10 +77,10 @@ impl Search for PMinimal {
         bounds: &mut Bounds,
         board: &mut Board<'_>,
     ) -> Result<Option<u64>, OracleFault> {
-        match &mut self.relaxed {
-            Some(relaxed) => relaxed.relaxations.begin(oracle, bounds, board),
-            None => Ok(None),
-        }
+        let Some(relaxed) = &mut self.relaxed else {
+            return Ok(None);
+        };
+        relaxed.relaxations.begin(oracle, bounds, board)
     }
 
     /// One turn. With an aim it asks for a model of no greater costs: `Found` where there is one, whose costs

@@ -77,23 +77,14 @@ impl<'a, A: Search, B: Search, C: Search> Search for Cycle<'a, A, B, C> {
 
     ghost serves = { ServeAll A.serves B.serves C.serves };
 
-    /// What each search does before its first turn, one after the other, until one proves that nothing is left.
+    /// What the first search does before its first turn.
     fn begin<O: Oracle>(
         &mut self,
         oracle: &mut O,
         bounds: &mut Bounds,
         board: &mut Board<'_>,
     ) -> Result<Option<u64>, OracleFault> {
-        if let Some(id) = self.first.begin(oracle, bounds, board)? {
-            return Ok(Some(id));
-        }
-        if let Some(id) = self.second.begin(oracle, bounds, board)? {
-            return Ok(Some(id));
-        }
-        match &mut self.third {
-            Some(third) => third.begin(oracle, bounds, board),
-            None => Ok(None),
-        }
+        self.first.begin(oracle, bounds, board)
     }
 
     /// One turn of the search whose turn is next.
