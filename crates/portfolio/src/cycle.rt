@@ -77,14 +77,21 @@ impl<'a, A: Search, B: Search, C: Search> Search for Cycle<'a, A, B, C> {
 
     ghost serves = { ServeAll A.serves B.serves C.serves };
 
-    /// What the first search does before its first turn.
+    /// What the search whose turn is next does before its first turn; the others begin with their turns.
     fn begin<O: Oracle>(
         &mut self,
         oracle: &mut O,
         bounds: &mut Bounds,
         board: &mut Board<'_>,
     ) -> Result<Option<u64>, OracleFault> {
-        self.first.begin(oracle, bounds, board)
+        match self.next() {
+            1 => self.first.begin(oracle, bounds, board),
+            2 => self.second.begin(oracle, bounds, board),
+            _ => match &mut self.third {
+                Some(third) => third.begin(oracle, bounds, board),
+                None => unreachable!(),
+            },
+        }
     }
 
     /// One turn of the search whose turn is next.
