@@ -3,16 +3,15 @@ ghost use Rattle.std.specs.Prelude.{◌≡◌, IfOk};
 ghost use Rattle.sum_outputs.specs.Adding.{IsReady, IsRecorded};
 ghost use Rattle.linear_front.specs.Told.{IsTold};
 
-use crate::model::model_of;
-use crate::named::{Named, Standing};
+use crate::defined::{DefinedOutput, DefinedOutputs, Standing};
 use front_set::CostVec;
-use linear_search::{Limit, LinearSearch, Reply};
+use linear_search::{Limit, LinearSearch, Reply, model_of};
 use pb_lin::PbProblem;
 use proof_rules::{RecordFault, Recorder};
 use scut_base::{Assignment, Items, Lit, NoMemory};
 use search_base::costs_at;
 use std::alloc::Global;
-use sum_outputs::{SumOutput, in_memory};
+use sum_outputs::in_memory;
 
 // What comes of a question.
 #[derive(Debug, Drop)]
@@ -30,7 +29,7 @@ pub(crate) enum Told {
 pub(crate) struct Asking<'a> {
     pub(crate) alloc: Global,
     pub(crate) linear: &'a mut LinearSearch,
-    pub(crate) named: Named,
+    pub(crate) defined: DefinedOutputs,
 }
 
 // What a question assumes, and its limits as the relaxation takes them.
@@ -131,8 +130,9 @@ impl<'a> Asking<'a> {
         match self.excess(rec, problem, objective, limit)? {
             Standing::Always => Ok(false),
             Standing::Never => Ok(true),
-            Standing::Output(output) => {
-                in_memory(add_limit(question, objective, limit, &output))?;
+            Standing::Output(defined) => {
+                let most = most_within(problem, objective, limit, defined.step);
+                in_memory(add_limit(question, objective, most, &defined))?;
                 Ok(true)
             }
         }
@@ -152,7 +152,7 @@ impl<'a> Asking<'a> {
         let mut lits = Vec::new(self.alloc);
         let mut rows = Items::new(self.alloc);
         for (objective, cost) in costs.as_slice().iter().enumerate() {
-            let standing = self.named.at_least(rec, problem, objective, *cost)?;
+            let standing = self.defined.at_least(rec, problem, objective, *cost)?;
             in_memory(add_standing(&mut lits, &mut rows, standing))?;
         }
         lits.sort_unstable_by_key(|lit| lit.var());
@@ -175,9 +175,24 @@ impl<'a> Asking<'a> {
         ensures recorded { IsRecorded (R.seen rec.old) (R.seen rec.new) result }
     {
         match limit.checked_add(1) {
-            Some(least) => self.named.at_least(rec, problem, objective, least),
+            Some(least) => self.defined.at_least(rec, problem, objective, least),
             None => Ok(Standing::Never),
         }
+    }
+}
+
+// The greatest cost within a limit, where costs are apart by the step.
+fn most_within(problem: &PbProblem, objective: usize, limit: i64, step: u64) -> i64 {
+    let Some(row) = problem.costs().get(objective) else {
+        return limit;
+    };
+    let above = i128::from(limit) - i128::from(row.offset());
+    if above <= 0 || step == 0 {
+        return limit;
+    }
+    match i64::try_from(above % i128::from(step)) {
+        Ok(rest) => limit.saturating_sub(rest),
+        Err(_) => limit,
     }
 }
 
@@ -185,14 +200,14 @@ impl<'a> Asking<'a> {
 fn add_limit(
     question: &mut Limits,
     objective: usize,
-    limit: i64,
-    output: &SumOutput,
+    most: i64,
+    defined: &DefinedOutput,
 ) -> Result<(), NoMemory> {
-    question.lits.push(output.lit.not())?;
+    question.lits.push(defined.output.lit.not())?;
     question.asked.push(Limit {
         objective,
-        most: limit,
-        upper_line: output.upper,
+        most,
+        upper_line: defined.limit_line,
         reform_line: 0,
     })
 }
@@ -203,7 +218,7 @@ fn add_standing(
     rows: &mut Items<u64>,
     standing: Standing,
 ) -> Result<(), NoMemory> {
-    let Standing::Output(output) = standing else {
+    let Standing::Output(DefinedOutput { output, .. }) = standing else {
         return rows.push(0);
     };
     let denial = output.lit.not();

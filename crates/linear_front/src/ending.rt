@@ -6,7 +6,7 @@ ghost use Rattle.search_base.specs.Good.{GoesOn};
 ghost use Rattle.search_base.specs.Turns.{IsEndLine, IsInOrder, IsSearchFault};
 ghost use Rattle.linear_front.specs.Ending.{IsGoodButForSome, IsKeptEnd, StaysGoodBut};
 
-use crate::named::{Named, imply};
+use crate::defined::{DefinedOutput, DefinedOutputs, imply};
 use cutting_planes::PolToken;
 use linear_lines::add_line;
 use oracle::{Answer, Oracle, OracleFault};
@@ -79,7 +79,7 @@ pub(crate) fn tie_bounds<R: Recorder>(
     rec: &mut R,
     bounds: &mut Bounds,
     problem: &PbProblem,
-    named: &Named,
+    defined: &DefinedOutputs,
 ) -> Result<(), RecordFault>
     requires ready { IsReady (R.seen rec.old) }
     requires problem { (R.seen rec.old).problem ≡ problem.now }
@@ -89,7 +89,7 @@ pub(crate) fn tie_bounds<R: Recorder>(
     ensures reforms { reforms_of bounds.new ≡ reforms_of bounds.old }
 {
     for (objective, row) in problem.costs().iter().enumerate() {
-        let outputs = named.outputs(objective);
+        let outputs = defined.outputs(objective);
         tie_objective(alloc, rec, bounds, objective, row.offset(), outputs)?;
     }
     Ok(())
@@ -102,7 +102,7 @@ fn tie_objective<R: Recorder>(
     bounds: &mut Bounds,
     objective: usize,
     offset: i64,
-    outputs: &[SumOutput],
+    outputs: &[DefinedOutput],
 ) -> Result<(), RecordFault>
     requires ready { IsReady (R.seen rec.old) }
     requires fits { FitBounds (R.seen rec.old) bounds.old }
@@ -111,7 +111,8 @@ fn tie_objective<R: Recorder>(
     ensures fits { OnOk result (FitBounds (R.seen rec.new) bounds.new) }
     ensures reforms { reforms_of bounds.new ≡ reforms_of bounds.old }
 {
-    for output in outputs {
+    for defined in outputs {
+        let output = &defined.output;
         let Ok(value) = i64::try_from(i128::from(offset) + i128::from(output.sum)) else {
             continue;
         };

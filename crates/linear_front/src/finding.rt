@@ -67,7 +67,6 @@ fn step<R: Recorder>(
     ensures board { KeepsBoard board.old board.new }
 {
     adding_stays_good_but();
-    turn_lines_join();
     match asking.ask(rec, board.problem(), &boxes.limits()[place])? {
         Told::Closed => {
             boxes.close(place);

@@ -7,10 +7,9 @@
 #![tactic(auto)]
 
 mod asking;
+mod defined;
 mod ending;
 mod finding;
-mod model;
-mod named;
 mod opening;
 
 pub use opening::linear_front;

@@ -7,9 +7,9 @@ ghost use Rattle.search_base.specs.Turns.{IsEndLine, IsInOrder, IsSearchFault};
 ghost use Rattle.linear_front.specs.Ending.{IsKeptEnd};
 
 use crate::asking::Asking;
+use crate::defined::DefinedOutputs;
 use crate::ending::{end_line, tie_bounds};
 use crate::finding::find_all;
-use crate::named::Named;
 use linear_search::LinearSearch;
 use open_boxes::OpenBoxes;
 use oracle::{Oracle, OracleFault};
@@ -50,11 +50,11 @@ pub fn linear_front<O: Oracle>(
     if !may_tell(linear, bounds, board.problem()) {
         return Ok(None);
     }
-    let named = Named::new(alloc, board.problem().costs().len())?;
+    let defined = DefinedOutputs::new(alloc, board.problem().costs().len())?;
     let mut asking = Asking {
         alloc,
         linear,
-        named,
+        defined,
     };
     let mut pending = Items::new(alloc);
     if let Some(id) = find_end(&mut asking, boxes, oracle, bounds, board, &mut pending)? {
@@ -103,7 +103,7 @@ fn find_end<O: Oracle>(
     end_line(asking.alloc, oracle)
 }
 
-// Makes the state good again: the bounds get what the relaxation has named, and the models are settled.
+// Makes the state good again: the bounds get what the relaxation has defined, and the models are settled.
 fn settle<R: Recorder>(
     asking: &Asking<'_>,
     rec: &mut R,
@@ -119,6 +119,6 @@ fn settle<R: Recorder>(
     ensures board { KeepsBoard board.old board.new }
 {
     adding_stays_good_but();
-    tie_bounds(asking.alloc, rec, bounds, board.problem(), &asking.named)?;
+    tie_bounds(asking.alloc, rec, bounds, board.problem(), &asking.defined)?;
     board.settle(rec, bounds, pending)
 }

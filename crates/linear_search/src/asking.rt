@@ -1,8 +1,9 @@
 // Questions.
-ghost use Rattle.std.specs.Prelude.{List, IfOk};
+ghost use Rattle.std.specs.Prelude.{◌≡◌, List, IfOk};
 ghost use Rattle.scut_base.specs.Literal.{Literal};
 ghost use Rattle.sum_outputs.specs.Adding.{IsReady, IsRecorded};
-ghost use Rattle.linear_search.specs.Replies.{IsReply};
+ghost use Rattle.linear_search.specs.Relaxations.{IsPaid};
+ghost use Rattle.linear_search.specs.Replies.{IsKeptWhereAnswered, IsReply, IsReplyTo};
 
 use crate::Reply;
 use crate::closing::{core_of, may_be_assumed};
@@ -29,6 +30,8 @@ impl LinearSearch {
         requires ready { IsReady (R.seen rec.old) }
         ensures recorded { IsRecorded (R.seen rec.old) (R.seen rec.new) result }
         ensures reply { IfOk result (IsReply (R.seen rec.new) assumed.now) }
+        ensures paid { IsPaid self.old self.new }
+        ensures kept { IfOk result (IsKeptWhereAnswered self.old self.new) }
     {
         let found = in_memory(self.search(rec.state(), assumed, limits))?;
         reply_of(self.alloc, rec, found, assumed)
@@ -45,11 +48,12 @@ fn reply_of<R: Recorder>(
     requires ready { IsReady (R.seen rec.old) }
     ensures recorded { IsRecorded (R.seen rec.old) (R.seen rec.new) result }
     ensures reply { IfOk result (IsReply (R.seen rec.new) assumed.now) }
+    ensures of_found { IfOk result (IsReplyTo found) }
 {
     match found {
         Found::Closed(nodes) => close(alloc, rec, nodes.as_slice(), assumed),
         Found::Model(lits) => Ok(proposal(rec, lits)),
-        Found::Unknown => Ok(Reply::Unknown),
+        Found::Nothing => Ok(Reply::Unknown),
     }
 }
 

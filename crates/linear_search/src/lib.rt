@@ -8,6 +8,7 @@
 
 mod asking;
 mod closing;
+mod model;
 mod nodes;
 mod relaxation;
 mod reply;
@@ -16,5 +17,6 @@ mod tree;
 mod visiting;
 mod writing;
 
+pub use model::model_of;
 pub use relaxation::{Limit, LinearSearch};
 pub use reply::Reply;

@@ -1,5 +1,7 @@
 // The search through the tree, depth first.
-ghost use Rattle.std.specs.Prelude.{◌<◌};
+ghost use Rattle.std.specs.Prelude.{◌≡◌, ◌+◌, ◌/◌, ◌<◌, ◌≤◌, IfOk};
+ghost use Rattle.linear_search.specs.Relaxations.{IsPaid};
+ghost use Rattle.linear_search.specs.Replies.{IsKeptWhereFound};
 
 use crate::nodes::Node;
 use crate::relaxation::{Limit, LinearSearch};
@@ -16,7 +18,7 @@ pub(crate) enum Found {
     // The nodes of a tree that closed, the root's last.
     Closed(Vec<Node>),
     Model(Items<Lit>),
-    Unknown,
+    Nothing,
 }
 
 impl LinearSearch {
@@ -33,19 +35,22 @@ impl LinearSearch {
         state: &ProofState,
         assumed: &[Lit],
         limits: &[Limit],
-    ) -> Result<Found, NoMemory> {
+    ) -> Result<Found, NoMemory>
+        ensures paid { IsPaid self.old self.new }
+        ensures kept { IfOk result (IsKeptWhereFound self.old self.new) }
+    {
         if self.is_spent() {
-            return Ok(Found::Unknown);
+            return Ok(Found::Nothing);
         }
         let pivots = self.pivots();
         let mut tree = Tree::new(self.alloc, state.vars(), pivots)?;
         self.begin(assumed, limits);
         let found = self.explore(state, assumed, limits, &mut tree)?;
-        if let Found::Unknown = found {
-            let spent = pivots
+        if let Found::Nothing = found {
+            let work = pivots
                 .saturating_sub(tree.pivots_left)
                 .saturating_mul(self.cells());
-            self.purse = self.purse.saturating_sub(spent);
+            self.purse = purse_after(self.purse, work);
             if self.is_spent() {
                 self.let_go()?;
             }
@@ -68,7 +73,23 @@ impl LinearSearch {
     }
 
     // Sets the ranges for a question.
-    fn begin(&mut self, assumed: &[Lit], limits: &[Limit]) {
+    fn begin(&mut self, assumed: &[Lit], limits: &[Limit])
+        ensures { self.new ≡ self.old }
+    {
+        self.free_columns();
+        for lit in assumed {
+            self.set_literal(*lit, true);
+        }
+        self.free_objectives();
+        for limit in limits {
+            self.set_limit(limit);
+        }
+    }
+
+    // Sets the range of each column: either truth value, and what is between.
+    fn free_columns(&mut self)
+        ensures { self.new ≡ self.old }
+    {
         for column in 0..self.columns {
             let range = Range {
                 lower: 0.0,
@@ -76,20 +97,22 @@ impl LinearSearch {
             };
             self.program.set_column(column, range);
         }
-        for lit in assumed {
-            self.set_literal(*lit, true);
-        }
-        for (place, objective) in self.objectives.iter().enumerate() {
+    }
+
+    // Sets the range of each objective to all its sums.
+    fn free_objectives(&mut self)
+        ensures { self.new ≡ self.old }
+    {
+        for place in 0..self.objectives.len() {
             let row = self.constraints.saturating_add(place);
-            self.program.set_row(row, objective.range);
-        }
-        for limit in limits {
-            self.set_limit(limit);
+            self.program.set_row(row, self.objectives[place].range);
         }
     }
 
     // Sets the range of a limited objective.
-    fn set_limit(&mut self, limit: &Limit) {
+    fn set_limit(&mut self, limit: &Limit)
+        ensures { self.new ≡ self.old }
+    {
         if let Some(objective) = self.objectives.get(limit.objective) {
             let most = nearest_i64_to_f64(limit.most) - objective.constant;
             let range = Range {
@@ -108,7 +131,9 @@ impl LinearSearch {
         assumed: &[Lit],
         limits: &[Limit],
         tree: &mut Tree,
-    ) -> Result<Found, NoMemory> {
+    ) -> Result<Found, NoMemory>
+        ensures { self.new ≡ self.old }
+    {
         for _node in 0..tree.pivots_left {
             if tree.pivots_left == 0 {
                 break;
@@ -129,12 +154,14 @@ impl LinearSearch {
         }
         match tree.take_best() {
             Some(lits) => Ok(Found::Model(lits)),
-            None => Ok(Found::Unknown),
+            None => Ok(Found::Nothing),
         }
     }
 
     // Goes on after a closed node.
-    fn turn(&mut self, tree: &mut Tree, node: usize) -> Result<Turn, NoMemory> {
+    fn turn(&mut self, tree: &mut Tree, node: usize) -> Result<Turn, NoMemory>
+        ensures { self.new ≡ self.old }
+    {
         let mut freed = Items::new(self.alloc);
         let turn = tree.climb(node, &mut freed)?;
         for lit in freed.as_slice() {
@@ -145,6 +172,14 @@ impl LinearSearch {
         }
         Ok(turn)
     }
+}
+
+// What is left of a purse after so much work, which costs at most a quarter of it.
+fn purse_after(purse: u64, work: u64) -> u64
+    ensures most { result ≤ purse }
+    ensures quarter { purse ≤ result + purse / 4 }
+{
+    purse - work.min(purse / 4)
 }
 
 // The best model, or the nodes up to the root's where there is none.

@@ -1,4 +1,6 @@
 // One node of the tree.
+ghost use Rattle.std.specs.Prelude.{◌≡◌};
+
 use crate::relaxation::{Limit, LinearSearch};
 use crate::tree::Tree;
 use linear_lines::{Multiplier, infeasible_leaf};
@@ -28,7 +30,9 @@ impl LinearSearch {
         state: &ProofState,
         limits: &[Limit],
         tree: &mut Tree,
-    ) -> Result<Visit, NoMemory> {
+    ) -> Result<Visit, NoMemory>
+        ensures { self.new ≡ self.old }
+    {
         // Where rounding costs the multipliers, once more from the first basis.
         for _attempt in 0..2 {
             match self.solved(tree)? {
@@ -50,7 +54,9 @@ impl LinearSearch {
     }
 
     // The program's answer; its pivots, and one more, are paid.
-    fn solved(&mut self, tree: &mut Tree) -> Result<Answer, NoMemory> {
+    fn solved(&mut self, tree: &mut Tree) -> Result<Answer, NoMemory>
+        ensures { self.new ≡ self.old }
+    {
         let budget = tree.pivots_left.min(MOST_PIVOTS);
         let solved = self.program.solve(self.weights.as_slice(), budget)?;
         tree.pivots_left = tree
@@ -119,7 +125,9 @@ impl LinearSearch {
     }
 
     // Fixes or frees the column of a literal.
-    pub(crate) fn set_literal(&mut self, lit: Lit, is_fixed: bool) {
+    pub(crate) fn set_literal(&mut self, lit: Lit, is_fixed: bool)
+        ensures { self.new ≡ self.old }
+    {
         let range = if !is_fixed {
             Range {
                 lower: 0.0,

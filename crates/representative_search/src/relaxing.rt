@@ -1,17 +1,15 @@
 // What the linear relaxation of a problem tells of its models; the proof goes to a file.
-ghost use Rattle.std.specs.Prelude.{◌≡◌, ◌↔◌, false, [], length, All, IfOk, IfSome, IsTrue};
-ghost use Rattle.pb_lin.specs.Constraint.{Holds, UpTo};
-ghost use Rattle.pb_lin.specs.Problem.{IsProblemModel};
+ghost use Rattle.std.specs.Prelude.{◌≡◌, false, [], IfOk};
 ghost use Rattle.sum_outputs.specs.Adding.{IsReady, IsRecorded};
 ghost use Rattle.linear_search.specs.Replies.{IsReply};
 ghost use Rattle.representative_search.specs.Seeking.{IsRelaxed, IsSought, Leaves, LeavesLog, WhereKnown};
 
 use crate::ending::end_proof;
-use linear_search::{LinearSearch, Reply};
-use pb_lin::{Constraint, PbProblem};
+use linear_search::{LinearSearch, Reply, model_of};
+use pb_lin::PbProblem;
 use proof_rules::{RecordFault, Recorder};
 use proof_text::FileRecorder;
-use scut_base::{Assignment, Lit, NoMemory, Shelf};
+use scut_base::{Assignment, Shelf};
 use std::alloc::Global;
 
 // What may be lost on a question that stays open is a quarter of this: pivots times rows times columns.
@@ -81,32 +79,4 @@ fn ask<R: Recorder>(alloc: Global, problem: &PbProblem, rec: &mut R) -> Result<R
 {
     let mut search = LinearSearch::new(alloc, problem, PURSE)?;
     search.ask(rec, &[], &[])
-}
-
-// The assignment that makes these literals true and all other variables false, where it is a model of the problem.
-fn model_of(
-    alloc: Global,
-    problem: &PbProblem,
-    lits: &[Lit],
-) -> Result<Option<Assignment>, NoMemory>
-    ensures { IfOk result (λ model. IfSome model (IsProblemModel problem.now)) }
-{
-    let mut values = Assignment::new(alloc, problem.vars())?;
-    for lit in lits {
-        if lit.var() <= problem.vars() {
-            values.set(*lit);
-        }
-    }
-    if all_hold(problem.rows(), &values) {
-        return Ok(Some(values));
-    }
-    Ok(None)
-}
-
-// Whether the assignment makes all of them true.
-fn all_hold(rows: &[Constraint], a: &Assignment) -> bool
-    requires { All (UpTo (length a.now)) rows.now }
-    ensures { IsTrue result ↔ All (Holds a.now) rows.now }
-{
-    rows.iter().all(|row| row.holds(a))
 }

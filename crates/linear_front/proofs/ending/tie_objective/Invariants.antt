@@ -3,8 +3,8 @@ use Rattle.sum_outputs.proofs.OutputsLater.{IsUnderWay}
 use Rattle.search_base.specs.CostBounds.{FitBounds, reforms_of}
 use Rattle.linear_front.proofs.ending.tie_objective.Given as goal
 
-abbrev pub invariant-loop-output : goal.invariant-loop-output
-invariant-loop-output g l =
+abbrev pub invariant-loop-defined : goal.invariant-loop-defined
+invariant-loop-defined g l =
     let R = g.R.Recorder in
     record {
       way : IsUnderWay (R.seen l.initial.rec) (R.seen l.rec);

@@ -10,7 +10,7 @@ returns-in-Model-clause-recorded g c =
 pub returns-in-Model-clause-reply : goal.returns-in-Model-clause-reply
 returns-in-Model-clause-reply g c = c.proposal.ensures.reply c.args.assumed.now
 
-pub returns-in-Unknown-clause-recorded : goal.returns-in-Unknown-clause-recorded
-returns-in-Unknown-clause-recorded g c =
+pub returns-in-Nothing-clause-recorded : goal.returns-in-Nothing-clause-recorded
+returns-in-Nothing-clause-recorded g c =
     let a = let R = g.R.Recorder in R.seen c.args.rec.now in
     recorded_ok a a Unknown (continues_again a) c.requires.ready.whole

@@ -1,5 +1,5 @@
 use Rattle.sum_outputs.proofs.LaterStates.{continues_again, recorded_ok}
-use Rattle.linear_front.specs.declared.named.Standing.TheVariants.{Never}
+use Rattle.linear_front.specs.declared.defined.Standing.TheVariants.{Never}
 use Rattle.linear_front.proofs.asking.Asking.excess.Goals as goal
 
 pub returns-in-None : goal.returns-in-None
