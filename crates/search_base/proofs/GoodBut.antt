@@ -19,8 +19,8 @@ use Rattle.search_base.specs.Logged.{AddsTurnLines, IsCovered, LogsNone, logged}
 use Rattle.search_base.specs.Pending.{AddingStaysGoodBut, AllIsNewBut, AskingStaysGoodBut, EndIsGood, GoodButForNone, IsGoodBut, IsPending}
 use Rattle.search_base.specs.declared.objective_bound.ObjectiveBound.{ObjectiveBound}
 use Rattle.search_base.proofs.BoundRows.{bounds_later}
-use Rattle.search_base.proofs.GoodStates.{board_after, earned_on, kept_back, within_on}
-use Rattle.search_base.proofs.LoggedStates.{good_but_none}
+use Rattle.search_base.proofs.GoodStates.{LeftAfter, board_after, earned_on, left_later, within_on}
+use Rattle.search_base.proofs.LoggedStates.{HasPending, good_but_none}
 use Rattle.search_base.proofs.LoggedVectors.{search_logs_none, totalizer_logs_none}
 use Rattle.search_base.proofs.TurnLines.{own_law, search_lines, totalizer_lines}
 use Rattle.search_base.proofs.TurnStates.{ready_after}
@@ -51,19 +51,12 @@ none_law = record { good = good_but_none; again = good_again }
 
 -- ---- lines that log nothing
 
--- `AllIsNewBut`, of a problem and lines
-abbrev NewBut : ProblemValue → List Line → List (List Bool) → Type 0
-NewBut p lines pending = (s : StateValue) → IsReplay p lines s → (x : List Bool) → All (Holds x) p.rows →
-    KeptHold p lines s x → IsCovered p lines (problem_costs p x) →
-    (y : List Bool) × Contains pending y × IsBelow (problem_costs p y) (problem_costs p x)
-
 new_but_after : OwnLinesStay → (a b : Snapshot) (s : StateValue) (pending : List (List Bool)) → b.problem ≡ a.problem →
     KeepsOwn a.problem a.lines b.lines → IsReached a s → LogsNone a.problem a.lines b.lines → AllIsNewBut a pending →
     AllIsNewBut b pending
 new_but_after stays a b s pending problem keeps reached none is =
-    subst (λ (p : ProblemValue). NewBut p b.lines pending) (sym problem) (λ t after x rows hold covered.
-    is s reached x rows (kept_back stays a.problem a.lines b.lines s t x keeps reached after hold)
-    (subst (λ (vs : List (List ℤ)). (u : List ℤ) × Contains vs u × IsBelow u (problem_costs a.problem x)) none covered))
+    subst (λ (p : ProblemValue). LeftAfter p b.lines (HasPending p pending)) (sym problem)
+    (left_later stays a.problem a.lines b.lines s (HasPending a.problem pending) keeps reached none is)
 
 bounding_but : OwnLinesStay → (a b : Snapshot) (old new : List ObjectiveBound) (front : BoardValue)
     (pending : List (List Bool)) → IsGoodBut a old front pending → Continues a b → b.broken ≡ false → FitBounds b new →

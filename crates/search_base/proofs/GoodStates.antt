@@ -27,32 +27,37 @@ use Rattle.search_base.proofs.BoundRows.{bounds_later}
 use Rattle.search_base.proofs.LoggedVectors.{search_logs_none, totalizer_logs_none}
 use Rattle.search_base.proofs.TurnStates.{ready_after, replay_after}
 
--- ---- what is left is new
+-- ---- what is left
 
--- `AllIsNew`, of a problem and lines
-abbrev NewAfter : ProblemValue → List Line → Type 0
-NewAfter p lines = (s : StateValue) → IsReplay p lines s → (x : List Bool) → All (Holds x) p.rows →
-    KeptHold p lines s x → IsCovered p lines (problem_costs p x) → ⊥
+-- what is so of all that is left after these lines and isn't new
+abbrev pub LeftAfter : ProblemValue → List Line → (List Bool → Type 0) → Type 0
+LeftAfter p lines P = (s : StateValue) → IsReplay p lines s → (x : List Bool) → All (Holds x) p.rows →
+    KeptHold p lines s x → IsCovered p lines (problem_costs p x) → P x
+
+-- none of it is there
+abbrev NoneIsLeft : List Bool → Type 0
+NoneIsLeft x = ⊥
 
 -- clauses that are kept hold before the lines too
-pub kept_back : OwnLinesStay → (p : ProblemValue) (old new : List Line) (s t : StateValue) (x : List Bool) →
+kept_back : OwnLinesStay → (p : ProblemValue) (old new : List Line) (s t : StateValue) (x : List Bool) →
     KeepsOwn p old new → IsReplay p old s → IsReplay p new t → KeptHold p new t x → KeptHold p old s x
 kept_back stays p old new s t x keeps before after hold id c kept =
     let later : IsLater p old s new t = stays p old new s t keeps before after in
     let own = later.own id c (kept.0, kept.2) in
     hold id c (own.0, kept.1, own.1)
 
-new_lines : OwnLinesStay → (p : ProblemValue) (old new : List Line) (s : StateValue) → KeepsOwn p old new →
-    IsReplay p old s → LogsNone p old new → NewAfter p old → NewAfter p new
-new_lines stays p old new s keeps before none is t after x rows hold covered =
+-- it stays so after lines that log nothing
+pub left_later : OwnLinesStay → (p : ProblemValue) (old new : List Line) (s : StateValue) (P : List Bool → Type 0) →
+    KeepsOwn p old new → IsReplay p old s → LogsNone p old new → LeftAfter p old P → LeftAfter p new P
+left_later stays p old new s P keeps before none is t after x rows hold covered =
     is s before x rows (kept_back stays p old new s t x keeps before after hold)
     (subst (λ (vs : List (List ℤ)). (u : List ℤ) × Contains vs u × IsBelow u (problem_costs p x)) none covered)
 
 new_after : OwnLinesStay → (a b : Snapshot) (s : StateValue) → b.problem ≡ a.problem →
     KeepsOwn a.problem a.lines b.lines → IsReached a s → LogsNone a.problem a.lines b.lines → AllIsNew a → AllIsNew b
 new_after stays a b s problem keeps reached none is =
-    subst (λ (p : ProblemValue). NewAfter p b.lines) (sym problem)
-    (new_lines stays a.problem a.lines b.lines s keeps reached none is)
+    subst (λ (p : ProblemValue). LeftAfter p b.lines NoneIsLeft) (sym problem)
+    (left_later stays a.problem a.lines b.lines s NoneIsLeft keeps reached none is)
 
 -- ---- what is logged stays on the board
 

@@ -32,6 +32,7 @@ use Rattle.search_base.specs.Pending.{AllIsNewBut, IsGoodBut, IsPending, LogsByC
 use Rattle.search_base.specs.declared.objective_bound.ObjectiveBound.{ObjectiveBound}
 use Rattle.search_base.proofs.BoundRows.{bounds_later}
 use Rattle.search_base.proofs.CutClauses.{clause_tested, cut_fails}
+use Rattle.search_base.proofs.GoodStates.{LeftAfter}
 use Rattle.search_base.proofs.LoggedVectors.{logged_append}
 use Rattle.search_base.proofs.PutEntries.{put_board}
 use Rattle.sum_outputs.proofs.PolLines.{put_live}
@@ -39,11 +40,6 @@ use Rattle.search_base.proofs.TurnLines.{own_law}
 use Rattle.search_base.proofs.TurnStates.{ready_after}
 
 -- ---- one line more
-
--- what is so of all that is left after these lines and isn't new
-abbrev pub LeftAfter : ProblemValue → List Line → (List Bool → Type 0) → Type 0
-LeftAfter p lines P = (s : StateValue) → IsReplay p lines s → (x : List Bool) → All (Holds x) p.rows →
-    KeptHold p lines s x → IsCovered p lines (problem_costs p x) → P x
 
 module _ (p : ProblemValue) (lines : List Line) (s : StateValue) (x : List Bool) (cut : List Literal) (ids : List ℕ) where
   abbrev pub line : Line
@@ -99,6 +95,10 @@ module _ (p : ProblemValue) (lines : List Line) (s : StateValue) (x : List Bool)
         omega arith
 
 -- ---- a state that is good but for some models
+
+-- one of the pending models is below it
+abbrev pub HasPending : ProblemValue → List (List Bool) → List Bool → Type 0
+HasPending p pending x = (y : List Bool) × Contains pending y × IsBelow (problem_costs p y) (problem_costs p x)
 
 pending_stay : (old new : BoardValue) (pending : List (List Bool)) → new.problem ≡ old.problem →
     new.instance ≡ old.instance → All (IsPending old) pending → All (IsPending new) pending
@@ -176,9 +176,8 @@ module _ (a b : Snapshot) (x : List Bool) (cut : List Literal) (ids : List ℕ) 
       let p = a.problem in
       let pair = subst (λ (q : ProblemValue). IsModelPair old.instance
       (record { costs = problem_costs q x; model = take old.instance.vars x })) good.problem is.pair in
-      let HasOne : List Bool → Type 0 = λ y. (z : List Bool) × Contains (pending ++ x ∷ []) z
-      × IsBelow (problem_costs p z) (problem_costs p y) in
-      let left : LeftAfter b.problem b.lines HasOne = left_after HasOne on.problem
+      let left : LeftAfter b.problem b.lines (HasPending p (pending ++ x ∷ [])) =
+      left_after (HasPending p (pending ++ x ∷ [])) on.problem
       (λ s reached y rows hold covered. let one = good.new s reached y rows hold covered in
       (one.0, Contains-append_left pending (x ∷ []) one.0 one.1, one.2))
       (λ y rows hold clause below. (x, Contains-push pending x, below)) in

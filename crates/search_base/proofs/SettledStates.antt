@@ -27,7 +27,8 @@ use Rattle.search_base.specs.declared.objective_bound.ObjectiveBound.{ObjectiveB
 use Rattle.search_base.proofs.AlikeAnswers.{within_own}
 use Rattle.search_base.proofs.BoundRows.{bounds_later}
 use Rattle.search_base.proofs.CutClauses.{cut_fails}
-use Rattle.search_base.proofs.LoggedStates.{but_after, by_cut, clause_holds, kept_before, line, logs_costs}
+use Rattle.search_base.proofs.GoodStates.{LeftAfter}
+use Rattle.search_base.proofs.LoggedStates.{HasPending, but_after, by_cut, clause_holds, kept_before, line, logs_costs}
 use Rattle.search_base.proofs.PutEntries.{put_board}
 use Rattle.search_base.proofs.Taking.{IsLoggedAfter, WasAsked, named_within}
 use Rattle.search_base.proofs.TurnLines.{own_law}
@@ -42,20 +43,14 @@ last_pending a bounds front pending x good = All-last (IsPending front) pending 
 
 -- ---- what is left
 
--- `AllIsNewBut`, of a problem and lines
-abbrev NewBut : ProblemValue → List Line → List (List Bool) → Type 0
-NewBut p lines pending = (s : StateValue) → IsReplay p lines s → (x : List Bool) → All (Holds x) p.rows →
-    KeptHold p lines s x → IsCovered p lines (problem_costs p x) →
-    (y : List Bool) × Contains pending y × IsBelow (problem_costs p y) (problem_costs p x)
-
 module _ (p : ProblemValue) (lines : List Line) (s : StateValue) (x : List Bool) (answers : List Bound)
     (cut : List Literal) (ids : List ℕ) (exact : IsCutOf answers cut) (reached : IsReplay p lines s)
     (zip : AllZip (IsAnswerAt p lines s x (answered_literals answers)) p.costs answers) (pending : List (List Bool))
   where
     -- the kept clause of the new cut is false where the costs of the model are below
-    new_but_less : NewBut p lines (pending ++ x ∷ []) →
-        NewBut p (lines ++ line p lines s x cut ids ∷ []) pending
-    new_but_less new t after y rows hold (u, there, below) =
+    left_less : LeftAfter p lines (HasPending p (pending ++ x ∷ [])) →
+        LeftAfter p (lines ++ line p lines s x cut ids ∷ []) (HasPending p pending)
+    left_less new t after y rows hold (u, there, below) =
         let kept = kept_before p lines s x cut ids reached t y after hold in
         let fails : IsBelow (problem_costs p x) (problem_costs p y) → ⊥ = λ under.
         cut_fails p lines s x answers cut zip exact y rows kept under
@@ -90,9 +85,9 @@ module _ (a b : Snapshot) (x : List Bool) (answers : List Bound) (logs : LogsMod
       (last_pending a bounds old pending x good).pair in
       but_after a b x cut ids by own fitting reforms bounds old new (pending ++ x ∷ []) pending good on put pair
       (All-prefix (IsPending old) pending x good.models)
-      (subst (λ (q : ProblemValue). NewBut q b.lines pending) (sym on.problem)
-      (subst (λ (ls : List Line). NewBut p ls pending) (sym by.lines)
-      (new_but_less p a.lines s x answers cut ids logs.is.exact logs.stood (are s logs.stood) pending good.new)))
+      (subst (λ (q : ProblemValue). LeftAfter q b.lines (HasPending q pending)) (sym on.problem)
+      (subst (λ (ls : List Line). LeftAfter p ls (HasPending p pending)) (sym by.lines)
+      (left_less p a.lines s x answers cut ids logs.is.exact logs.stood (are s logs.stood) pending good.new)))
 
 -- What is named for its costs covers them, and none of its literals are opposite: it makes them true itself, since no row
 -- costs more than its reform where that is in its own terms.

@@ -1,5 +1,5 @@
 // Models that are logged by cuts of which nothing is known, and what makes the state good again.
-ghost use Rattle.std.specs.Prelude.{◌≡◌, ◌++◌, ◌∷◌, [], take, Bool, List, IfErr, IfOk, MatchBool, OnOk};
+ghost use Rattle.std.specs.Prelude.{◌≡◌, ◌++◌, ◌∷◌, [], false, take, Bool, List, IfErr, IfOk, MatchBool, OnOk};
 ghost use Rattle.instance_normal.specs.Tightened.{tightened};
 ghost use Rattle.pb_lin.specs.Problem.{IsProblemModel};
 ghost use Rattle.sum_outputs.specs.Adding.{IsFaultAt};
@@ -40,6 +40,8 @@ impl<'a> Board<'a> {
             (TakesPending (R.seen rec.old) (R.seen rec.new) a.now pending.old pending.new)
             (MayNotLog (R.seen rec.old) (tightened self.old.instance
             (take self.old.instance.vars a.now)) cut rows × (R.seen rec.new ≡ R.seen rec.old))) }
+        ensures refused { IfOk result (λ taken. taken ≡ false
+            → (self.new ≡ self.old) × (pending.new ≡ pending.old)) }
         ensures fault { IfErr result (IsFaultAt (R.seen rec.old) (R.seen rec.new)) }
         ensures goes_on { GoesOn (R.seen rec.old) (R.seen rec.new) }
         ensures board { KeepsBoard self.old self.new }
@@ -73,6 +75,7 @@ impl<'a> Board<'a> {
         requires good { IsGoodBut (R.seen rec.old) bounds.old self.old pending.old }
         requires own { AreOwnTerms bounds.old }
         ensures good { OnOk result (IsGood (R.seen rec.new) bounds.new self.new) }
+        ensures none { OnOk result (pending.new ≡ []) }
         ensures fault { IfErr result (IsFaultAt (R.seen rec.old) (R.seen rec.new)) }
         ensures goes_on { GoesOn (R.seen rec.old) (R.seen rec.new) }
         ensures board { KeepsBoard self.old self.new }
