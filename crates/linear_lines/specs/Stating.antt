@@ -48,7 +48,9 @@ pub record AddsLine (a b : Snapshot) (tokens : List PolToken) (id : ℕ) : Type 
   pub tokens_of : (s : StateValue) → IsReached a s → AreTokensOf s tokens made
   pub own : (s : StateValue) → IsReached b s → IsOwn b.problem b.lines s id made
 
--- The line of these tokens was added, and its clause is live under this id; no line has learned it.
+-- The line of these tokens was added, and the clause that they make of the lines before is live under this id; no line has
+-- learned it.
 pub record AddsClauseLine (a b : Snapshot) (tokens : List PolToken) (id : ℕ) (c : ConstraintValue) : Type 0 where
   pub lines : b.lines ≡ a.lines ++ Pol tokens ∷ []
+  pub makes : (s : StateValue) → IsReached a s → MakesClause s tokens c
   pub live : (s : StateValue) → IsReached b s → IsKeptClause b.problem b.lines s id c

@@ -21,6 +21,7 @@ returns-clause-line g c =
     let call = c.in_ok-id.ensures in
     record {
       lines = call.added;
+      makes = c.requires.makes;
       live = λ t again.
           let own = may.own b t c.in_ok-id.id call.recorded.continues.problem call.added again call.id in
           (own.0, makes.1, own.1);
