@@ -1,5 +1,5 @@
 -- The negation of a clause under a partial assignment.
-use Rattle.std.specs.Prelude.{◌≡◌, ℕ, ◌+◌, ◌<◌, Bool, true, false, not, if◌then◌else◌, Option, Some, None, List, [], ◌∷◌, map, length, sum_by, pos, ◌<ℤ◌, refl}
+use Rattle.std.specs.Prelude.{◌≡◌, ℕ, ◌+◌, ◌<◌, Bool, true, false, not, if◌then◌else◌, Option, Some, None, List, [], ◌∷◌, map, length, ◌-◌, replicate, sum_by, pos, ◌<ℤ◌, refl}
 use Rattle.std.proofs.Common.{sym, ◌∙◌, ap, get_or, arith, rules}
 use Rattle.std.specs.Option.{is_none, is_some, option_map}
 use Rattle.std.proofs.lemmas.List.{get_or-map, length-map}
@@ -12,6 +12,7 @@ use Rattle.pb_lin.specs.Constraint.{ConstraintValue, AreOnes, IsMerged, IsNormal
 use Rattle.pb_lin.proofs.Ones.{total_ones}
 use Rattle.pb_lin.proofs.OppositeTerms.{normal-opposite}
 use Rattle.hint_rup.specs.Negation.{if_true, true_count}
+use Rattle.hint_rup.proofs.Agreement.{all_open}
 use Rattle.hint_rup.proofs.ForcedLiterals.{literal_at}
 
 -- of a literal and its opposite one is true, where one of them has a truth value; else both are open
@@ -48,6 +49,21 @@ module _ (p : List (Option Bool)) (c : ConstraintValue) (ones : AreOnes c.terms)
       let both = possible_and_true p c.terms ones in
       let all = total_ones c.terms ones in
       omega (arith, ints)
+
+-- no literal is true where every variable is open
+pub none_true : (n : ℕ) (lits : List Literal) → true_count (replicate n None) lits ≡ 0
+none_true n [] = refl
+none_true n (l ∷ lits) =
+    let here = ap (λ o. if_true (option_map (λ b. if l.neg then not b else b) o)) (all_open n (l.var - 1)) in
+    let both = sum_by-cons (λ m. if_true (partial_truth (replicate n None) m)) l lits in
+    let rest = none_true n lits in
+    omega arith
+
+-- the negation of a clause lacks nothing where every variable is open
+pub open_slack : (p : List (Option Bool)) (c : ConstraintValue) → AreOnes c.terms → c.degree ≡ 1 → p ≡ replicate (length p) None → slack p (negation c) ≡ pos 0
+open_slack p c ones degree cleared =
+    let none : true_count p (literals c.terms) ≡ 0 = ap (λ q. true_count q (literals c.terms)) cleared ∙ none_true (length p) (literals c.terms) in
+    slack_where_none p c ones degree (λ some. absurd (omega (arith, some)))
 
 -- opposite terms are merged where those of a normal form are
 pub merged_negation : (c : ConstraintValue) → IsNormal c.terms c.degree → IsMerged (negation c).terms

@@ -6,7 +6,7 @@ ghost use Rattle.hint_rup.specs.Hints.{HintsUpTo, IsReplayed, line_of, id_of};
 ghost use Rattle.hint_rup.specs.Negation.{IsNegation, negation_in};
 ghost use Rattle.hint_rup.specs.Propagation.{Conflicts, PropagatesSome};
 
-use crate::negated::propagate_negated;
+use crate::negated::{propagate_first, propagate_negated};
 use crate::propagation::propagate;
 use crate::{Hint, Negated, RupFault};
 use pb_lin::{Constraint, Lines};
@@ -39,7 +39,7 @@ pub fn replay(
         → IsRefuted (given_with lines.now (negation_in negated.entry) denied.entry) }
 {
     scratch.clear();
-    if propagate_negated(scratch, negated) {
+    if propagate_first(scratch, negated) {
         return Ok(());
     }
     for hint in hints {

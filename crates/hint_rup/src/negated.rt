@@ -1,10 +1,10 @@
 // The negation of what is to be shown, and its propagation.
-ghost use Rattle.std.specs.Prelude.{◌≡◌, ◌<◌, ◌≤◌, ◌↔◌, pos, length, All, IsTrue};
+ghost use Rattle.std.specs.Prelude.{◌≡◌, ◌<◌, ◌≤◌, ◌↔◌, None, pos, length, replicate, All, IsTrue};
 ghost use Rattle.pb_lin.specs.Constraint.{AreOnes, UpTo, negation, slack};
 ghost use Rattle.hint_rup.specs.Negation.{IsNegation, negation_in, true_count};
 ghost use Rattle.hint_rup.specs.Propagation.{Propagates, forced};
 
-use crate::propagation::propagate;
+use crate::propagation::propagate_sum;
 use pb_lin::Constraint;
 use scut_base::{Lit, Partial};
 
@@ -17,6 +17,23 @@ pub enum Negated<'a> {
     OfClause(&'a Constraint),
 }
 
+// What `propagate` does of the negation where every variable is open. Costs one pass over a clause.
+pub(crate) fn propagate_first(scratch: &mut Partial, negated: Negated<'_>) -> bool
+    requires negation { IsNegation negated }
+    requires within { UpTo (length scratch.old) (negation_in negated) }
+    requires cleared { scratch.old ≡ replicate (length scratch.old) None }
+    ensures propagates { Propagates scratch.old scratch.new (negation_in negated.entry) result }
+    ensures length { length scratch.new ≡ length scratch.old }
+{
+    match negated {
+        Negated::Made(line) => propagate_sum(scratch, line),
+        Negated::OfClause(clause) => {
+            deny(scratch, clause);
+            false
+        }
+    }
+}
+
 // What `propagate` does of the negation. Costs two passes over a clause.
 pub(crate) fn propagate_negated(scratch: &mut Partial, negated: Negated<'_>) -> bool
     requires negation { IsNegation negated }
@@ -25,7 +42,7 @@ pub(crate) fn propagate_negated(scratch: &mut Partial, negated: Negated<'_>) -> 
     ensures length { length scratch.new ≡ length scratch.old }
 {
     match negated {
-        Negated::Made(line) => propagate(scratch, line),
+        Negated::Made(line) => propagate_sum(scratch, line),
         Negated::OfClause(clause) => {
             if has_true(scratch, clause.literals()) {
                 return true;

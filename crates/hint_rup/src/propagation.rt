@@ -32,6 +32,16 @@ pub(crate) fn propagate(scratch: &mut Partial, line: &Constraint) -> bool
     if line.is_clause() {
         return propagate_clause(scratch, line);
     }
+    propagate_sum(scratch, line)
+}
+
+// The same, by the slack, whatever the line is. A function by itself, so that few registers are saved for a clause.
+pub(crate) fn propagate_sum(scratch: &mut Partial, line: &Constraint) -> bool
+    requires { UpTo (length scratch.old) line.now }
+    ensures conflict { IsTrue result ↔ slack scratch.old line.now <ℤ pos 0 }
+    ensures forced { result ≡ false → scratch.new ≡ forced scratch.old line.now }
+    ensures length { length scratch.new ≡ length scratch.old }
+{
     let slack = line.slack(scratch);
     if slack < 0 {
         return true;

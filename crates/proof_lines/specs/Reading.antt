@@ -1,5 +1,5 @@
 -- What the functions of the reader answer.
-use Rattle.std.specs.Prelude.{◌≡◌, ◌≢◌, ℕ, ◌+◌, ◌<◌, ◌≤◌, ◌^◌, Bool, true, false, ◌==◌, List, [], ◌∷◌, ◌++◌, length, take, slice_index, Option, None, Some, Result, Ok, Err, codes}
+use Rattle.std.specs.Prelude.{◌≡◌, ◌≢◌, ℕ, ◌+◌, ◌<◌, ◌≤◌, ◌^◌, Bool, true, false, ◌==◌, List, [], ◌∷◌, ◌++◌, length, take, drop, nat_lt, if◌then◌else◌, slice_index, Option, None, Some, Result, Ok, Err, codes}
 use Rattle.std.specs.List.{slice_split, flat_map}
 use Rattle.std.specs.Fmt.{decimal}
 use Rattle.std.specs.Str.Parse.{AllDigits, digits_value}
@@ -28,6 +28,10 @@ words_of text = slice_split is_space text
 abbrev pub words_left : Option (List ℕ) → List (List ℕ)
 words_left None = []
 words_left (Some text) = words_of text
+
+-- the words of a text from a place on, of which none is left past its end
+abbrev pub words_from : List ℕ → ℕ → List (List ℕ)
+words_from text at = if nat_lt (length text) at then [] else words_of (drop at text)
 
 -- the first of the words is this one
 abbrev pub BeginsWith : List ℕ → List (List ℕ) → Type 0

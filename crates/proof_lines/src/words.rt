@@ -13,7 +13,7 @@ ghost use Rattle.proof_lines.specs.Reading.{AreTerms, BeginsWith, EndsPart, Skip
 ghost use Rattle.proof_lines.specs.Reading.{term_words, words_left, words_of};
 
 use crate::Spelling;
-use crate::short::{cut_id, cut_literal, cut_number, cut_unit};
+use crate::short::{cut_id, cut_literal, hints_from_start, rest_from, units_from_start};
 use hint_rup::Hint;
 use scut_base::{Items, Lit, NoMemory};
 use std::alloc::Global;
@@ -24,9 +24,6 @@ const WORD_LEN: usize = 3;
 
 // A longer list grows.
 const MAX_ROOM: usize = 64;
-
-// How many literals of a constraint have room before their list grows.
-const UNITS_ROOM: usize = 16;
 
 /// The words of a text that were not taken yet, with one space between each two. Contracts see it
 /// as their list. Each call finds the next space, so no list is made.
@@ -127,17 +124,11 @@ impl<'a> Words<'a> {
         ensures { IfOk result (λ hints. All IsHint hints
             × (self.old ≡ map (hint_word Plain) hints ++ self.new)) }
     {
-        let mut hints = Items::with_capacity(alloc, self.room())?;
-        // By itself, since it is kept in registers then.
-        let mut rest = self.rest;
-        while let Some(text) = rest {
-            let Some((id, left)) = cut_number(text) else {
-                break;
-            };
-            hints.push(Hint::Id(id))?;
-            rest = left;
-        }
-        self.rest = rest;
+        let Some(text) = self.rest else {
+            return Ok(Items::new(alloc));
+        };
+        let (hints, at) = hints_from_start(alloc, self.room(), text)?;
+        self.rest = rest_from(text, at);
         Ok(hints)
     }
 
@@ -148,24 +139,12 @@ impl<'a> Words<'a> {
             × (units.1 ≡ last_variable (ones units.0))
             × (self.old ≡ flat_map term_words (ones units.0) ++ self.new)) }
     {
-        let mut lits = Items::with_capacity(alloc, UNITS_ROOM)?;
-        let mut last = 0;
-        let mut rest = self.rest;
-        while let Some(text) = rest {
-            let Some((lit, left)) = cut_unit(text) else {
-                break;
-            };
-            if lit.var() <= last {
-                break;
-            }
-            // Tells that their number is small.
-            let _len = lits.len();
-            lits.push(lit)?;
-            last = lit.var();
-            rest = left;
-        }
-        self.rest = rest;
-        Ok((lits, last))
+        let Some(text) = self.rest else {
+            return Ok((Items::new(alloc), 0));
+        };
+        let (units, at) = units_from_start(alloc, text)?;
+        self.rest = rest_from(text, at);
+        Ok(units)
     }
 
     /// Whether a part of a line ends here.

@@ -11,13 +11,13 @@ use Rattle.hint_rup.proofs.Conflict.{IsRest, conflicts_here, conflicts_none, res
 use Rattle.hint_rup.proofs.HintLines.{named_more, named_stop, named_end, unnamed_more, unnamed_stop, unnamed_end, refuted}
 use Rattle.hint_rup.proofs.hinted.replay.Goals as goal
 
-pub returns-then-propagate_negated-clause-answer : goal.returns-then-propagate_negated-clause-answer
-returns-then-propagate_negated-clause-answer c =
-    conflicts_here _ _ _ (subst (λ (p : List (Option Bool)). slack p (negation_in c.args.negated) <ℤ pos 0) c.clear.ensures (c.propagate_negated.ensures.propagates.0.0 c.if-propagate_negated.true))
+pub returns-then-propagate_first-clause-answer : goal.returns-then-propagate_first-clause-answer
+returns-then-propagate_first-clause-answer c =
+    conflicts_here _ _ _ (subst (λ (p : List (Option Bool)). slack p (negation_in c.args.negated) <ℤ pos 0) c.clear.ensures (c.propagate_first.ensures.propagates.0.0 c.if-propagate_first.true))
 
-pub returns-then-propagate_negated-clause-implied : goal.returns-then-propagate_negated-clause-implied
-returns-then-propagate_negated-clause-implied c =
-    λ ok. refuted (given_with c.args.lines.now (negation_in c.args.negated) c.args.denied) (length c.args.scratch.now) (negation_in c.args.negated) c.args.hints.now refl (returns-then-propagate_negated-clause-answer c)
+pub returns-then-propagate_first-clause-implied : goal.returns-then-propagate_first-clause-implied
+returns-then-propagate_first-clause-implied c =
+    λ ok. refuted (given_with c.args.lines.now (negation_in c.args.negated) c.args.denied) (length c.args.scratch.now) (negation_in c.args.negated) c.args.hints.now refl (returns-then-propagate_first-clause-answer c)
 
 pub loop-hint-init : goal.loop-hint-init
 loop-hint-init c =
@@ -26,12 +26,12 @@ loop-hint-init c =
     let negated = negation_in c.args.negated in
     let hinted = named (given_with c.args.lines.now negated c.args.denied) c.args.hints.now in
     let kept : slack start negated <ℤ pos 0 → ⊥ =
-    fails c.propagate_negated.result (λ violated. c.propagate_negated.ensures.propagates.0.1 (subst (λ (p : Partials). slack p negated <ℤ pos 0) (sym c.clear.ensures) violated)) c.if-propagate_negated.false in
-    let is : c.propagate_negated.new.scratch ≡ forced start negated = c.propagate_negated.ensures.propagates.1 c.if-propagate_negated.false ∙ ap (λ (p : Partials). forced p negated) c.clear.ensures in
+    fails c.propagate_first.result (λ violated. c.propagate_first.ensures.propagates.0.1 (subst (λ (p : Partials). slack p negated <ℤ pos 0) (sym c.clear.ensures) violated)) c.if-propagate_first.false in
+    let is : c.propagate_first.new.scratch ≡ forced start negated = c.propagate_first.ensures.propagates.1 c.if-propagate_first.false ∙ ap (λ (p : Partials). forced p negated) c.clear.ensures in
     record {
-      rest = rest_more start start c.propagate_negated.new.scratch (negated ∷ hinted) negated hinted (rest_whole start (negated ∷ hinted)) kept is;
+      rest = rest_more start start c.propagate_first.new.scratch (negated ∷ hinted) negated hinted (rest_whole start (negated ∷ hinted)) kept is;
       first = refl;
-      length = c.propagate_negated.ensures.length ∙ ap length c.clear.ensures ∙ length-replicate (length c.args.scratch.now) None;
+      length = c.propagate_first.ensures.length ∙ ap length c.clear.ensures ∙ length-replicate (length c.args.scratch.now) None;
     }
 
 pub propagate_hint-requires-clause-hinted : goal.propagate_hint-requires-clause-hinted
@@ -95,3 +95,8 @@ returns-clause-answer c =
       (λ found. conflicts_none here (subst (λ (cs : List ConstraintValue). Conflicts here cs) none (c.loop-hint.invariant.rest.onward found))),
       c.loop-hint.invariant.first ∙ unnamed_end (given_with c.args.lines.now (negation_in c.args.negated) c.args.denied) c.args.hints.now c.loop-hint.hint-index c.loop-hint-test.false,
     )
+
+pub propagate_first-requires-clause-cleared : goal.propagate_first-requires-clause-cleared
+propagate_first-requires-clause-cleared c =
+    let count : length c.clear.new.self ≡ length c.args.scratch.now = ap length c.clear.ensures ∙ length-replicate (length c.args.scratch.now) None in
+    c.clear.ensures ∙ ap (λ n. replicate n None) (sym count)
