@@ -1,5 +1,5 @@
 // The search for two objectives.
-ghost use Rattle.std.specs.Prelude.{◌≡◌, length, IfOk, IfErr, option_copied};
+ghost use Rattle.std.specs.Prelude.{◌≡◌, length, None, Ok, IfOk, IfErr, option_copied};
 ghost use Rattle.search_base.specs.Good.{GoesOn, IsGood, KeepsBoard};
 ghost use Rattle.search_base.specs.Turns.{IsInOrder, IsSearchFault, IsTurn};
 ghost use Rattle.search_questions.specs.Telling.{IsGoodWithSome, SeeksOn, Tells, TellsAny};
@@ -190,7 +190,16 @@ impl Search for BiOpt {
         _oracle: &mut O,
         _bounds: &mut Bounds,
         _board: &mut Board<'_>,
-    ) -> Result<Option<u64>, OracleFault> {
+    ) -> Result<Option<u64>, OracleFault>
+        requires good { IsGood (O.seen _oracle.old) _bounds.old _board.old }
+        requires serves { Serves self.old (O.seen _oracle.old).problem }
+        ensures none { result ≡ Ok None }
+        ensures same { self.new ≡ self.old }
+        ensures oracle { O.seen _oracle.new ≡ O.seen _oracle.old }
+        ensures bounds { _bounds.new ≡ _bounds.old }
+        ensures board { _board.new ≡ _board.old }
+        ensures goes_on { GoesOn (O.seen _oracle.old) (O.seen _oracle.new) }
+    {
         Ok(None)
     }
 

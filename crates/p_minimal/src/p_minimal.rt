@@ -1,7 +1,7 @@
 // The search for minimal models.
 ghost use Rattle.std.specs.Prelude.{◌≡◌, None, IfOk, IfErr, IfSome, option_copied};
 ghost use Rattle.search_base.specs.Good.{GoesOn, IsGood, KeepsBoard};
-ghost use Rattle.search_base.specs.Turns.{IsInOrder, IsSearchFault, IsTurn};
+ghost use Rattle.search_base.specs.Turns.{IsEndLine, IsInOrder, IsSearchFault, IsTurn};
 ghost use Rattle.search_questions.specs.Telling.{IsGoodWithSome, SeeksOn};
 ghost use Rattle.p_minimal.specs.Aiming.{Aims, Serves, TellsOfAim, own_number};
 
@@ -76,7 +76,18 @@ impl Search for PMinimal {
         oracle: &mut O,
         bounds: &mut Bounds,
         board: &mut Board<'_>,
-    ) -> Result<Option<u64>, OracleFault> {
+    ) -> Result<Option<u64>, OracleFault>
+        requires good { IsGood (O.seen oracle.old) bounds.old board.old }
+        requires serves { Serves self.old (O.seen oracle.old).problem }
+        ensures same_aim { self.new ≡ self.old }
+        ensures end { IfOk result (λ found. IfSome found
+            (IsEndLine (O.seen oracle.new).problem (O.seen oracle.new).lines)) }
+        ensures good { IsInOrder result → IsGood (O.seen oracle.new) bounds.new board.new }
+        ensures serves { IsInOrder result → Serves self.new (O.seen oracle.new).problem }
+        ensures fault { IfErr result (IsSearchFault (O.seen oracle.old) (O.seen oracle.new)) }
+        ensures goes_on { GoesOn (O.seen oracle.old) (O.seen oracle.new) }
+        ensures board { KeepsBoard board.old board.new }
+    {
         let Some(relaxed) = &mut self.relaxed else {
             return Ok(None);
         };
