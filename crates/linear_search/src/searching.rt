@@ -42,20 +42,39 @@ impl LinearSearch {
         if self.is_spent() {
             return Ok(Found::Nothing);
         }
-        let pivots = self.pivots();
-        let mut tree = Tree::new(self.alloc, state.vars(), pivots)?;
         self.begin(assumed, limits);
-        let found = self.explore(state, assumed, limits, &mut tree)?;
+        let pivots = self.pivots();
+        let (found, left) = self.explore_anew(state, assumed, limits, pivots)?;
         if let Found::Nothing = found {
-            let work = pivots
-                .saturating_sub(tree.pivots_left)
-                .saturating_mul(self.cells());
-            self.purse = purse_after(self.purse, work);
-            if self.is_spent() {
-                self.let_go()?;
-            }
+            self.pay(pivots.saturating_sub(left))?;
         }
         Ok(found)
+    }
+
+    // Searches in a tree of its own, and answers how many pivots are left.
+    fn explore_anew(
+        &mut self,
+        state: &ProofState,
+        assumed: &[Lit],
+        limits: &[Limit],
+        pivots: u64,
+    ) -> Result<(Found, u64), NoMemory>
+        ensures { self.new ≡ self.old }
+    {
+        let mut tree = Tree::new(self.alloc, state.vars(), pivots)?;
+        let found = self.explore(state, assumed, limits, &mut tree)?;
+        Ok((found, tree.pivots_left))
+    }
+
+    // Takes what so many pivots cost from the purse, and lets go of the relaxation where nothing is left.
+    fn pay(&mut self, pivots: u64) -> Result<(), NoMemory>
+        ensures { IsPaid self.old self.new }
+    {
+        self.purse = purse_after(self.purse, pivots.saturating_mul(self.cells()));
+        if self.is_spent() {
+            self.let_go()?;
+        }
+        Ok(())
     }
 
     // The cells of its table.
