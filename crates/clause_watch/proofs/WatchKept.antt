@@ -16,15 +16,15 @@ use Rattle.clause_watch.proofs.WatchLists.{at_set, at_others, opposite_same, cod
 
 -- More variables, and a longer trail.
 
-pub entry_more : (own : List Slot) (n m : ℕ) (e : Entry) → n ≤ m → IsEntry own n e → IsEntry own m e
-entry_more own n m e up entry = record { there = entry.there; upto = (let u = entry.upto in omega arith); among = entry.among }
+pub entry_more : (own : List Slot) (n m c : ℕ) (e : Entry) → n ≤ m → IsEntry own n c e → IsEntry own m c e
+entry_more own n m c e up entry = record { there = entry.there; upto = (let u = entry.upto in omega arith); other = entry.other; among = entry.among }
 
 pub kept_more : (own : List Slot) (lists : List (List Entry)) (ends : List ℕ) (n m : ℕ) (trail : List Literal) → n ≤ m → IsKept own lists ends n trail → IsKept own lists ends m trail
 kept_more own lists ends n m trail up kept = record {
   distinct = kept.distinct;
   upto = λ j l h. (let u = kept.upto j l h in omega arith);
   covered = kept.covered;
-  entries = λ c k h. entry_more own n m _ up (kept.entries c k h);
+  entries = λ c k h. entry_more own n m c _ up (kept.entries c k h);
   watched = kept.watched;
   within = kept.within;
   rising = kept.rising;
@@ -134,13 +134,14 @@ looking_end own lists ends n trail lit at looking past =
 pub true_reordered : (trail clause new : List Literal) → IsPermutation clause new → HasTrue trail clause → HasTrue trail new
 true_reordered trail clause new same (l, among, true_l) = (l, Contains-permutation _ _ l same among, true_l)
 
-pub entry_reordered : (own : List Slot) (n slot : ℕ) (s : Slot) (e : Entry) → IsPermutation (clause_at own slot) s.lits → IsEntry own n e → IsEntry (set own slot s) n e
-entry_reordered own n slot s e same entry = record {
+pub entry_reordered : (own : List Slot) (n code slot : ℕ) (s : Slot) (e : Entry) → IsPermutation (clause_at own slot) s.lits → IsEntry own n code e → IsEntry (set own slot s) n code e
+entry_reordered own n code slot s e same entry = record {
   there = (let t = entry.there in omega (arith, t, length-set own slot s));
   upto = entry.upto;
-  among = at_set no_slot (λ j x. j ≡ e.slot → 2 ≤ length x.lits → Contains x.lits e.blocker) own slot s
-      (λ j is. subst (λ i. 2 ≤ length (clause_at own i) → Contains (clause_at own i) e.blocker) (sym is) entry.among)
-      (λ _ is long. Contains-permutation _ _ e.blocker same (subst (λ i. 2 ≤ length (clause_at own i) → Contains (clause_at own i) e.blocker) (sym is) entry.among (let len = length_permutation _ _ same in omega arith)))
+  other = entry.other;
+  among = λ l beside. at_set no_slot (λ j x. j ≡ e.slot → 2 ≤ length x.lits → Contains x.lits l) own slot s
+      (λ j is. subst (λ i. 2 ≤ length (clause_at own i) → Contains (clause_at own i) l) (sym is) (entry.among l beside))
+      (λ _ is long. Contains-permutation _ _ l same (subst (λ i. 2 ≤ length (clause_at own i) → Contains (clause_at own i) l) (sym is) (entry.among l beside) (let len = length_permutation _ _ same in omega arith)))
       e.slot refl;
 }
 
@@ -152,7 +153,7 @@ kept_reordered own lists ends n trail slot s kept same apart watches =
       distinct = at_set no_slot (λ j x. IsDistinct x.lits) own slot s kept.distinct (λ _. apart);
       upto = λ j l. at_set no_slot (λ j x. Contains x.lits l → l.var ≤ n) own slot s (λ i h. kept.upto i l h) (λ _ h. kept.upto slot l (back l h)) j;
       covered = λ j l. at_set no_slot (λ j x. Contains x.lits l → code_of l < length lists) own slot s (λ i h. kept.covered i l h) (λ _ h. kept.covered slot l (back l h)) j;
-      entries = λ c k h. entry_reordered own n slot s _ same (kept.entries c k h);
+      entries = λ c k h. entry_reordered own n c slot s _ same (kept.entries c k h);
       watched = λ j l watch. at_set no_slot (λ j x. IsWatch x.lits l → Names (list_of lists l) 0 j) own slot s (λ i w. kept.watched i l w) (λ _ w. elim (watches l w) [ inl old ↦ kept.watched slot l old | inr new ↦ new.0 ]) j watch;
       within = kept.within;
       rising = kept.rising;
@@ -225,18 +226,33 @@ pub pushed_names : (lists : List (List Entry)) (code : ℕ) (e : Entry) (l : Lit
 pushed_names lists code e l from j names =
     at_set [] (λ c es. c ≡ code_of l → Names es from j) lists code (get_or lists code [] ++ e ∷ []) (λ c is. subst (λ c. Names (get_or lists c []) from j) (sym is) names) (λ _ is. names_push (get_or lists code []) e from j (subst (λ c. Names (get_or lists c []) from j) (sym is) names)) (code_of l) refl
 
-pub kept_entry : (own : List Slot) (lists : List (List Entry)) (ends : List ℕ) (n : ℕ) (trail : List Literal) (code : ℕ) (e : Entry) → IsKept own lists ends n trail → IsEntry own n e → IsKept own (with_entry lists code e) ends n trail
+-- an entry in the list of another literal of a clause, whose blocker is the first one
+pub entry_by : (own : List Slot) (n slot place : ℕ) (first l : Literal) → slot < length own → 2 ≤ length (clause_at own slot) → IsDistinct (clause_at own slot) → first ≡ get_or (clause_at own slot) 0 no_literal → get_or (clause_at own slot) place no_literal ≡ l → first.var ≤ n → 0 < place → place < length (clause_at own slot)
+    → IsEntry own n (code_of l) (record { slot = slot; blocker = first })
+entry_by own n slot place first l in_own long apart is_first is_l upto above below =
+    let clause = clause_at own slot in
+    record {
+      there = in_own;
+      upto = upto;
+      other = λ e. apart 0 place (omega (arith, long)) below (λ f. absurd (omega (arith, f, above))) (sym is_first ∙ code_same first l e ∙ sym is_l);
+      among = λ m beside _. elim beside [
+        | inl e ↦ contains_at clause 0 m (omega (arith, long)) (sym is_first ∙ sym e)
+        | inr e ↦ contains_at clause place m below (is_l ∙ sym (code_same m l e))
+      ];
+    }
+
+pub kept_entry : (own : List Slot) (lists : List (List Entry)) (ends : List ℕ) (n : ℕ) (trail : List Literal) (code : ℕ) (e : Entry) → IsKept own lists ends n trail → IsEntry own n code e → IsKept own (with_entry lists code e) ends n trail
 kept_entry own lists ends n trail code e kept valid =
     let old = get_or lists code [] in
     record {
       distinct = kept.distinct;
       upto = kept.upto;
       covered = λ j l h. (let c = kept.covered j l h in omega (arith, c, length-set lists code (old ++ e ∷ [])));
-      entries = at_set [] (λ c es. (k : ℕ) → k < length es → IsEntry own n (get_or es k no_entry)) lists code (old ++ e ∷ []) kept.entries (λ _ k h. elim (cases_lt k (length old)) [
-        | inl b ↦ subst (IsEntry own n) (sym (get_or_append_left old (e ∷ []) no_entry k b)) (kept.entries code k b)
+      entries = at_set [] (λ c es. (k : ℕ) → k < length es → IsEntry own n c (get_or es k no_entry)) lists code (old ++ e ∷ []) kept.entries (λ _ k h. elim (cases_lt k (length old)) [
+        | inl b ↦ subst (IsEntry own n code) (sym (get_or_append_left old (e ∷ []) no_entry k b)) (kept.entries code k b)
         | inr b ↦
             let k_is : length old ≡ k = omega (arith, length_push old e) in
-            subst (λ i. IsEntry own n (get_or (old ++ e ∷ []) i no_entry)) k_is (subst (IsEntry own n) (sym (get_or_push old e no_entry (length old) refl)) valid)
+            subst (λ i. IsEntry own n code (get_or (old ++ e ∷ []) i no_entry)) k_is (subst (IsEntry own n code) (sym (get_or_push old e no_entry (length old) refl)) valid)
       ]);
       watched = λ j l watch. pushed_names lists code e l 0 j (kept.watched j l watch);
       within = kept.within;
@@ -244,7 +260,7 @@ kept_entry own lists ends n trail code e kept valid =
       settled = kept.settled;
     }
 
-pub looking_entry : (own : List Slot) (lists : List (List Entry)) (ends : List ℕ) (n : ℕ) (trail : List Literal) (lit : Literal) (at code : ℕ) (e : Entry) → IsLooking own lists ends n trail lit at → IsEntry own n e → IsLooking own (with_entry lists code e) ends n trail lit at
+pub looking_entry : (own : List Slot) (lists : List (List Entry)) (ends : List ℕ) (n : ℕ) (trail : List Literal) (lit : Literal) (at code : ℕ) (e : Entry) → IsLooking own lists ends n trail lit at → IsEntry own n code e → IsLooking own (with_entry lists code e) ends n trail lit at
 looking_entry own lists ends n trail lit at code e looking valid =
     record {
       kept = kept_entry own lists ends n trail code e looking.kept valid;
@@ -271,7 +287,7 @@ names_set entries at e from j within same (k, up, below, is) = (
   ],
 )
 
-pub looking_blocker : (own : List Slot) (lists : List (List Entry)) (ends : List ℕ) (n : ℕ) (trail : List Literal) (lit : Literal) (at next : ℕ) (e : Entry) → IsLooking own lists ends n trail lit next → at < length (list_of lists lit) → e.slot ≡ (get_or (list_of lists lit) at no_entry).slot → IsEntry own n e
+pub looking_blocker : (own : List Slot) (lists : List (List Entry)) (ends : List ℕ) (n : ℕ) (trail : List Literal) (lit : Literal) (at next : ℕ) (e : Entry) → IsLooking own lists ends n trail lit next → at < length (list_of lists lit) → e.slot ≡ (get_or (list_of lists lit) at no_entry).slot → IsEntry own n (code_of lit) e
     → IsLooking own (set lists (code_of lit) (set (list_of lists lit) at e)) ends n trail lit next
 looking_blocker own lists ends n trail lit at next e looking within same valid =
     let kept = looking.kept in
@@ -283,7 +299,7 @@ looking_blocker own lists ends n trail lit at next e looking within same valid =
         distinct = kept.distinct;
         upto = kept.upto;
         covered = λ j l h. (let c = kept.covered j l h in omega (arith, c, length-set lists code new));
-        entries = at_set [] (λ c es. (k : ℕ) → k < length es → IsEntry own n (get_or es k no_entry)) lists code new kept.entries (λ _ k h. at_set no_entry (λ i x. i < length old → IsEntry own n x) old at e (kept.entries code) (λ _ _. valid) k (omega (arith, length-set old at e)));
+        entries = at_set [] (λ c es. (k : ℕ) → k < length es → IsEntry own n c (get_or es k no_entry)) lists code new kept.entries (λ _ k h. at_set no_entry (λ i x. i < length old → IsEntry own n code x) old at e (kept.entries code) (λ _ _. valid) k (omega (arith, length-set old at e)));
         watched = λ j l watch. at_set [] (λ c es. c ≡ code_of l → Names es 0 j) lists code new (λ c is. subst (λ c. Names (get_or lists c []) 0 j) (sym is) (kept.watched j l watch)) (λ _ is. names_set old at e 0 j within same (subst (λ c. Names (get_or lists c []) 0 j) (sym is) (kept.watched j l watch))) (code_of l) refl;
         within = kept.within;
         rising = kept.rising;
@@ -323,11 +339,11 @@ looking_removed own lists new ends n trail lit at slot looking within entry unwa
         distinct = kept.distinct;
         upto = kept.upto;
         covered = λ j l h. (let c = kept.covered j l h in omega (arith, c));
-        entries = at_others [] (λ c es. (k : ℕ) → k < length es → IsEntry own n (get_or es k no_entry)) lists new code others kept.entries (λ k h. elim (cases_eq k at) [
+        entries = at_others [] (λ c es. (k : ℕ) → k < length es → IsEntry own n c (get_or es k no_entry)) lists new code others kept.entries (λ k h. elim (cases_eq k at) [
           | inl e ↦
               let at_in : at < length new_list = omega arith in
-              subst (λ i. IsEntry own n (get_or new_list i no_entry)) (sym e) (subst (IsEntry own n) (sym (removed.moved at_in)) (kept.entries code (length new_list) (let l = removed.len in omega arith)))
-          | inr n' ↦ subst (IsEntry own n) (sym (removed.others k n' h)) (kept.entries code k (let l = removed.len in omega arith))
+              subst (λ i. IsEntry own n code (get_or new_list i no_entry)) (sym e) (subst (IsEntry own n code) (sym (removed.moved at_in)) (kept.entries code (length new_list) (let l = removed.len in omega arith)))
+          | inr n' ↦ subst (IsEntry own n code) (sym (removed.others k n' h)) (kept.entries code k (let l = removed.len in omega arith))
         ]);
         watched = λ j l watch. at_others [] (λ c es. c ≡ code_of l → Names es 0 j) lists new code others (λ c is. subst (λ c. Names (get_or lists c []) 0 j) (sym is) (kept.watched j l watch)) (λ is.
             let l_is : l ≡ lit = code_same l lit (sym is) in
@@ -381,7 +397,7 @@ length_blocker lists code at e =
     at_set [] (λ c es. c ≡ code → length es ≡ length (get_or lists code [])) lists code (set (get_or lists code []) at e) (λ c is. ap (λ (i : ℕ). length (get_or lists i [])) is) (λ _ _. length-set (get_or lists code []) at e) code refl
 
 pub replaced : (own own_2 : List Slot) (lists lists_2 lists_3 : List (List Entry)) (ends : List ℕ) (n : ℕ) (trail : List Literal) (lit : Literal) (at slot place : ℕ) (s : Slot) (e : Entry) → IsLooking own lists ends n trail lit at → at < length (list_of lists lit) → (get_or (list_of lists lit) at no_entry).slot ≡ slot → slot < length own
-    → get_or (clause_at own slot) 1 no_literal ≡ lit → IsFree (clause_at own slot) trail place → e.slot ≡ slot → IsEntry own n e → lists_2 ≡ with_entry lists (code_of (get_or (clause_at own slot) place no_literal)) e → s.lits ≡ swap (clause_at own slot) 1 place → own_2 ≡ set own slot s
+    → get_or (clause_at own slot) 1 no_literal ≡ lit → IsFree (clause_at own slot) trail place → e.slot ≡ slot → IsEntry own n (code_of (get_or (clause_at own slot) place no_literal)) e → lists_2 ≡ with_entry lists (code_of (get_or (clause_at own slot) place no_literal)) e → s.lits ≡ swap (clause_at own slot) 1 place → own_2 ≡ set own slot s
     → ((c : ℕ) → c ≢ code_of lit → get_or lists_3 c [] ≡ get_or lists_2 c []) → IsRemoved (list_of lists_2 lit) (list_of lists_3 lit) at → length lists_3 ≡ length lists_2 → IsLooking own_2 lists_3 ends n trail lit at × (length (list_of lists lit) ≡ length (list_of lists_3 lit) + 1)
 replaced own own_2 lists lists_2 lists_3 ends n trail lit at slot place s e looking within entry in_own second free slot_is valid is_2 s_is own_is others removed len =
     let l = get_or (clause_at own slot) place no_literal in
@@ -414,8 +430,9 @@ looking_skip own lists ends n trail lit at to looking held =
           | inl below ↦
               let h = held names.0 names.1 below in
               let e = looking.kept.entries (code_of lit) names.0 h.0 in
-              let among = subst (λ i. 2 ≤ length (clause_at own i) → Contains (clause_at own i) (get_or (list_of lists lit) names.0 no_entry).blocker) names.3 e.among in
-              inr ((get_or (list_of lists lit) names.0 no_entry).blocker, among watch.0, h.1)
+              let blocker : Literal = (get_or (list_of lists lit) names.0 no_entry).blocker in
+              let among = subst (λ i. 2 ≤ length (clause_at own i) → Contains (clause_at own i) blocker) names.3 (e.among blocker (inl refl)) in
+              inr (blocker, among watch.0, h.1)
           | inr past ↦ inl (names.0, past, names.2, names.3)
         ]
         | inr t ↦ inr t

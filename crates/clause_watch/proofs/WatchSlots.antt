@@ -9,8 +9,8 @@ use Rattle.scut_base.specs.LiteralCode.{code_of}
 use Rattle.pb_lin.specs.Constraint.{opposite}
 use Rattle.clause_watch.specs.declared.watch_lists.Entry.{Entry}
 use Rattle.clause_watch.specs.Slot.{Slot}
-use Rattle.clause_watch.specs.Watching.{IsKept, IsWatch, IsEntry, IsDistinct, HasTrue, Names, clause_at, list_of, no_entry, no_literal, no_slot}
-use Rattle.clause_watch.proofs.WatchLists.{at_set}
+use Rattle.clause_watch.specs.Watching.{IsBeside, IsKept, IsWatch, IsEntry, IsDistinct, HasTrue, Names, clause_at, list_of, no_entry, no_literal, no_slot}
+use Rattle.clause_watch.proofs.WatchLists.{at_set, code_same}
 use Rattle.clause_watch.proofs.WatchKept.{kept_entry, named_here, pushed_names, with_entry}
 
 -- A slot without literals.
@@ -22,12 +22,13 @@ none_among l (k, below, is) = absurd (omega (arith, below))
 distinct_none : IsDistinct []
 distinct_none i k below = absurd (omega (arith, below))
 
-entry_emptied : (own : List Slot) (n slot : ℕ) (s : Slot) (e : Entry) → s.lits ≡ [] → IsEntry own n e → IsEntry (set own slot s) n e
-entry_emptied own n slot s e none entry = record {
+entry_emptied : (own : List Slot) (n code slot : ℕ) (s : Slot) (e : Entry) → s.lits ≡ [] → IsEntry own n code e → IsEntry (set own slot s) n code e
+entry_emptied own n code slot s e none entry = record {
   there = (let t = entry.there in omega (arith, t, length-set own slot s));
   upto = entry.upto;
-  among = at_set no_slot (λ j x. j ≡ e.slot → 2 ≤ length x.lits → Contains x.lits e.blocker) own slot s
-      (λ j is. subst (λ i. 2 ≤ length (clause_at own i) → Contains (clause_at own i) e.blocker) (sym is) entry.among)
+  other = entry.other;
+  among = λ l beside. at_set no_slot (λ j x. j ≡ e.slot → 2 ≤ length x.lits → Contains x.lits l) own slot s
+      (λ j is. subst (λ i. 2 ≤ length (clause_at own i) → Contains (clause_at own i) l) (sym is) (entry.among l beside))
       (λ _ is long. absurd (omega (arith, long, ap length none)))
       e.slot refl;
 }
@@ -41,7 +42,7 @@ kept_emptied own lists ends n trail slot s kept none =
       distinct = at_set no_slot (λ j x. IsDistinct x.lits) own slot s kept.distinct (λ _. subst IsDistinct (sym none) distinct_none);
       upto = λ j l. at_set no_slot (λ j x. Contains x.lits l → l.var ≤ n) own slot s (λ i h. kept.upto i l h) (λ _ h. absurd (lacks l h)) j;
       covered = λ j l. at_set no_slot (λ j x. Contains x.lits l → code_of l < length lists) own slot s (λ i h. kept.covered i l h) (λ _ h. absurd (lacks l h)) j;
-      entries = λ c k h. entry_emptied own n slot s _ none (kept.entries c k h);
+      entries = λ c k h. entry_emptied own n c slot s _ none (kept.entries c k h);
       watched = λ j l watch. at_set no_slot (λ j x. IsWatch x.lits l → Names (list_of lists l) 0 j) own slot s (λ i w. kept.watched i l w) (λ _ w. absurd (short l w)) j watch;
       within = kept.within;
       rising = kept.rising;
@@ -77,7 +78,8 @@ kept_slot own lists ends n trail s kept none =
           record {
             there = omega (arith, t, length_push own s);
             upto = e.upto;
-            among = subst (λ (x : Slot). 2 ≤ length x.lits → Contains x.lits (get_or (get_or lists c []) k no_entry).blocker) (sym (get_or_append_left own (s ∷ []) no_slot _ t)) e.among;
+            other = e.other;
+            among = λ l beside. subst (λ (x : Slot). 2 ≤ length x.lits → Contains x.lits l) (sym (get_or_append_left own (s ∷ []) no_slot _ t)) (e.among l beside);
           };
       watched = λ j l watch. at_push no_slot (λ j x. IsWatch x.lits l → Names (list_of lists l) 0 j) own s (λ i w. kept.watched i l w) (λ w. absurd (short l w)) j watch;
       within = kept.within;
@@ -85,10 +87,13 @@ kept_slot own lists ends n trail s kept none =
       settled = λ j l p watch h is. at_push no_slot (λ j x. IsWatch x.lits l → HasTrue (take (get_or ends p 0) trail) x.lits) own s (λ i w. kept.settled i l p w h is) (λ w. absurd (short l w)) j watch;
     }
 
+-- the entries of a slot stand by two literals of its clause
+abbrev pub BlocksBy : List (List Entry) → ℕ → List Literal → Type 0
+BlocksBy lists slot lits = (c k : ℕ) → k < length (get_or lists c []) → (get_or (get_or lists c []) k no_entry).slot ≡ slot → (l : Literal) → IsBeside c (get_or (get_or lists c []) k no_entry) l → Contains lits l
+
 -- a slot without literals gets a clause, which stands in the lists of its watches
 pub kept_filled : (own : List Slot) (lists : List (List Entry)) (ends : List ℕ) (n : ℕ) (trail : List Literal) (slot : ℕ) (s : Slot) → IsKept own lists ends n trail → slot < length own
-    → ((c k : ℕ) → k < length (get_or lists c []) → (get_or (get_or lists c []) k no_entry).slot ≡ slot → Contains s.lits (get_or (get_or lists c []) k no_entry).blocker)
-    → IsDistinct s.lits → ((l : Literal) → Contains s.lits l → (l.var ≤ n) × (code_of l < length lists)) → ((l : Literal) → IsWatch s.lits l → Names (list_of lists l) 0 slot × ((p : ℕ) → p < length ends → get_or trail p no_literal ≢ opposite l)) → IsKept (set own slot s) lists ends n trail
+    → BlocksBy lists slot s.lits → IsDistinct s.lits → ((l : Literal) → Contains s.lits l → (l.var ≤ n) × (code_of l < length lists)) → ((l : Literal) → IsWatch s.lits l → Names (list_of lists l) 0 slot × ((p : ℕ) → p < length ends → get_or trail p no_literal ≢ opposite l)) → IsKept (set own slot s) lists ends n trail
 kept_filled own lists ends n trail slot s kept in_own blockers apart inside watches =
     record {
       distinct = at_set no_slot (λ j x. IsDistinct x.lits) own slot s kept.distinct (λ _. apart);
@@ -101,9 +106,10 @@ kept_filled own lists ends n trail slot s kept in_own blockers apart inside watc
           record {
             there = omega (arith, t, length-set own slot s);
             upto = e.upto;
-            among = at_set no_slot (λ j y. j ≡ x.slot → 2 ≤ length y.lits → Contains y.lits x.blocker) own slot s
-                (λ j is. subst (λ i. 2 ≤ length (clause_at own i) → Contains (clause_at own i) x.blocker) (sym is) e.among)
-                (λ _ is _. blockers c k h (sym is))
+            other = e.other;
+            among = λ l beside. at_set no_slot (λ j y. j ≡ x.slot → 2 ≤ length y.lits → Contains y.lits l) own slot s
+                (λ j is. subst (λ i. 2 ≤ length (clause_at own i) → Contains (clause_at own i) l) (sym is) (e.among l beside))
+                (λ _ is _. blockers c k h (sym is) l beside)
                 x.slot refl;
           };
       watched = λ j l watch. at_set no_slot (λ j x. IsWatch x.lits l → Names (list_of lists l) 0 j) own slot s (λ i w. kept.watched i l w) (λ _ w. (watches l w).0) j watch;
@@ -132,31 +138,33 @@ kept_none own lists ends n no_own no_lists no_ends = record {
 -- A clause is taken up.
 
 -- an entry of a slot without literals
-pub entry_fresh : (own : List Slot) (n : ℕ) (s : Slot) (e : Entry) → s.lits ≡ [] → e.slot ≡ length own → e.blocker.var ≤ n → IsEntry (own ++ s ∷ []) n e
-entry_fresh own n s e none is upto = record {
+pub entry_fresh : (own : List Slot) (n code : ℕ) (s : Slot) (e : Entry) → s.lits ≡ [] → e.slot ≡ length own → e.blocker.var ≤ n → code_of e.blocker ≢ code → IsEntry (own ++ s ∷ []) n code e
+entry_fresh own n code s e none is upto other = record {
   there = omega (arith, is, length_push own s);
   upto = upto;
-  among = λ long. absurd (
+  other = other;
+  among = λ _ _ long. absurd (
       let here : get_or (own ++ s ∷ []) e.slot no_slot ≡ s = ap (λ (i : ℕ). get_or (own ++ s ∷ []) i no_slot) is ∙ get_or_push own s no_slot (length own) refl in
       omega (arith, long, ap (λ (x : Slot). length x.lits) here, ap length none)
       );
 }
 
--- the entries of a slot have blockers of its clause
-abbrev pub BlocksBy : List (List Entry) → ℕ → List Literal → Type 0
-BlocksBy lists slot lits = (c k : ℕ) → k < length (get_or lists c []) → (get_or (get_or lists c []) k no_entry).slot ≡ slot → Contains lits (get_or (get_or lists c []) k no_entry).blocker
-
-blocks_entry : (lists : List (List Entry)) (slot : ℕ) (lits : List Literal) (code : ℕ) (e : Entry) → BlocksBy lists slot lits → Contains lits e.blocker → BlocksBy (with_entry lists code e) slot lits
+blocks_entry : (lists : List (List Entry)) (slot : ℕ) (lits : List Literal) (code : ℕ) (e : Entry) → BlocksBy lists slot lits → ((l : Literal) → IsBeside code e l → Contains lits l) → BlocksBy (with_entry lists code e) slot lits
 blocks_entry lists slot lits code e blocks among =
     let old = get_or lists code [] in
-    at_set [] (λ c es. (k : ℕ) → k < length es → (get_or es k no_entry).slot ≡ slot → Contains lits (get_or es k no_entry).blocker) lists code (old ++ e ∷ []) blocks (λ _ k h is. elim (cases_lt k (length old)) [
+    at_set [] (λ c es. (k : ℕ) → k < length es → (get_or es k no_entry).slot ≡ slot → (l : Literal) → IsBeside c (get_or es k no_entry) l → Contains lits l) lists code (old ++ e ∷ []) blocks (λ _ k h is. elim (cases_lt k (length old)) [
       | inl b ↦
           let same : get_or (old ++ e ∷ []) k no_entry ≡ get_or old k no_entry = get_or_append_left old (e ∷ []) no_entry k b in
-          subst (λ (x : Entry). Contains lits x.blocker) (sym same) (blocks code k b (ap (λ (x : Entry). x.slot) (sym same) ∙ is))
+          subst (λ (x : Entry). (l : Literal) → IsBeside code x l → Contains lits l) (sym same) (blocks code k b (ap (λ (x : Entry). x.slot) (sym same) ∙ is))
       | inr b ↦
           let k_is : length old ≡ k = omega (arith, h, b, length_push old e) in
-          subst (λ i. Contains lits (get_or (old ++ e ∷ []) i no_entry).blocker) k_is (subst (λ (x : Entry). Contains lits x.blocker) (sym (get_or_push old e no_entry (length old) refl)) among)
+          subst (λ i. (l : Literal) → IsBeside code (get_or (old ++ e ∷ []) i no_entry) l → Contains lits l) k_is (subst (λ (x : Entry). (l : Literal) → IsBeside code x l → Contains lits l) (sym (get_or_push old e no_entry (length old) refl)) among)
     ])
+
+-- the first two literals of a clause have two codes
+pub codes_apart : (lits : List Literal) (first second : Literal) → 2 ≤ length lits → IsDistinct lits → get_or lits 0 no_literal ≡ first → get_or lits 1 no_literal ≡ second → code_of second ≢ code_of first
+codes_apart lits first second long apart is_first is_second e =
+    apart 0 1 (omega (arith, long)) (omega (arith, long)) (λ f. absurd (omega (arith, f))) (is_first ∙ sym (code_same second first e) ∙ sym is_second)
 
 pub kept_watched : (own : List Slot) (none s : Slot) (lists : List (List Entry)) (ends : List ℕ) (n : ℕ) (trail : List Literal) (first second : Literal) (e f : Entry) → IsKept own lists ends n trail → none.lits ≡ [] → 2 ≤ length s.lits → IsDistinct s.lits → ((l : Literal) → Contains s.lits l → (l.var ≤ n) × (code_of l < length lists))
     → get_or s.lits 0 no_literal ≡ first → get_or s.lits 1 no_literal ≡ second → e ≡ record { slot = length own; blocker = second } → f ≡ record { slot = length own; blocker = first } → ((k p : ℕ) → k < 2 → p < length ends → get_or trail p no_literal ≢ opposite (get_or s.lits k no_literal))
@@ -169,11 +177,14 @@ kept_watched own none s lists ends n trail first second e f kept empty long apar
     let second_in : Contains s.lits second = subst (Contains s.lits) is_second (Contains-get_or s.lits 1 no_literal (omega (arith, long))) in
     let e_slot : e.slot ≡ slot = ap (λ (x : Entry). x.slot) e_is in
     let f_slot : f.slot ≡ slot = ap (λ (x : Entry). x.slot) f_is in
-    let e_in : Contains s.lits e.blocker = subst (λ (x : Entry). Contains s.lits x.blocker) (sym e_is) second_in in
-    let f_in : Contains s.lits f.blocker = subst (λ (x : Entry). Contains s.lits x.blocker) (sym f_is) first_in in
+    let e_second : e.blocker ≡ second = ap (λ (x : Entry). x.blocker) e_is in
+    let f_first : f.blocker ≡ first = ap (λ (x : Entry). x.blocker) f_is in
+    let codes : code_of second ≢ code_of first = codes_apart s.lits first second long apart is_first is_second in
+    let e_in : (l : Literal) → IsBeside (code_of first) e l → Contains s.lits l = λ l beside. elim beside [ inl is ↦ subst (Contains s.lits) (sym (is ∙ e_second)) second_in | inr is ↦ subst (Contains s.lits) (sym (code_same l first is)) first_in ] in
+    let f_in : (l : Literal) → IsBeside (code_of second) f l → Contains s.lits l = λ l beside. elim beside [ inl is ↦ subst (Contains s.lits) (sym (is ∙ f_first)) first_in | inr is ↦ subst (Contains s.lits) (sym (code_same l second is)) second_in ] in
     let k1 = kept_slot own lists ends n trail none kept empty in
-    let k2 = kept_entry (own ++ none ∷ []) lists ends n trail (code_of first) e k1 (entry_fresh own n none e empty e_slot (inside e.blocker e_in).0) in
-    let k3 = kept_entry (own ++ none ∷ []) two ends n trail (code_of second) f k2 (entry_fresh own n none f empty f_slot (inside f.blocker f_in).0) in
+    let k2 = kept_entry (own ++ none ∷ []) lists ends n trail (code_of first) e k1 (entry_fresh own n (code_of first) none e empty e_slot (inside e.blocker (e_in e.blocker (inl refl))).0 (λ f. codes (ap code_of (sym e_second) ∙ f))) in
+    let k3 = kept_entry (own ++ none ∷ []) two ends n trail (code_of second) f k2 (entry_fresh own n (code_of second) none f empty f_slot (inside f.blocker (f_in f.blocker (inl refl))).0 (λ g. codes (sym g ∙ ap code_of f_first))) in
     let len_2 : length two ≡ length lists = length-set lists (code_of first) _ in
     let len_3 : length three ≡ length two = length-set two (code_of second) _ in
     let blocks_1 : BlocksBy lists slot s.lits = λ c k h is. absurd (let entry = kept.entries c k h in let there = entry.there in omega (arith, there, is)) in
@@ -196,7 +207,7 @@ kept_covers own lists new ends n trail same longer kept = record {
   distinct = kept.distinct;
   upto = kept.upto;
   covered = λ j l h. (let c = kept.covered j l h in omega (arith, c, longer));
-  entries = λ c k h. subst (λ (es : List Entry). IsEntry own n (get_or es k no_entry)) (sym (same c)) (kept.entries c k (subst (λ (es : List Entry). k < length es) (same c) h));
+  entries = λ c k h. subst (λ (es : List Entry). IsEntry own n c (get_or es k no_entry)) (sym (same c)) (kept.entries c k (subst (λ (es : List Entry). k < length es) (same c) h));
   watched = λ j l w. subst (λ (es : List Entry). Names es 0 j) (sym (same (code_of l))) (kept.watched j l w);
   within = kept.within;
   rising = kept.rising;

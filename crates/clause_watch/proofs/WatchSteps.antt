@@ -1,24 +1,26 @@
 -- Watched clauses under a trail: what the trail says of their literals, and what follows.
-use Rattle.std.proofs.Common.{◌≡◌, ◌≢◌, ◌⊎◌, ℕ, zero, suc, ◌-◌, ◌<◌, ◌≤◌, Bool, true, false, not, if◌then◌else◌, Option, Some, None, List, length, get_or, refl, arith, ap, sym, subst, ◌∙◌, inl, inr}
-use Rattle.std.specs.List.{Contains}
+use Rattle.std.proofs.Common.{◌≡◌, ◌≢◌, ◌⊎◌, ℕ, ◌-◌, ◌<◌, ◌≤◌, Bool, true, false, not, if◌then◌else◌, Option, Some, None, List, length, get_or, refl, arith, ap, sym, subst, ◌∙◌, inl, inr}
+use Rattle.std.specs.List.{Contains, swap}
 use Rattle.std.specs.List.Sorted.{IsPermutation}
 use Rattle.std.specs.Option.{option_map}
 use Rattle.std.proofs.lemmas.Bool.{cases_eq}
 use Rattle.std.proofs.lemmas.List.{get_or-map, length-map}
+use Rattle.std.proofs.lemmas.List.Edits.{swapped_from_swap, length-swap}
 use Rattle.std.proofs.lemmas.List.Elements.{Contains-get_or}
+use Rattle.std.proofs.lemmas.List.Sorted.{IsPermutation-swap, IsPermutation-trans}
 use Rattle.std.proofs.lemmas.Option.{get_or_from_slice_get, slice_get_within}
 use Rattle.scut_base.specs.Literal.{Literal}
 use Rattle.scut_base.specs.Assignment.{partial_truth}
 use Rattle.pb_lin.specs.Constraint.{ConstraintValue, opposite, literals}
 use Rattle.pb_lin.specs.LineMap.{LineMap}
-use Rattle.pb_lin.specs.Propagation.{IsClosedUnder}
+use Rattle.pb_lin.specs.Propagation.{is_forced, IsClosedUnder}
 use Rattle.clause_prop.specs.declared.step.Step.{Step}
 use Rattle.clause_watch.specs.declared.watch_lists.Entry.{Entry}
 use Rattle.clause_watch.specs.Slot.{Slot}
 use Rattle.clause_prop.specs.LineKinds.{is_watched}
 use Rattle.clause_prop.specs.Steps.{AreSteps, IsPlaceOf, assigned, last_level}
 use Rattle.clause_prop.specs.Propagating.{IsConflict, IsForcedStep}
-use Rattle.clause_watch.specs.Watching.{AreFalse, HasTrue, IsKept, IsValue, clause_at, lits_of, no_literal, no_slot}
+use Rattle.clause_watch.specs.Watching.{AreFalse, AreOthersFalse, HasTrue, IsKept, IsValue, clause_at, lits_of, no_literal, no_slot}
 use Rattle.clause_watch.specs.Watches.{AreSlots}
 use Rattle.clause_prop.proofs.Assigned.{assigned-at, assigned-found, index}
 use Rattle.clause_watch.proofs.WatchLists.{contains_at, place_in, contains_take}
@@ -112,42 +114,72 @@ before_place n steps l k are place p below e =
 
 -- ---- clauses
 
--- the literals from the second on are false
-pub rest_false : (clause trail : List Literal) (lit : Literal) → get_or clause 1 no_literal ≡ lit → Contains trail (opposite lit) → AreFalse clause trail 2 → AreFalse clause trail 1
-rest_false clause trail lit second false_lit others k from below = elim (cases_eq k 1) [
-  | inl e ↦ subst (λ i. Contains trail (opposite (get_or clause i no_literal))) (sym e) (subst (λ m. Contains trail (opposite m)) (sym second) false_lit)
-  | inr n ↦ others k (omega arith) below
+-- all literals but the first are false, where the second one is, and those behind it
+pub others_of_first : (clause trail : List Literal) (lit : Literal) → 2 ≤ length clause → get_or clause 1 no_literal ≡ lit → Contains trail (opposite lit) → AreFalse clause trail 2 → AreOthersFalse clause trail (get_or clause 0 no_literal)
+others_of_first clause trail lit long second false_lit others = (
+  0,
+  omega (arith, long),
+  refl,
+  λ i other below. elim (cases_eq i 1) [
+    | inl e ↦ subst (λ j. Contains trail (opposite (get_or clause j no_literal))) (sym e) (subst (λ m. Contains trail (opposite m)) (sym second) false_lit)
+    | inr n ↦ others i (omega (arith, other, n)) below
+  ],
+)
+
+-- where one of two literals is false, all others than the other one are
+pub others_of_two : (clause trail : List Literal) (lit other : Literal) → length clause ≡ 2 → Contains clause lit → Contains clause other → other ≢ lit → Contains trail (opposite lit) → AreOthersFalse clause trail other
+others_of_two clause trail lit other two lit_in other_in apart false_lit =
+    let (p, p_in, p_is) = place_in clause lit lit_in in
+    let (k, k_in, k_is) = place_in clause other other_in in
+    let sides : k ≢ p = λ e. apart (sym k_is ∙ ap (λ i. get_or clause i no_literal) e ∙ p_is) in (
+      k,
+      k_in,
+      k_is,
+      λ i n below.
+          let is : p ≡ i = omega (arith, two, p_in, k_in, below, sides, n) in
+          subst (λ m. Contains trail (opposite m)) (sym p_is ∙ ap (λ j. get_or clause j no_literal) is) false_lit,
+    )
+
+pub all_false : (clause trail : List Literal) (l : Literal) → AreOthersFalse clause trail l → Contains trail (opposite l) → (i : ℕ) → i < length clause → Contains trail (opposite (get_or clause i no_literal))
+all_false clause trail l (k, within, is, others) false_l i below = elim (cases_eq i k) [
+  | inl e ↦ subst (λ m. Contains trail (opposite m)) (sym (ap (λ j. get_or clause j no_literal) e ∙ is)) false_l
+  | inr n ↦ others i n below
 ]
 
-pub all_false : (clause trail : List Literal) → Contains trail (opposite (get_or clause 0 no_literal)) → AreFalse clause trail 1 → (k : ℕ) → k < length clause → Contains trail (opposite (get_or clause k no_literal))
-all_false clause trail first rest zero below = first
-all_false clause trail first rest (suc k) below = rest (suc k) (omega arith) below
-
 -- a clause whose literals are all false is a conflict
-pub conflict_at : (own : List Slot) (index : List ℕ) (lines : LineMap) (n : ℕ) (steps : List Step) (j : ℕ) → AreSteps n steps → AreSlots own index lines → 2 ≤ length (clause_at own j) → Contains (lits_of steps) (opposite (get_or (clause_at own j) 0 no_literal)) → AreFalse (clause_at own j) (lits_of steps) 1
-    → IsConflict lines (record { vars = n; steps = steps }) (get_or own j no_slot).id
-conflict_at own index lines n steps j are slots long first rest =
+pub conflict_at : (own : List Slot) (index : List ℕ) (lines : LineMap) (n : ℕ) (steps : List Step) (j : ℕ) (l : Literal) → AreSteps n steps → AreSlots own index lines → 2 ≤ length (clause_at own j) → AreOthersFalse (clause_at own j) (lits_of steps) l → Contains (lits_of steps) (opposite l) → IsConflict lines (record { vars = n; steps = steps }) (get_or own j no_slot).id
+conflict_at own index lines n steps j l are slots long others false_l =
     let s = slots.stored j long in
     record {
       line = s.line;
       there = s.there;
-      violated = violated (assigned n steps) s.line (clause_at own j) s.kind s.same (λ k below. false_of n steps _ are (all_false (clause_at own j) (lits_of steps) first rest k below));
+      violated = violated (assigned n steps) s.line (clause_at own j) s.kind s.same (λ k below. false_of n steps _ are (all_false (clause_at own j) (lits_of steps) l others false_l k below));
     }
 
--- one whose literals but the first are false forces the first
-pub forced_at : (own : List Slot) (index : List ℕ) (lines : LineMap) (n : ℕ) (steps : List Step) (j : ℕ) → AreSteps n steps → AreSlots own index lines → 2 ≤ length (clause_at own j) → partial_truth (assigned n steps) (get_or (clause_at own j) 0 no_literal) ≡ None → AreFalse (clause_at own j) (lits_of steps) 1
-    → IsForcedStep lines n steps (record { lit = get_or (clause_at own j) 0 no_literal; level = last_level steps; reason = (get_or own j no_slot).id })
-forced_at own index lines n steps j are slots long first rest =
+-- one whose literals but one are false forces that one: it is the first in another order
+pub forced_at : (own : List Slot) (index : List ℕ) (lines : LineMap) (n : ℕ) (steps : List Step) (j : ℕ) (l : Literal) → AreSteps n steps → AreSlots own index lines → 2 ≤ length (clause_at own j) → AreOthersFalse (clause_at own j) (lits_of steps) l → partial_truth (assigned n steps) l ≡ None
+    → IsForcedStep lines n steps (record { lit = l; level = last_level steps; reason = (get_or own j no_slot).id })
+forced_at own index lines n steps j l are slots long (k, within, is, others) open_l =
     let s = slots.stored j long in
     let lits = clause_at own j in
+    let new = swap lits 0 k in
+    let moved = swapped_from_swap lits new 0 k no_literal (omega (arith, long)) within refl in
+    let len : length new ≡ length lits = length-swap lits 0 k in
+    let same : IsPermutation (literals s.line.terms) new = IsPermutation-trans _ _ _ s.same (IsPermutation-swap lits new 0 k (omega (arith, long)) within refl) in
+    let first : get_or new 0 no_literal ≡ l = moved.0 ∙ is in
+    let rest : (i : ℕ) → 1 ≤ i → i < length new → Contains (lits_of steps) (opposite (get_or new i no_literal)) = λ i from below. elim (cases_eq i k) [
+      | inl e ↦ subst (λ m. Contains (lits_of steps) (opposite m)) (sym (ap (λ x. get_or new x no_literal) e ∙ moved.1)) (others 0 (λ f. absurd (omega (arith, from, e, f))) (omega (arith, long)))
+      | inr m ↦ subst (λ m. Contains (lits_of steps) (opposite m)) (sym (moved.2 i (λ f. absurd (omega (arith, from, f))) m)) (others i m (omega (arith, below, len)))
+    ] in
+    let forced = first_forced (assigned n steps) s.line new s.kind same (omega (arith, long, len)) (ap (partial_truth (assigned n steps)) first ∙ open_l) (λ i from below. false_of n steps _ are (rest i from below)) in
     record {
       line = s.line;
       there = s.there;
       forces = record {
-        term = (get_or lits 0 no_literal, 1);
-        among = term_of s.line lits (get_or lits 0 no_literal) s.kind s.same (Contains-get_or lits 0 no_literal (omega (arith, long)));
+        term = (l, 1);
+        among = term_of s.line lits l s.kind s.same (contains_at lits k l within is);
         literal = refl;
-        forced = first_forced (assigned n steps) s.line lits s.kind s.same (omega (arith, long)) first (λ k from below. false_of n steps _ are (rest k from below));
+        forced = ap (λ (m : Literal). is_forced (assigned n steps) s.line (m, 1)) (sym first) ∙ forced;
       };
       level = refl;
     }

@@ -47,18 +47,23 @@ IsWatch clause l = (2 ≤ length clause) × ((slice_index_or clause 0 no_literal
 abbrev pub Names : List Entry → ℕ → ℕ → Type 0
 Names entries from j = (k : ℕ) × (from ≤ k) × (k < length entries) × ((slice_index_or entries k no_entry).slot ≡ j)
 
--- An entry is of a slot. Its blocker is a literal of it, unless its clause was dropped.
-pub record IsEntry (own : List Slot) (n : ℕ) (e : Entry) : Type 0 where
+-- the literal is the blocker of an entry, or the one whose list has this code
+abbrev pub IsBeside : ℕ → Entry → Literal → Type 0
+IsBeside c e l = (l ≡ e.blocker) ⊎ (code_of l ≡ c)
+
+-- An entry is of a slot. Its blocker and the literal of its list are two literals of it, unless its clause was dropped.
+pub record IsEntry (own : List Slot) (n c : ℕ) (e : Entry) : Type 0 where
   pub there : e.slot < length own
   pub upto : e.blocker.var ≤ n
-  pub among : 2 ≤ length (clause_at own e.slot) → Contains (clause_at own e.slot) e.blocker
+  pub other : code_of e.blocker ≢ c
+  pub among : (l : Literal) → IsBeside c e l → 2 ≤ length (clause_at own e.slot) → Contains (clause_at own e.slot) l
 
 -- How the slots' clauses, the lists of entries, and the ends stand to a trail over n variables. There is one end for each step that was looked at: the trail's length when that was done.
 pub record IsKept (own : List Slot) (lists : List (List Entry)) (ends : List ℕ) (n : ℕ) (trail : List Literal) : Type 0 where
   pub distinct : (j : ℕ) → IsDistinct (clause_at own j)
   pub upto : (j : ℕ) (l : Literal) → Contains (clause_at own j) l → l.var ≤ n
   pub covered : (j : ℕ) (l : Literal) → Contains (clause_at own j) l → code_of l < length lists
-  pub entries : (c k : ℕ) → k < length (slice_index_or lists c []) → IsEntry own n (slice_index_or (slice_index_or lists c []) k no_entry)
+  pub entries : (c k : ℕ) → k < length (slice_index_or lists c []) → IsEntry own n c (slice_index_or (slice_index_or lists c []) k no_entry)
   pub watched : (j : ℕ) (l : Literal) → IsWatch (clause_at own j) l → Names (list_of lists l) 0 j
   pub within : (p : ℕ) → p < length ends → (p < slice_index ends p) × (slice_index ends p ≤ length trail)
   pub rising : (p q : ℕ) → p ≤ q → q < length ends → slice_index ends p ≤ slice_index ends q
@@ -84,6 +89,10 @@ IsFree clause trail k = (2 ≤ k) × (k < length clause) × (Contains trail (opp
 -- all literals of the clause from this place on are false
 abbrev pub AreFalse : List Literal → List Literal → ℕ → Type 0
 AreFalse clause trail from = (k : ℕ) → from ≤ k → k < length clause → Contains trail (opposite (slice_index_or clause k no_literal))
+
+-- the literal is one of the clause, and all others of it are false
+abbrev pub AreOthersFalse : List Literal → List Literal → Literal → Type 0
+AreOthersFalse clause trail l = (k : ℕ) × (k < length clause) × (slice_index_or clause k no_literal ≡ l) × ((i : ℕ) → i ≢ k → i < length clause → Contains trail (opposite (slice_index_or clause i no_literal)))
 
 -- what the answer says of a literal
 abbrev pub IsValue : List Literal → Literal → Option Bool → Type 0

@@ -14,8 +14,8 @@ use clause_prop::Trail;
 use scut_base::{Lit, NoMemory};
 use std::alloc::Global;
 
-/// A clause in the list of a literal that it watches, and some literal of it: where that one is
-/// true, the clause isn't read.
+/// A clause in the list of a literal that it watches, and another literal of it: where that one is
+/// true, or there is no third, the clause isn't read.
 #[derive(Clone, Copy, Debug)]
 pub struct Entry {
     pub slot: u32,

@@ -9,7 +9,7 @@ ghost use Rattle.pb_lin.specs.LineMap.{LineMap, LinesUpTo};
 ghost use Rattle.clause_prop.specs.Steps.{TrailValue, partial, with_step, cut};
 ghost use Rattle.clause_prop.specs.Propagating.{Extends, IsConflict};
 ghost use Rattle.clause_prop.specs.LineKinds.{is_watched, IsClosedForWatched};
-ghost use Rattle.clause_watch.specs.Watching.{AreFalse, IsFree, clause_at, list_of, lits_of, no_entry, no_literal, no_slot, IsDistinct};
+ghost use Rattle.clause_watch.specs.Watching.{AreFalse, AreOthersFalse, IsFree, clause_at, list_of, lits_of, no_entry, no_literal, no_slot, IsDistinct};
 ghost use Rattle.clause_watch.specs.Watches.{AreWatches, Hold, IsAllLooked, IsAt, IsConflictOf, IsFollowed, IsReady, IsVisited, IsCopy, IsOpened, IsWatchable, AreSameWatched, entries_of};
 ghost use Rattle.clause_prop.specs.declared.step.Step.{Step};
 
@@ -251,7 +251,8 @@ impl Watches {
     }
 
     // Visits an entry in the list of a literal that is false, whose blocker isn't true. The false literal
-    // is put second, as in MiniSat (Eén and Sörensson 2003), so that the other one is read at a fixed place.
+    // is put second, as in MiniSat (Eén and Sörensson 2003), so that the other one is read at a fixed place;
+    // a clause of two literals isn't read.
     fn visit(&mut self, trail: &mut Trail, lit: Lit, at: usize) -> Result<Visit, NoMemory>
         requires looking { IsAt self.old trail.old lit at }
         requires within { at < entries_of self.old lit }
@@ -260,12 +261,26 @@ impl Watches {
             (IsReady self.new trail.new × IsFollowed self.old self.new trail.old trail.new) }
     {
         let entry = self.entry(lit, at);
+        if self.slots.lits(entry.slot).len() == 2 {
+            return Ok(self.force_blocker(trail, lit, at, entry));
+        }
         if put_second(&mut self.slots, entry.slot, lit) {
             self.read(trail, lit, at, entry.slot)
         } else {
             drop_entry(&mut self.lists, literal_code(lit), at);
             Ok(Visit::Gone)
         }
+    }
+
+    // Visits an entry whose clause has two literals: its blocker is the one beside the false literal.
+    fn force_blocker(&self, trail: &mut Trail, lit: Lit, at: usize, entry: Entry) -> Visit
+        requires looking { IsAt self.now trail.old lit at }
+        requires within { at < entries_of self.now lit }
+        requires entry { entry ≡ slice_index_or (list_of self.now.lists.items lit) at no_entry }
+        requires two { length (clause_at self.now.slots entry.slot) ≡ 2 }
+        ensures { IsVisited self.now self.now trail.old trail.new lit at result }
+    {
+        self.force(trail, lit, at, entry.slot, entry.blocker)
     }
 
     // Visits an entry whose clause has the false literal second.
@@ -292,7 +307,7 @@ impl Watches {
         }
         match self.free_place(trail, slot) {
             Some(place) => self.replace(trail, lit, at, slot, place),
-            None => Ok(self.force(trail, lit, at, slot)),
+            None => Ok(self.force(trail, lit, at, slot, first)),
         }
     }
 
@@ -329,25 +344,23 @@ impl Watches {
         Ok(Visit::Gone)
     }
 
-    // Makes the first literal true, where it isn't false; all others are.
-    fn force(&self, trail: &mut Trail, lit: Lit, at: usize, slot: u32) -> Visit
+    // Makes a literal of a clause true, where it isn't false; all others are.
+    fn force(&self, trail: &mut Trail, lit: Lit, at: usize, slot: u32, unit: ShortLit) -> Visit
         requires looking { IsAt self.now trail.old lit at }
         requires entry { (slice_index_or
             (list_of self.now.lists.items lit) at no_entry).slot ≡ slot }
         requires slot { slot < length self.now.slots }
         requires long { 2 ≤ length (clause_at self.now.slots slot) }
-        requires second { slice_index_or (clause_at self.now.slots slot) 1 no_literal ≡ lit }
-        requires others { AreFalse (clause_at self.now.slots slot)
-            (lits_of trail.old.steps) 2 }
+        requires others { AreOthersFalse (clause_at self.now.slots slot)
+            (lits_of trail.old.steps) unit }
         ensures { IsVisited self.now self.now trail.old trail.new lit at result }
     {
-        let first = self.literal(slot, 0);
         let id = self.slots.id(slot);
-        match truth(trail, first) {
+        match truth(trail, unit) {
             Some(true) => Visit::Next,
             Some(false) => Visit::Conflict(id),
             None => {
-                push_forced(first.lit(), id, trail);
+                push_forced(unit.lit(), id, trail);
                 Visit::Next
             }
         }

@@ -7,7 +7,7 @@ use Rattle.clause_watch.specs.declared.watch_lists.Entry.{Entry}
 use Rattle.clause_watch.specs.Slot.{Slot}
 use Rattle.clause_watch.specs.Watching.{IsEntry, IsKept, IsRemoved, clause_at, lits_of, no_literal, no_slot}
 use Rattle.clause_watch.specs.Watches.{AreSlots}
-use Rattle.clause_watch.proofs.WatchKept.{replaced}
+use Rattle.clause_watch.proofs.WatchKept.{entry_by, replaced}
 use Rattle.clause_watch.proofs.WatchHold.{hold_reordered}
 use Rattle.clause_watch.proofs.WatchVisits.{followed_same, on_err}
 use Rattle.clause_watch.proofs.watches.Watches.replace.Goals as goal
@@ -30,11 +30,11 @@ returns-clause-ok c =
     let s : Slot = record { id = (get_or own slot no_slot).id; lits = swap clause 1 c.args.place } in
     let l : Literal = get_or clause c.args.place no_literal in
     let code_is : c.code.result ≡ code_of l = c.code.ensures ∙ ap code_of c.literal-free.ensures.value in
-    let valid : IsEntry own t.vars e = record { there = c.requires.slot; upto = looking.kept.upto slot _ c.literal-first.ensures.among; among = λ _. c.literal-first.ensures.among } in
+    let within = c.requires.free in
+    let valid : IsEntry own t.vars (code_of l) e = entry_by own t.vars slot c.args.place c.literal-first.result l c.requires.slot (omega (arith, within.0, within.1)) (looking.kept.distinct slot) c.literal-first.ensures.value refl (looking.kept.upto slot _ c.literal-first.ensures.among) (omega (arith, within.0)) within.1 in
     let is_2 = c.in_ok-add_entry.ensures.ok ∙ ap (λ (i : ℕ). set lists i (get_or lists i [] ++ e ∷ [])) code_is in
     let removed : IsRemoved (get_or c.add_entry.new.lists.items (code_of c.args.lit) []) (get_or c.drop_entry.new.lists.items (code_of c.args.lit) []) c.args.at = subst (λ (i : ℕ). IsRemoved (get_or c.add_entry.new.lists.items i []) (get_or c.drop_entry.new.lists.items i []) c.args.at) c.literal_code.ensures c.drop_entry.ensures.removed in
     let done = replaced own c.swap.new.self lists c.add_entry.new.lists.items c.drop_entry.new.lists.items w.ends.items t.vars (lits_of t.steps) c.args.lit c.args.at slot c.args.place s e looking c.requires.within c.requires.entry c.requires.slot c.requires.second c.requires.free refl valid is_2 refl c.swap.ensures (λ k n. c.drop_entry.ensures.others k (λ f. n (f ∙ c.literal_code.ensures))) removed c.drop_entry.ensures.len in
-    let within = c.requires.free in
     record {
       looking = done.0;
       left = done.1;

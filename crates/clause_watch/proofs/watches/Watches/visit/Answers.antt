@@ -7,10 +7,12 @@ use Rattle.clause_watch.proofs.WatchKept.{looking_removed}
 use Rattle.clause_watch.proofs.WatchVisits.{followed_same, followed_twice, if_ok_weaker, second_put, visited_after}
 use Rattle.clause_watch.proofs.watches.Watches.visit.Goals as goal
 
-pub put_second-requires : goal.put_second-requires
-put_second-requires c =
+pub lits-requires : goal.lits-requires
+lits-requires c =
     let w = c.args.self.now in
-    let e : IsEntry w.slots c.args.trail.now.vars c.entry-entry.result = subst (IsEntry w.slots c.args.trail.now.vars) (sym c.entry-entry.ensures) (c.requires.looking.kept.entries (code_of c.args.lit) c.args.at c.requires.within) in
+    let n = c.args.trail.now.vars in
+    let code = code_of c.args.lit in
+    let e : IsEntry w.slots n code c.entry-entry.result = subst (IsEntry w.slots n code) (sym c.entry-entry.ensures) (c.requires.looking.kept.entries code c.args.at c.requires.within) in
     e.there
 
 pub read-requires-clause-looking : goal.read-requires-clause-looking

@@ -1,4 +1,4 @@
-use Rattle.std.proofs.Common.{◌≡◌, ◌<◌, ◌≤◌, ◌++◌, ◌∷◌, ℕ, List, [], length, get_or, set, refl, arith, ap, sym, subst, ◌∙◌}
+use Rattle.std.proofs.Common.{◌≡◌, ◌≢◌, ◌<◌, ◌≤◌, ◌++◌, ◌∷◌, ℕ, List, [], length, get_or, set, refl, arith, ap, sym, subst, ◌∙◌}
 use Rattle.scut_base.specs.Literal.{Literal}
 use Rattle.scut_base.specs.LiteralCode.{code_of}
 use Rattle.std.specs.FinMap.{remove}
@@ -9,7 +9,7 @@ use Rattle.clause_watch.specs.SlotTable.{slot_in}
 use Rattle.clause_watch.specs.Watching.{IsEntry, lits_of, no_literal, no_slot}
 use Rattle.clause_watch.specs.Watches.{AreSlots, IsCopy}
 use Rattle.clause_watch.proofs.WatchKept.{kept_entry, with_entry}
-use Rattle.clause_watch.proofs.WatchSlots.{entry_fresh, kept_as, kept_watched}
+use Rattle.clause_watch.proofs.WatchSlots.{codes_apart, entry_fresh, kept_as, kept_watched}
 use Rattle.clause_watch.proofs.WatchHold.{get_removed, hold_filled}
 use Rattle.clause_watch.proofs.WatchVisits.{on_err}
 use Rattle.clause_watch.proofs.watches.Watches.watch.Goals as goal
@@ -20,7 +20,8 @@ returns-in_err-add_entry-2-clause-ready c = λ t ready watchable.
     let o = c.open_slot.new.self in
     let none : Slot = record { id = c.args.id; lits = [] } in
     let e : Entry = record { slot = c.in_ok-slot.slot; blocker = c.at-second.result } in
-    let valid : IsEntry o.slots t.vars e = subst (λ x. IsEntry x t.vars e) (sym c.in_ok-slot.ensures.opened.slots) (entry_fresh w.slots t.vars none e refl c.in_ok-slot.ensures.opened.is (watchable.upto c.at-second.result c.at-second.ensures.among)) in
+    let codes = codes_apart c.args.lits.now c.at-first.result c.at-second.result c.requires.long c.requires.distinct (c.at-first.ensures.value no_literal) (c.at-second.ensures.value no_literal) in
+    let valid : IsEntry o.slots t.vars c.code.result e = subst (λ x. IsEntry x t.vars c.code.result e) (sym c.in_ok-slot.ensures.opened.slots) (entry_fresh w.slots t.vars c.code.result none e refl c.in_ok-slot.ensures.opened.is (watchable.upto c.at-second.result c.at-second.ensures.among) (λ f. codes (f ∙ c.code.ensures))) in
     kept_as o.slots o.slots (with_entry o.lists.items c.code.result e) c.add_entry-2.new.lists.items o.ends.items o.ends.items t.vars (lits_of t.steps) refl (c.in_err-add_entry-2.ensures.err ∙ c.in_ok-add_entry.ensures.ok) refl
     (kept_entry o.slots o.lists.items o.ends.items t.vars (lits_of t.steps) c.code.result e (c.in_ok-slot.ensures.ready t ready) valid)
 
@@ -39,9 +40,10 @@ returns-in_err-fill-clause-ready c = λ t ready watchable.
     let second = c.at-second.result in
     let e : Entry = record { slot = c.in_ok-slot.slot; blocker = second } in
     let f : Entry = record { slot = c.in_ok-slot.slot; blocker = first } in
-    let valid : (x : Entry) → x.slot ≡ c.in_ok-slot.slot → x.blocker.var ≤ t.vars → IsEntry o.slots t.vars x = λ x is upto. subst (λ y. IsEntry y t.vars x) (sym opened.slots) (entry_fresh w.slots t.vars none x refl (is ∙ opened.is) upto) in
-    let one = kept_entry o.slots o.lists.items o.ends.items t.vars (lits_of t.steps) c.code.result e (c.in_ok-slot.ensures.ready t ready) (valid e refl (watchable.upto second c.at-second.ensures.among)) in
-    let two = kept_entry o.slots (with_entry o.lists.items c.code.result e) o.ends.items t.vars (lits_of t.steps) c.code-2.result f one (valid f refl (watchable.upto first c.at-first.ensures.among)) in
+    let codes = codes_apart c.args.lits.now first second c.requires.long c.requires.distinct (c.at-first.ensures.value no_literal) (c.at-second.ensures.value no_literal) in
+    let valid : (code : ℕ) (x : Entry) → x.slot ≡ c.in_ok-slot.slot → x.blocker.var ≤ t.vars → code_of x.blocker ≢ code → IsEntry o.slots t.vars code x = λ code x is upto other. subst (λ y. IsEntry y t.vars code x) (sym opened.slots) (entry_fresh w.slots t.vars code none x refl (is ∙ opened.is) upto other) in
+    let one = kept_entry o.slots o.lists.items o.ends.items t.vars (lits_of t.steps) c.code.result e (c.in_ok-slot.ensures.ready t ready) (valid c.code.result e refl (watchable.upto second c.at-second.ensures.among) (λ g. codes (g ∙ c.code.ensures))) in
+    let two = kept_entry o.slots (with_entry o.lists.items c.code.result e) o.ends.items t.vars (lits_of t.steps) c.code-2.result f one (valid c.code-2.result f refl (watchable.upto first c.at-first.ensures.among) (λ g. codes (sym (g ∙ c.code-2.ensures)))) in
     kept_as o.slots c.fill.new.self (with_entry (with_entry o.lists.items c.code.result e) c.code-2.result f) c.add_entry-2.new.lists.items o.ends.items o.ends.items t.vars (lits_of t.steps) c.in_err-fill.ensures.err
     (c.in_ok-add_entry-2.ensures.ok ∙ ap (λ (ls : List (List Entry)). with_entry ls c.code-2.result f) c.in_ok-add_entry.ensures.ok) refl two
 
