@@ -1,5 +1,5 @@
 -- What keeps the slots in step with the stored clauses.
-use Rattle.std.proofs.Common.{◌≡◌, ◌≢◌, ℕ, Bool, true, false, ◌<◌, ◌≤◌, Option, Some, None, List, [], ◌∷◌, ◌++◌, length, get_or, set, refl, arith, ap, sym, subst, ◌∙◌, inl, inr, get_or-set_same, get_or-set_other}
+use Rattle.std.proofs.Common.{◌≡◌, ◌≢◌, ℕ, Bool, true, false, ◌≤◌, Option, Some, None, List, [], length, get_or, refl, arith, ap, sym, subst, ◌∙◌, inl, inr}
 use Rattle.std.specs.List.Sorted.{IsPermutation}
 use Rattle.std.specs.FinMap.{get, remove, empty, get-remove, get-empty}
 use Rattle.std.specs.Ordering.{nat_cmp, eq_by_cmp}
@@ -16,10 +16,9 @@ use Rattle.clause_prop.specs.LineKinds.{is_watched, IsClosedForWatched, IsClosed
 use Rattle.pb_lin.specs.Propagation.{IsClosedUnder}
 use Rattle.clause_prop.specs.Steps.{TrailValue, partial}
 use Rattle.clause_prop.specs.Propagating.{IsClosedFor}
-use Rattle.clause_watch.specs.Watching.{clause_at, no_slot}
+use Rattle.clause_watch.specs.Watching.{IsPut, clause_at, no_slot}
 use Rattle.clause_watch.specs.Watches.{AreSameWatched, AreSlots, IsCopy, IsStored}
-use Rattle.clause_watch.proofs.WatchLists.{at_set}
-use Rattle.clause_watch.proofs.WatchSlots.{at_push}
+use Rattle.clause_watch.proofs.WatchLists.{at_put}
 
 -- ---- a line less
 
@@ -43,11 +42,11 @@ FindsOthers old new id = (q : ℕ) → q ≢ id → slot_in new q ≡ slot_in ol
 -- ---- slots
 
 -- a clause in another order
-pub hold_reordered : (own : List Slot) (index : List ℕ) (lines : LineMap) (slot : ℕ) (s : Slot) → AreSlots own index lines → s.id ≡ (get_or own slot no_slot).id → IsPermutation (clause_at own slot) s.lits → AreSlots (set own slot s) index lines
-hold_reordered own index lines slot s slots same_id same =
+pub hold_reordered : (own new : List Slot) (index : List ℕ) (lines : LineMap) (slot : ℕ) (s : Slot) → IsPut own new slot s → AreSlots own index lines → s.id ≡ (get_or own slot no_slot).id → IsPermutation (clause_at own slot) s.lits → AreSlots new index lines
+hold_reordered own new index lines slot s put slots same_id same =
     let len = length_permutation _ _ same in
     record {
-      stored = at_set no_slot (λ j x. 2 ≤ length x.lits → IsStored x.lits index lines j x.id) own slot s slots.stored (λ _ long.
+      stored = at_put (λ j x. 2 ≤ length x.lits → IsStored x.lits index lines j x.id) own new slot s put slots.stored (λ long.
           let old = slots.stored slot (omega (arith, long, len)) in
           record {
             line = old.line;
@@ -59,17 +58,17 @@ hold_reordered own index lines slot s slots same_id same =
           });
       held = λ id c there kind.
           let h = slots.held id c there kind in
-          let at : ((get_or (set own slot s) h.slot no_slot).id ≡ id) × (2 ≤ length (clause_at (set own slot s) h.slot)) = at_set no_slot (λ j x. j ≡ h.slot → (x.id ≡ id) × (2 ≤ length x.lits)) own slot s
+          let at : ((get_or new h.slot no_slot).id ≡ id) × (2 ≤ length (clause_at new h.slot)) = at_put (λ j x. j ≡ h.slot → (x.id ≡ id) × (2 ≤ length x.lits)) own new slot s put
           (λ j e. subst (λ i. ((get_or own i no_slot).id ≡ id) × (2 ≤ length (clause_at own i))) (sym e) (h.is, h.long))
-          (λ _ e. let long = h.long in (same_id ∙ ap (λ (i : ℕ). (get_or own i no_slot).id) e ∙ h.is, (let l = ap (λ (i : ℕ). length (clause_at own i)) e in omega (arith, l, long, len))))
+          (λ e. let long = h.long in (same_id ∙ ap (λ (i : ℕ). (get_or own i no_slot).id) e ∙ h.is, (let l = ap (λ (i : ℕ). length (clause_at own i)) e in omega (arith, l, long, len))))
           h.slot refl in
           record { slot = h.slot; is = at.0; long = at.1 };
     }
 
--- a slot without literals is put at the end, whose id has no line
-pub hold_slot : (own : List Slot) (index new : List ℕ) (lines : LineMap) (s : Slot) → AreSlots own index lines → get lines s.id ≡ None → s.lits ≡ [] → FindsOthers index new s.id → AreSlots (own ++ s ∷ []) new lines
-hold_slot own index new lines s slots fresh none others = record {
-  stored = at_push no_slot (λ j x. 2 ≤ length x.lits → IsStored x.lits new lines j x.id) own s
+-- a clause without literals begins at a place where none did, and its id has no line
+pub hold_slot : (own opened : List Slot) (index new : List ℕ) (lines : LineMap) (slot : ℕ) (s : Slot) → IsPut own opened slot s → get_or own slot no_slot ≡ no_slot → AreSlots own index lines → get lines s.id ≡ None → s.lits ≡ [] → FindsOthers index new s.id → AreSlots opened new lines
+hold_slot own opened index new lines slot s put past slots fresh none others = record {
+  stored = at_put (λ j x. 2 ≤ length x.lits → IsStored x.lits new lines j x.id) own opened slot s put
       (λ j long.
       let old = slots.stored j long in
       record {
@@ -83,17 +82,17 @@ hold_slot own index new lines s slots fresh none others = record {
       (λ long. absurd (omega (arith, long, ap length none)));
   held = λ id c there kind.
       let h = slots.held id c there kind in
-      let at : ((get_or (own ++ s ∷ []) h.slot no_slot).id ≡ id) × (2 ≤ length (clause_at (own ++ s ∷ []) h.slot)) = at_push no_slot (λ j x. j ≡ h.slot → (x.id ≡ id) × (2 ≤ length x.lits)) own s
+      let at : ((get_or opened h.slot no_slot).id ≡ id) × (2 ≤ length (clause_at opened h.slot)) = at_put (λ j x. j ≡ h.slot → (x.id ≡ id) × (2 ≤ length x.lits)) own opened slot s put
       (λ j e. subst (λ i. ((get_or own i no_slot).id ≡ id) × (2 ≤ length (clause_at own i))) (sym e) (h.is, h.long))
-      (λ e. absurd (let long = h.long in let past = ap (λ (x : Slot). length x.lits) (get_or_past own h.slot no_slot (omega (arith, e))) in omega (arith, long, past)))
+      (λ e. absurd (let long = h.long in let none_there = ap (λ (x : Slot). length x.lits) (subst (λ i. get_or own i no_slot ≡ no_slot) e past) in omega (arith, long, none_there)))
       h.slot refl in
       record { slot = h.slot; is = at.0; long = at.1 };
 }
 
 -- a slot without literals gets the clause of its id
-pub hold_filled : (own : List Slot) (index : List ℕ) (lines : LineMap) (slot : ℕ) (s : Slot) (line : ConstraintValue) → AreSlots own index (remove lines s.id) → slot < length own → clause_at own slot ≡ [] → 2 ≤ length s.lits → IsCopy lines s.id line s.lits → slot_in index s.id ≡ Some slot → AreSlots (set own slot s) index lines
-hold_filled own index lines slot s line slots within none long copy found = record {
-  stored = at_set no_slot (λ j x. 2 ≤ length x.lits → IsStored x.lits index lines j x.id) own slot s
+pub hold_filled : (own new : List Slot) (index : List ℕ) (lines : LineMap) (slot : ℕ) (s : Slot) (line : ConstraintValue) → IsPut own new slot s → AreSlots own index (remove lines s.id) → clause_at own slot ≡ [] → 2 ≤ length s.lits → IsCopy lines s.id line s.lits → slot_in index s.id ≡ Some slot → AreSlots new index lines
+hold_filled own new index lines slot s line put slots none long copy found = record {
+  stored = at_put (λ j x. 2 ≤ length x.lits → IsStored x.lits index lines j x.id) own new slot s put
       (λ j more.
       let old = slots.stored j more in
       record {
@@ -104,15 +103,14 @@ hold_filled own index lines slot s line slots within none long copy found = reco
         same = old.same;
         found = old.found;
       })
-      (λ _ _. record { line = line; there = copy.there; kind = copy.kind; merged = copy.merged; same = copy.same; found = found });
+      (λ _. record { line = line; there = copy.there; kind = copy.kind; merged = copy.merged; same = copy.same; found = found });
   held = λ id c there kind. elim (cases_eq id s.id) [
     | inl e ↦
-        let here : get_or (set own slot s) slot no_slot ≡ s = get_or-set_same own slot s no_slot within in
-        record { slot = slot; is = ap (λ (x : Slot). x.id) here ∙ sym e; long = subst (λ (x : Slot). 2 ≤ length x.lits) (sym here) long }
+        record { slot = slot; is = ap (λ (x : Slot). x.id) put.here ∙ sym e; long = subst (λ (x : Slot). 2 ≤ length x.lits) (sym put.here) long }
     | inr n ↦
         let h = slots.held id c (get_kept lines s.id id n ∙ there) kind in
         let more = h.long in
-        let other : get_or (set own slot s) h.slot no_slot ≡ get_or own h.slot no_slot = get_or-set_other own slot h.slot s no_slot (λ e. absurd (let l = ap length none in let m = ap (λ (i : ℕ). length (clause_at own i)) e in omega (arith, more, l, m))) in
+        let other : get_or new h.slot no_slot ≡ get_or own h.slot no_slot = put.others h.slot (λ e. absurd (let l = ap length none in let m = ap (λ (i : ℕ). length (clause_at own i)) e in omega (arith, more, l, m))) in
         record { slot = h.slot; is = ap (λ (x : Slot). x.id) other ∙ h.is; long = subst (λ (x : Slot). 2 ≤ length x.lits) (sym other) more }
   ];
 }
@@ -144,15 +142,15 @@ pub same_some : (i j : ℕ) → Some i ≡ Some j → i ≡ j
 same_some i j e = cc
 
 -- the slot of the id that is dropped loses its literals
-pub hold_emptied : (own : List Slot) (index new : List ℕ) (lines : LineMap) (id slot : ℕ) (s : Slot) → AreSlots own index lines → FindsOthers index new id → slot_in index id ≡ Some slot → (get_or own slot no_slot).id ≡ id → slot < length own → s.lits ≡ [] → AreSlots (set own slot s) new (remove lines id)
-hold_emptied own index new lines id slot s slots others found own_id within none = record {
+pub hold_emptied : (own emptied : List Slot) (index new : List ℕ) (lines : LineMap) (id slot : ℕ) (s : Slot) → IsPut own emptied slot s → AreSlots own index lines → FindsOthers index new id → slot_in index id ≡ Some slot → (get_or own slot no_slot).id ≡ id → s.lits ≡ [] → AreSlots emptied new (remove lines id)
+hold_emptied own emptied index new lines id slot s put slots others found own_id none = record {
   stored = λ j long. elim (cases_eq j slot) [
     | inl e ↦ absurd (
-        let here : clause_at (set own slot s) j ≡ [] = ap (λ (i : ℕ). clause_at (set own slot s) i) e ∙ ap (λ (x : Slot). x.lits) (get_or-set_same own slot s no_slot within) ∙ none in
+        let here : clause_at emptied j ≡ [] = ap (λ (i : ℕ). clause_at emptied i) e ∙ ap (λ (x : Slot). x.lits) put.here ∙ none in
         omega (arith, long, ap length here)
         )
     | inr n ↦
-        let other : get_or (set own slot s) j no_slot ≡ get_or own j no_slot = get_or-set_other own slot j s no_slot n in
+        let other : get_or emptied j no_slot ≡ get_or own j no_slot = put.others j n in
         let old = slots.stored j (subst (λ (x : Slot). 2 ≤ length x.lits) other long) in
         let q : ℕ = (get_or own j no_slot).id in
         let q_other : q ≢ id = λ e. n (same_some j slot (sym old.found ∙ ap (λ (i : ℕ). slot_in index i) e ∙ found)) in
@@ -168,7 +166,7 @@ hold_emptied own index new lines id slot s slots others found own_id within none
   held = λ q c there kind.
       let q_other : q ≢ id = other_id lines id q c there in
       let h = slots.held q c (sym (get_kept lines id q q_other) ∙ there) kind in
-      let other : get_or (set own slot s) h.slot no_slot ≡ get_or own h.slot no_slot = get_or-set_other own slot h.slot s no_slot (λ e. q_other (sym h.is ∙ ap (λ (i : ℕ). (get_or own i no_slot).id) e ∙ own_id)) in
+      let other : get_or emptied h.slot no_slot ≡ get_or own h.slot no_slot = put.others h.slot (λ e. q_other (sym h.is ∙ ap (λ (i : ℕ). (get_or own i no_slot).id) e ∙ own_id)) in
       record { slot = h.slot; is = ap (λ (x : Slot). x.id) other ∙ h.is; long = subst (λ (x : Slot). 2 ≤ length x.lits) (sym other) h.long };
 }
 

@@ -1,5 +1,5 @@
 -- What keeps the watches right.
-use Rattle.std.proofs.Common.{◌≡◌, ◌≢◌, ℕ, ◌+◌, ◌<◌, ◌≤◌, ◌⊎◌, inl, inr, List, [], ◌∷◌, ◌++◌, length, get_or, set, take, refl, sym, ◌∙◌, ap, subst, arith, length-set, length-append, get_or-set_same, get_or-set_other}
+use Rattle.std.proofs.Common.{◌≡◌, ◌≢◌, true, ℕ, ◌+◌, ◌<◌, ◌≤◌, ◌⊎◌, inl, inr, List, [], ◌∷◌, ◌++◌, length, get_or, set, take, refl, sym, ◌∙◌, ap, subst, arith, length-set, length-append, get_or-set_same, get_or-set_other}
 use Rattle.std.specs.List.{Contains, swap}
 use Rattle.std.specs.List.Sorted.{IsPermutation}
 use Rattle.std.proofs.lemmas.List.{take-append-le, take-take, get_or-take, get_or_append_left, get_or_push, length_push, length-take-le, length-take, take_all}
@@ -11,8 +11,8 @@ use Rattle.scut_base.specs.LiteralCode.{code_of}
 use Rattle.pb_lin.specs.Constraint.{opposite}
 use Rattle.clause_watch.specs.declared.watch_lists.Entry.{Entry}
 use Rattle.clause_watch.specs.Slot.{Slot}
-use Rattle.clause_watch.specs.Watching.{IsKept, IsLooking, IsRemoved, IsFree, IsWatch, IsEntry, IsDistinct, HasTrue, Names, clause_at, list_of, no_entry, no_literal, no_slot}
-use Rattle.clause_watch.proofs.WatchLists.{at_set, at_others, opposite_same, code_same, contains_at, true_push, watch_swapped, watch_moved, distinct_swapped}
+use Rattle.clause_watch.specs.Watching.{IsKept, IsLooking, IsRemoved, IsFree, IsWatch, IsEntry, IsDistinct, IsPut, IsSlot, HasTrue, Names, clause_at, list_of, no_entry, no_literal}
+use Rattle.clause_watch.proofs.WatchLists.{at_set, at_others, at_put, begins_after, opposite_same, code_same, contains_at, true_push, watch_swapped, watch_moved, distinct_swapped}
 
 -- More variables, and a longer trail.
 
@@ -134,52 +134,52 @@ looking_end own lists ends n trail lit at looking past =
 pub true_reordered : (trail clause new : List Literal) → IsPermutation clause new → HasTrue trail clause → HasTrue trail new
 true_reordered trail clause new same (l, among, true_l) = (l, Contains-permutation _ _ l same among, true_l)
 
-pub entry_reordered : (own : List Slot) (n code slot : ℕ) (s : Slot) (e : Entry) → IsPermutation (clause_at own slot) s.lits → IsEntry own n code e → IsEntry (set own slot s) n code e
-entry_reordered own n code slot s e same entry = record {
-  there = (let t = entry.there in omega (arith, t, length-set own slot s));
+pub entry_reordered : (own new : List Slot) (n code slot : ℕ) (s : Slot) (e : Entry) → IsPut own new slot s → s.begins ≡ true → IsPermutation (clause_at own slot) s.lits → IsEntry own n code e → IsEntry new n code e
+entry_reordered own new n code slot s e put begins same entry = record {
+  there = begins_after own new slot s put begins e.slot entry.there;
   upto = entry.upto;
   other = entry.other;
-  among = λ l beside. at_set no_slot (λ j x. j ≡ e.slot → 2 ≤ length x.lits → Contains x.lits l) own slot s
+  among = λ l beside. at_put (λ j x. j ≡ e.slot → 2 ≤ length x.lits → Contains x.lits l) own new slot s put
       (λ j is. subst (λ i. 2 ≤ length (clause_at own i) → Contains (clause_at own i) l) (sym is) (entry.among l beside))
-      (λ _ is long. Contains-permutation _ _ l same (subst (λ i. 2 ≤ length (clause_at own i) → Contains (clause_at own i) l) (sym is) (entry.among l beside) (let len = length_permutation _ _ same in omega arith)))
+      (λ is long. Contains-permutation _ _ l same (subst (λ i. 2 ≤ length (clause_at own i) → Contains (clause_at own i) l) (sym is) (entry.among l beside) (let len = length_permutation _ _ same in omega arith)))
       e.slot refl;
 }
 
-pub kept_reordered : (own : List Slot) (lists : List (List Entry)) (ends : List ℕ) (n : ℕ) (trail : List Literal) (slot : ℕ) (s : Slot) → IsKept own lists ends n trail → IsPermutation (clause_at own slot) s.lits → IsDistinct s.lits
-    → ((l : Literal) → IsWatch s.lits l → IsWatch (clause_at own slot) l ⊎ (Names (list_of lists l) 0 slot × ((p : ℕ) → p < length ends → get_or trail p no_literal ≢ opposite l))) → IsKept (set own slot s) lists ends n trail
-kept_reordered own lists ends n trail slot s kept same apart watches =
+pub kept_reordered : (own new : List Slot) (lists : List (List Entry)) (ends : List ℕ) (n : ℕ) (trail : List Literal) (slot : ℕ) (s : Slot) → IsPut own new slot s → s.begins ≡ true → IsKept own lists ends n trail → IsPermutation (clause_at own slot) s.lits → IsDistinct s.lits
+    → ((l : Literal) → IsWatch s.lits l → IsWatch (clause_at own slot) l ⊎ (Names (list_of lists l) 0 slot × ((p : ℕ) → p < length ends → get_or trail p no_literal ≢ opposite l))) → IsKept new lists ends n trail
+kept_reordered own new lists ends n trail slot s put begins kept same apart watches =
     let back : (l : Literal) → Contains s.lits l → Contains (clause_at own slot) l = λ l h. Contains-permutation _ _ l (IsPermutation-sym _ _ same) h in
     record {
-      distinct = at_set no_slot (λ j x. IsDistinct x.lits) own slot s kept.distinct (λ _. apart);
-      upto = λ j l. at_set no_slot (λ j x. Contains x.lits l → l.var ≤ n) own slot s (λ i h. kept.upto i l h) (λ _ h. kept.upto slot l (back l h)) j;
-      covered = λ j l. at_set no_slot (λ j x. Contains x.lits l → code_of l < length lists) own slot s (λ i h. kept.covered i l h) (λ _ h. kept.covered slot l (back l h)) j;
-      entries = λ c k h. entry_reordered own n c slot s _ same (kept.entries c k h);
-      watched = λ j l watch. at_set no_slot (λ j x. IsWatch x.lits l → Names (list_of lists l) 0 j) own slot s (λ i w. kept.watched i l w) (λ _ w. elim (watches l w) [ inl old ↦ kept.watched slot l old | inr new ↦ new.0 ]) j watch;
+      distinct = at_put (λ j x. IsDistinct x.lits) own new slot s put kept.distinct apart;
+      upto = λ j l. at_put (λ j x. Contains x.lits l → l.var ≤ n) own new slot s put (λ i h. kept.upto i l h) (λ h. kept.upto slot l (back l h)) j;
+      covered = λ j l. at_put (λ j x. Contains x.lits l → code_of l < length lists) own new slot s put (λ i h. kept.covered i l h) (λ h. kept.covered slot l (back l h)) j;
+      entries = λ c k h. entry_reordered own new n c slot s _ put begins same (kept.entries c k h);
+      watched = λ j l watch. at_put (λ j x. IsWatch x.lits l → Names (list_of lists l) 0 j) own new slot s put (λ i w. kept.watched i l w) (λ w. elim (watches l w) [ inl old ↦ kept.watched slot l old | inr new ↦ new.0 ]) j watch;
       within = kept.within;
       rising = kept.rising;
-      settled = λ j l p watch h is. at_set no_slot (λ j x. IsWatch x.lits l → HasTrue (take (get_or ends p 0) trail) x.lits) own slot s (λ i w. kept.settled i l p w h is)
-          (λ _ w. elim (watches l w) [ inl old ↦ true_reordered _ _ _ same (kept.settled slot l p old h is) | inr new ↦ absurd (new.1 p h is) ]) j watch;
+      settled = λ j l p watch h is. at_put (λ j x. IsWatch x.lits l → HasTrue (take (get_or ends p 0) trail) x.lits) own new slot s put (λ i w. kept.settled i l p w h is)
+          (λ w. elim (watches l w) [ inl old ↦ true_reordered _ _ _ same (kept.settled slot l p old h is) | inr new ↦ absurd (new.1 p h is) ]) j watch;
     }
 
-pub looking_swapped : (own : List Slot) (lists : List (List Entry)) (ends : List ℕ) (n : ℕ) (trail : List Literal) (lit : Literal) (at slot : ℕ) (s : Slot) → IsLooking own lists ends n trail lit at → s.lits ≡ swap (clause_at own slot) 0 1 → 2 ≤ length (clause_at own slot) → IsLooking (set own slot s) lists ends n trail lit at
-looking_swapped own lists ends n trail lit at slot s looking is long =
+pub looking_swapped : (own new : List Slot) (lists : List (List Entry)) (ends : List ℕ) (n : ℕ) (trail : List Literal) (lit : Literal) (at slot : ℕ) (s : Slot) → IsPut own new slot s → s.begins ≡ true → IsLooking own lists ends n trail lit at → s.lits ≡ swap (clause_at own slot) 0 1 → 2 ≤ length (clause_at own slot) → IsLooking new lists ends n trail lit at
+looking_swapped own new lists ends n trail lit at slot s put begins looking is long =
     let kept = looking.kept in
     let clause = clause_at own slot in
     let same : IsPermutation clause s.lits = IsPermutation-swap clause s.lits 0 1 (omega arith) (omega arith) is in
     let watch : (l : Literal) → IsWatch s.lits l → IsWatch clause l = λ l w. watch_swapped clause l long (subst (λ c. IsWatch c l) is w) in
     record {
-      kept = kept_reordered own lists ends n trail slot s kept same (subst IsDistinct (sym is) (distinct_swapped clause 0 1 (omega arith) (omega arith) (kept.distinct slot))) (λ l w. inl (watch l w));
+      kept = kept_reordered own new lists ends n trail slot s put begins kept same (subst IsDistinct (sym is) (distinct_swapped clause 0 1 (omega arith) (omega arith) (kept.distinct slot))) (λ l w. inl (watch l w));
       more = looking.more;
       here = looking.here;
-      due = λ j w. at_set no_slot (λ j x. IsWatch x.lits lit → Names (list_of lists lit) at j ⊎ HasTrue trail x.lits) own slot s (λ i h. looking.due i h)
-          (λ _ h. elim (looking.due slot (watch lit h)) [ inl names ↦ inl names | inr t ↦ inr (true_reordered _ _ _ same t) ]) j w;
+      due = λ j w. at_put (λ j x. IsWatch x.lits lit → Names (list_of lists lit) at j ⊎ HasTrue trail x.lits) own new slot s put (λ i h. looking.due i h)
+          (λ h. elim (looking.due slot (watch lit h)) [ inl names ↦ inl names | inr t ↦ inr (true_reordered _ _ _ same t) ]) j w;
     }
 
 -- The literal at place 1 is exchanged with one that isn't false, in whose list the clause is.
-pub looking_moved : (own : List Slot) (lists : List (List Entry)) (ends : List ℕ) (n : ℕ) (trail : List Literal) (lit : Literal) (at slot place : ℕ) (s : Slot) → IsLooking own lists ends n trail lit at → slot < length own → s.lits ≡ swap (clause_at own slot) 1 place → IsFree (clause_at own slot) trail place → get_or (clause_at own slot) 1 no_literal ≡ lit
+pub looking_moved : (own new : List Slot) (lists : List (List Entry)) (ends : List ℕ) (n : ℕ) (trail : List Literal) (lit : Literal) (at slot place : ℕ) (s : Slot) → IsPut own new slot s → s.begins ≡ true → IsLooking own lists ends n trail lit at → s.lits ≡ swap (clause_at own slot) 1 place → IsFree (clause_at own slot) trail place → get_or (clause_at own slot) 1 no_literal ≡ lit
     → Names (list_of lists (get_or (clause_at own slot) place no_literal)) 0 slot
-    → IsLooking (set own slot s) lists ends n trail lit at × ((l : Literal) → IsWatch (clause_at (set own slot s) slot) l → l ≢ lit)
-looking_moved own lists ends n trail lit at slot place s looking in_own is (from, to, free) second named =
+    → IsLooking new lists ends n trail lit at × ((l : Literal) → IsWatch (clause_at new slot) l → l ≢ lit)
+looking_moved own new lists ends n trail lit at slot place s put begins looking is (from, to, free) second named =
     let kept = looking.kept in
     let clause = clause_at own slot in
     let apart = kept.distinct slot in
@@ -200,12 +200,12 @@ looking_moved own lists ends n trail lit at slot place s looking in_own is (from
       )
     ] in (
       record {
-        kept = kept_reordered own lists ends n trail slot s kept same (subst IsDistinct (sym is) (distinct_swapped clause 1 place (omega arith) to apart)) watches;
+        kept = kept_reordered own new lists ends n trail slot s put begins kept same (subst IsDistinct (sym is) (distinct_swapped clause 1 place (omega arith) to apart)) watches;
         more = looking.more;
         here = looking.here;
-        due = λ j w. at_set no_slot (λ j x. IsWatch x.lits lit → Names (list_of lists lit) at j ⊎ HasTrue trail x.lits) own slot s (λ i h. looking.due i h) (λ _ h. absurd (other lit h refl)) j w;
+        due = λ j w. at_put (λ j x. IsWatch x.lits lit → Names (list_of lists lit) at j ⊎ HasTrue trail x.lits) own new slot s put (λ i h. looking.due i h) (λ h. absurd (other lit h refl)) j w;
       },
-      λ l w. other l (subst (λ (x : Slot). IsWatch x.lits l) (get_or-set_same own slot s no_slot in_own) w),
+      λ l w. other l (subst (λ (x : Slot). IsWatch x.lits l) put.here w),
     )
 
 -- Entries.
@@ -227,7 +227,7 @@ pushed_names lists code e l from j names =
     at_set [] (λ c es. c ≡ code_of l → Names es from j) lists code (get_or lists code [] ++ e ∷ []) (λ c is. subst (λ c. Names (get_or lists c []) from j) (sym is) names) (λ _ is. names_push (get_or lists code []) e from j (subst (λ c. Names (get_or lists c []) from j) (sym is) names)) (code_of l) refl
 
 -- an entry in the list of another literal of a clause, whose blocker is the first one
-pub entry_by : (own : List Slot) (n slot place : ℕ) (first l : Literal) → slot < length own → 2 ≤ length (clause_at own slot) → IsDistinct (clause_at own slot) → first ≡ get_or (clause_at own slot) 0 no_literal → get_or (clause_at own slot) place no_literal ≡ l → first.var ≤ n → 0 < place → place < length (clause_at own slot)
+pub entry_by : (own : List Slot) (n slot place : ℕ) (first l : Literal) → IsSlot own slot → 2 ≤ length (clause_at own slot) → IsDistinct (clause_at own slot) → first ≡ get_or (clause_at own slot) 0 no_literal → get_or (clause_at own slot) place no_literal ≡ l → first.var ≤ n → 0 < place → place < length (clause_at own slot)
     → IsEntry own n (code_of l) (record { slot = slot; blocker = first })
 entry_by own n slot place first l in_own long apart is_first is_l upto above below =
     let clause = clause_at own slot in
@@ -396,10 +396,10 @@ pub length_blocker : (lists : List (List Entry)) (code at : ℕ) (e : Entry) →
 length_blocker lists code at e =
     at_set [] (λ c es. c ≡ code → length es ≡ length (get_or lists code [])) lists code (set (get_or lists code []) at e) (λ c is. ap (λ (i : ℕ). length (get_or lists i [])) is) (λ _ _. length-set (get_or lists code []) at e) code refl
 
-pub replaced : (own own_2 : List Slot) (lists lists_2 lists_3 : List (List Entry)) (ends : List ℕ) (n : ℕ) (trail : List Literal) (lit : Literal) (at slot place : ℕ) (s : Slot) (e : Entry) → IsLooking own lists ends n trail lit at → at < length (list_of lists lit) → (get_or (list_of lists lit) at no_entry).slot ≡ slot → slot < length own
-    → get_or (clause_at own slot) 1 no_literal ≡ lit → IsFree (clause_at own slot) trail place → e.slot ≡ slot → IsEntry own n (code_of (get_or (clause_at own slot) place no_literal)) e → lists_2 ≡ with_entry lists (code_of (get_or (clause_at own slot) place no_literal)) e → s.lits ≡ swap (clause_at own slot) 1 place → own_2 ≡ set own slot s
+pub replaced : (own own_2 : List Slot) (lists lists_2 lists_3 : List (List Entry)) (ends : List ℕ) (n : ℕ) (trail : List Literal) (lit : Literal) (at slot place : ℕ) (s : Slot) (e : Entry) → IsLooking own lists ends n trail lit at → at < length (list_of lists lit) → (get_or (list_of lists lit) at no_entry).slot ≡ slot
+    → get_or (clause_at own slot) 1 no_literal ≡ lit → IsFree (clause_at own slot) trail place → e.slot ≡ slot → IsEntry own n (code_of (get_or (clause_at own slot) place no_literal)) e → lists_2 ≡ with_entry lists (code_of (get_or (clause_at own slot) place no_literal)) e → s.lits ≡ swap (clause_at own slot) 1 place → IsPut own own_2 slot s → s.begins ≡ true
     → ((c : ℕ) → c ≢ code_of lit → get_or lists_3 c [] ≡ get_or lists_2 c []) → IsRemoved (list_of lists_2 lit) (list_of lists_3 lit) at → length lists_3 ≡ length lists_2 → IsLooking own_2 lists_3 ends n trail lit at × (length (list_of lists lit) ≡ length (list_of lists_3 lit) + 1)
-replaced own own_2 lists lists_2 lists_3 ends n trail lit at slot place s e looking within entry in_own second free slot_is valid is_2 s_is own_is others removed len =
+replaced own own_2 lists lists_2 lists_3 ends n trail lit at slot place s e looking within entry second free slot_is valid is_2 s_is put begins others removed len =
     let l = get_or (clause_at own slot) place no_literal in
     let kept = looking.kept in
     let reached : code_of l < length lists = kept.covered slot l (Contains-get_or (clause_at own slot) place no_literal free.1) in
@@ -408,13 +408,11 @@ replaced own own_2 lists lists_2 lists_3 ends n trail lit at slot place s e look
     let list_is : list_of lists_2 lit ≡ list_of lists lit = ap (λ ls. list_of ls lit) is_2 ∙ get_or-set_other lists (code_of l) (code_of lit) _ [] other in
     let one : IsLooking own lists_2 ends n trail lit at = subst (λ ls. IsLooking own ls ends n trail lit at) (sym is_2) (looking_entry own lists ends n trail lit at (code_of l) e looking valid) in
     let named : Names (list_of lists_2 l) 0 slot = subst (λ ls. Names (list_of ls l) 0 slot) (sym is_2) (subst (Names (list_of (with_entry lists (code_of l) e) l) 0) slot_is (named_here lists l e reached)) in
-    let two = looking_moved own lists_2 ends n trail lit at slot place s one in_own s_is free second named in
-    let two_is : IsLooking own_2 lists_2 ends n trail lit at = subst (λ o. IsLooking o lists_2 ends n trail lit at) (sym own_is) two.0 in
-    let unwatched : (m : Literal) → IsWatch (clause_at own_2 slot) m → m ≢ lit = λ m w. two.1 m (subst (λ o. IsWatch (clause_at o slot) m) own_is w) in
+    let two = looking_moved own own_2 lists_2 ends n trail lit at slot place s put begins one s_is free second named in
     let at_in : at < length (list_of lists_2 lit) = subst (λ (es : List Entry). at < length es) (sym list_is) within in
     let entry_is : (get_or (list_of lists_2 lit) at no_entry).slot ≡ slot = ap (λ (es : List Entry). (get_or es at no_entry).slot) list_is ∙ entry in
     let less : length (list_of lists_3 lit) + 1 ≡ length (list_of lists_2 lit) = removed.len in (
-      looking_removed own_2 lists_2 lists_3 ends n trail lit at slot two_is at_in entry_is unwatched others removed len,
+      looking_removed own_2 lists_2 lists_3 ends n trail lit at slot two.0 at_in entry_is two.1 others removed len,
       ap length (sym list_is) ∙ sym less,
     )
 

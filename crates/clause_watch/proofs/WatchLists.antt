@@ -8,7 +8,8 @@ use Rattle.std.proofs.lemmas.Bool.{cases_eq, cases_lt}
 use Rattle.scut_base.specs.Literal.{Literal}
 use Rattle.scut_base.specs.LiteralCode.{code_of}
 use Rattle.pb_lin.specs.Constraint.{opposite}
-use Rattle.clause_watch.specs.Watching.{no_literal, HasTrue, IsDistinct, IsWatch}
+use Rattle.clause_watch.specs.Slot.{Slot}
+use Rattle.clause_watch.specs.Watching.{no_literal, no_slot, HasTrue, IsDistinct, IsPut, IsSlot, IsWatch}
 
 -- what holds of each element and of a new one holds after a write
 pub at_set : {X : Type 0} (d : X) (P : ℕ → X → Type 0) (xs : List X) (c : ℕ) (x : X) → ((k : ℕ) → P k (get_or xs k d)) → (c < length xs → P c x) → (k : ℕ) → P k (get_or (set xs c x) k d)
@@ -30,6 +31,14 @@ at_others d P xs ys c same each here k =
       | inl e ↦ subst (λ i. P i (get_or ys i d)) (sym e) here
       | inr n ↦ subst (λ y. P k y) (sym (same k n)) (each k)
     ]
+
+-- what holds of each place and of a new clause holds after it is put
+pub at_put : (P : ℕ → Slot → Type 0) (own new : List Slot) (j : ℕ) (s : Slot) → IsPut own new j s → ((k : ℕ) → P k (get_or own k no_slot)) → P j s → (k : ℕ) → P k (get_or new k no_slot)
+at_put P own new j s put each here k = at_others no_slot P own new j put.others each (subst (P j) (sym put.here) here) k
+
+-- where a clause begins one does after another is put
+pub begins_after : (own new : List Slot) (j : ℕ) (s : Slot) → IsPut own new j s → s.begins ≡ true → (k : ℕ) → IsSlot own k → IsSlot new k
+begins_after own new j s put begins k = at_put (λ i x. IsSlot own i → x.begins ≡ true) own new j s put (λ i h. h) (λ _. begins) k
 
 pub opposite_twice : (l : Literal) → opposite (opposite l) ≡ l
 opposite_twice l = twice l.var l.neg

@@ -1,5 +1,5 @@
 -- The clauses that stay held, and the steps that they force, from one visit to the next.
-use Rattle.std.proofs.Common.{◌≡◌, ◌⊎◌, ◌≤◌, ℕ, zero, suc, take, List, [], ◌∷◌, ◌++◌, length, get_or, set, inl, inr, refl, arith, ap, sym, subst, ◌∙◌, length-set}
+use Rattle.std.proofs.Common.{◌≡◌, ◌⊎◌, ◌≤◌, ℕ, zero, suc, take, List, [], ◌∷◌, ◌++◌, length, inl, inr, refl, arith, ap, sym, subst, ◌∙◌}
 use Rattle.std.specs.List.{swap}
 use Rattle.std.specs.Prelude.{Result, Ok, Err, Option, Some, None, IfOk, IfSome, IfNone, OnErr, Contains, ◌<◌, IsPermutation}
 use Rattle.std.proofs.lemmas.List.Sorted.{IsPermutation-swap, IsPermutation-sym, Contains-permutation}
@@ -16,7 +16,8 @@ use Rattle.clause_watch.specs.declared.watches.Watches.{Watches}
 use Rattle.clause_watch.specs.declared.watches.Visit.{Visit}
 use Rattle.clause_prop.specs.Steps.{TrailValue, last_level, with_step}
 use Rattle.clause_prop.specs.Propagating.{Extends, IsConflict, IsForcedStep}
-use Rattle.clause_watch.specs.Watching.{IsKept, IsLooking, clause_at, list_of, lits_of, no_slot}
+use Rattle.clause_watch.specs.Watching.{IsKept, IsLooking, IsPut, IsSlot, clause_at, list_of, lits_of, with_lits}
+use Rattle.clause_watch.proofs.WatchLists.{begins_after}
 use Rattle.clause_watch.specs.Watches.{AreSlots, AreWatches, Hold, IsAllLooked, IsConflictOf, IsFollowed, IsReady, IsVisited}
 use Rattle.clause_prop.proofs.Extensions.{extends_none, extends_step, extends_twice}
 use Rattle.clause_watch.proofs.WatchKept.{kept_push, looking_swapped}
@@ -56,15 +57,15 @@ followed_twice a b c s t u one two = record {
 
 -- the two watches of a clause are exchanged, or not
 pub second_put : (own new : List Slot) (lists : List (List Entry)) (ends : List ℕ) (index : List ℕ) (n : ℕ) (trail : List Literal) (lit : Literal) (at slot : ℕ) → IsLooking own lists ends n trail lit at
-    → (new ≡ own) ⊎ ((2 ≤ length (clause_at own slot)) × (new ≡ set own slot (record { id = (get_or own slot no_slot).id; lits = swap (clause_at own slot) 0 1 }))) → IsLooking new lists ends n trail lit at × (length new ≡ length own) × ((lines : LineMap) → AreSlots own index lines → AreSlots new index lines)
+    → (new ≡ own) ⊎ ((2 ≤ length (clause_at own slot)) × IsPut own new slot (with_lits own slot (swap (clause_at own slot) 0 1))) → IsLooking new lists ends n trail lit at × ((j : ℕ) → IsSlot own j → IsSlot new j) × ((lines : LineMap) → AreSlots own index lines → AreSlots new index lines)
 second_put own new lists ends index n trail lit at slot looking which =
-    let s : Slot = record { id = (get_or own slot no_slot).id; lits = swap (clause_at own slot) 0 1 } in
+    let s : Slot = with_lits own slot (swap (clause_at own slot) 0 1) in
     elim which [
-      | inl e ↦ (subst (λ o. IsLooking o lists ends n trail lit at) (sym e) looking, ap length e, λ lines h. subst (λ o. AreSlots o index lines) (sym e) h)
-      | inr (long, e) ↦ (
-        subst (λ o. IsLooking o lists ends n trail lit at) (sym e) (looking_swapped own lists ends n trail lit at slot s looking refl long),
-        ap length e ∙ length-set own slot s,
-        λ lines h. subst (λ o. AreSlots o index lines) (sym e) (hold_reordered own index lines slot s h refl (IsPermutation-swap (clause_at own slot) s.lits 0 1 (omega (arith, long)) (omega (arith, long)) refl)),
+      | inl e ↦ (subst (λ o. IsLooking o lists ends n trail lit at) (sym e) looking, λ j h. subst (λ o. IsSlot o j) (sym e) h, λ lines h. subst (λ o. AreSlots o index lines) (sym e) h)
+      | inr (long, put) ↦ (
+        looking_swapped own new lists ends n trail lit at slot s put refl looking refl long,
+        begins_after own new slot s put refl,
+        λ lines h. hold_reordered own new index lines slot s put h refl (IsPermutation-swap (clause_at own slot) s.lits 0 1 (omega (arith, long)) (omega (arith, long)) refl),
       )
     ]
 

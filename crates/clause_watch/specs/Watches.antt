@@ -1,5 +1,5 @@
 -- When the watched clauses are in step with a store and a trail, and what a visit of one entry does.
-use Rattle.std.specs.Prelude.{◌≡◌, ◌≢◌, ℕ, ◌+◌, ◌<◌, ◌≤◌, true, List, [], ◌∷◌, ◌++◌, get_or, length, slice_index_or, Contains, Some, IsPermutation}
+use Rattle.std.specs.Prelude.{◌≡◌, ◌≢◌, ℕ, ◌+◌, ◌<◌, ◌≤◌, true, List, [], get_or, length, slice_index_or, Contains, Some, IsPermutation}
 use Rattle.std.specs.FinMap.{get}
 use Rattle.scut_base.specs.Literal.{Literal}
 use Rattle.pb_lin.specs.Constraint.{ConstraintValue, IsMerged, literals, opposite}
@@ -7,7 +7,7 @@ use Rattle.pb_lin.specs.LineMap.{LineMap}
 use Rattle.clause_prop.specs.Steps.{TrailValue, AreSteps}
 use Rattle.clause_prop.specs.Propagating.{Extends, IsConflict}
 use Rattle.clause_prop.specs.LineKinds.{is_watched}
-use Rattle.clause_watch.specs.Watching.{IsKept, IsLooking, clause_at, lits_of, list_of, no_literal, no_slot}
+use Rattle.clause_watch.specs.Watching.{IsKept, IsLooking, IsPut, clause_at, lits_of, list_of, no_literal, no_slot}
 use Rattle.clause_watch.specs.Slot.{Slot}
 use Rattle.clause_watch.specs.SlotTable.{slot_in}
 use Rattle.clause_watch.specs.declared.watches.Watches.{Watches}
@@ -101,11 +101,19 @@ pub record IsCopy (lines : LineMap) (id : ℕ) (line : ConstraintValue) (lits : 
   pub merged : IsMerged line.terms
   pub same : IsPermutation (literals line.terms) lits
 
--- a slot of this id without literals is put at the end
+-- a clause of this id without literals is put at the end
 pub record IsOpened (before after : Watches) (id slot : ℕ) : Type 0 where
-  pub is : slot ≡ length before.slots
-  pub slots : after.slots ≡ before.slots ++ record { id = id; lits = [] } ∷ []
+  pub fresh : slice_index_or before.slots slot no_slot ≡ no_slot
+  pub put : IsPut before.slots after.slots slot (record { begins = true; id = id; lits = [] })
+  pub last : slot + 3 ≡ length after.slots
   pub found : slot_in after.index id ≡ Some slot
+
+-- Of the lines that others hold, those are held that begin in them before a place.
+pub record AreTaken (own others : Watches) (lines : LineMap) (place : ℕ) : Type 0 where
+  pub part : LineMap
+  pub hold : Hold own part
+  pub from : (id : ℕ) (c : ConstraintValue) → get part id ≡ Some c → (get lines id ≡ Some c) × ((j : ℕ) × (j < place) × (slot_in others.index id ≡ Some j))
+  pub all : (id j : ℕ) (c : ConstraintValue) → get lines id ≡ Some c → is_watched c ≡ true → slot_in others.index id ≡ Some j → j < place → get part id ≡ Some c
 
 -- both have the same clauses that are watched
 pub record AreSameWatched (old new : LineMap) : Type 0 where

@@ -17,7 +17,16 @@ no_entry = record { slot = 0; blocker = no_literal }
 
 -- what stands past the end of the slots
 abbrev pub no_slot : Slot
-no_slot = record { id = 0; lits = [] }
+no_slot = record { begins = false; id = 0; lits = [] }
+
+-- a clause begins at place j
+abbrev pub IsSlot : List Slot → ℕ → Type 0
+IsSlot own j = (slice_index_or own j no_slot).begins ≡ true
+
+-- this clause begins at place j, and at all others what began there
+pub record IsPut (old new : List Slot) (j : ℕ) (s : Slot) : Type 0 where
+  pub here : slice_index_or new j no_slot ≡ s
+  pub others : (i : ℕ) → i ≢ j → slice_index_or new i no_slot ≡ slice_index_or old i no_slot
 
 -- the literals that steps make true
 abbrev pub lits_of : List Step → List Literal
@@ -26,6 +35,10 @@ lits_of steps = map (λ s. s.lit) steps
 -- the literals of a slot
 abbrev pub clause_at : List Slot → ℕ → List Literal
 clause_at own j = (slice_index_or own j no_slot).lits
+
+-- the clause of place j with other literals
+abbrev pub with_lits : List Slot → ℕ → List Literal → Slot
+with_lits own j lits = record { begins = true; id = (slice_index_or own j no_slot).id; lits = lits }
 
 -- the list of a literal
 abbrev pub list_of : List (List Entry) → Literal → List Entry
@@ -53,7 +66,7 @@ IsBeside c e l = (l ≡ e.blocker) ⊎ (code_of l ≡ c)
 
 -- An entry is of a slot. Its blocker and the literal of its list are two literals of it, unless its clause was dropped.
 pub record IsEntry (own : List Slot) (n c : ℕ) (e : Entry) : Type 0 where
-  pub there : e.slot < length own
+  pub there : IsSlot own e.slot
   pub upto : e.blocker.var ≤ n
   pub other : code_of e.blocker ≢ c
   pub among : (l : Literal) → IsBeside c e l → 2 ≤ length (clause_at own e.slot) → Contains (clause_at own e.slot) l

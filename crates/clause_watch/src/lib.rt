@@ -5,6 +5,7 @@
 //! step with a store and a trail. How it does so shows in no clause. Lines of other kinds aren't looked at.
 #![tactic(auto)]
 
+mod clause;
 mod row;
 mod short_lit;
 mod slot_table;

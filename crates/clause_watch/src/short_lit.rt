@@ -1,12 +1,14 @@
 // A literal in half the room: clauses and lists of entries are gone through from end to end.
 ghost use Rattle.std.specs.Prelude.{◌≡◌, IfOk};
-ghost use Rattle.scut_base.specs.LiteralCode.{code_of};
+ghost use Rattle.scut_base.specs.LiteralCode.{code_of, literal_of};
+ghost use Rattle.clause_watch.specs.Codes.{IsCode};
 
+use crate::slots::MARK;
 use clause_prop::literal_code;
 use scut_base::{Lit, NoMemory};
 use std::marker::Model;
 
-/// A literal of a variable below 2^31, in 4 bytes. Contracts see the literal.
+/// A literal of a variable below 2^30, in 4 bytes. Contracts see the literal.
 #[derive(Clone, Copy, Debug)]
 pub struct ShortLit {
     // Twice the variable, plus 1 for a negation.
@@ -16,7 +18,7 @@ pub struct ShortLit {
 const _: () = prove!(std::mem::size_of::<ShortLit>() == 4);
 
 impl Model for ShortLit {
-    ghost use Rattle.std.specs.Prelude.{◌<◌, ◌^◌};
+    ghost use Rattle.clause_watch.specs.Codes.{IsCode};
     ghost use Rattle.scut_base.specs.Literal.{Literal};
     ghost use Rattle.scut_base.specs.LiteralCode.{code_of, literal_of, code_of-literal_of};
 
@@ -24,7 +26,7 @@ impl Model for ShortLit {
 
     ghost view = { λ l. literal_of l.code };
 
-    ghost invariant = { λ l. (1 < l.code) × (l.code < 2 ^ 32) };
+    ghost invariant = { λ l. IsCode l.code };
 
     ghost inverse = { λ l. record { code = code_of l } };
 
@@ -32,16 +34,32 @@ impl Model for ShortLit {
 }
 
 impl ShortLit {
-    /// The literal, where its variable is below 2^31; a solver has no memory for more.
+    /// The literal, where its variable is below 2^30; a solver has no memory for more.
     pub fn new(lit: Lit) -> Result<ShortLit, NoMemory>
         ensures { IfOk result (λ short. short ≡ lit) }
     {
         let from_one = lit.var();
         let code = literal_code(lit);
-        if code < 2 || code > u32::MAX as usize || from_one == 0 {
+        if code < 2 || code >= MARK as usize || from_one == 0 {
             return Err(NoMemory);
         }
         Ok(ShortLit { code: code as u32 })
+    }
+
+    /// The literal of a code.
+    pub fn of(code: u32) -> ShortLit
+        requires { IsCode code }
+        ensures { result ≡ literal_of code }
+    {
+        ShortLit { code }
+    }
+
+    /// Twice the variable, plus 1 for a negation, as it lies among the words of clauses.
+    pub fn word(self) -> u32
+        ensures value { result ≡ code_of self }
+        ensures code { IsCode result }
+    {
+        self.code
     }
 
     /// The literal.

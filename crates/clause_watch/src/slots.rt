@@ -1,45 +1,42 @@
-// The watched clauses, one behind another in one list of literals.
-ghost use Rattle.std.specs.Prelude.{◌≡◌, ◌+◌, ◌<◌, ◌++◌, [], ◌∷◌, length, IfOk, OnOk, OnErr, slice_set, slice_index_or, swap, Contains};
-ghost use Rattle.clause_watch.specs.Watching.{clause_at, no_literal, no_slot};
+// The watched clauses, one behind another in one list of words.
+ghost use Rattle.std.specs.Prelude.{◌≡◌, ◌+◌, ◌<◌, ◌++◌, [], true, false, length, map, take, IfOk, OnOk, OnErr, IsTrue, ◌↔◌, slice_index_or, swap, Contains};
+ghost use Rattle.scut_base.specs.LiteralCode.{code_of};
+ghost use Rattle.clause_watch.specs.Codes.{AreCodes};
+ghost use Rattle.clause_watch.specs.Watching.{IsPut, IsSlot, clause_at, no_literal, no_slot, with_lits};
 
+use crate::clause::Clause;
 use crate::short_lit::{ShortLit, short_number};
 use scut_base::NoMemory;
 use std::alloc::Global;
 use std::marker::Model;
 
-/// Where the literals of a clause lie, and the id of its line.
-#[derive(Clone, Copy, Debug)]
-pub struct Head {
-    pub id: u64,
-    pub start: u32,
-    pub len: u32,
-}
+/// The bit of the words at which clauses begin; what such a word has besides is the number of literals.
+pub const MARK: u32 = 1 << 31;
 
-const _: () = prove!(std::mem::size_of::<Head>() == 16);
+// How many words of a clause stand before its literals: their number, and the id of its line in two.
+const BEFORE: usize = 3;
 
-/// Clauses, by numbers from 0 on, each with its literals in an order of its own; none after its line
-/// was dropped. Contracts see the list of them. Their literals lie behind one another, so that a visit
-/// waits for memory once and not for a list of each clause.
+/// Clauses, by the places where they begin, each with its literals in an order of its own; none after its line
+/// was dropped. Contracts see for each place what begins there. A clause's length and id lie beside its literals, so
+/// that a visit waits for memory once, and not again for a table.
 #[derive(Debug, Drop)]
 pub struct Slots {
-    alloc: Global,
-    heads: Vec<Head>,
-    words: Vec<ShortLit>,
-    // How many literals were taken away and not packed since.
+    words: Vec<u32>,
+    // How many words are of clauses that were dropped.
     lost: usize,
 }
 
 impl Model for Slots {
-    ghost use Rattle.std.specs.Prelude.{List, map};
+    ghost use Rattle.std.specs.Prelude.{List};
     ghost use Rattle.clause_watch.specs.Slot.{Slot};
 
     ghost Value = { List Slot };
 
-    ghost use Rattle.clause_watch.specs.Blocks.{AreBlocks, block};
+    ghost use Rattle.clause_watch.specs.Words.{AreClauses, slots_of};
 
-    ghost view = { λ s. map (block s.words.items) s.heads.items };
+    ghost view = { λ s. slots_of s.words.items };
 
-    ghost invariant = { λ s. AreBlocks s.heads.items s.words.items };
+    ghost invariant = { λ s. AreClauses s.words.items };
 }
 
 impl Slots {
@@ -48,141 +45,135 @@ impl Slots {
         ensures { result ≡ [] }
     {
         Slots {
-            alloc,
-            heads: Vec::new(alloc),
             words: Vec::new(alloc),
             lost: 0,
         }
     }
 
-    /// The number of slots.
+    /// The number of places.
     pub fn len(&self) -> usize
         ensures { result ≡ length self.now }
     {
-        self.heads.len()
+        self.words.len()
     }
 
-    /// The id of the line of a slot.
+    /// Whether a clause begins at a place.
+    pub fn begins(&self, slot: u32) -> bool
+        ensures value { IsTrue result ↔ IsSlot self.now slot }
+        ensures none { result ≡ false → clause_at self.now slot ≡ [] }
+    {
+        let at = slot as usize;
+        if at >= self.words.len() {
+            return false;
+        }
+        self.words[at] >= MARK
+    }
+
+    /// The id of the line of a clause.
     pub fn id(&self, slot: u32) -> u64
-        requires { slot < length self.now }
+        requires { IsSlot self.now slot }
         ensures { result ≡ (slice_index_or self.now slot no_slot).id }
     {
-        self.heads[slot as usize].id
+        let at = slot as usize;
+        u64::from(self.words[at + 1]) + u64::from(MARK) * u64::from(self.words[at + 2])
     }
 
-    /// The literals of a slot.
-    pub fn lits(&self, slot: u32) -> &[ShortLit]
-        requires { slot < length self.now }
-        ensures { result.now ≡ clause_at self.now slot }
+    /// The literals of a clause.
+    pub fn lits(&self, slot: u32) -> Clause<'_>
+        requires { IsSlot self.now slot }
+        ensures { result ≡ clause_at self.now slot }
     {
-        let head = self.heads[slot as usize];
-        let start = head.start as usize;
-        &self.words.as_slice()[start..start + head.len as usize]
+        let at = slot as usize;
+        let len = (self.words[at] - MARK) as usize;
+        Clause::new(&self.words.as_slice()[at + BEFORE..at + BEFORE + len])
     }
 
-    /// A literal of a slot.
+    /// A literal of a clause.
     pub fn at(&self, slot: u32, place: usize) -> ShortLit
-        requires slot { slot < length self.now }
+        requires slot { IsSlot self.now slot }
         requires place { place < length (clause_at self.now slot) }
         ensures value { result ≡ slice_index_or (clause_at self.now slot) place no_literal }
         ensures among { Contains (clause_at self.now slot) result }
     {
-        let start = self.heads[slot as usize].start as usize;
-        self.words[start + place]
+        self.lits(slot).at(place)
     }
 
-    /// Exchanges two literals of a slot.
+    /// Exchanges two literals of a clause.
     pub fn swap(&mut self, slot: u32, first: usize, second: usize)
-        requires slot { slot < length self.old }
+        requires slot { IsSlot self.old slot }
         requires first { first < length (clause_at self.old slot) }
         requires second { second < length (clause_at self.old slot) }
-        ensures { self.new ≡ slice_set self.old slot
-            (record {
-              id = (slice_index_or self.old slot no_slot).id;
-              lits = swap (clause_at self.old slot) first second;
-            }) }
+        ensures { IsPut self.old self.new slot
+            (with_lits self.old slot (swap (clause_at self.old slot) first second)) }
     {
-        let start = self.heads[slot as usize].start as usize;
+        let start = slot as usize + BEFORE;
         let words = self.words.as_mut_slice();
         words.swap(start + first, start + second);
     }
 
-    /// Puts a slot without literals at the end. Where half of the literals are of no slot any more it
-    /// packs the others, which costs as much as they are; else it takes constant time on average.
-    pub fn push(&mut self, id: u64) -> Result<(), NoMemory>
-        ensures ok { OnOk result
-            (self.new ≡ self.old ++ record { id = id; lits = [] } ∷ []) }
+    /// Puts a clause without literals at the end; where it begins. Takes constant time on average.
+    pub fn push(&mut self, id: u64) -> Result<u32, NoMemory>
+        ensures fresh { IfOk result (λ slot. slice_index_or self.old slot no_slot ≡ no_slot) }
+        ensures put { IfOk result (λ slot. IsPut self.old self.new slot
+            (record { begins = true; id = id; lits = [] })) }
+        ensures last { IfOk result (λ slot. slot + 3 ≡ length self.new) }
         ensures err { OnErr result (self.new ≡ self.old) }
     {
-        if self.lost > self.words.len() / 2 {
-            self.pack();
+        let slot = short_number(self.words.len())?;
+        let low = (id % u64::from(MARK)) as u32;
+        let high = id / u64::from(MARK);
+        if high >= u64::from(MARK) {
+            return Err(NoMemory);
         }
-        self.put(id)
+        self.words.extend_from_slice(&[MARK, low, high as u32])?;
+        Ok(slot)
     }
 
-    // Packs the literals, unless memory is wanting.
-    fn pack(&mut self)
-        ensures { self.new ≡ self.old }
-    {
-        if let Ok(packed) = self.packed() {
-            *self = packed;
-        }
-    }
-
-    // The same slots, with no room between their literals.
-    fn packed(&self) -> Result<Slots, NoMemory>
-        ensures { IfOk result (λ packed. packed ≡ self.now) }
-    {
-        let mut packed = Slots::new(self.alloc);
-        let count = short_number(self.len())?;
-        for slot in 0..count {
-            packed.put(self.id(slot))?;
-            packed.fill(slot, self.lits(slot))?;
-        }
-        Ok(packed)
-    }
-
-    // Puts a slot without literals at the end.
-    fn put(&mut self, id: u64) -> Result<(), NoMemory>
-        ensures ok { OnOk result
-            (self.new ≡ self.old ++ record { id = id; lits = [] } ∷ []) }
-        ensures err { OnErr result (self.new ≡ self.old) }
-    {
-        let start = short_number(self.words.len())?;
-        self.heads.push(Head { id, start, len: 0 })?;
-        Ok(())
-    }
-
-    /// Gives the last slot its literals.
+    /// Gives the last clause its literals.
     pub fn fill(&mut self, slot: u32, lits: &[ShortLit]) -> Result<(), NoMemory>
-        requires last { slot + 1 ≡ length self.old }
-        ensures ok { OnOk result (self.new ≡ slice_set self.old slot
-            (record {
-              id = (slice_index_or self.old slot no_slot).id;
-              lits = lits.now;
-            })) }
+        requires slot { IsSlot self.old slot }
+        requires last { slot + 3 ≡ length self.old }
+        ensures ok { OnOk result (IsPut self.old self.new slot
+            (with_lits self.old slot lits.now)) }
         ensures err { OnErr result (self.new ≡ self.old) }
     {
-        let id = self.heads[slot as usize].id;
-        let start = short_number(self.words.len())?;
-        let len = short_number(lits.len())?;
-        self.words.extend_from_slice(lits)?;
-        self.heads[slot as usize] = Head { id, start, len };
+        if lits.len() >= MARK as usize {
+            return Err(NoMemory);
+        }
+        let len = self.words.len();
+        if push_codes(&mut self.words, lits).is_err() {
+            self.words.truncate(len);
+            return Err(NoMemory);
+        }
+        self.words[slot as usize] = MARK + lits.len() as u32;
         Ok(())
     }
 
-    /// Takes the literals of a slot away. Takes no memory.
+    /// Takes the literals of a clause away. Takes no memory.
     pub fn empty(&mut self, slot: u32)
-        requires { slot < length self.old }
-        ensures { self.new ≡ slice_set self.old slot
-            (record { id = (slice_index_or self.old slot no_slot).id; lits = [] }) }
+        requires { IsSlot self.old slot }
+        ensures { IsPut self.old self.new slot (with_lits self.old slot []) }
     {
-        let head = self.heads[slot as usize];
-        self.lost = self.lost.saturating_add(head.len as usize);
-        self.heads[slot as usize] = Head {
-            id: head.id,
-            start: head.start,
-            len: 0,
-        };
+        let len = self.words[slot as usize] - MARK;
+        self.lost = self.lost.saturating_add(len as usize);
+        self.words[slot as usize] = MARK;
     }
+
+    /// Whether more than half of the words were literals of clauses that were dropped.
+    pub fn is_sparse(&self) -> bool {
+        self.lost > self.words.len() / 2
+    }
+}
+
+// Puts the codes of literals at the end.
+fn push_codes(words: &mut Vec<u32>, lits: &[ShortLit]) -> Result<(), NoMemory>
+    ensures ok { OnOk result (words.new.items ≡ words.old.items ++ map code_of lits.now) }
+    ensures codes { OnOk result (AreCodes (map code_of lits.now)) }
+    ensures err { OnErr result
+        (take (length words.old.items) words.new.items ≡ words.old.items) }
+{
+    for lit in lits {
+        words.push(lit.word())?;
+    }
+    Ok(())
 }

@@ -5,8 +5,9 @@ ghost use Rattle.scut_base.specs.Literal.{Literal};
 ghost use Rattle.scut_base.specs.LiteralCode.{code_of};
 ghost use Rattle.pb_lin.specs.Constraint.{opposite};
 ghost use Rattle.clause_prop.specs.Steps.{AreSteps, partial};
-ghost use Rattle.clause_watch.specs.Watching.{AreFalse, IsDistinct, IsFree, IsRemoved, IsValue, IsWatch, clause_at, lits_of, no_entry, no_literal, no_slot};
+ghost use Rattle.clause_watch.specs.Watching.{AreFalse, IsDistinct, IsFree, IsPut, IsRemoved, IsSlot, IsValue, IsWatch, clause_at, lits_of, no_entry, no_literal, with_lits};
 
+use crate::clause::Clause;
 use crate::row::Row;
 use crate::short_lit::ShortLit;
 use crate::slots::Slots;
@@ -31,6 +32,17 @@ pub fn short_lits(alloc: Global, lits: &[Lit]) -> Result<Row<ShortLit>, NoMemory
     let mut row = Row::new(alloc);
     for lit in lits {
         row.push(ShortLit::new(*lit)?)?;
+    }
+    Ok(row)
+}
+
+/// The literals of a clause in a list of their own.
+pub fn copied(alloc: Global, clause: &Clause) -> Result<Row<ShortLit>, NoMemory>
+    ensures { IfOk result (λ row. row ≡ clause.now) }
+{
+    let mut row = Row::new(alloc);
+    for place in 0..clause.len() {
+        row.push(clause.at(place))?;
     }
     Ok(row)
 }
@@ -67,23 +79,14 @@ pub fn is_true(trail: &Trail, lit: ShortLit) -> bool
     }
 }
 
-// A literal of a clause.
-fn literal_at(clause: &[ShortLit], place: usize) -> ShortLit
-    requires { place < length clause.now }
-    ensures value { (d : Literal) → slice_index_or clause.now place d ≡ result }
-    ensures among { Contains clause.now result }
-{
-    clause[place]
-}
-
 /// Whether a literal of a clause is false.
-pub fn is_false(clause: &[ShortLit], trail: &Trail, place: usize) -> bool
+pub fn is_false(clause: &Clause, trail: &Trail, place: usize) -> bool
     requires within { place < length clause.now }
     requires vars { (l : Literal) → Contains clause.now l → l.var ≤ trail.now.vars }
     ensures { IsTrue result ↔ Contains (lits_of trail.now.steps)
         (opposite (slice_index_or clause.now place no_literal)) }
 {
-    match truth(trail, literal_at(clause, place)) {
+    match truth(trail, clause.at(place)) {
         Some(value) => !value,
         None => false,
     }
@@ -108,7 +111,7 @@ pub fn skip_true(list: &Row<Entry>, trail: &Trail, from: usize) -> usize
 }
 
 /// A place from 2 on whose literal isn't false.
-pub fn free_place(clause: &[ShortLit], trail: &Trail) -> Option<usize>
+pub fn free_place(clause: &Clause, trail: &Trail) -> Option<usize>
     requires { (l : Literal) → Contains clause.now l → l.var ≤ trail.now.vars }
     ensures free { IfSome result (λ k. IsFree clause.now (lits_of trail.now.steps) k) }
     ensures none { IfNone result (AreFalse clause.now (lits_of trail.now.steps) 2) }
@@ -123,14 +126,10 @@ pub fn free_place(clause: &[ShortLit], trail: &Trail) -> Option<usize>
 
 /// Puts the literal at place 1, where it is one of the first two; whether it is.
 pub fn put_second(slots: &mut Slots, slot: u32, lit: Lit) -> bool
-    requires { slot < length slots.old }
-    ensures slots { (slots.new ≡ slots.old)
-        ⊎ ((2 ≤ length (clause_at slots.old slot))
-        × (slots.new ≡ slice_set slots.old slot
-        (record {
-          id = (slice_index_or slots.old slot no_slot).id;
-          lits = swap (clause_at slots.old slot) 0 1;
-        }))) }
+    requires { IsSlot slots.old slot }
+    ensures slots { (slots.new ≡ slots.old) ⊎ ((2 ≤ length (clause_at slots.old slot))
+        × IsPut slots.old slots.new slot
+        (with_lits slots.old slot (swap (clause_at slots.old slot) 0 1))) }
     ensures long { IsTrue result → 2 ≤ length (clause_at slots.new slot) }
     ensures found { IsTrue result
         → slice_index_or (clause_at slots.new slot) 1 no_literal ≡ lit }
@@ -141,8 +140,8 @@ pub fn put_second(slots: &mut Slots, slot: u32, lit: Lit) -> bool
     if clause.len() < 2 {
         return false;
     }
-    let first = literal_at(clause, 0);
-    let second = literal_at(clause, 1);
+    let first = clause.at(0);
+    let second = clause.at(1);
     if first.lit() == lit {
         slots.swap(slot, 0, 1);
         return true;

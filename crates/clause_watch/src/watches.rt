@@ -9,8 +9,8 @@ ghost use Rattle.pb_lin.specs.LineMap.{LineMap, LinesUpTo};
 ghost use Rattle.clause_prop.specs.Steps.{TrailValue, partial, with_step, cut};
 ghost use Rattle.clause_prop.specs.Propagating.{Extends, IsConflict};
 ghost use Rattle.clause_prop.specs.LineKinds.{is_watched, IsClosedForWatched};
-ghost use Rattle.clause_watch.specs.Watching.{AreFalse, AreOthersFalse, IsFree, clause_at, list_of, lits_of, no_entry, no_literal, no_slot, IsDistinct};
-ghost use Rattle.clause_watch.specs.Watches.{AreWatches, Hold, IsAllLooked, IsAt, IsConflictOf, IsFollowed, IsReady, IsVisited, IsCopy, IsOpened, IsWatchable, AreSameWatched, entries_of};
+ghost use Rattle.clause_watch.specs.Watching.{AreFalse, AreOthersFalse, IsFree, clause_at, list_of, lits_of, no_entry, no_literal, no_slot, IsDistinct, IsSlot};
+ghost use Rattle.clause_watch.specs.Watches.{AreWatches, Hold, IsAllLooked, IsAt, IsConflictOf, IsFollowed, IsReady, IsVisited, IsCopy, IsOpened, IsWatchable, AreSameWatched, AreTaken, entries_of};
 ghost use Rattle.clause_prop.specs.declared.step.Step.{Step};
 
 use crate::row::Row;
@@ -18,8 +18,8 @@ use crate::short_lit::{ShortLit, short_number};
 use crate::slot_table::SlotTable;
 use crate::slots::Slots;
 use crate::watch_lists::{
-    Entry, add_entry, cover, cut_ends, drop_entry, falsified, free_place, latest_first, put_second,
-    set_entry, short_lits, skip_true, truth,
+    Entry, add_entry, copied, cover, cut_ends, drop_entry, falsified, free_place, latest_first,
+    put_second, set_entry, short_lits, skip_true, truth,
 };
 use clause_prop::{ClauseStore, Trail, literal_code, push_forced};
 use pb_lin::Constraint;
@@ -103,10 +103,62 @@ impl Watches {
         ensures ok { OnOk result (AreWatches self.new store.now trail.now) }
         ensures err { OnErr result (AreWatches self.new (remove store.now id) trail.now) }
     {
+        if self.slots.is_sparse() {
+            self.pack(trail);
+        }
         match store.get(id) {
             Some(line) => self.take_up(line, trail, id),
             None => unreachable!(),
         }
+    }
+
+    // Leaves no room between clauses, unless memory is wanting. Costs as much as all words, and the steps
+    // that were looked at.
+    fn pack(&mut self, trail: &Trail)
+        requires ready { IsReady self.old trail.now }
+        ensures ready { IsReady self.new trail.now }
+        ensures hold { (lines : LineMap) → Hold self.old lines → Hold self.new lines }
+    {
+        if let Ok(packed) = self.packed(trail) {
+            *self = packed;
+        }
+    }
+
+    // The same clauses in the same order, with no room between them; no step was looked at yet.
+    fn packed(&self, trail: &Trail) -> Result<Watches, NoMemory>
+        requires ready { IsReady self.now trail.now }
+        ensures ready { IfOk result (λ packed. IsReady packed trail.now) }
+        ensures hold { IfOk result (λ packed. (lines : LineMap)
+            → Hold self.now lines → Hold packed lines) }
+    {
+        let mut packed = Watches::new(self.alloc);
+        let count = short_number(self.slots.len())?;
+        for slot in 0..count {
+            packed.take_over(self, trail, slot)?;
+        }
+        Ok(packed)
+    }
+
+    // Watches the clause that begins at a place of others, where one does that wasn't dropped.
+    fn take_over(&mut self, others: &Watches, trail: &Trail, slot: u32) -> Result<(), NoMemory>
+        requires others { IsReady others.now trail.now }
+        requires ready { IsReady self.old trail.now }
+        requires none { self.old.ends.items ≡ [] }
+        ensures ready { IsReady self.new trail.now }
+        ensures none { self.new.ends.items ≡ [] }
+        ensures taken { OnOk result ((lines : LineMap) → Hold others.now lines
+            → AreTaken self.old others.now lines slot
+            → AreTaken self.new others.now lines (slot + 1)) }
+    {
+        if !others.slots.begins(slot) {
+            return Ok(());
+        }
+        let lits = copied(self.alloc, &others.slots.lits(slot))?;
+        if lits.len() < 2 {
+            return Ok(());
+        }
+        cover(self.alloc, &mut self.lists, &lits)?;
+        self.watch(&lits, others.slots.id(slot))
     }
 
     /// Lets go of a clause that was dropped; where the id has none, nothing changes. Takes no memory,
@@ -125,15 +177,12 @@ impl Watches {
 
     // Whether a slot is of this id; one that isn't there is of none.
     fn has_slot(&self, slot: u32, id: u64) -> bool
-        ensures yes { IsTrue result → (slot < length self.now.slots)
+        ensures yes { IsTrue result → IsSlot self.now.slots slot
             × ((slice_index_or self.now.slots slot no_slot).id ≡ id) }
         ensures no { result ≡ false → 2 ≤ length (clause_at self.now.slots slot)
             → (slice_index_or self.now.slots slot no_slot).id ≢ id }
     {
-        if slot as usize >= self.slots.len() {
-            return false;
-        }
-        self.slots.id(slot) == id
+        self.slots.begins(slot) && self.slots.id(slot) == id
     }
 
     /// Makes ready for a cut of the trail to its first steps. Takes no memory, and costs the
@@ -213,7 +262,7 @@ impl Watches {
 
     // A literal of a slot.
     fn literal(&self, slot: u32, place: usize) -> ShortLit
-        requires slot { slot < length self.now.slots }
+        requires slot { IsSlot self.now.slots slot }
         requires place { place < length (clause_at self.now.slots slot) }
         ensures value { result
             ≡ slice_index_or (clause_at self.now.slots slot) place no_literal }
@@ -224,7 +273,7 @@ impl Watches {
 
     // A place from 2 on whose literal isn't false.
     fn free_place(&self, trail: &Trail, slot: u32) -> Option<usize>
-        requires slot { slot < length self.now.slots }
+        requires slot { IsSlot self.now.slots slot }
         requires vars { (l : Literal) → Contains (clause_at self.now.slots slot) l
             → l.var ≤ trail.now.vars }
         ensures free { IfSome result
@@ -232,7 +281,7 @@ impl Watches {
         ensures none { IfNone result
             (AreFalse (clause_at self.now.slots slot) (lits_of trail.now.steps) 2) }
     {
-        free_place(self.slots.lits(slot), trail)
+        free_place(&self.slots.lits(slot), trail)
     }
 
     // The first place from one on whose blocker isn't true, or the end of the list. Most visits end
@@ -289,7 +338,7 @@ impl Watches {
         requires within { at < entries_of self.old lit }
         requires entry { (slice_index_or
             (list_of self.old.lists.items lit) at no_entry).slot ≡ slot }
-        requires slot { slot < length self.old.slots }
+        requires slot { IsSlot self.old.slots slot }
         requires long { 2 ≤ length (clause_at self.old.slots slot) }
         requires second { slice_index_or (clause_at self.old.slots slot) 1 no_literal ≡ lit }
         ensures ok { IfOk result (IsVisited self.old self.new trail.old trail.new lit at) }
@@ -324,7 +373,7 @@ impl Watches {
         requires within { at < entries_of self.old lit }
         requires entry { (slice_index_or
             (list_of self.old.lists.items lit) at no_entry).slot ≡ slot }
-        requires slot { slot < length self.old.slots }
+        requires slot { IsSlot self.old.slots slot }
         requires second { slice_index_or (clause_at self.old.slots slot) 1 no_literal ≡ lit }
         requires free { IsFree (clause_at self.old.slots slot)
             (lits_of trail.now.steps) place }
@@ -349,7 +398,7 @@ impl Watches {
         requires looking { IsAt self.now trail.old lit at }
         requires entry { (slice_index_or
             (list_of self.now.lists.items lit) at no_entry).slot ≡ slot }
-        requires slot { slot < length self.now.slots }
+        requires slot { IsSlot self.now.slots slot }
         requires long { 2 ≤ length (clause_at self.now.slots slot) }
         requires others { AreOthersFalse (clause_at self.now.slots slot)
             (lits_of trail.old.steps) unit }
@@ -396,6 +445,7 @@ impl Watches {
             → Hold self.new lines) }
         ensures err { OnErr result ((lines : LineMap) → get lines id ≡ None
             → Hold self.old lines → Hold self.new lines) }
+        ensures ends { self.new.ends.items ≡ self.old.ends.items }
     {
         let slot = self.open_slot(id)?;
         let first = lits.at(0);
@@ -423,8 +473,7 @@ impl Watches {
         ensures ends { self.new.ends.items ≡ self.old.ends.items }
         ensures opened { IfOk result (IsOpened self.old self.new id) }
     {
-        let slot = short_number(self.slots.len())?;
-        self.slots.push(id)?;
+        let slot = self.slots.push(id)?;
         self.index.insert(id, slot)?;
         Ok(slot)
     }

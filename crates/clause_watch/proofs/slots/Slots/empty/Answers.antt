@@ -1,21 +1,64 @@
-use Rattle.std.proofs.Common.{◌≡◌, ◌<◌, ℕ, List, [], length, get_or, set, refl, arith, ap, sym, ◌∙◌}
+use Rattle.std.proofs.Common.{◌≡◌, ◌≤◌, true, List, [], set, arith, ap, sym, subst, ◌∙◌}
 use Rattle.std.proofs.lemmas.List.{get_or_read}
 use Rattle.clause_watch.specs.Slot.{Slot}
-use Rattle.clause_watch.specs.Blocks.{no_head}
-use Rattle.clause_watch.specs.Watching.{no_slot}
-use Rattle.clause_watch.specs.declared.slots.Head.{Head}
-use Rattle.clause_watch.proofs.WatchBlocks.{length_slots, slot_at, slots_emptied, slots_of}
+use Rattle.clause_watch.specs.Codes.{mark}
+use Rattle.clause_watch.specs.Words.{marked_at, slots_of, word}
+use Rattle.clause_watch.specs.Watching.{IsPut, with_lits}
+use Rattle.clause_watch.proofs.WatchWords.{emptied, emptied_is, mark_of, marked_within, rewritten_clauses, rewritten_put, slot_of}
+use Rattle.clause_watch.specs.Words.{end_of}
 use Rattle.clause_watch.proofs.slots.Slots.empty.Goals as goal
+
+pub index-requires : goal.index-requires
+index-requires c =
+    let vec = c.self.inside.words in
+    let words = vec.items in
+    let slot = c.args.slot in
+    let now = c.args.self.now in
+    let is : slots_of words ≡ now = c.self.view_is in
+    let m : mark ≤ word words slot = mark_of words now slot is c.requires in
+    (let h = marked_within words slot m in omega (arith, h, vec.ok.0))
+
+pub overflow_sub-len : goal.overflow_sub-len
+overflow_sub-len c =
+    let vec = c.self.inside.words in
+    let words = vec.items in
+    let slot = c.args.slot in
+    let now = c.args.self.now in
+    let is : slots_of words ≡ now = c.self.view_is in
+    let m : mark ≤ word words slot = mark_of words now slot is c.requires in
+    let here : c.index.result.now ≡ word words slot = get_or_read words slot c.index.result.now (marked_within words slot m) c.index.ensures 0 in
+    omega (arith, here, m)
+
+pub index_mut-requires : goal.index_mut-requires
+index_mut-requires c =
+    let vec = c.self.inside.words in
+    let words = vec.items in
+    let slot = c.args.slot in
+    let now = c.args.self.now in
+    let is : slots_of words ≡ now = c.self.view_is in
+    let m : mark ≤ word words slot = mark_of words now slot is c.requires in
+    (let h = marked_within words slot m in omega (arith, h, vec.ok.0))
+
+pub invariant_of-self : goal.invariant_of-self
+invariant_of-self c =
+    let vec = c.self.inside.words in
+    let words = vec.items in
+    let slot = c.args.slot in
+    let now = c.args.self.now in
+    let is : slots_of words ≡ now = c.self.view_is in
+    let m : mark ≤ word words slot = mark_of words now slot is c.requires in
+    rewritten_clauses words (set words slot mark) slot (end_of words slot) c.self.invariant (emptied words slot c.self.invariant m)
 
 pub returns : goal.returns
 returns c =
-    let heads = c.self.inside.heads.items in
-    let words = c.self.inside.words.items in
+    let vec = c.self.inside.words in
+    let words = vec.items in
     let slot = c.args.slot in
     let now = c.args.self.now in
-    let is : slots_of words heads ≡ now = c.self.view_is in
-    let inside : slot < length heads = omega (arith, c.requires, ap length is, length_slots words heads) in
-    let head : c.index-head.result.now ≡ get_or heads slot no_head = get_or_read heads slot c.index-head.result.now inside c.index-head.ensures no_head in
-    let h : Head = record { id = c.index-head.result.now.id; start = c.index-head.result.now.start; len = 0 } in
-    let own : (get_or now slot no_slot).id ≡ h.id = ap (λ (s : List Slot). (get_or s slot no_slot).id) (sym is) ∙ ap (λ (s : Slot). s.id) (slot_at words heads slot inside) ∙ ap (λ (g : Head). g.id) (sym head) in
-    slots_emptied words heads slot h inside refl ∙ ap (λ (s : List Slot). set s slot (record { id = h.id; lits = [] })) is ∙ ap (λ (i : ℕ). set now slot (record { id = i; lits = [] })) (sym own)
+    let is : slots_of words ≡ now = c.self.view_is in
+    let m : mark ≤ word words slot = mark_of words now slot is c.requires in
+    let are = c.self.invariant in
+    let new = set words slot mark in
+    let put : IsPut (slots_of words) (slots_of new) slot (marked_at new slot) = rewritten_put words new slot (end_of words slot) are (emptied words slot are m) in
+    let value : marked_at new slot ≡ with_lits now slot [] = emptied_is words slot are m ∙ ap (λ (s : Slot). record { begins = true; id = s.id; lits = [] }) (sym (slot_of words now slot is m)) in
+    subst (λ (s : Slot). IsPut now (slots_of new) slot s) value (subst (λ (o : List Slot). IsPut o (slots_of new) slot (marked_at new slot)) is put)

@@ -1,36 +1,101 @@
-use Rattle.std.proofs.Common.{◌≡◌, ◌<◌, ◌+◌, ◌++◌, List, length, get_or, set, take, drop, arith, ap, sym, ◌∙◌}
-use Rattle.std.specs.List.{swap}
-use Rattle.std.proofs.lemmas.List.{get_or_read, take-append-le, take_all}
-use Rattle.std.proofs.lemmas.List.Edits.{length-swap}
-use Rattle.scut_base.specs.Literal.{Literal}
+use Rattle.std.proofs.Common.{◌≡◌, ◌<◌, ◌≤◌, ◌+◌, ◌-◌, ◌++◌, ℕ, true, List, length, get_or, take, drop, arith, ap, sym, subst, ◌∙◌}
 use Rattle.clause_watch.specs.Slot.{Slot}
-use Rattle.clause_watch.specs.Blocks.{block, no_head}
-use Rattle.clause_watch.specs.Watching.{clause_at, no_slot}
-use Rattle.clause_watch.specs.declared.slots.Head.{Head}
-use Rattle.clause_watch.proofs.WatchBlocks.{length_slots, range_length, slot_at, slots_swapped, slots_of}
+use Rattle.clause_watch.specs.Codes.{mark}
+use Rattle.clause_watch.specs.Words.{marked_at, slots_of, word}
+use Rattle.clause_watch.specs.Watching.{IsPut, clause_at, no_slot, with_lits}
+use Rattle.std.specs.List.{swap}
+use Rattle.std.proofs.lemmas.List.{take-append-le, take_all}
+use Rattle.std.proofs.lemmas.List.Edits.{length-swap}
+use Rattle.clause_watch.specs.Words.{AreClauses, end_of}
+use Rattle.clause_watch.proofs.WatchWords.{exchanged, exchanged_is, lits_length, mark_of, rewritten_clauses, rewritten_put, slot_of}
 use Rattle.clause_watch.proofs.slots.Slots.swap.Goals as goal
 
-pub returns : goal.returns
-returns c =
-    let heads = c.self.inside.heads.items in
+pub overflow_add-start-2 : goal.overflow_add-start-2
+overflow_add-start-2 c =
     let vec = c.self.inside.words in
     let words = vec.items in
     let slot = c.args.slot in
     let now = c.args.self.now in
+    let is : slots_of words ≡ now = c.self.view_is in
+    let m : mark ≤ word words slot = mark_of words now slot is c.requires.slot in
+    let long : length (clause_at now slot) ≡ word words slot - mark = ap (λ (s : Slot). length s.lits) (slot_of words now slot is m) ∙ lits_length words slot c.self.invariant m in
+    let within = c.self.invariant.within slot m in
+    omega (arith, within, long, c.requires.first, vec.ok.0, c.as_mut_slice-words.type_inv.0, c.as_mut_slice-words.ensures.len)
+
+pub overflow_add-start-3 : goal.overflow_add-start-3
+overflow_add-start-3 c =
+    let vec = c.self.inside.words in
+    let words = vec.items in
+    let slot = c.args.slot in
+    let now = c.args.self.now in
+    let is : slots_of words ≡ now = c.self.view_is in
+    let m : mark ≤ word words slot = mark_of words now slot is c.requires.slot in
+    let long : length (clause_at now slot) ≡ word words slot - mark = ap (λ (s : Slot). length s.lits) (slot_of words now slot is m) ∙ lits_length words slot c.self.invariant m in
+    let within = c.self.invariant.within slot m in
+    omega (arith, within, long, c.requires.second, vec.ok.0, c.as_mut_slice-words.type_inv.0, c.as_mut_slice-words.ensures.len)
+
+pub swap-requires-clause-a_in_bounds : goal.swap-requires-clause-a_in_bounds
+swap-requires-clause-a_in_bounds c =
+    let vec = c.self.inside.words in
+    let words = vec.items in
+    let slot = c.args.slot in
+    let now = c.args.self.now in
+    let is : slots_of words ≡ now = c.self.view_is in
+    let m : mark ≤ word words slot = mark_of words now slot is c.requires.slot in
+    let long : length (clause_at now slot) ≡ word words slot - mark = ap (λ (s : Slot). length s.lits) (slot_of words now slot is m) ∙ lits_length words slot c.self.invariant m in
+    let within = c.self.invariant.within slot m in
+    omega (arith, within, long, c.requires.first, ap length c.as_mut_slice-words.ensures.value)
+
+pub swap-requires-clause-b_in_bounds : goal.swap-requires-clause-b_in_bounds
+swap-requires-clause-b_in_bounds c =
+    let vec = c.self.inside.words in
+    let words = vec.items in
+    let slot = c.args.slot in
+    let now = c.args.self.now in
+    let is : slots_of words ≡ now = c.self.view_is in
+    let m : mark ≤ word words slot = mark_of words now slot is c.requires.slot in
+    let long : length (clause_at now slot) ≡ word words slot - mark = ap (λ (s : Slot). length s.lits) (slot_of words now slot is m) ∙ lits_length words slot c.self.invariant m in
+    let within = c.self.invariant.within slot m in
+    omega (arith, within, long, c.requires.second, ap length c.as_mut_slice-words.ensures.value)
+
+pub invariant_of-self : goal.invariant_of-self
+invariant_of-self c =
+    let vec = c.self.inside.words in
+    let words = vec.items in
+    let slot = c.args.slot in
+    let now = c.args.self.now in
+    let is : slots_of words ≡ now = c.self.view_is in
+    let m : mark ≤ word words slot = mark_of words now slot is c.requires.slot in
+    let long : length (clause_at now slot) ≡ word words slot - mark = ap (λ (s : Slot). length s.lits) (slot_of words now slot is m) ∙ lits_length words slot c.self.invariant m in
     let a = c.args.first in
     let b = c.args.second in
-    let is : slots_of words heads ≡ now = c.self.view_is in
-    let inside : slot < length heads = omega (arith, c.requires.slot, ap length is, length_slots words heads) in
-    let h : Head = get_or heads slot no_head in
-    let head : c.index.result.now ≡ h = get_or_read heads slot c.index.result.now inside c.index.ensures no_head in
-    let at_now : get_or now slot no_slot ≡ block words h = ap (λ (s : List Slot). get_or s slot no_slot) (sym is) ∙ slot_at words heads slot inside in
-    let long : length (clause_at now slot) ≡ h.len = ap (λ (s : Slot). length s.lits) at_now ∙ range_length words h.start h.len (c.self.invariant.within slot inside) in
     let ys = c.swap.new.self in
-    let after : ys ≡ swap words (h.start + a) (h.start + b) = c.swap.ensures.after ∙ ap (λ (xs : List Literal). swap xs (c.index.result.now.start + a) (c.index.result.now.start + b)) c.as_mut_slice-words.ensures.value ∙ ap (λ (g : Head). swap words (g.start + a) (g.start + b)) head in
-    let len : length ys ≡ length words = ap length after ∙ length-swap words (h.start + a) (h.start + b) in
-    let ok = vec.ok.0 in
-    let kept : take vec.len (ys ++ drop (length ys) words) ≡ ys = take-append-le vec.len ys (drop (length ys) words) (omega (arith, len, ok)) ∙ take_all vec.len ys (omega (arith, len, ok)) in
-    ap (λ (ws : List Literal). slots_of ws heads) (kept ∙ after)
-    ∙ slots_swapped words heads slot a b c.self.invariant inside (omega (arith, c.requires.first, long)) (omega (arith, c.requires.second, long))
-    ∙ ap (λ (s : List Slot). set s slot (record { id = h.id; lits = swap (take h.len (drop h.start words)) a b })) is
-    ∙ ap (λ (x : Slot). set now slot (record { id = x.id; lits = swap x.lits a b })) (sym at_now)
+    let new = swap words (slot + 3 + a) (slot + 3 + b) in
+    let after : ys ≡ new = c.swap.ensures.after ∙ ap (λ (xs : List ℕ). swap xs (slot + 3 + a) (slot + 3 + b)) c.as_mut_slice-words.ensures.value in
+    let len : length ys ≡ length words = ap length after ∙ length-swap words (slot + 3 + a) (slot + 3 + b) in
+    let kept : take vec.len (ys ++ drop (length ys) words) ≡ ys = take-append-le vec.len ys (drop (length ys) words) (omega (arith, len, vec.ok.0)) ∙ take_all vec.len ys (omega (arith, len, vec.ok.0)) in
+    subst AreClauses (sym (kept ∙ after)) (rewritten_clauses words new slot (end_of words slot) c.self.invariant (exchanged words slot a b c.self.invariant m (omega (arith, c.requires.first, long)) (omega (arith, c.requires.second, long))))
+
+pub returns : goal.returns
+returns c =
+    let vec = c.self.inside.words in
+    let words = vec.items in
+    let slot = c.args.slot in
+    let now = c.args.self.now in
+    let is : slots_of words ≡ now = c.self.view_is in
+    let m : mark ≤ word words slot = mark_of words now slot is c.requires.slot in
+    let are = c.self.invariant in
+    let at : get_or now slot no_slot ≡ marked_at words slot = slot_of words now slot is m in
+    let long : length (clause_at now slot) ≡ word words slot - mark = ap (λ (s : Slot). length s.lits) at ∙ lits_length words slot are m in
+    let a = c.args.first in
+    let b = c.args.second in
+    let ys = c.swap.new.self in
+    let new = swap words (slot + 3 + a) (slot + 3 + b) in
+    let after : ys ≡ new = c.swap.ensures.after ∙ ap (λ (xs : List ℕ). swap xs (slot + 3 + a) (slot + 3 + b)) c.as_mut_slice-words.ensures.value in
+    let len : length ys ≡ length words = ap length after ∙ length-swap words (slot + 3 + a) (slot + 3 + b) in
+    let kept : take vec.len (ys ++ drop (length ys) words) ≡ ys = take-append-le vec.len ys (drop (length ys) words) (omega (arith, len, vec.ok.0)) ∙ take_all vec.len ys (omega (arith, len, vec.ok.0)) in
+    let a_in : a < word words slot - mark = omega (arith, c.requires.first, long) in
+    let b_in : b < word words slot - mark = omega (arith, c.requires.second, long) in
+    let put : IsPut (slots_of words) (slots_of new) slot (marked_at new slot) = rewritten_put words new slot (end_of words slot) are (exchanged words slot a b are m a_in b_in) in
+    let value : marked_at new slot ≡ with_lits now slot (swap (clause_at now slot) a b) = exchanged_is words slot a b are m a_in b_in ∙ ap (λ (s : Slot). record { begins = true; id = s.id; lits = swap s.lits a b }) (sym at) in
+    subst (λ (ws : List ℕ). IsPut now (slots_of ws) slot (with_lits now slot (swap (clause_at now slot) a b))) (sym (kept ∙ after)) (subst (λ (s : Slot). IsPut now (slots_of new) slot s) value (subst (λ (o : List Slot). IsPut o (slots_of new) slot (marked_at new slot)) is put))

@@ -1,8 +1,7 @@
 use Rattle.std.proofs.Common.{◌≡◌, ◌≢◌, ◌≤◌, ℕ, Some, None, [], length, get_or, refl, sym, subst, ◌∙◌}
 use Rattle.clause_watch.specs.Slot.{Slot}
-use Rattle.clause_watch.specs.Watching.{IsKept, clause_at, lits_of, no_slot}
-use Rattle.clause_watch.specs.Watches.{AreSlots, AreWatches}
-use Rattle.std.specs.FinMap.{remove}
+use Rattle.clause_watch.specs.Watching.{clause_at, no_slot, with_lits}
+use Rattle.clause_watch.specs.Watches.{AreWatches}
 use Rattle.clause_watch.proofs.WatchSlots.{kept_emptied}
 use Rattle.clause_watch.proofs.WatchHold.{absent_by, hold_absent, hold_emptied, same_some}
 use Rattle.clause_watch.proofs.watches.Watches.dropped.Goals as goal
@@ -13,10 +12,9 @@ returns-then-has_slot c = λ lines t watches.
     let w = c.args.self.now in
     let slot = c.in-Some.slot in
     let found = c.has_slot.ensures.yes c.if-has_slot.true in
-    let s : Slot = record { id = (get_or w.slots slot no_slot).id; lits = [] } in (
-      subst (λ o. IsKept o w.lists.items w.ends.items t.vars (lits_of t.steps)) (sym c.empty.ensures) (kept_emptied w.slots w.lists.items w.ends.items t.vars _ slot s watches.0 refl),
-      subst (λ o. AreSlots o c.remove.new.self (remove lines c.args.id)) (sym c.empty.ensures)
-          (hold_emptied w.slots w.index c.remove.new.self lines c.args.id slot s watches.1 c.remove.ensures.others (sym c.remove.ensures.value ∙ c.in-Some.is) found.1 found.0 refl),
+    let s : Slot = with_lits w.slots slot [] in (
+      kept_emptied w.slots c.empty.new.self w.lists.items w.ends.items t.vars _ slot s c.empty.ensures refl refl watches.0,
+      hold_emptied w.slots c.empty.new.self w.index c.remove.new.self lines c.args.id slot s c.empty.ensures watches.1 c.remove.ensures.others (sym c.remove.ensures.value ∙ c.in-Some.is) found.1 refl,
     )
 
 pub returns-else-has_slot : goal.returns-else-has_slot
