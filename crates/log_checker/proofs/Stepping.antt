@@ -1,6 +1,6 @@
 -- What lines make of the logged vectors and of the count of lines.
-use Rattle.std.proofs.Common.{◌≡◌, ◌⊎◌, inl, inr, ℕ, ◌+◌, ◌<◌, ◌≤◌, List, [], ◌∷◌, ◌++◌, length, get_or, sym, subst, ap, ◌∙◌, ⊎_elim, ℤ, arith, length-append}
-use Rattle.std.specs.Prelude.{All}
+use Rattle.std.proofs.Common.{◌≡◌, ◌⊎◌, inl, inr, ℕ, ◌+◌, ◌<◌, ◌≤◌, Result, Ok, Err, List, [], ◌∷◌, ◌++◌, length, get_or, sym, subst, ap, ◌∙◌, ⊎_elim, ℤ, arith, length-append}
+use Rattle.std.specs.Prelude.{All, IfErr, OnOk}
 use Rattle.std.proofs.lemmas.List.{get_or_append_left, get_or-append-add}
 use Rattle.std.proofs.lemmas.List.Elements.{All-push}
 use Rattle.pb_lin.specs.Problem.{ProblemValue}
@@ -16,7 +16,7 @@ use Rattle.log_checker.specs.LogFaults.{IsLineFault, LogsUncovered}
 use Rattle.proof_rules.specs.Verdict.{IsReason}
 use Rattle.proof_rules.specs.declared.fault.StepFault.{StepFault}
 use Rattle.proof_rules.specs.declared.fault.StepFault.TheVariants.{Refused, NoMemory}
-use Rattle.log_checker.specs.Judging.{IsLineReason}
+use Rattle.log_checker.specs.Judging.{IsLineReason, StandsAt}
 use Rattle.log_checker.proofs.Reasons.{not_uncovered}
 
 abbrev pub AreCovered : List (List ℤ) → StateValue → Type 0
@@ -91,6 +91,25 @@ pub read_sols : (before after : List (List ℤ)) (s t : StateValue) (sol : List 
 read_sols before after s t sol same next more is =
     let P : List (List ℤ) → List (List ℤ) → Type 0 = λ us vs. (length us < length vs) × (sol ≡ get_or vs (length us) sol) in
     subst (λ (us : List (List ℤ)). P us t.sols) same (subst (P before) next (more, is))
+
+-- what was read of the logged vectors after a line, and before it
+module _ (vectors : List (List ℤ)) (p : ProblemValue) (s : StateValue) (line : Line) (t : StateValue) (before after : List (List ℤ)) (next : IsNext p s line t) (same : before ≡ s.sols) (is : after ≡ t.sols) where
+  pub covered_on : (r : Result (Unit {0}) StepFault) → OnOk r ((length after ≤ length before) ⊎ StandsAt (IsCovered vectors) after (length before)) → OnOk r (AreCovered vectors s → AreCovered vectors t)
+  covered_on (Ok done) judged = ⊎_elim
+      (λ (short : length after ≤ length before). covered_same vectors p s line t next (omega (arith, short, ap length same, ap length is)))
+      (λ (at : StandsAt (IsCovered vectors) after (length before)).
+      let read = read_sols before after s t at.0 same is at.1 at.2 in
+      covered_more vectors p s line t at.0 next read.0 read.1 at.3)
+      judged
+  covered_on (Err f) judged = tt
+
+  pub refused_on : (r : Result (Unit {0}) StepFault) → IfErr r (λ f. (f ≡ Refused (Uncovered (length before + 1))) × StandsAt (λ sol. IsCovered vectors sol → ⊥) after (length before)) → IfErr r (IsLineReason p vectors s line)
+  refused_on (Ok done) judged = tt
+  refused_on (Err f) judged =
+      let at = judged.1 in
+      let read = read_sols before after s t at.0 same is at.1 at.2 in
+      subst (IsLineReason p vectors s line) (sym judged.0)
+      (subst (λ (n : ℕ). LogsUncovered p vectors s line (n + 1)) (sym (ap length same)) (logs_uncovered vectors p s line t at.0 next read.0 read.1 at.3))
 
 -- ---- many lines
 

@@ -1,5 +1,6 @@
 -- How the lines of a log are judged; nothing of it has to be believed.
-use Rattle.std.specs.Prelude.{◌≡◌, ℕ, ◌+◌, Bool, true, false, List, [], ◌∷◌, ◌++◌, length, All, Option, None, Some, Result, Ok, Err, ℤ}
+use Rattle.std.specs.Prelude.{◌≡◌, ℕ, ◌+◌, ◌<◌, Bool, true, false, List, [], ◌∷◌, ◌++◌, length, All, Option, None, Some, Result, Ok, Err, ℤ}
+use Rattle.std.specs.List.{slice_index_or}
 use Rattle.pb_lin.specs.Problem.{ProblemValue}
 use Rattle.proof_laws.specs.State.{StateValue}
 use Rattle.proof_laws.specs.Replay.{IsReplay}
@@ -32,6 +33,10 @@ pub record IsUnderway (p : ProblemValue) (vectors : List (List ℤ)) (r : Reader
   pub read : ReaderStandsFor r bytes lines
   pub replay : IsReplay p lines s
   pub covered : All (IsCovered vectors) s.sols
+
+-- such a vector stands at a place
+abbrev pub StandsAt : (List ℤ → Type 0) → List (List ℤ) → ℕ → Type 0
+StandsAt IsSuch sols at = (sol : List ℤ) × (at < length sols) × (sol ≡ slice_index_or sols at sol) × IsSuch sol
 
 -- the reason of a line's refusal; want of memory says nothing
 abbrev pub IsLineReason : ProblemValue → List (List ℤ) → StateValue → Line → StepFault → Type 0

@@ -1,5 +1,5 @@
 // Lines of a log, judged one by one.
-ghost use Rattle.std.specs.Prelude.{◌≡◌, ◌↔◌, ◌<◌, ◌+◌, ◌⊎◌, ℕ, List, All, true, IsTrue, IfErr, OnOk, OnErr, Ok, Err};
+ghost use Rattle.std.specs.Prelude.{◌≡◌, ◌↔◌, ◌<◌, ◌≤◌, ◌+◌, ◌⊎◌, ℕ, List, length, All, true, IsTrue, IfErr, OnOk, OnErr, Ok, Err};
 ghost use Rattle.front_set.specs.Vector.{is_below};
 ghost use Rattle.pb_lin.specs.Problem.{ProblemValue};
 ghost use Rattle.proof_laws.specs.Legal.{IsNext};
@@ -10,7 +10,7 @@ ghost use Rattle.proof_text.specs.LogText.{HoldsNoFurtherLine};
 ghost use Rattle.log_checker.specs.Accepted.{IsCovered};
 ghost use Rattle.log_checker.specs.declared.fault.ListWhy.{ListWhy};
 ghost use Rattle.log_checker.specs.Judging.{HasEnded, IsLineReason, IsReading, IsUnderway};
-ghost use Rattle.log_checker.specs.Judging.{JudgesEnd, JudgesLines, JudgesNext, left};
+ghost use Rattle.log_checker.specs.Judging.{JudgesEnd, JudgesLines, JudgesNext, StandsAt, left};
 
 use crate::CheckFault;
 use front_set::CostVec;
@@ -82,7 +82,7 @@ fn judge_next(
         Err(TextFault::NoMemory) => return Err(CheckFault::NoMemory),
     };
     let number = next_number(state);
-    match judge_line(problem, vectors, state, &line) {
+    match judge_owned(problem, vectors, state, line) {
         Ok(()) => Ok(true),
         Err(StepFault::Refused(why)) => Err(refusal(number, why)),
         Err(StepFault::NoMemory) => Err(CheckFault::NoMemory),
@@ -125,9 +125,41 @@ pub fn judge_line(
 {
     let logged = state.sols().len();
     state.step(problem, line)?;
-    if let Some(sol) = state.sols().get(logged) {
+    judge_logged(vectors, state.sols(), logged)
+}
+
+// The same of a line that is handed over.
+fn judge_owned(
+    problem: &PbProblem,
+    vectors: &[CostVec],
+    state: &mut ProofState,
+    line: Line,
+) -> Result<(), StepFault>
+    requires fits { Fits problem.now state.old }
+    requires formed { IsWellFormed line }
+    ensures fits { Fits problem.now state.new }
+    ensures next { OnOk result (IsNext problem.now state.old line state.new) }
+    ensures covered { OnOk result (All (IsCovered vectors.now) state.old.sols
+        → All (IsCovered vectors.now) state.new.sols) }
+    ensures refused { IfErr result (IsLineReason problem.now vectors.now state.old line) }
+    ensures after { OnErr result ((state.new ≡ state.old)
+        ⊎ IsNext problem.now state.old line state.new) }
+{
+    let logged = state.sols().len();
+    state.step_owned(problem, line)?;
+    judge_logged(vectors, state.sols(), logged)
+}
+
+// Refuses the vector at a place, where there is one and none of these covers it.
+fn judge_logged(vectors: &[CostVec], sols: &[CostVec], at: usize) -> Result<(), StepFault>
+    ensures covered { OnOk result ((length sols.now ≤ at)
+        ⊎ StandsAt (IsCovered vectors.now) sols.now at) }
+    ensures refused { IfErr result (λ f. (f ≡ StepFault.Refused (Why.Uncovered (at + 1)))
+        × StandsAt (λ sol. IsCovered vectors.now sol → ⊥) sols.now at) }
+{
+    if let Some(sol) = sols.get(at) {
         if !is_covered(vectors, sol) {
-            return Err(StepFault::Refused(Why::Uncovered(logged as u64 + 1)));
+            return Err(StepFault::Refused(Why::Uncovered(at as u64 + 1)));
         }
     }
     Ok(())

@@ -218,12 +218,13 @@ fn leading_digits(text: &[u8]) -> (u64, usize)
     ensures some { 0 < result.1 }
 {
     let mut number = u64::from(text[0] - b'0');
-    for len in 1..text.len() {
+    let most = text.len().min(SHORT_DIGITS);
+    for len in 1..most {
         let byte = text[len];
-        if len == SHORT_DIGITS || !byte.is_ascii_digit() {
+        if !byte.is_ascii_digit() {
             return (number, len);
         }
         number = number * 10 + u64::from(byte - b'0');
     }
-    (number, text.len())
+    (number, most)
 }

@@ -1,9 +1,11 @@
 -- The first element of a list that is made part by part, and the first place that passes.
-use Rattle.std.proofs.Common.{◌≡◌, ℕ, ◌+◌, ◌<◌, ◌≤◌, Bool, true, false, cond, Some, None, List, [], ◌∷◌, ◌++◌, map, length, get_or, drop, refl, ap, ◌∙◌, sym}
+use Rattle.std.proofs.Common.{◌≡◌, ℕ, ◌+◌, ◌<◌, ◌≤◌, Bool, true, false, cond, Some, None, List, [], ◌∷◌, ◌++◌, map, length, get_or, drop, nat_lt, refl, ap, ◌∙◌, sym}
 use Rattle.std.specs.Option.{option_or}
-use Rattle.std.specs.List.{find, flat_map, position_from}
+use Rattle.std.specs.List.{All, find, flat_map, position_from}
 use Rattle.std.proofs.Math.ListN.{drop_of_length-le}
+use Rattle.std.proofs.lemmas.Bool.{cond-false, le-ltb}
 use Rattle.std.proofs.lemmas.List.{drop_more}
+use Rattle.std.proofs.lemmas.List.Elements.{All-head, All-tail}
 use Rattle.std.proofs.lemmas.List.Folds.{find-append}
 use Rattle.scut_base.specs.Literal.{Literal}
 use Rattle.pb_lin.specs.Constraint.{literals}
@@ -47,3 +49,10 @@ place_nowhere test n xs i past = ap (position_from test n) (drop_of_length-le xs
 pub literal_variables : (terms : List (Literal × ℕ)) → map (λ (l : Literal). l.var) (literals terms) ≡ term_variables terms
 literal_variables [] = refl
 literal_variables (t ∷ terms) = ap (λ (vars : List ℕ). t.0.var ∷ vars) (literal_variables terms)
+
+-- no variable is above n where no literal's is
+pub none_above : (n : ℕ) (ls : List Literal) → All (λ l. l.var ≤ n) ls → find (λ v. nat_lt n v) (map (λ (l : Literal). l.var) ls) ≡ None
+none_above n [] all = refl
+none_above n (l ∷ ls) all =
+    cond-false (nat_lt n l.var) (Some l.var) (find (λ v. nat_lt n v) (map (λ (m : Literal). m.var) ls)) (le-ltb n l.var (All-head (λ (m : Literal). m.var ≤ n) l ls all))
+    ∙ none_above n ls (All-tail (λ (m : Literal). m.var ≤ n) l ls all)

@@ -1,5 +1,5 @@
 -- Verdicts, condition by condition.
-use Rattle.std.proofs.Common.{◌≡◌, ℕ, ◌<◌, ◌≤◌, Bool, true, false, Option, Some, None, List, map, refl, ap, sym, subst, arith}
+use Rattle.std.proofs.Common.{◌≡◌, ℕ, ◌<◌, ◌≤◌, ◌^◌, Bool, true, false, not, Option, Some, None, List, map, refl, ap, sym, subst, arith}
 use Rattle.std.specs.Prelude.{option_map, nat_lt, Result, Ok, Err}
 use Rattle.std.proofs.lemmas.Bool.Decides.{Decides-ltb}
 use Rattle.std.specs.List.{find}
@@ -8,10 +8,11 @@ use Rattle.pb_lin.specs.Constraint.{ConstraintValue, total}
 use Rattle.pb_lin.specs.Problem.{ProblemValue}
 use Rattle.cutting_planes.specs.declared.token.PolToken.{PolToken}
 use Rattle.proof_laws.specs.State.{StateValue}
-use Rattle.proof_laws.specs.Refusal.{FirstOf, IsCutFault, IsSolFault, IsTokensFault, assignment_of, broken_row, contradiction_fault, fault_unless, given_in, misplaced, range_fault}
+use Rattle.proof_laws.specs.Refusal.{FirstOf, IsCutFault, IsSolFault, IsRuleFault, IsTokensFault, assignment_of, broken_row, contradiction_fault, fault_unless, first_fault, given_in, misplaced, range_fault, written}
+use Rattle.proof_laws.specs.declared.line.Line.{Line}
 use Rattle.proof_laws.specs.declared.why.Why.{Why}
-use Rattle.proof_laws.specs.declared.why.Why.TheVariants.{SolRow, VarRange}
-use Rattle.proof_rules.specs.Verdict.{IsEvaluated, IsVerdict}
+use Rattle.proof_laws.specs.declared.why.Why.TheVariants.{AfterEnd, LogLong, SolRow, VarRange}
+use Rattle.proof_rules.specs.Verdict.{IsEvaluated, IsReason, IsVerdict, common_fault}
 use Rattle.proof_rules.specs.declared.fault.StepFault.{StepFault}
 use Rattle.proof_rules.specs.declared.fault.StepFault.TheVariants.{Refused, NoMemory}
 
@@ -41,6 +42,18 @@ first_refused T U o Rest NoMemory is = tt
 -- where the first finds nothing, the other decides
 pub first_passed : (T : Type 0) (o : Option Why) (Rest : Option Why → Type 0) (r : Result T StepFault) → None ≡ o → IsVerdict Rest r → IsVerdict (FirstOf o Rest) r
 first_passed T o Rest r none is = subst (λ (q : Option Why). IsVerdict (FirstOf q Rest) r) none is
+
+-- the same of three that find nothing
+firsts_passed : (a b c : Option Why) (Rest : Option Why → Type 0) (fault : Option Why) → None ≡ first_fault a (first_fault b c) → Rest fault → FirstOf a (FirstOf b (FirstOf c Rest)) fault
+firsts_passed (Some why) b c Rest fault none rest = absurd cc
+firsts_passed None (Some why) c Rest fault none rest = absurd cc
+firsts_passed None None (Some why) Rest fault none rest = absurd cc
+firsts_passed None None None Rest fault none rest = rest
+
+-- a line that has no fault of every kind's is refused by its rule
+pub rule_refused : (T : Type 0) (p : ProblemValue) (s : StateValue) (line : Line) (fault : StepFault) → None ≡ common_fault s line → IsVerdict {T = T} (IsRuleFault p s line) (Err fault) → IsReason p s line fault
+rule_refused T p s line (Refused why) none is = firsts_passed (fault_unless (not s.ended) AfterEnd) (fault_unless (nat_lt s.lines (2 ^ 61)) LogLong) (range_fault s.vars (written line)) (IsRuleFault p s line) (Some why) none is
+rule_refused T p s line NoMemory none is = tt
 
 -- the fault of tokens that have no value
 pub tokens_refused : (U : Type 0) (s : StateValue) (negated denied : ConstraintValue) (tokens : List PolToken) (otherwise : Why) (fault : StepFault) → IsEvaluated (given_in s (Some negated) (Some denied)) tokens (Err fault) → IsVerdict {T = U} (IsTokensFault s negated denied tokens otherwise) (Err fault)

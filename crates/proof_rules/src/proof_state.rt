@@ -10,7 +10,7 @@ use crate::judging::{judge_common, judge_rule, value_made};
 use crate::reached::Reached;
 use crate::room::Room;
 use crate::row_index::RowIndex;
-use crate::taking_up::take_up;
+use crate::taking_up::{take_up, take_up_owned};
 use front_set::CostVec;
 use pb_lin::{Constraint, Lines, PbProblem};
 use proof_laws::Line;
@@ -141,6 +141,32 @@ impl ProofState {
         let made = value_made(self.alloc, &self.reached, line)?;
         judge_rule(self.alloc, problem, &self.reached, &mut self.room, line)?;
         take_up(
+            self.alloc,
+            problem,
+            &mut self.reached,
+            &mut self.room.scratch,
+            line,
+            made,
+        )?;
+        Ok(())
+    }
+
+    /// The same of a line that is handed over. A constraint that it gives stays without being copied, with the
+    /// room that its list has.
+    pub fn step_owned(&mut self, problem: &PbProblem, line: Line) -> Result<(), StepFault>
+        requires fits { Fits problem.now self.old }
+        requires formed { IsWellFormed line }
+        ensures next { OnOk result (IsNext problem.now self.old line self.new) }
+        ensures refused { IfErr result (IsReason problem.now self.old line) }
+        ensures same { OnErr result (self.new ≡ self.old) }
+        ensures fits { OnOk result (Fits problem.now self.new) }
+    {
+        // Tells that the problem is within its limits.
+        let _vars = problem.vars();
+        judge_common(&self.reached, &line)?;
+        let made = value_made(self.alloc, &self.reached, &line)?;
+        judge_rule(self.alloc, problem, &self.reached, &mut self.room, &line)?;
+        take_up_owned(
             self.alloc,
             problem,
             &mut self.reached,

@@ -1,5 +1,5 @@
 // The first variable that a line writes and that isn't one of the state's.
-ghost use Rattle.std.specs.Prelude.{◌≡◌, [], ◌∷◌, map, nat_lt};
+ghost use Rattle.std.specs.Prelude.{◌≡◌, ◌<◌, ◌≤◌, [], ◌∷◌, map, nat_lt, All, AllPairs, IsTrue};
 ghost use Rattle.std.specs.List.{find, flat_map};
 ghost use Rattle.proof_laws.specs.Refusal.{written, term_variables, token_variables, image_variables, proof_variables, substitution_variables};
 
@@ -32,11 +32,24 @@ pub(crate) fn written_above(line: &Line, n: u64) -> Option<u64>
     }
 }
 
-// The first variable above `n` of a constraint.
+// The first variable above `n` of a constraint. Its variables rise, so most often a look at the last is enough.
 pub(crate) fn terms_above(c: &Constraint, n: u64) -> Option<u64>
     ensures { result ≡ find (λ v. nat_lt n v) (term_variables c.now.terms) }
 {
-    literals_above(c.literals(), n)
+    let literals = c.literals();
+    if are_within(literals, n) {
+        return None;
+    }
+    literals_above(literals, n)
+}
+
+// Whether no variable of these literals is above `n`. In constant time.
+fn are_within(literals: &[Lit], n: u64) -> bool
+    requires { AllPairs (λ l m. l.var < m.var) literals.now }
+    ensures { IsTrue result → All (λ l. l.var ≤ n) literals.now }
+{
+    let len = literals.len();
+    len == 0 || literals[len - 1].var() <= n
 }
 
 // The first variable above `n` of these literals.

@@ -42,6 +42,32 @@ pub(crate) fn take_up(
     }
 }
 
+// The same of a line that is handed over: its constraint stays without being copied.
+pub(crate) fn take_up_owned(
+    alloc: Global,
+    problem: &PbProblem,
+    reached: &mut Reached,
+    scratch: &mut Partial,
+    line: Line,
+    made: Option<Constraint>,
+) -> Result<(), NoMemory>
+    requires before { StandsBefore problem.now reached.old line }
+    requires legal { IsLegal problem.now reached.old line }
+    requires made { IsValueMade reached.old line made }
+    requires variables { reached.old.vars ≤ length scratch.old }
+    ensures next { OnOk result (IsNext problem.now reached.old line reached.new) }
+    ensures same { OnErr result (reached.new ≡ reached.old) }
+    ensures variables { reached.new.vars ≤ length scratch.new }
+{
+    match line {
+        Line::Rup { goal, .. } => reached.add(goal),
+        Line::Learn { goal, .. } => reached.learn(goal),
+        Line::Red { goal, .. } => reached.add(goal),
+        Line::Dom { goal, .. } => reached.add(goal),
+        other => take_up(alloc, problem, reached, scratch, &other, made),
+    }
+}
+
 // Takes up a legal line of another kind than `pol`.
 fn take_up_given(
     alloc: Global,

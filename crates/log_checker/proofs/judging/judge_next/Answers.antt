@@ -16,8 +16,8 @@ returns-in-Err-Syntax-clause-judged c = λ bytes lines underway.
     subst (λ (e : CheckFault). IsWholeReason c.args.problem.now c.args.vectors.now bytes e) (sym c.refusal.ensures)
     (syntax_refused c.args.problem.now c.args.vectors.now c.args.reader.now c.next_line.new.self c.args.state.now bytes lines c.in-Err-Syntax.line underway wrong.0 wrong.1 (c.in-Err-Syntax.ensures.wrong c.in-Err-Syntax.line is))
 
-pub judge_line-requires-clause-formed : goal.judge_line-requires-clause-formed
-judge_line-requires-clause-formed c =
+pub judge_owned-requires-clause-formed : goal.judge_owned-requires-clause-formed
+judge_owned-requires-clause-formed c =
     let stands = c.requires.reading in
     line_formed c.next_line.new.self stands.0 stands.1 c.in-Ok-Some.line (gives_line c.next_line.new.self stands.0 stands.1 c.in-Ok-Some.field-0 c.in-Ok-Some.line c.in-Ok-Some.field-0-is (c.in-Ok-Some.ensures.next stands.0 stands.1 stands.2))
 
@@ -31,7 +31,7 @@ returns-in-Ok-clause-smaller c = λ taken.
 pub returns-in-Ok-clause-judged : goal.returns-in-Ok-clause-judged
 returns-in-Ok-clause-judged c = λ bytes lines underway. (
   c.in-Ok-Some.line,
-  line_taken c.args.problem.now c.args.vectors.now c.args.reader.now c.next_line.new.self c.args.state.now c.judge_line.new.state bytes lines c.in-Ok-Some.line underway
+  line_taken c.args.problem.now c.args.vectors.now c.args.reader.now c.next_line.new.self c.args.state.now c.judge_owned.new.state bytes lines c.in-Ok-Some.line underway
       (gives_line c.next_line.new.self bytes lines c.in-Ok-Some.field-0 c.in-Ok-Some.line c.in-Ok-Some.field-0-is (c.in-Ok-Some.ensures.next bytes lines underway.read))
       c.in-Ok.ensures.next c.in-Ok.ensures.covered,
 )
