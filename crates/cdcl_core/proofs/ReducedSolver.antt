@@ -8,13 +8,19 @@ use Rattle.proof_rules.specs.Recording.{KeepsRecorder, Snapshot}
 use Rattle.oracle.specs.Solving.{Reaches}
 use Rattle.cdcl_laws.specs.SearchLines.{AddsLearned}
 use Rattle.cdcl_core.specs.Ledgers.{EndsLearned, IsDue, IsPart}
-use Rattle.cdcl_core.specs.Work.{SolverValue, IsWorking, StepsFrom}
+use Rattle.cdcl_core.specs.Work.{SolverValue, IsWorking, NamesLearned, StepsFrom}
 use Rattle.cdcl_core.proofs.ReducedLine.{adds, still_within}
 
 pub record IsReducible {R : Type 0} (seen : R → Snapshot) (s : SolverValue R) : Type 0 where
   pub work : IsWorking seen s
   pub last : EndsLearned (seen s.recorder).lines
   pub due : Reaches (seen s.recorder).problem (seen s.recorder).lines (λ t. IsDue s.ledger.reductions t.learned)
+
+pub names_inside : {R : Type 0} (line : Line) (v w : SolverValue R) → v ≡ w → NamesLearned w line → NamesLearned v line
+names_inside line v w same names = subst (λ (s : SolverValue _). NamesLearned s line) (sym same) names
+
+pub part_inside : {R : Type 0} (ids : List ℕ) (v w : SolverValue R) → v ≡ w → IsPart ids w.ledger.ids → IsPart ids v.ledger.ids
+part_inside ids v w same part = subst (λ (s : SolverValue _). IsPart ids s.ledger.ids) (sym same) part
 
 module _ {R : Type 0} (seen : R → Snapshot) (v w : SolverValue R) where
   pub reducible_inside : v ≡ w → IsWorking seen w → EndsLearned (seen w.recorder).lines → Reaches (seen w.recorder).problem (seen w.recorder).lines (λ t. IsDue w.ledger.reductions t.learned) → IsReducible seen v

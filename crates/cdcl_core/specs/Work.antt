@@ -1,5 +1,6 @@
 -- What holds while a solver works, and what each step of the work keeps.
-use Rattle.std.specs.Prelude.{◌≡◌, ℕ, ◌^◌, ◌<◌, ◌≤◌, ◌++◌, ◌∷◌, ◌⊎◌, Bool, true, false, List, length, All, Contains, Option, Some, Result, Ok, Err, IsOkAnd}
+use Rattle.std.specs.Prelude.{◌≡◌, ◌≢◌, ℕ, ◌^◌, ◌<◌, ◌≤◌, ◌++◌, ◌∷◌, ◌⊎◌, Bool, true, false, List, [], length, All, Contains, Option, Some, IsSome, Result, Ok, Err, IsOkAnd}
+use Rattle.std.specs.FinMap.{get}
 use Rattle.scut_base.specs.Faults.{Rose}
 use Rattle.scut_base.specs.Literal.{Literal}
 use Rattle.scut_base.specs.Assignment.{partial_truth}
@@ -8,7 +9,7 @@ use Rattle.hint_rup.specs.declared.hint.Hint.{Hint}
 use Rattle.proof_laws.specs.State.{StateValue, IsState, Fits}
 use Rattle.proof_laws.specs.Replay.{IsReplay}
 use Rattle.proof_laws.specs.declared.line.Line.{Line}
-use Rattle.proof_laws.specs.declared.line.Line.TheVariants.{Rup}
+use Rattle.proof_laws.specs.declared.line.Line.TheVariants.{Reduce, Rup}
 use Rattle.proof_rules.specs.Recording.{Snapshot, KeepsRecorder}
 use Rattle.oracle.specs.Solving.{AddsSearchLines, AreEarned, IsAnswer, IsClauseAgainst, IsCoreClause, IsSpent, IsWithin, Reaches}
 use Rattle.oracle.specs.declared.fault.OracleFault.{OracleFault}
@@ -22,7 +23,7 @@ use Rattle.cdcl_laws.specs.SearchLines.{AddsLearned}
 use Rattle.cdcl_state.specs.Searching.{SearchValue}
 use Rattle.oracle.specs.declared.answer.Answer.{Answer}
 use Rattle.oracle.specs.declared.answer.Core.{Core}
-use Rattle.cdcl_core.specs.Ledgers.{LedgerValue, IsLedger, left}
+use Rattle.cdcl_core.specs.Ledgers.{LedgerValue, IsLedger, IsPart, left}
 use Rattle.cdcl_core.specs.declared.progress.Progress.{Progress}
 use Rattle.cdcl_core.specs.declared.progress.Progress.TheVariants.{Answered, Learned, Decided}
 
@@ -79,6 +80,14 @@ Reached seen s P = Reaches (seen s.recorder).problem (seen s.recorder).lines P
 -- the answer is true of the lines
 abbrev pub Answers : {R : Type 0} → (R → Snapshot) → SolverValue R → List Literal → Answer → Type 0
 Answers seen s assumptions answer = IsAnswer (seen s.recorder).problem (seen s.recorder).lines assumptions answer
+
+-- the line of a reduction: it names some of the learned clauses, all of them stored
+pub record NamesLearned {R : Type 0} (s : SolverValue R) (line : Line) : Type 0 where
+  pub named : List ℕ
+  pub is : line ≡ Reduce named
+  pub some : named ≢ []
+  pub part : IsPart named s.ledger.ids
+  pub live : All (λ id. IsSome (get s.search.store id)) named
 
 -- ---- what a step of the work keeps, and how it ends
 

@@ -45,16 +45,39 @@ impl<R: Recorder + Drop, P: Propagator + Drop> Solver<R, P> {
             met: _,
         } = lesson;
         self.search.back_to(level);
+        let line = Line::Learn {
+            goal: Constraint::clause(lits),
+            hints,
+        };
+        self.learn_line(&line, lit, level, distance)
+    }
+
+    // The same after the jump back. The line is lent, since to own it past more ways out takes long to prove.
+    fn learn_line(
+        &mut self,
+        line: &Line,
+        lit: Lit,
+        level: u64,
+        distance: u64,
+    ) -> Result<(), OracleFault>
+        requires working { IsWorking R.seen self.old }
+        requires learnable { IsLearnable self.old.search level lit line.now }
+        ensures working { OnOk result (IsWorking R.seen self.new) }
+        ensures ends { Ends R.seen self.old self.new result }
+        ensures steps { StepsFrom R.seen self.old self.new }
+        ensures learns { LearnsAlone R.seen self.old self.new }
+        ensures forced { OnOk result
+            (IsForcedBySome self.old.search.trail self.new.search.trail lit level) }
+        ensures vars { self.new.search.trail.vars ≡ self.old.search.trail.vars }
+        ensures last { OnOk result (EndsLearned (R.seen self.new.recorder).lines) }
+        ensures number { self.new.ledger.reductions ≡ self.old.ledger.reductions }
+    {
         let state = self.recorder.state();
         let learned = state.learned();
         if self.limit == Some(learned) {
             return Err(spent(state, learned));
         }
-        let line = Line::Learn {
-            goal: Constraint::clause(lits),
-            hints,
-        };
-        self.add_learned(&line, lit, level, distance)
+        self.add_learned(line, lit, level, distance)
     }
 
     // Records the line of a learned clause after the jump back, stores the clause, and adds the step that it forces.

@@ -52,11 +52,35 @@ pub(crate) fn add_line<P: Propagator + Drop>(
     ensures kept { IsKept state.new next.new search.new }
     ensures fits { Fits problem.now state.new }
 {
-    let copy = line.copy(alloc)?;
+    let mut new = line.copy(alloc)?;
+    step_line(alloc, problem, state, search, next, &mut new)?;
+    Ok(new)
+}
+
+// Steps a line, and gives it hints where it is to have some and has none. It is lent, so that none lies across the
+// ways out. After an `Err` it isn't used again.
+fn step_line<P: Propagator + Drop>(
+    alloc: Global,
+    problem: &PbProblem,
+    state: &mut ProofState,
+    search: &mut Search<P>,
+    next: &mut u64,
+    line: &mut Line,
+) -> Result<(), ElabFault>
+    requires fits { Fits problem.now state.old }
+    requires formed { IsWellFormed line.old }
+    requires kept { IsKept state.old next.old search.old }
+    ensures added { OnOk result (IsAdded problem.now state.old line.old line.new state.new) }
+    ensures loosely { OnOk result (IsLooseNext problem.now state.old line.old state.new) }
+    ensures refused { IfErr result (IsLooseReason problem.now state.old line.old) }
+    ensures same { OnErr result (state.new ≡ state.old) }
+    ensures kept { IsKept state.new next.new search.new }
+    ensures fits { Fits problem.now state.new }
+{
     match state.step(problem, line) {
         Ok(()) => {
             let_go(search, line);
-            Ok(copy)
+            Ok(())
         }
         Err(StepFault::NoMemory) => Err(ElabFault::NoMemory),
         Err(StepFault::Refused(why)) => {
@@ -68,22 +92,22 @@ pub(crate) fn add_line<P: Propagator + Drop>(
     }
 }
 
-// Looks for the hints of a line that is refused as open.
+// Looks for the hints of a line that is refused as open, and steps it with them.
 fn add_open<P: Propagator + Drop>(
     alloc: Global,
     problem: &PbProblem,
     state: &mut ProofState,
     search: &mut Search<P>,
     next: &mut u64,
-    line: &Line,
-) -> Result<Line, ElabFault>
+    line: &mut Line,
+) -> Result<(), ElabFault>
     requires fits { Fits problem.now state.old }
-    requires formed { IsWellFormed line.now }
+    requires formed { IsWellFormed line.old }
     requires kept { IsKept state.old next.old search.old }
-    requires refused { IsRefused problem.now state.old line.now RupOpen }
-    ensures added { IfOk result (λ new. IsAdded problem.now state.old line.now new state.new) }
-    ensures loosely { OnOk result (IsLooseNext problem.now state.old line.now state.new) }
-    ensures refused { IfErr result (IsLooseReason problem.now state.old line.now) }
+    requires refused { IsRefused problem.now state.old line.old RupOpen }
+    ensures added { OnOk result (IsAdded problem.now state.old line.old line.new state.new) }
+    ensures loosely { OnOk result (IsLooseNext problem.now state.old line.old state.new) }
+    ensures refused { IfErr result (IsLooseReason problem.now state.old line.old) }
     ensures same { OnErr result (state.new ≡ state.old) }
     ensures kept { IsKept state.new next.new search.new }
     ensures fits { Fits problem.now state.new }
@@ -94,9 +118,9 @@ fn add_open<P: Propagator + Drop>(
     let Some(hints) = hints_in(alloc, search, state, next, goal)? else {
         return Err(ElabFault::Refused(Why::RupOpen));
     };
-    let new = with_hints(alloc, line, hints)?;
-    state.advance(problem, &new)?;
-    Ok(new)
+    give_hints(line, hints);
+    state.advance(problem, line)?;
+    Ok(())
 }
 
 // The goal of a line that is to be given hints.
@@ -110,20 +134,14 @@ fn open_goal(line: &Line) -> Option<&Constraint>
     }
 }
 
-// The line with these hints.
-fn with_hints(alloc: Global, line: &Line, hints: Items<Hint>) -> Result<Line, NoMemory>
-    ensures { IfOk result (λ new. new ≡ with_hints line.now hints) }
+// Gives a line these hints in place of its own.
+fn give_hints(line: &mut Line, hints: Items<Hint>)
+    ensures { line.new ≡ with_hints line.old hints }
 {
     match line {
-        Line::Rup { goal, .. } => Ok(Line::Rup {
-            goal: goal.copy(alloc)?,
-            hints,
-        }),
-        Line::Learn { goal, .. } => Ok(Line::Learn {
-            goal: goal.copy(alloc)?,
-            hints,
-        }),
-        _ => line.copy(alloc),
+        Line::Rup { hints: old, .. } => *old = hints,
+        Line::Learn { hints: old, .. } => *old = hints,
+        _ => {}
     }
 }
 
