@@ -1,5 +1,5 @@
 -- Objectives that are boosted, one after the other.
-use Rattle.std.proofs.Common.{◌≡◌, ◌⊎◌, inl, inr, ⊎_elim, ℕ, suc, ◌-◌, ◌<◌, ◌≤◌, false, List, [], ◌∷◌, ◌++◌, length, get_or, refl, ap, sym, subst, ◌∙◌, arith, append-nil, pos, Ok}
+use Rattle.std.proofs.Common.{◌≡◌, ◌⊎◌, inl, inr, ⊎_elim, ℕ, suc, ◌-◌, ◌<◌, ◌≤◌, ◌^◌, false, List, [], ◌∷◌, ◌++◌, length, get_or, refl, ap, sym, subst, ◌∙◌, arith, append-nil, pos, Ok}
 use Rattle.std.specs.List.{All, AllZip}
 use Rattle.std.proofs.lemmas.Bool.{cases_lt}
 use Rattle.std.proofs.lemmas.List.{get_or_append_left, get_or-append_right, get_or_default, length-append}
@@ -24,8 +24,8 @@ use Rattle.search_base.specs.Laws.{IsPrepared}
 use Rattle.search_base.specs.Logged.{LogsNone, logged}
 use Rattle.search_base.proofs.LoggedVectors.{reached_law}
 use Rattle.search_base.proofs.TurnLines.{own_law}
-use Rattle.core_boosting.specs.Boosting.{BoostsFirst, BoostsOn, EndsBoosting, HasLeastOffset, IsReformNow, MayBoost, ReachesOffset}
-use Rattle.core_boosting.proofs.Boosted.{boosted_stays_law}
+use Rattle.core_boosting.specs.Boosting.{BoostsFirst, BoostsOn, EndsBoosting, EndsEarly, HasLeastOffset, HaveLeastOffsets, IsContradicted, IsReformNow, MayBoost, ReachesOffset}
+use Rattle.core_boosting.proofs.Boosted.{early_is_boosted, early_stays}
 use Rattle.core_boosting.proofs.Optima.{least_bounded, least_offset}
 
 -- ---- lines that log nothing
@@ -47,6 +47,11 @@ no_sol p (End id ∷ lines) none = All-cons (λ line. is_sol line ≡ false) (En
 boosted_here : (a : Snapshot) → IsPrepared a → (s : StateValue) → IsReached a s → HasBoosted a.problem s → IsBoosted a.problem a.lines
 boosted_here a prepared s reached has =
     (a.lines, [], s, sym (append-nil a.lines), no_sol a.problem a.lines prepared.none, reached, has)
+
+-- lines that log nothing and lead to such a state end early
+early_here : (a : Snapshot) → IsPrepared a → (s : StateValue) → IsReached a s → IsContradicted s ⊎ (2 ^ 40 < s.vars) → EndsEarly a.problem a.lines
+early_here a prepared s reached early =
+    (a.lines, [], s, sym (append-nil a.lines), no_sol a.problem a.lines prepared.none, reached, early)
 
 -- ---- what a call keeps
 
@@ -149,23 +154,23 @@ module _ {T : Type 0} (a b : Snapshot) (p : ProblemValue) (problem : IsProblem p
       (subst (λ (j : ℕ). HasLeastOffset p (get_or p.costs j d) r) (sym at.0) (least_now d reaches))))
       (cases_lt k (length reforms))
 
-  boosted_by : HasBoosted p s → IsBoosted b.problem b.lines
-  boosted_by has = boosted_here b prepared s prepared.ready.reached (subst (λ (q : ProblemValue). HasBoosted q s) (sym problem_now) has)
+  early_now : IsContradicted s ⊎ (2 ^ 40 < s.vars) → EndsEarly b.problem b.lines
+  early_now = early_here b prepared s prepared.ready.reached
 
-  boosted_before : IsBoosted a.problem a.lines → IsBoosted b.problem b.lines
-  boosted_before old =
+  early_before : EndsEarly a.problem a.lines → EndsEarly b.problem b.lines
+  early_before old =
       let adds = boosts.goes_on.lines in
-      subst (λ (q : ProblemValue). IsBoosted q b.lines) (sym boosts.goes_on.problem)
-      (subst (λ (ls : List Line). IsBoosted a.problem ls) (sym adds.is) (boosted_stays_law a.problem a.lines adds.more old))
+      subst (λ (q : ProblemValue). EndsEarly q b.lines) (sym boosts.goes_on.problem)
+      (subst (λ (ls : List Line). EndsEarly a.problem ls) (sym adds.is) (early_stays a.problem a.lines adds.more old))
 
-  least : IsBoosted b.problem b.lines ⊎ AllLeast
+  least : EndsEarly b.problem b.lines ⊎ AllLeast
   least = by (ends s reached) first.least
     where
-      by : EndsBoosting p r.terms s → IsBoosted a.problem a.lines ⊎ ((k : ℕ) (d : CostRowValue) (e : Reform) → k < length reforms → HasLeast a.problem k d (get_or reforms k e))
-          → IsBoosted b.problem b.lines ⊎ AllLeast
-      by end (inl old) = inl (boosted_before old)
-      by (inl empty) (inr old) = inl (boosted_by (inl empty))
-      by (inr (inl many)) (inr old) = inl (boosted_by (inr (inl many)))
+      by : EndsBoosting p r.terms s → EndsEarly a.problem a.lines ⊎ ((k : ℕ) (d : CostRowValue) (e : Reform) → k < length reforms → HasLeast a.problem k d (get_or reforms k e))
+          → EndsEarly b.problem b.lines ⊎ AllLeast
+      by end (inl old) = inl (early_before old)
+      by (inl empty) (inr old) = inl (early_now (inl empty))
+      by (inr (inl many)) (inr old) = inl (early_now (inr many))
       by (inr (inr reaches)) (inr old) = inr (all_least old reaches)
 
   pub boosts_more : BoostsFirst b all
@@ -193,8 +198,13 @@ module _ (a : Snapshot) (problem : IsProblem a.problem) (reforms : List Reform) 
     each = λ s reached. zipped a.problem.costs reforms (IsReformOf a.problem a.lines s) count (λ k d e short. first.each k d e short s reached);
   }
 
+  pub have_least : HaveLeastOffsets a.problem a.lines reforms
+  have_least = ⊎_elim (λ (early : EndsEarly a.problem a.lines). inl early)
+      (λ least. inr (zipped a.problem.costs reforms (HasLeastOffset a.problem) count (λ k d e short. least k d e short)))
+      first.least
+
   pub are_boosted : IsBoosted a.problem a.lines
-  are_boosted = ⊎_elim (λ (old : IsBoosted a.problem a.lines). old)
+  are_boosted = ⊎_elim (early_is_boosted a.problem a.lines)
       (λ least. boosted_here a first.prepared first.prepared.ready.state first.prepared.ready.reached (inr (inr (λ k d short.
       let e = any_reform k in
       let has = least k d e (omega arith) in (

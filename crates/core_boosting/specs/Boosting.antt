@@ -1,6 +1,7 @@
 -- Objectives in other terms whose offsets are reached, and lines that are boosted.
 use Rattle.std.specs.Prelude.{◌≡◌, ◌⊎◌, ℕ, ◌<◌, ◌≤◌, ◌^◌, Bool, true, false, List, [], ◌++◌, length, slice_index_or, Some, All, Contains, pos, ◌+ℤ◌, Result, IfErr}
 use Rattle.std.specs.FinMap.{get}
+use Rattle.std.specs.List.{AllZip}
 use Rattle.scut_base.specs.Literal.{Literal}
 use Rattle.scut_base.specs.Assignment.{lit_true}
 use Rattle.pb_lin.specs.Constraint.{ConstraintValue, literals}
@@ -8,7 +9,8 @@ use Rattle.pb_lin.specs.CostRow.{CostRowValue}
 use Rattle.pb_lin.specs.Problem.{ProblemValue}
 use Rattle.proof_laws.specs.State.{StateValue}
 use Rattle.proof_laws.specs.Refusal.{is_clause}
-use Rattle.proof_laws.specs.Earned.{IsBoosted, IsLeastValue}
+use Rattle.proof_laws.specs.Replay.{IsReplay}
+use Rattle.proof_laws.specs.Earned.{IsBoosted, IsLeastValue, is_sol}
 use Rattle.proof_laws.specs.declared.line.Line.{Line}
 use Rattle.proof_rules.specs.Recording.{Snapshot}
 use Rattle.oracle.specs.Solving.{AreEarned, IsSolution, IsWithin}
@@ -76,13 +78,22 @@ pub record HasCoreLine (terms : List (Literal × ℕ)) (id : ℕ) (s : StateValu
 abbrev pub HasLeastOffset : ProblemValue → CostRowValue → Reform → Type 0
 HasLeastOffset p row r = (m : ℕ) × IsLeastValue p row m × (r.offset ≡ row.offset +ℤ pos m)
 
--- The first objectives in other terms; the lines are boosted, or each of these has its least value as its offset.
+-- after some first lines, of which none logs a solution, "0 >= 1" is live or there are more than 2^40 variables
+abbrev pub EndsEarly : ProblemValue → List Line → Type 0
+EndsEarly p lines = (before : List Line) × (after : List Line) × (s : StateValue) × (lines ≡ before ++ after)
+    × All (λ line. is_sol line ≡ false) before × IsReplay p before s × (IsContradicted s ⊎ (2 ^ 40 < s.vars))
+
+-- each objective's least value is the offset of its reform, unless boosting has ended early
+abbrev pub HaveLeastOffsets : ProblemValue → List Line → List Reform → Type 0
+HaveLeastOffsets p lines reforms = EndsEarly p lines ⊎ AllZip (HasLeastOffset p) p.costs reforms
+
+-- The first objectives in other terms; boosting has ended early, or each of these has its least value as its offset.
 pub record BoostsFirst (a : Snapshot) (reforms : List Reform) : Type 0 where
   pub prepared : IsPrepared a
   pub most : length reforms ≤ length a.problem.costs
   pub each : (k : ℕ) (d : CostRowValue) (e : Reform) → k < length reforms
       → IsReformNow a (slice_index_or a.problem.costs k d) (slice_index_or reforms k e)
-  pub least : IsBoosted a.problem a.lines
+  pub least : EndsEarly a.problem a.lines
       ⊎ ((k : ℕ) (d : CostRowValue) (e : Reform) → k < length reforms
       → HasLeastOffset a.problem (slice_index_or a.problem.costs k d) (slice_index_or reforms k e))
 

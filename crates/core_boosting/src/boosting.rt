@@ -7,7 +7,7 @@ ghost use Rattle.totalizer.specs.Reforming.{IsOwnReform};
 ghost use Rattle.search_base.specs.CostBounds.{AreReforms};
 ghost use Rattle.search_base.specs.Laws.{IsPrepared};
 ghost use Rattle.search_base.specs.Turns.{IsInOrder};
-ghost use Rattle.core_boosting.specs.Boosting.{BoostsFirst, BoostsOn, EndsBoosting, IsReformNow, MayBoost};
+ghost use Rattle.core_boosting.specs.Boosting.{BoostsFirst, BoostsOn, EndsBoosting, HaveLeastOffsets, IsReformNow, MayBoost};
 
 use crate::cores::take_up_cores;
 use oracle::{Oracle, OracleFault};
@@ -59,8 +59,8 @@ fn own_reform(alloc: Global, row: &CostRow) -> Result<Reform, NoMemory>
 }
 
 /// All objectives in other terms, boosted in order. The lines are boosted then: as soon as the line `0 >= 1` is live or
-/// there are more than 2^40 variables, or else at the end, where lines bound each objective by its least value.
-/// After `Spent` the oracle may be asked again. Costs what `boost` does for each objective.
+/// there are more than 2^40 variables, or else at the end, where lines bound each objective by its least value, which is
+/// the offset answered for it. After `Spent` the oracle may be asked again. Costs what `boost` does for each objective.
 pub fn boost_all<O: Oracle>(
     alloc: Global,
     oracle: &mut O,
@@ -70,6 +70,8 @@ pub fn boost_all<O: Oracle>(
     requires prepared { IsPrepared (O.seen oracle.old) }
     ensures reforms { IfOk result (λ v. AreReforms (O.seen oracle.new) v.items) }
     ensures boosted { IfOk result (λ v. IsBoosted problem.now (O.seen oracle.new).lines) }
+    ensures least { IfOk result
+        (λ v. HaveLeastOffsets problem.now (O.seen oracle.new).lines v.items) }
     ensures prepared { IsInOrder result → IsPrepared (O.seen oracle.new) }
     ensures goes_on { BoostsOn (O.seen oracle.old) (O.seen oracle.new) result }
 {

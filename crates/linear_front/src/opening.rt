@@ -1,5 +1,5 @@
 // The front as far as relaxations find it, before a search's first turn.
-ghost use Rattle.std.specs.Prelude.{◌≡◌, true, IfOk, IfErr, IfSome, IsOk, OnOk};
+ghost use Rattle.std.specs.Prelude.{◌≡◌, true, None, Ok, IfOk, IfErr, IfSome, IsOk, OnOk};
 ghost use Rattle.sum_outputs.specs.Adding.{IsFaultAt};
 ghost use Rattle.search_base.specs.Good.{GoesOn, IsGood, KeepsBoard};
 ghost use Rattle.search_base.specs.Pending.{AreOwnTerms, IsGoodBut};
@@ -44,6 +44,10 @@ pub fn linear_front<O: Oracle>(
     ensures fault { IfErr result (IsSearchFault (O.seen oracle.old) (O.seen oracle.new)) }
     ensures goes_on { GoesOn (O.seen oracle.old) (O.seen oracle.new) }
     ensures board { KeepsBoard board.old board.new }
+    ensures other_terms { (AreOwnTerms bounds.old → ⊥)
+        → (result ≡ Ok None) × (O.seen oracle.new ≡ O.seen oracle.old) }
+    ensures same { (AreOwnTerms bounds.old → ⊥)
+        → (bounds.new ≡ bounds.old) × (board.new ≡ board.old) }
 {
     good_but_for_none();
     end_is_good();

@@ -1,3 +1,4 @@
 pub use Rattle.oracle.specs.Solving
 pub mod Replies
 pub mod Relaxations
+pub mod Models

@@ -1,20 +1,24 @@
 // Models that a relaxation proposes.
-ghost use Rattle.std.specs.Prelude.{◌≡◌, ◌↔◌, length, All, IfOk, IfSome, IsTrue};
+ghost use Rattle.std.specs.Prelude.{◌≡◌, ◌↔◌, length, All, IfOk, IfSome, IsTrue, MatchOption};
 ghost use Rattle.pb_lin.specs.Constraint.{Holds, UpTo};
 ghost use Rattle.pb_lin.specs.Problem.{IsProblemModel};
+ghost use Rattle.linear_search.specs.Models.{assigned};
 
 use pb_lin::{Constraint, PbProblem};
 use scut_base::{Assignment, Lit, NoMemory};
 use std::alloc::Global;
 
 /// The assignment that makes these literals of the problem's variables true, and all other variables false, where it is a
-/// model of the problem. Costs a walk over the rows.
+/// model of the problem; `None` where it isn't. Costs a walk over the rows.
 pub fn model_of(
     alloc: Global,
     problem: &PbProblem,
     lits: &[Lit],
 ) -> Result<Option<Assignment>, NoMemory>
-    ensures { IfOk result (λ model. IfSome model (IsProblemModel problem.now)) }
+    ensures model { IfOk result (λ found. IfSome found (IsProblemModel problem.now)) }
+    ensures assigned { IfOk result (λ found. MatchOption found
+        (IsProblemModel problem.now (assigned problem.now.vars lits.now) → ⊥)
+        (λ model. model ≡ assigned problem.now.vars lits.now)) }
 {
     let a = assigned(alloc, problem.vars(), lits)?;
     if all_hold(problem.rows(), &a) {
@@ -25,7 +29,8 @@ pub fn model_of(
 
 // The assignment of so many variables.
 fn assigned(alloc: Global, vars: u64, lits: &[Lit]) -> Result<Assignment, NoMemory>
-    ensures { IfOk result (λ a. length a ≡ vars) }
+    ensures long { IfOk result (λ a. length a ≡ vars) }
+    ensures assigned { IfOk result (λ a. a ≡ assigned vars lits.now) }
 {
     let mut a = Assignment::new(alloc, vars)?;
     for lit in lits {

@@ -1,9 +1,9 @@
 // Searches that take turns, as one search.
-ghost use Rattle.std.specs.Prelude.{◌≡◌, IfOk, IfErr};
+ghost use Rattle.std.specs.Prelude.{◌≡◌, IfOk, IfErr, IfSome};
 ghost use Rattle.std.specs.Option.{option_copied_mut};
 ghost use Rattle.search_base.specs.Good.{GoesOn, IsGood, KeepsBoard};
-ghost use Rattle.search_base.specs.Turns.{IsInOrder, IsSearchFault, IsTurn};
-ghost use Rattle.portfolio.specs.Cycles.{AreTurns, GivesTurn, ServeAll, next_of, own_number, search_count};
+ghost use Rattle.search_base.specs.Turns.{IsEndLine, IsInOrder, IsSearchFault, IsTurn};
+ghost use Rattle.portfolio.specs.Cycles.{AreTurns, BeginsNext, GivesTurn, ServeAll, next_of, own_number, search_count};
 
 use oracle::{Oracle, OracleFault};
 use search_base::{Board, Bounds, Search, Turn};
@@ -83,7 +83,19 @@ impl<'a, A: Search, B: Search, C: Search> Search for Cycle<'a, A, B, C> {
         oracle: &mut O,
         bounds: &mut Bounds,
         board: &mut Board<'_>,
-    ) -> Result<Option<u64>, OracleFault> {
+    ) -> Result<Option<u64>, OracleFault>
+        requires good { IsGood (O.seen oracle.old) bounds.old board.old }
+        requires serves { ServeAll A.serves B.serves C.serves self.old (O.seen oracle.old).problem }
+        ensures end { IfOk result (λ found. IfSome found
+            (IsEndLine (O.seen oracle.new).problem (O.seen oracle.new).lines)) }
+        ensures begun { BeginsNext self.old self.new }
+        ensures good { IsInOrder result → IsGood (O.seen oracle.new) bounds.new board.new }
+        ensures serves { IsInOrder result
+            → ServeAll A.serves B.serves C.serves self.new (O.seen oracle.new).problem }
+        ensures fault { IfErr result (IsSearchFault (O.seen oracle.old) (O.seen oracle.new)) }
+        ensures goes_on { GoesOn (O.seen oracle.old) (O.seen oracle.new) }
+        ensures board { KeepsBoard board.old board.new }
+    {
         match self.next() {
             1 => self.first.begin(oracle, bounds, board),
             2 => self.second.begin(oracle, bounds, board),

@@ -5,8 +5,8 @@ use Rattle.pb_lin.specs.Problem.{ProblemValue, IsProblem}
 use Rattle.proof_laws.specs.Earned.{IsBoosted}
 use Rattle.totalizer.specs.declared.reform.Reform.{Reform}
 use Rattle.search_base.specs.CostBounds.{AreReforms}
-use Rattle.core_boosting.specs.Boosting.{BoostsFirst}
-use Rattle.core_boosting.proofs.Boosts.{are_boosted, are_reforms, boosts_none, may_boost, still_prepared}
+use Rattle.core_boosting.specs.Boosting.{BoostsFirst, HaveLeastOffsets}
+use Rattle.core_boosting.proofs.Boosts.{are_boosted, are_reforms, boosts_none, have_least, may_boost, still_prepared}
 use Rattle.core_boosting.proofs.Calls.{boosts_after, boosts_handed, boosts_ok, boosts_same}
 use Rattle.core_boosting.proofs.boosting.boost_all.Goals as goal
 
@@ -78,6 +78,21 @@ returns-clause-boosted g c =
     let most = first.most in
     subst (λ (q : ProblemValue). IsBoosted q b.lines) same
     (are_boosted b (subst (λ (q : ProblemValue). IsProblem q) (sym same) c.vars-vars.ensures.problem) c.loop.reforms first (omega arith))
+
+pub returns-clause-least : goal.returns-clause-least
+returns-clause-least g c =
+    let b = g.O.Recorder.seen c.loop.oracle in
+    let p = c.args.problem.now in
+    let same : b.problem ≡ p = c.loop.invariant.boosts.goes_on.problem ∙ c.requires.problem in
+    let rows = ap (λ (q : ProblemValue). length q.costs) same in
+    let long = ap (λ (rs : List CostRowValue). length rs) c.costs-end.ensures in
+    let count = c.loop.invariant.count in
+    let last = c.loop-test.false in
+    let first = c.loop.invariant.first in
+    let most = first.most in
+    subst (λ (rs : List Reform). HaveLeastOffsets p b.lines rs) (sym c.into_vec.ensures)
+    (subst (λ (q : ProblemValue). HaveLeastOffsets q b.lines c.loop.reforms) same
+    (have_least b (subst (λ (q : ProblemValue). IsProblem q) (sym same) c.vars-vars.ensures.problem) c.loop.reforms first (omega arith)))
 
 pub returns-clause-goes_on : goal.returns-clause-goes_on
 returns-clause-goes_on g c =

@@ -31,4 +31,4 @@ returns-in-Some g c =
     let R = g.R.Recorder in
     let p = c.args.problem.now in
     let call = c.in_ok-core.ensures.recorded in
-    found_after (IsRelaxed p) (R.seen c.args.rec.now) (R.seen c.ask.new.rec) call.continues _ call.whole (whole_found p _ (rw c.in-Some.is at c.in_ok-model-in-Model.ensures))
+    found_after (IsRelaxed p) (R.seen c.args.rec.now) (R.seen c.ask.new.rec) call.continues _ call.whole (whole_found p _ (rw c.in-Some.is at c.in_ok-model-in-Model.ensures.model))
