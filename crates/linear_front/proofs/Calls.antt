@@ -11,7 +11,8 @@ use Rattle.proof_rules.specs.declared.recorder.RecordFault.TheVariants.{Failed a
 use Rattle.oracle.specs.Solving.{AddsSearchLines, AreEarned, HasFault, IsOrderly, IsSpent, IsWithin, Reaches, fault_of_recording}
 use Rattle.oracle.specs.declared.fault.OracleFault.{OracleFault}
 use Rattle.oracle.specs.declared.fault.OracleFault.TheVariants.{Spent, Failed, Full, NoMemory}
-use Rattle.sum_outputs.specs.Adding.{IsFaultAt, IsReady}
+use Rattle.sum_outputs.specs.Adding.{Continues, IsFaultAt, IsReady}
+use Rattle.sum_outputs.proofs.LaterStates.{fault_later}
 use Rattle.search_base.specs.Boards.{BoardValue}
 use Rattle.search_base.specs.Good.{GoesOn}
 use Rattle.search_base.specs.Laws.{TurnLinesJoin}
@@ -59,6 +60,12 @@ fault_after a b c (Err (Spent learned)) on is = is
 fault_after a b c (Err Failed) on is = let x = on.later in omega arith
 fault_after a b c (Err Full) on is = is
 fault_after a b c (Err NoMemory) on is = tt
+
+-- a call's fault, after lines of a totalizer
+pub fault_after_lines : {T : Type 0} (a b c : Snapshot) (r : Result T RecordFault) → Continues a b
+    → IfErr r (IsFaultAt b c) → IfErr r (IsFaultAt a c)
+fault_after_lines a b c (Ok x) on is = tt
+fault_after_lines a b c (Err f) on is = fault_later a b c f on is
 
 -- ---- an oracle's call
 

@@ -1,4 +1,3 @@
-use Rattle.std.proofs.Common.{ℕ}
 use Rattle.linear_front.proofs.defined.common_divisor.Given as goal
 
 abbrev pub decreases-loop-rest : goal.decreases-loop-rest
