@@ -131,7 +131,7 @@ impl<'a> Asking<'a> {
             Standing::Always => Ok(false),
             Standing::Never => Ok(true),
             Standing::Output(defined) => {
-                let most = most_within(problem, objective, limit, defined.step);
+                let most = most_within(problem, objective, limit, defined.divisor);
                 in_memory(add_limit(question, objective, most, &defined))?;
                 Ok(true)
             }
@@ -181,16 +181,16 @@ impl<'a> Asking<'a> {
     }
 }
 
-// The greatest cost within a limit, where costs are apart by the step.
-fn most_within(problem: &PbProblem, objective: usize, limit: i64, step: u64) -> i64 {
+// The greatest cost within a limit, where costs differ by multiples of the divisor.
+fn most_within(problem: &PbProblem, objective: usize, limit: i64, divisor: u64) -> i64 {
     let Some(row) = problem.costs().get(objective) else {
         return limit;
     };
     let above = i128::from(limit) - i128::from(row.offset());
-    if above <= 0 || step == 0 {
+    if above <= 0 || divisor == 0 {
         return limit;
     }
-    match i64::try_from(above % i128::from(step)) {
+    match i64::try_from(above % i128::from(divisor)) {
         Ok(rest) => limit.saturating_sub(rest),
         Err(_) => limit,
     }

@@ -22,21 +22,21 @@ pub(crate) enum Standing {
     Output(DefinedOutput),
 }
 
-// An output that was defined. Sums of its objective are multiples of the step, the weights' greatest common divisor; where the
-// output's literal is false, the limit line says that the sum is at most the output's less the step.
+// An output that was defined. Sums of its objective are multiples of the divisor, the weights' greatest common divisor; where the
+// output's literal is false, the limit line says that the sum is at most the output's less the divisor.
 #[derive(Clone, Copy, Debug)]
 pub(crate) struct DefinedOutput {
     pub(crate) output: SumOutput,
     pub(crate) limit_line: u64,
-    pub(crate) step: u64,
+    pub(crate) divisor: u64,
 }
 
 impl DefinedOutput {
-    fn of(output: &SumOutput, limit_line: u64, step: u64) -> DefinedOutput {
+    fn of(output: &SumOutput, limit_line: u64, divisor: u64) -> DefinedOutput {
         DefinedOutput {
             output: *output,
             limit_line,
-            step,
+            divisor,
         }
     }
 }
@@ -88,7 +88,7 @@ impl DefinedOutputs {
         self.reaching(rec, objective, row, above)
     }
 
-    // What stands for "the sum of the row's terms is at least `least`", which is rounded up to a multiple of their step.
+    // What stands for "the sum of the row's terms is at least `least`", which is rounded up to a multiple of their divisor.
     fn reaching<R: Recorder>(
         &mut self,
         rec: &mut R,
@@ -107,12 +107,12 @@ impl DefinedOutputs {
         if i128::from(total) < least {
             return Ok(Standing::Never);
         }
-        let step = divisor_of(row.terms());
+        let divisor = divisor_of(row.terms());
         if let [term] = row.terms() {
-            return Ok(Standing::Output(DefinedOutput::of(&leaf_output(*term), 0, step)));
+            return Ok(Standing::Output(DefinedOutput::of(&leaf_output(*term), 0, divisor)));
         }
-        let sum = multiple_from(least as u64, step).min(total);
-        let defined = self.output(rec, objective, row, sum, step)?;
+        let sum = multiple_from(least as u64, divisor).min(total);
+        let defined = self.output(rec, objective, row, sum, divisor)?;
         Ok(Standing::Output(defined))
     }
 
@@ -123,7 +123,7 @@ impl DefinedOutputs {
         objective: usize,
         row: &CostRow,
         sum: u64,
-        step: u64,
+        divisor: u64,
     ) -> Result<DefinedOutput, RecordFault>
         requires ready { IsReady (R.seen rec.old) }
         requires variables { TermsUpTo (R.seen rec.old).problem.vars row.now.terms }
@@ -138,7 +138,7 @@ impl DefinedOutputs {
                 return Ok(*defined);
             }
         }
-        self.define_at(rec, objective, row, sum, place, step)
+        self.define_at(rec, objective, row, sum, place, divisor)
     }
 
     // Defines the output at this sum, whose place among the objective's is this.
@@ -149,7 +149,7 @@ impl DefinedOutputs {
         row: &CostRow,
         sum: u64,
         place: usize,
-        step: u64,
+        divisor: u64,
     ) -> Result<DefinedOutput, RecordFault>
         requires ready { IsReady (R.seen rec.old) }
         requires variables { TermsUpTo (R.seen rec.old).problem.vars row.now.terms }
@@ -158,7 +158,7 @@ impl DefinedOutputs {
         ensures recorded { IsRecorded (R.seen rec.old) (R.seen rec.new) result }
     {
         let output = define(self.alloc, rec, row.terms(), sum, sum)?;
-        self.add(rec, objective, place, &output, step)
+        self.add(rec, objective, place, &output, divisor)
     }
 
     // Adds a new output at its place among the objective's.
@@ -168,14 +168,14 @@ impl DefinedOutputs {
         objective: usize,
         place: usize,
         output: &SumOutput,
-        step: u64,
+        divisor: u64,
     ) -> Result<DefinedOutput, RecordFault>
         requires ready { IsReady (R.seen rec.old) }
         ensures recorded { IsRecorded (R.seen rec.old) (R.seen rec.new) result }
     {
-        let limit_line = limit_line(self.alloc, rec, output.upper, step)?;
+        let limit_line = limit_line(self.alloc, rec, output.upper, divisor)?;
         self.tie(rec, objective, place, output)?;
-        let defined = DefinedOutput::of(output, limit_line, step);
+        let defined = DefinedOutput::of(output, limit_line, divisor);
         in_memory(self.insert(objective, place, &defined))?;
         Ok(defined)
     }
@@ -228,21 +228,21 @@ fn before(outputs: &[DefinedOutput], place: usize) -> Option<&SumOutput> {
     at(outputs, place - 1)
 }
 
-// Adds the line of an output's upper line divided by the step and multiplied by it again, which rounds its numbers up;
-// of the step 1 it is the upper line.
+// Adds the line of an output's upper line divided by the divisor and multiplied by it again, which rounds its numbers up;
+// of the divisor 1 it is the upper line.
 fn limit_line<R: Recorder>(
     alloc: Global,
     rec: &mut R,
     upper: u64,
-    step: u64,
+    divisor: u64,
 ) -> Result<u64, RecordFault>
     requires ready { IsReady (R.seen rec.old) }
     ensures recorded { IsRecorded (R.seen rec.old) (R.seen rec.new) result }
 {
-    if step <= 1 {
+    if divisor <= 1 {
         return Ok(upper);
     }
-    let tokens = in_memory(rounding(alloc, upper, step))?;
+    let tokens = in_memory(rounding(alloc, upper, divisor))?;
     match add_line(alloc, rec, tokens)? {
         Some(line) => Ok(line),
         None => Ok(upper),
@@ -250,11 +250,11 @@ fn limit_line<R: Recorder>(
 }
 
 // The tokens of that line.
-fn rounding(alloc: Global, upper: u64, step: u64) -> Result<Items<PolToken>, NoMemory> {
+fn rounding(alloc: Global, upper: u64, divisor: u64) -> Result<Items<PolToken>, NoMemory> {
     let mut tokens = Items::new(alloc);
     tokens.push(PolToken::Id(upper))?;
-    tokens.push(PolToken::Div(i128::from(step)))?;
-    tokens.push(PolToken::Mul(i128::from(step)))?;
+    tokens.push(PolToken::Div(i128::from(divisor)))?;
+    tokens.push(PolToken::Mul(i128::from(divisor)))?;
     Ok(tokens)
 }
 
@@ -279,16 +279,16 @@ fn common_divisor(one: u64, other: u64) -> u64 {
     divisor
 }
 
-// The least multiple of the step that is at least a number, where it is one of 64 bits; the number where there is no step.
-fn multiple_from(number: u64, step: u64) -> u64
+// The least multiple of the divisor that is at least a number, where it is one of 64 bits; the number where there is no divisor.
+fn multiple_from(number: u64, divisor: u64) -> u64
     ensures { number ≤ result }
 {
-    if step == 0 {
+    if divisor == 0 {
         return number;
     }
-    match number % step {
+    match number % divisor {
         0 => number,
-        rest => number.saturating_add(step - rest),
+        rest => number.saturating_add(divisor - rest),
     }
 }
 

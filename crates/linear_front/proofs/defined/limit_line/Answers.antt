@@ -2,8 +2,8 @@ use Rattle.sum_outputs.proofs.LaterStates.{continues_again, recorded_ok}
 use Rattle.linear_lines.proofs.Answering.{memory_handed}
 use Rattle.linear_front.proofs.defined.limit_line.Goals as goal
 
-pub returns-then-step-le1 : goal.returns-then-step-le1
-returns-then-step-le1 g c =
+pub returns-then-divisor-le1 : goal.returns-then-divisor-le1
+returns-then-divisor-le1 g c =
     let a = let R = g.R.Recorder in R.seen c.args.rec.now in
     record { recorded = recorded_ok a a c.args.upper (continues_again a) c.requires.ready.whole }
 
