@@ -155,11 +155,11 @@ impl Slots {
         ensures { IsPut self.old self.new slot (with_lits self.old slot []) }
     {
         let len = self.words[slot as usize] - MARK;
-        self.lost = self.lost.saturating_add(len as usize);
+        self.lost = self.lost.saturating_add(len as usize + BEFORE);
         self.words[slot as usize] = MARK;
     }
 
-    /// Whether more than half of the words were literals of clauses that were dropped.
+    /// Whether more than half of the words are of clauses that were dropped.
     pub fn is_sparse(&self) -> bool {
         self.lost > self.words.len() / 2
     }
