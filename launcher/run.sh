@@ -3,7 +3,7 @@
 # The program is a child in the background, which no interrupt of the terminal reaches: the launcher is told of it, and ends the
 # program. `stopped` is the signal that has asked for it, `child` what is waited for, `listing` is set while a list is made.
 
-stopped='' child='' listing='' list=''
+stopped='' child='' listing='' list='' log='' watcher=''
 
 # What each signal does. Those of a terminal come twice where `timeout` sends them to a group as well, so no second one counts
 # before the program has ended; then a second interrupt ends all at once. A list is whole even then: see tools/far.
@@ -68,9 +68,34 @@ run() { # the program, its words
         [ -z "$bound" ] || set -- setpriv --pdeathsig TERM "$@"
     fi
     listen
+    start_watching
     start "$@"
     await
     child=''
+    end_watching
+}
+
+# Shows with --watch how far the search is, by a process of its own that reads LOG.
+start_watching() {
+    [ -n "$log" ] && has_option --watch || return 0
+    if ! command -v python3 >/dev/null; then
+        warn 'there is no python3 on the path, which --watch wants: nothing is shown'
+    elif [ -e "$log" ] && ! [ -f "$log" ]; then
+        warn 'LOG is no file, which --watch reads: nothing is shown'
+    else
+        # An IN that is a pipe can be read once, by the program.
+        set -- "$log"
+        [ ! -f "$instance" ] || set -- "$log" "$instance"
+        "$root/tools/watch" "$@" --line --unlike "$log_before" </dev/null >/dev/null &
+        watcher=$!
+    fi
+}
+
+end_watching() {
+    [ -n "$watcher" ] || return 0
+    kill -TERM "$watcher" 2>/dev/null
+    wait "$watcher" 2>/dev/null
+    watcher=''
 }
 
 # Ends as the program has ended, where it did so by itself: its numbers are below 128. Where it was stopped, LIST is made new.

@@ -26,9 +26,7 @@ take_name() {
 }
 
 take_option() {
-    case "$given" in
-    *" $1 "*) complain "$1 stands twice" ;;
-    esac
+    ! has_option "$1" || complain "$1 stands twice"
     given="$given$1 "
     [ -n "$has_command" ] || is_own_option "$1" || complain "$1 stands before the command"
 }
@@ -41,6 +39,13 @@ take_value() { # an option, its value
     --turns) turns=$2 ;;
     --log-version) log_version=$2 ;;
     --time) seconds=$2 ;;
+    esac
+}
+
+has_option() {
+    case "$given" in
+    *" $1 "*) return 0 ;;
+    *) return 1 ;;
     esac
 }
 

@@ -1,11 +1,6 @@
 # A run that is stopped. Sourced by tests/launcher.
 
-stop_at=$root/tests/launcher.d/stop_at
 cd "$elsewhere" || exit 1
-# A search that lasts longer than any test, and finds its first models at once.
-"$program" gen 7 200 3 long.mcnf >/dev/null
-first_model='
-sol '
 
 # What a list holds that is left: what `check` refuses in it is only that it isn't the whole front.
 is_right() { # a list, a log
@@ -64,7 +59,6 @@ for words in 'solve long.mcnf r.list r.log --time 0' 'solve long.mcnf r.list r.l
 done
 
 # Where there is no model yet.
-mkfifo nothing.mcnf
 printf 's COMPLETE 0\n' >r.list
 run "$tree/scuttle" --time 1 solve nothing.mcnf r.list none.log
 expect 'a search that has not begun' 10 said '^stopped: 0 so far in r.list'
@@ -102,10 +96,6 @@ expect 'stays there, with its permissions' 0 said '^600$'
 
 # Without Python, and with one that takes long.
 printf 's COMPLETE 0\n' >r.list
-mkdir "$work/bare"
-for tool in "$work"/bin/*; do
-    [ "${tool##*/}" = python3 ] || ln -s "$(readlink "$tool")" "$work/bare/${tool##*/}"
-done
 run env PATH="$work/bare" "$tree/scuttle" --time 1 solve long.mcnf r.list r.log
 expect 'without Python it is told what is missing' 10 warned 'no python3'
 run grep -qx 's INCOMPLETE 0' r.list
@@ -187,5 +177,5 @@ expect 'a part of a list is replaced' 10 said '^stopped: 1 so far in r.list'
 run grep -qx 's INCOMPLETE 1' r.list
 expect 'by an incomplete one' 0
 release "$program"
-rm -f nothing.mcnf open.log
+rm -f open.log
 cd "$work" || exit 1
