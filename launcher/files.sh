@@ -54,7 +54,12 @@ is_whole_list() {
         [ "$(tail -c 1 <"$1" | wc -l)" -eq 1 ]
 }
 
-# A name as it may stand in a line: one with other bytes than letters would break it.
+# A text as it may stand in a line, which a line feed or another control would break.
 shown() {
     printf '%s' "$1" | tr '[:cntrl:]' '?'
+}
+
+# The same of a word: an empty one is seen too.
+quoted() {
+    if [ -n "$1" ]; then shown "$1"; else printf "''"; fi
 }

@@ -77,7 +77,7 @@ read_word() {
     --learn | --search | --turns | --log-version | --time) awaiting=$1 ;;
     --learn=* | --search=* | --turns=* | --log-version=* | --time=*) take_value "${1%%=*}" "${1#*=}" ;;
     --harden | --boost | --watch) take_option "$1" ;;
-    -?*) complain "$1 is no option" ;;
+    -?*) complain "${command:-the launcher} has no option $1" ;;
     *) take_name "$1" ;;
     esac
     ! is_own_option "${1%%=*}" || is_own=1
