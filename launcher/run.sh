@@ -3,7 +3,7 @@
 # The program is a child in the background, which no interrupt of the terminal reaches: the launcher is told of it, and ends the
 # program. `stopped` is the signal that has asked for it, `child` what is waited for, `listing` is set while a list is made.
 
-stopped='' child='' listing='' list='' log='' watcher=''
+stopped='' child='' listing='' list='' log='' watcher='' explainer=''
 
 # What each signal does. Those of a terminal come twice where `timeout` sends them to a group as well, so no second one counts
 # before the program has ended; then a second interrupt ends all at once. A list is whole even then: see tools/far.
@@ -44,7 +44,9 @@ start() {
 
 # Waits for the child, however often a signal wakes the shell; sets `status`.
 await() {
-    status=0
+    status=143
+    # A signal may have kept it from starting.
+    [ -n "$child" ] || return 0
     while :; do
         woken=''
         # The shell would say that it was killed.
@@ -69,10 +71,24 @@ run() { # the program, its words
     fi
     listen
     start_watching
-    start "$@"
+    start_explained "$@"
     await
     child=''
     end_watching
+    # What is warned of comes before what is said next.
+    [ -z "$explainer" ] || wait "$explainer"
+}
+
+# Starts a command whose warnings go through `explain`, by a pipe without a name as soon as both have opened it.
+start_explained() {
+    if scratch=$(mktemp -d 2>/dev/null) && mkfifo "$scratch/warned"; then
+        (trap '' HUP TERM && explain) <"$scratch/warned" &
+        explainer=$!
+        start "$@" 2>"$scratch/warned"
+        rm -r "$scratch"
+    else
+        start "$@"
+    fi
 }
 
 # Shows with --watch how far the search is, by a process of its own that reads LOG.
@@ -125,11 +141,11 @@ die() {
 }
 
 warn() {
-    echo "scuttle: $1" >&2
+    printf 'scuttle: %s\n' "$1" >&2
 }
 
 say() {
-    echo "$1" || exit 74
+    printf '%s\n' "$1" || exit 74
 }
 
 # Notes what a run that is stopped is to leave: the file `list`, and of what it is made; and what these are before.

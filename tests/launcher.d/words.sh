@@ -2,10 +2,7 @@
 
 cd "$elsewhere" || exit 1
 mkdir a.folder
-cp 'two sites.mcnf' in.mcnf
 cp in.mcnf in.mcnf.gz
-cp 'its list.list' in.list
-cp 'its log.log' in.log
 
 # Each row: the number, the words, and what is said of them.
 while IFS='|' read -r wanted words text; do
