@@ -6,6 +6,8 @@ most_shown=60
 # Hands each line of standard input over to standard error, and adds to one that it knows.
 explain() {
     while IFS= read -r line; do
+        # The line that --watch rewrites makes room.
+        [ -z "$watcher" ] || [ ! -t 2 ] || printf '\r\033[K'
         printf '%s\n' "$line"
         explain_line "$line"
     done >&2

@@ -114,20 +114,27 @@ end_watching() {
     watcher=''
 }
 
-# Ends as the program has ended, where it did so by itself: its numbers are below 128. Where it was stopped, LIST is made new.
+# Ends as the program has ended. Where it was stopped, or memory, room or lines were refused to it, LIST is made new.
 end() {
     number=$status
-    [ "$number" -gt 128 ] || exit "$number"
     case "$number" in
-    129 | 130 | 131 | 143) stopped=${stopped:-TERM} ;;
-    *) warn "the program was killed by signal $((number - 128))" ;;
+    67 | 71 | 74) [ "$command" = solve ] && [ -f "$log" ] && is_newer "$log" "$log_before" || exit "$number" ;;
+    129) stopped=${stopped:-HUP} ;;
+    130) stopped=${stopped:-INT} ;;
+    131) stopped=${stopped:-QUIT} ;;
+    143) stopped=${stopped:-TERM} ;;
+    *)
+        # By itself it ends with numbers below 128.
+        [ "$number" -gt 128 ] || exit "$number"
+        warn "the program was killed by signal $((number - 128))"
+        ;;
     esac
     [ -n "$list" ] || die
     listing=1
     # A shell that goes tells all its children, and perhaps twice.
     trap '' HUP
     leave_"$command"
-    [ -z "$stopped" ] || exit 10
+    [ "$number" -lt 128 ] || [ -z "$stopped" ] || number=10
     exit "$number"
 }
 
@@ -185,6 +192,8 @@ leave_solve() {
     fi
     # First the list that is right whatever comes: nobody is to find an older one.
     if ! { echo 's INCOMPLETE 0' >"$list"; } 2>/dev/null; then
+        # Better none than a part of one.
+        { true >"$list"; } 2>/dev/null
         warn "this can't be written: $name"
         exit 74
     fi

@@ -95,7 +95,7 @@ complete_words scuttle solve in.m >found
 run grep -qx in.mcnf found
 expect 'files are completed' 0
 for word in $(known commands) $(known search_options); do
-    run grep -q -e "'$word[:[]" "$root/launcher/completions/_scuttle"
+    run grep -q -e "'${word}[:[]" "$root/launcher/completions/_scuttle"
     expect "zsh knows $word" 0
 done
 

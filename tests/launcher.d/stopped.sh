@@ -79,6 +79,8 @@ ln -sf /dev/full full.list
 run "$tree/scuttle" --time 1 solve long.mcnf full.list r.log
 expect 'a list on a device' 10 said '^stopped: no list'
 
+printf 'h 1\n' >bad.mcnf
+
 # Names as they come.
 odd=$(printf -- "-it's \"a\"\nlist")
 run "$tree/scuttle" --time 1 solve -- long.mcnf "$odd" -r.log
@@ -131,8 +133,22 @@ GROW
 else
     echo 'launcher: no disk can be filled here: these tests are left out'
 fi
+# A search that ends by itself without a list: its own number, its own words, and what it has found.
+printf 's COMPLETE 0\n' >r.list
 run sh -c "ulimit -v 12000; '$tree/scuttle' solve long.mcnf r.list r.log"
 expect 'a limit on memory is what the program says' 71 warned '^scuttle: no memory$'
+expect 'and its models are left' 71 said '^stopped: [0-9]* so far in r.list$'
+run grep -q '^s INCOMPLETE' r.list
+expect 'in place of an older list' 0
+run bash -c "ulimit -f 200; '$tree/scuttle' solve long.mcnf r.list r.log"
+expect 'a log that takes nothing more' 74 said '^stopped: [1-9][0-9]* so far in r.list$'
+run is_right r.list r.log
+expect 'has models too' 0
+cp kept.list old.list
+run "$tree/scuttle" solve bad.mcnf old.list r.log
+expect 'a search that has not begun' 65
+run cmp kept.list old.list
+expect 'leaves an older list' 0
 
 # Other commands end by the signal, as without a launcher.
 mkfifo open.log
@@ -170,8 +186,10 @@ WRITING
 chmod +x "$work/writing"
 release "$work/writing"
 cp 'two sites.mcnf' part.mcnf
+rm -f r.log
 run "$stop_at" r.log 'end' 1,TERM "$tree/scuttle" solve 'two sites.mcnf' r.list r.log
 expect 'a list that was written stays' 10 said '^stopped: s COMPLETE 1 stands in r.list'
+rm r.log
 run "$stop_at" r.log 'end' 1,TERM "$tree/scuttle" solve part.mcnf r.list r.log
 expect 'a part of a list is replaced' 10 said '^stopped: 1 so far in r.list'
 run grep -qx 's INCOMPLETE 1' r.list
