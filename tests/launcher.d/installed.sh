@@ -1,0 +1,129 @@
+# What ./install puts and takes away. Sourced by tests/launcher.
+
+cd "$elsewhere" || exit 1
+prefix="$work/a prefix"
+mkdir -p "$prefix/bin" "$prefix/share/man"
+echo 'not ours' >"$prefix/bin/other"
+(cd "$prefix" && find . | sort) >before
+
+run "$tree/install" --prefix "$prefix"
+expect 'it is installed' 0
+for file in bin/scuttle bin/scuttle-plan bin/scuttle-far bin/scuttle-watch share/man/man1/scuttle.1 share/man/man1/scuttle-solve.1 \
+    share/bash-completion/completions/scuttle share/zsh/site-functions/_scuttle share/doc/scuttle/docs/ANSWERS.md \
+    share/doc/scuttle/examples/network.opb; do
+    run test -s "$prefix/$file"
+    expect "with $file" 0
+done
+mv "$tree" "$work/moved"
+without_rt "$prefix/bin/scuttle" solve in.mcnf r.list r.log
+expect 'it runs without the sources' 0 said '^complete 2$'
+without_rt "$prefix/bin/scuttle" --version
+expect 'and knows its version' 0 said '^scuttle [0-9.]*$'
+without_rt "$prefix/bin/scuttle" help check
+expect 'and its texts' 0 said '^scuttle check IN LIST LOG'
+run "$prefix/bin/scuttle" --time 1 --watch solve long.mcnf r.list r.log
+expect 'and lists what a search has found' 10 said '^stopped: [1-9][0-9]* so far in r.list$'
+run "$prefix/bin/scuttle-plan" in.mcnf in.list 1
+expect 'and its tools run' 0 said '^2 best compromises'
+printf '+1 x1 x2 >= 1 ;\n' >product.opb
+run "$prefix/bin/scuttle" solve product.opb r.list r.log
+expect 'and explains' 65 warned 'two literals with no sign'
+mv "$work/moved" "$tree"
+if command -v man >/dev/null; then
+    for page in "$prefix"/share/man/man1/*.1; do
+        run sh -c "MANWIDTH=200 man --warnings=all -l '$page' 2>&1 >page.txt"
+        expect "the page ${page##*/} is formatted" 0
+        cp "$work/said" kept.said
+        run test ! -s kept.said
+        expect 'without a warning' 0
+        run grep -q "^NAME" page.txt
+        expect 'and has a name' 0
+    done
+fi
+run "$tree/install" --prefix "$prefix"
+expect 'it is installed once more' 0
+run "$tree/install" --uninstall --prefix "$prefix"
+expect 'it is taken away' 0
+(cd "$prefix" && find . | sort) >after
+run cmp before after
+expect 'all of it, and nothing else' 0
+run "$tree/install" --uninstall --prefix "$prefix"
+expect 'which can be done once' 74 warned 'nothing was installed there'
+echo 'not ours' >"$prefix/bin/scuttle"
+run "$tree/install" --prefix "$prefix"
+expect 'a file that is there stays' 73 warned 'there already.*bin/scuttle$'
+run grep -q 'not ours' "$prefix/bin/scuttle"
+expect 'as it was' 0
+rm "$prefix/bin/scuttle"
+(cd "$prefix" && find . | sort) >after
+run cmp before after
+expect 'and nothing was installed' 0
+run setpriv --bounding-set -dac_override,-dac_read_search sh -c "chmod a-w '$prefix/share/man'; '$tree/install' --prefix '$prefix'"
+expect 'a folder that takes nothing' 74 warned "can't be written"
+chmod u+w "$prefix/share/man"
+(cd "$prefix" && find . | sort) >after
+run cmp before after
+expect 'leaves nothing half installed' 0
+run env DESTDIR="$work/stage" "$tree/install" --prefix /usr
+expect 'below another root' 0
+run test -x "$work/stage/usr/lib/scuttle/release/scuttle"
+expect 'it stands there' 0
+for words in '--prefix' '--prefix here' '--frobnicate'; do
+    # shellcheck disable=SC2086  # words
+    run "$tree/install" $words
+    expect "./install $words" 64
+done
+
+# Completions: of bash, and with the words that the launcher knows.
+complete_words() { # the words so far
+    bash -c '. "$1"; shift; COMP_WORDS=("$@") COMP_CWORD=$(($# - 1)); _scuttle; printf "%s\n" "${COMPREPLY[@]}"' - \
+        "$root/launcher/completions/scuttle.bash" "$@" 2>/dev/null
+}
+known() { sed -n "s/^$1='\(.*\)'/\1/p" "$root/launcher/judge.sh" | tr ' ' '\n' | sort; }
+known commands >wanted
+complete_words scuttle '' | grep -v '^help$\|^version$' | sort >found
+run cmp wanted found
+expect 'commands are completed' 0
+known search_options >wanted
+complete_words scuttle solve -- | grep -v '^--help$' | sort >found
+run cmp wanted found
+expect 'options are completed' 0
+complete_words scuttle solve --search bio >found
+run grep -qx bioptsat found
+expect 'searches are completed' 0
+complete_words scuttle solve in.m >found
+run grep -qx in.mcnf found
+expect 'files are completed' 0
+for word in $(known commands) $(known search_options); do
+    run grep -q -e "'${word}[:[]" "$root/launcher/completions/_scuttle"
+    expect "zsh knows $word" 0
+done
+
+# A package, by dpkg below a root of its own.
+if command -v dpkg-deb >/dev/null; then
+    run "$tree/install" --deb
+    expect 'a package is made' 0
+    package=$(echo "$elsewhere"/scuttle_*.deb)
+    box=$work/box
+    mkdir -p "$box/var/lib/dpkg/info" "$box/var/lib/dpkg/updates" "$box/usr/bin"
+    touch "$box/usr/bin/other" "$box/var/lib/dpkg/status" "$box/var/lib/dpkg/available"
+    box_dpkg() { run dpkg --root="$box" --force-script-chrootless --force-depends --log=/dev/null "$@"; }
+    (cd "$box" && find usr | sort) >before
+    box_dpkg -i "$package"
+    expect 'dpkg installs it' 0
+    run "$box/usr/bin/scuttle" solve in.mcnf r.list r.log
+    expect 'it runs' 0 said '^complete 2$'
+    run env -u PYTHONDONTWRITEBYTECODE "$box/usr/bin/scuttle-plan" in.mcnf r.list 1
+    expect 'its tools run' 0 said 'best compromises'
+    run test -d "$box/usr/lib/scuttle/tools/__pycache__"
+    expect 'and Python keeps something of them' 0
+    box_dpkg -r scuttle
+    expect 'dpkg takes it away' 0
+    (cd "$box" && find usr | sort) >after
+    run cmp before after
+    expect 'all of it' 0
+else
+    echo 'launcher: there is no dpkg-deb here: the tests of a package are left out'
+fi
+rm -f before after wanted found
+cd "$work" || exit 1
