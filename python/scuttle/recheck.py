@@ -903,22 +903,29 @@ def read_instance(name: str) -> Instance:
     return read_mcnf(text) if name.endswith('.mcnf') else OpbReader(text).read()
 
 
-def answer(work: Callable[[Sequence[str]], None], words: Sequence[str]) -> int:
-    """Says `accepted` where the work takes what the words name, or warns of what it raises; the number with which the program ends."""
+def answer(work: Callable[[Sequence[str]], None], words: Sequence[str]) -> Tuple[int, str]:
+    """`accepted` where the work takes what the words name, else what is wrong; and the number with which the program ends."""
     try:
         if any(OPTION.match(word) for word in words):
             raise Wrong(64, 'usage')
         work(words)
-        sys.stdout.write('accepted\n')
-        sys.stdout.flush()
-        return 0
+        return 0, 'accepted'
     except Wrong as wrong:
-        number, warning = wrong.number, wrong.words
+        return wrong.number, wrong.words
     except OSError:
-        number, warning = 74, 'file fault'
-    with contextlib.suppress(OSError):
-        sys.stderr.write('scuttle: %s\n' % warning)
-        sys.stderr.flush()
+        return 74, 'file fault'
+
+
+def say(number: int, words: str) -> int:
+    """Says or warns of an answer; the number with which the program ends."""
+    try:
+        if number == 0:
+            print(words, flush=True)
+    except OSError:
+        number, words = 74, 'file fault'
+    if number != 0:
+        with contextlib.suppress(OSError):
+            print('scuttle: ' + words, file=sys.stderr, flush=True)
     return number
 
 
@@ -930,7 +937,7 @@ def check_files(words: Sequence[str]) -> None:
 
 
 def main(arguments: Sequence[str]) -> int:
-    return answer(check_files, arguments)
+    return say(*answer(check_files, arguments))
 
 
 if __name__ == '__main__':

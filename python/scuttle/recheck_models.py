@@ -105,7 +105,7 @@ def check_files(words: Sequence[str]) -> None:
 
 
 def main(arguments: Sequence[str]) -> int:
-    return recheck.answer(check_files, arguments)
+    return recheck.say(*recheck.answer(check_files, arguments))
 
 
 if __name__ == '__main__':

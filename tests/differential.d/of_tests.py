@@ -1,0 +1,66 @@
+"""The cases of tests/, through the second checker: what `check` and `check-models` answer there is what it says; and what the other
+commands do is judged by it."""
+import importlib.machinery
+import importlib.util
+import os
+
+import judges
+import program as programs
+
+COMMANDS = ('check', 'check-models', 'front', 'solve', 'upgrade', 'elaborate', 'trim', 'models')
+
+
+def cases_of(folder):
+    """Each case of tests/, with its name; those that need another outside than files (pipes, closed streams, less memory) are left out."""
+    loader = importlib.machinery.SourceFileLoader('run', os.path.join(folder, 'run'))
+    runner = importlib.util.module_from_spec(importlib.util.spec_from_loader('run', loader))
+    loader.exec_module(runner)
+    for name in runner.case_files():
+        with open(os.path.join(folder, name), encoding='utf-8') as file:
+            for row, case in runner.cases_of(file.read()):
+                if not (case.full or case.closed or case.pipes or case.open_pipes or case.links or case.forbidden or case.room or case.largest is not None):
+                    yield name + row, case
+
+
+def judged(judge, case):
+    """Whether a case concerns the second checker, and what is wrong with it or None."""
+    words = [word.decode('utf-8', 'surrogateescape') for word in case.words]
+    wanted = case.number, (case.said or case.warned).decode('latin-1').rstrip('\n').replace('scuttle: ', '', 1)
+    if not words or words[0] not in COMMANDS:
+        return False, None
+    if words[0] in ('check', 'check-models'):
+        module = judge.recheck if words[0] == 'check' else judge.second.models
+        return True, judge.compared(wanted, judge.recheck.answer(module.check_files, words[1:]))
+    if case.number in (64, 74) or not all(name in case.files for name in words[1:2]):
+        return False, None
+    files = {name: text.decode('latin-1') for name, text in case.files.items()}
+    answer, wrong = judge.judge(judges.Case(words, files))
+    return True, wrong or (None if answer == wanted else 'the program says %r, wanted %r' % (answer, wanted))
+
+
+def run(folder, program, second):
+    """Prints each case that differs, and how many there were; whether none did."""
+    judge, passed, failed = judges.Judge(program, second), {}, 0
+    for name, case in cases_of(folder):
+        prepare(program, case)
+        concerned, wrong = judged(judge, case)
+        if wrong:
+            failed += 1
+            print('%s: %s' % (name, wrong))
+        elif concerned:
+            passed[name.split(os.sep)[0]] = passed.get(name.split(os.sep)[0], 0) + 1
+    print('cases of tests/: ' + ', '.join('%d %s' % (passed[group], group) for group in sorted(passed)))
+    print('differential: %d passed, %d failed' % (sum(passed.values()), failed))
+    return passed and not failed
+
+
+def prepare(program, case):
+    """A new folder with the files of a case."""
+    program.renew()
+    for name in case.folders:
+        os.makedirs(name)
+    for name, text in case.files.items():
+        programs.write(name, text.decode('latin-1'))
+    for name, count in case.zeros.items():
+        with open(name, 'wb') as file:
+            file.truncate(count)
