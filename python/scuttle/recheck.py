@@ -2,12 +2,11 @@
 """A second checker: judges a list and a log as `check` does, and says the same words.
 
 It was written from docs/FORMATS.md and docs/PROOF_RULES.md alone and shares nothing with the program that is proved. It is to be read:
-one function a rule, named as those pages name it. docs/RECHECK.md says which function is which part of the pages.
+one function a rule, named as those pages name it; docs/RECHECK.md says which function is which part of them.
 
 usage: recheck.py IN LIST LOG      IN ends in .mcnf, .opb or .mopb; the three names differ
 
-It ends with 0 and says `accepted`, or warns of what is wrong: 11 for the list or the log, 65 and 66 for IN, 64 for the words, 74 where a
-file can't be read.
+It ends with 0, or with 11 for a list or a log, 65 or 66 for IN, 64 for these words, 74 for a file that can't be read.
 """
 import contextlib
 import os
@@ -26,7 +25,6 @@ FACTOR = 2**127 - 1      # of a multiplication or a division
 ROWS = 2**34             # what a header of version 2 may name
 GOAL_OBJECTIVE = 2**32 - 1
 PIECE = 1024             # ids of one piece of `del` and `reduce` in version 2
-
 WIDE_DIGITS = 40         # a number of more digits is above every limit; it isn't made, since Python refuses to read very long ones
 DIGITS, PLAIN, SIGNED = re.compile('[0-9]+'), re.compile('0|[1-9][0-9]*'), re.compile('0|-?[1-9][0-9]*')
 OPTION = re.compile('-.|.*[\udc80-\udcff]', re.DOTALL)    # and what is no text, which is no name either
@@ -35,11 +33,7 @@ LITERAL = re.compile('(~?)x([1-9][0-9]*)')
 
 
 class Wrong(Exception):
-    """What is warned of, and the number with which the program ends."""
-
-    def __init__(self, number: int, words: str) -> None:
-        super().__init__(words)
-        self.number, self.words = number, words
+    """The number with which the program ends, and what is warned of."""
 
 
 class Refused(Exception):
@@ -60,20 +54,14 @@ def value(digits: str) -> int:
 
 # Instances. A literal is a number: 3 where variable 3 is true, -3 where it is false.
 
-Terms = List[Tuple[int, int]]         # coefficients with their literals
-Soft = Tuple[int, List[int]]          # a weight, and the literals of a clause
+Terms = List[Tuple[int, int]]    # coefficients with their literals
 
 
 class Objective(NamedTuple):
-    """A sum of the weights of false soft clauses, and of terms."""
+    """A sum of the weights of false soft clauses, each a weight and literals, and of terms."""
     maximised: bool
-    softs: List[Soft]
+    softs: List[Tuple[int, List[int]]]
     terms: Terms
-
-
-def amount(terms: Iterable[Tuple[int, int]], true: Set[int]) -> int:
-    """The sum of the coefficients of true literals."""
-    return sum(coefficient for coefficient, literal in terms if literal in true)
 
 
 class Instance:
@@ -89,13 +77,13 @@ class Instance:
         """Whether literals of the variables from 1 on, in order, make every clause true and every row hold."""
         true = set(model)
         return (len(model) == self.variables and not any(true.isdisjoint(literals) for literals in self.clauses)
-                and all(amount(terms, true) >= bound for terms, bound in self.linear))
+                and all(sum(c for c, literal in terms if literal in true) >= bound for terms, bound in self.linear))
 
     def costs(self, model: Sequence[int]) -> List[int]:
         """One number for each objective; of a maximised one the sum itself."""
         true = set(model)
-        return [sum(weight for weight, literals in objective.softs if true.isdisjoint(literals)) + amount(objective.terms, true)
-                for objective in self.objectives]
+        return [sum(weight for weight, literals in objective.softs if true.isdisjoint(literals))
+                + sum(c for c, literal in objective.terms if literal in true) for objective in self.objectives]
 
     def problem_vector(self, costs: Sequence[int]) -> List[int]:
         """The same costs, where a maximised objective's number has its sign changed: each is to be small."""
@@ -173,7 +161,6 @@ TERM_BEGINS = ('sign', 'digits', 'literal', 'begun')
 
 def opb_tokens(text: str) -> Iterator[Tuple[str, str, int]]:
     """Of each token of a line that is no comment its kind (`begun` where `x` or `~` begins no literal), text and line; then the end."""
-    line = 0
     for line, content in enumerate(text.split('\n'), 1):
         if not content.lstrip(' \t\r').startswith('*'):
             for found in TOKEN.finditer(content):
@@ -263,8 +250,7 @@ class OpbReader:
 
 # Constraints
 
-Image = Union[bool, int]         # what stands for a variable: false, true, or a literal
-Witness = Dict[int, Image]
+Witness = Dict[int, Union[bool, int]]    # what stands for some variables: false, true, or a literal
 
 
 class Constraint(NamedTuple):
@@ -278,14 +264,8 @@ class Constraint(NamedTuple):
     def size(self) -> int:
         return self.total() + self.degree
 
-    def is_clause(self) -> bool:
-        return self.degree == 1 and all(coefficient == 1 for coefficient in self.terms.values())
-
-    def holds(self, true: Set[int]) -> bool:
-        return sum(c for literal, c in self.terms.items() if literal in true) >= self.degree
-
     def slack(self, true: Set[int]) -> int:
-        """The coefficients of the literals that aren't false, minus the degree."""
+        """The coefficients of the literals that aren't false, minus the degree; of an assignment, what the sum is above the degree."""
         return sum(c for literal, c in self.terms.items() if -literal not in true) - self.degree
 
     def negation(self) -> 'Constraint':
@@ -384,6 +364,11 @@ class CostRow(NamedTuple):
 
     def cost(self, true: Set[int]) -> int:
         return self.offset + sum(c for literal, c in self.terms.items() if literal in true)
+
+    def fall(self, witness: Witness) -> Tuple[Terms, int]:
+        """The terms minus these under a witness, and what this sum has to reach so that the cost doesn't rise."""
+        images, constant = replaced(self.terms, witness)
+        return [(c, literal) for literal, c in self.terms.items()] + [(-c, literal) for c, literal in images], constant
 
 
 class Problem(NamedTuple):
@@ -496,10 +481,9 @@ def check_list(instance: Instance, text: str) -> List[Entry]:
 # The text of a log
 
 LogToken = Tuple[str, int]       # ('id', 3), ('literal', -2), ('~', 0), ('!', 0), ('+', 0), ('*', 2), ('d', 2), ('s', 0), ('w', 5)
-Goal = Tuple[str, int]           # ('id', 3), ('c', 0), ('o', 2), ('s', 0)
+Goal = Tuple[str, int]           # ('', 3) for an id, ('c', 0), ('o', 2), ('s', 0): these are in the order of goals
 Proofs = Dict[Goal, Tuple[str, Sequence[LogToken]]]    # `rup` and hints, or `pol` and tokens
 OPERATORS = ('*', 'd', 'w')      # of the number or the variable before them
-GOALS = ('id', 'c', 'o', 's')    # the order in which goals stand
 PARTS = {'pol': 1, 'rup': 2, 'learn': 2, 'def': 2, 'red': 2, 'dom': 2, 'sol': 3, 'del': 1, 'reduce': 1, 'end': 1}    # `red` may have more
 MADE = {'def': 2, 'del': 0, 'reduce': 0, 'end': 0}    # how many ids a line makes; each other one makes one
 
@@ -562,15 +546,10 @@ def witness_in(words: Sequence[str]) -> Witness:
     return {variable: word == '1' if word in ('0', '1') else literal_in(word) for variable, word in zip(variables, words[1::2])}
 
 
-def parts_of(words: Iterable[str]) -> List[List[str]]:
+def parts_of(words: List[str]) -> List[List[str]]:
     """Words, cut at each `:`."""
-    parts: List[List[str]] = [[]]
-    for word in words:
-        if word == ':':
-            parts.append([])
-        else:
-            parts[-1].append(word)
-    return parts
+    ends = [place for place, word in enumerate(words) if word == ':'] + [len(words)]
+    return [words[begin:end] for begin, end in zip([0] + [end + 1 for end in ends], ends)]
 
 
 class Spelling:
@@ -613,7 +592,7 @@ class Spelling:
         for words in parts:
             require(len(words) >= 2 and words[1] in ('rup', 'pol'))
             goal = self.goal_in(words[0])
-            require(all((GOALS.index(before[0]), before[1]) < (GOALS.index(goal[0]), goal[1]) for before in list(proofs)[-1:]))
+            require(not proofs or max(proofs) < goal)
             proofs[goal] = words[1], self.hints_in(words[2:]) if words[1] == 'rup' else self.tokens_in(words[2:])
         return proofs
 
@@ -638,7 +617,7 @@ class Spelling:
     def goal_in(self, word: str) -> Goal:
         if word in ('c', 's'):
             return word, 0
-        return ('o', number_in(word[1:], 1, GOAL_OBJECTIVE)) if word.startswith('o') else ('id', self.id_in(word))
+        return ('o', number_in(word[1:], 1, GOAL_OBJECTIVE)) if word.startswith('o') else ('', self.id_in(word))
 
     def hints_in(self, words: Sequence[str]) -> List[LogToken]:
         return [(word, 0) if word in ('~', '!') else ('id', self.id_in(word)) for word in words]
@@ -670,7 +649,7 @@ def pieces_of(ids: Sequence[int]) -> List[Tuple[int, int]]:
     return [single for first, last in pieces for single in ([(first, last)] if last > first + 1 else [(k, k) for k in range(first, last + 1)])]
 
 
-# Tokens
+# Derivations: tokens, and propagation that follows hints
 
 Lines = Dict[int, Constraint]
 Given = Dict[str, Constraint]    # what `~` and `!` name, where they name something
@@ -702,8 +681,6 @@ def evaluate(tokens: Sequence[LogToken], lines: Lines, given: Given) -> Constrai
     refuse(len(stack) != 1, 'Stack')
     return stack[0]
 
-
-# Propagation that follows hints
 
 def propagate(constraint: Constraint, true: Set[int]) -> bool:
     """Makes each literal true that the constraint forces; whether there is a conflict instead, a negative slack."""
@@ -760,7 +737,7 @@ class State:
         self.add_live(line.constraint)
 
     def learn(self, line: Line) -> None:
-        refuse(not line.constraint.is_clause(), 'NotClause')
+        refuse(line.constraint != clause(line.constraint.terms), 'NotClause')
         self.rup(line)
 
     def define(self, line: Line) -> None:
@@ -788,10 +765,10 @@ class State:
         """The goals of a substitution in their order, each with what has to hold."""
         for number in sorted({number for variable in line.witness for number in self.holding.get(variable, ())}):
             if line.kind == 'red' or number <= len(self.problem.rows):
-                yield ('id', number), self.live[number].substitution(line.witness)
+                yield ('', number), self.live[number].substitution(line.witness)
         if line.kind == 'red':
             yield ('c', 0), line.constraint.substitution(line.witness)
-        falls = [fall(row, line.witness) for row in self.problem.costs]
+        falls = [row.fall(line.witness) for row in self.problem.costs]
         for number, (terms, degree) in enumerate(falls, 1):
             yield ('o', number), normal_form(terms, degree)
         if line.kind == 'dom':
@@ -799,8 +776,7 @@ class State:
 
     def prove(self, goal: Goal, required: Constraint, denied: Constraint, proof: Optional[Tuple[str, Sequence[LogToken]]]) -> None:
         """Derives a conflict from the live lines, the goal's negation and that of the line's constraint."""
-        kind, number = goal
-        spelled = str(number) if kind == 'id' else kind + str(number or '')
+        spelled = goal[0] if goal[0] in ('c', 's') else '%s%d' % goal
         if proof is None:
             raise Refused('GoalMissing ' + spelled)
         rule, tokens = proof
@@ -819,11 +795,11 @@ class State:
             refuse(place > count or place > len(line.model) or abs(line.model[place - 1]) != place, 'VarRange %d' % place)
         true, outside = set(line.model), {-literal for literal in line.cut}
         for number, constraint in enumerate(rows, 1):
-            refuse(not constraint.holds(true), 'SolRow %d' % number)
+            refuse(constraint.slack(true) < 0, 'SolRow %d' % number)
         self.require_variables([abs(literal) for literal in line.cut])
         for number, row in enumerate(costs, 1):
             refuse(number > len(line.ids), 'CutOpen %d' % number)
-            bound = named(('id', line.ids[number - 1]), {**self.live, 0: Constraint({}, 0)}, {})
+            bound = named(('id', line.ids[number - 1]), self.live, {}) if line.ids[number - 1] else Constraint({}, 0)
             least = Constraint(row.terms, row.cost(true) - row.offset)
             refuse(not bound.restriction(outside).covers(least.restriction(outside)), 'CutOpen %d' % number)
         refuse(len(line.ids) > len(costs), 'CutOpen %d' % (len(costs) + 1))
@@ -849,12 +825,6 @@ RULES: Dict[str, Callable[[State, Line], None]] = {
     'sol': State.sol, 'del': State.delete, 'reduce': State.delete, 'end': State.end}
 
 
-def fall(row: CostRow, witness: Witness) -> Tuple[Terms, int]:
-    """An objective's terms minus these under a witness, and what this sum has to reach so that no cost rises."""
-    images, constant = replaced(row.terms, witness)
-    return [(c, literal) for literal, c in row.terms.items()] + [(-c, literal) for c, literal in images], constant
-
-
 # Acceptance
 
 def check_log(problem: Problem, vectors: Sequence[Sequence[int]], log: Iterable[bytes]) -> None:
@@ -876,12 +846,6 @@ def check_log(problem: Problem, vectors: Sequence[Sequence[int]], log: Iterable[
         raise Wrong(11, 'log line %d: %s' % (number + 1, 'NoEnd' if number else 'Syntax'))
 
 
-def check(instance: Instance, listed: str, log: Iterable[bytes]) -> None:
-    """Takes a list and a log that show that the list is the front's; else the first fault is raised."""
-    vectors = [instance.problem_vector(costs) for costs, _ in check_list(instance, listed)]
-    check_log(normal_form_of_instance(instance), vectors, log)
-
-
 # Files and words
 
 def read_file(name: str) -> str:
@@ -890,12 +854,6 @@ def read_file(name: str) -> str:
         raise Wrong(66, 'line 0: too large: Bytes')
     with open(name, 'rb') as file:
         return file.read().decode('latin-1')
-
-
-def read_lines(name: str) -> Iterator[bytes]:
-    """The lines of a file, each with its line feed; the file is opened when the first is asked for."""
-    with open(name, 'rb') as file:
-        yield from file
 
 
 def read_instance(name: str) -> Instance:
@@ -911,29 +869,27 @@ def answer(work: Callable[[Sequence[str]], None], words: Sequence[str]) -> Tuple
         work(words)
         return 0, 'accepted'
     except Wrong as wrong:
-        return wrong.number, wrong.words
+        return wrong.args[0], wrong.args[1]
     except OSError:
         return 74, 'file fault'
 
 
 def say(number: int, words: str) -> int:
     """Says or warns of an answer; the number with which the program ends."""
-    try:
-        if number == 0:
-            print(words, flush=True)
-    except OSError:
-        number, words = 74, 'file fault'
-    if number != 0:
-        with contextlib.suppress(OSError):
-            print('scuttle: ' + words, file=sys.stderr, flush=True)
-    return number
+    with contextlib.suppress(OSError):
+        print('scuttle: ' + words if number else words, file=sys.stderr if number else sys.stdout, flush=True)
+        return number
+    return number or say(74, 'file fault')
 
 
 def check_files(words: Sequence[str]) -> None:
-    """Takes the files IN, LIST and LOG that the words name; what is wrong first is raised."""
+    """Takes files IN, LIST and LOG that show that the list is the front's; what is wrong first is raised."""
     if len(words) != 3 or len(set(words)) < 3 or not words[0].endswith(ENDINGS):
         raise Wrong(64, 'usage')
-    check(read_instance(words[0]), read_file(words[1]), read_lines(words[2]))
+    instance = read_instance(words[0])
+    vectors = [instance.problem_vector(costs) for costs, _ in check_list(instance, read_file(words[1]))]
+    with open(words[2], 'rb') as log:
+        check_log(normal_form_of_instance(instance), vectors, log)
 
 
 def main(arguments: Sequence[str]) -> int:

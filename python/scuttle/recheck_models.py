@@ -86,9 +86,10 @@ def check_models(instance: recheck.Instance, listed: str, most: int, base: str) 
         if served.are_all:
             problem = bounded_problem(instance, costs, served.models)
             try:
-                recheck.check_log(problem, [], recheck.read_lines('%s.%d.log' % (base, number)))
+                with open('%s.%d.log' % (base, number), 'rb') as log:
+                    recheck.check_log(problem, [], log)
             except recheck.Wrong as wrong:
-                raise models_entry(number, wrong.words) from None
+                raise models_entry(number, wrong.args[1]) from None
 
 
 def check_files(words: Sequence[str]) -> None:

@@ -22,7 +22,7 @@ MISTAKES = {
             'NumberTooWide', 'too large: Vars', 'too large: Weights', 'too large: Row', 'too large: Objectives')}
 LIST_WHY = ('Syntax', 'NotComplete', 'NotModel', 'Costs', 'Order', 'Comparable')
 MODELS_WHY = ('Syntax', 'Count', 'NotModel', 'Costs', 'Repeated', 'log line')
-GOALS = ('id', 'c', 'o', 's')
+GOALS = ('id', 'c', 'o', 's')    # as they are counted
 
 
 def required():
@@ -70,7 +70,7 @@ class Counts:
             self.reached['log: NoEnd'] += 1
         elif refused:
             kind, name = lines[refused - 1].split(' ')[0], why.split(' ')
-            self.reached['%s: %s' % (kind, name[0])] += 1
+            self.reached['%s: %s' % (kind if kind in KINDS else 'no kind', name[0])] += 1
             if name[0] in ('GoalMissing', 'GoalOpen'):
                 self.reached['%s %s' % (name[0], name[1][0] if name[1][0] in 'cos' else 'id')] += 1
 

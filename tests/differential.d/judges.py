@@ -36,6 +36,15 @@ class Judge:
         answer = self.program.run(case.words)
         return answer, getattr(self, 'judge_' + case.words[0].replace('-', '_'))(case, answer)
 
+    def judge_checks(self, cases):
+        """The same of many checks: the program answers while the second checker does."""
+        self.program.begin_checks(cases)
+        wanted = [self.second.check(case.words[1], case.text(1), case.text(2), case.text(3)) for case in cases]
+        answers = self.program.end_checks()
+        if len(answers) != len(cases):
+            return [self.judge(case) for case in cases]
+        return [(answer, self.compared(answer, second)) for answer, second in zip(answers, wanted)]
+
     def compared(self, answer, wanted):
         return None if answer == wanted else 'the program says %r, the second checker %r' % (answer, wanted)
 
@@ -48,7 +57,7 @@ class Judge:
             instance = self.instance(case)
             return (66, 'line 0: too large: Vars') if limit is not None and instance.variables > limit else None
         except self.recheck.Wrong as wrong:
-            return wrong.number, wrong.words
+            return wrong.args
 
     def judge_check(self, case, answer):
         return self.compared(answer, self.second.check(case.words[1], case.text(1), case.text(2), case.text(3)))

@@ -39,8 +39,8 @@ class LogMaker:
                 break
         if not self.last and self.random.random() < .5:
             self.take(self.end_of_any())
-            if not self.last and self.random.random() < .1:
-                self.take(self.end_of_any())
+        if self.state.ended and self.random.random() < .6:
+            self.last = self.last or getattr(self, instances.pick(self.random, RECIPES))()
         return self.text()
 
     def text(self):
@@ -94,8 +94,8 @@ class LogMaker:
         hints = [str(number) for number in ids]
         if self.random.random() < .3:
             hints = hints[:self.random.randint(0, len(hints))]
-        if self.random.random() < .1:
-            hints.insert(self.random.randint(0, len(hints)), self.random.choice(('~', '!', '0', str(self.any_id()))))
+        if self.random.random() < .2:
+            hints.insert(self.random.randint(0, len(hints)), self.random.choice(('~', '!', '0', str(self.any_id()), str(self.state.next_id))))
         return hints
 
     # Pol
@@ -213,14 +213,14 @@ class LogMaker:
             line = self.spelling.line_in(text)
             denied = line.constraint.negation()
             for goal, required in self.state.goals(line):
-                if required.degree > 0 and self.random.random() < .97:
+                if required.degree > 0 and self.random.random() < .95:
                     proofs[goal] = self.proof(goal, required, denied)
         except self.recheck.Refused:
             pass
         if self.random.random() < .15:
-            extra = self.random.choice((('id', self.any_id()), ('c', 0), ('o', self.random.randint(1, 4)), ('s', 0)))
+            extra = self.random.choice((('', self.any_id()), ('c', 0), ('o', self.random.randint(1, 4)), ('s', 0)))
             proofs[extra] = self.random.choice(('rup', 'rup ~', 'rup ! ~ 99', 'pol ~ x1 +', 'pol x9 w', 'pol + +', 'pol 0', 'rup !'))
-        order = sorted(proofs, key=lambda goal: (self.recheck.GOALS.index(goal[0]), goal[1]))
+        order = sorted(proofs)
         speller = spelled.Speller(self.recheck)
         return text + ''.join(' : %s %s' % (speller.goal(goal), proofs[goal]) for goal in order)
 
@@ -231,7 +231,7 @@ class LogMaker:
         all_hints = [('id', number) for number in ids]
         proofs = [('rup', [('~', 0)]), ('rup', [('~', 0), ('!', 0)]), ('rup', [('!', 0)] + all_hints), ('rup', [('!', 0)] + all_hints + [('~', 0)] + all_hints),
                   ('pol', [('~', 0), ('!', 0), ('+', 0)]), ('pol', [('~', 0)])]
-        proofs += [('pol', [('id', number), ('~', 0), ('+', 0)]) for number in ids[:3] + ([goal[1]] if goal[0] == 'id' else [])]
+        proofs += [('pol', [('id', number), ('~', 0), ('+', 0)]) for number in ids[:3] + ([goal[1]] if goal[0] == '' else [])]
         proofs += [('pol', [('~', 0), ('w', self.variable()), ('s', 0), ('!', 0), ('+', 0)]), ('pol', [('~', 0), ('*', 0)]), ('pol', [('~', 0), ('!', 0)])]
         self.random.shuffle(proofs)
         if self.random.random() < .93:
@@ -274,7 +274,7 @@ class LogMaker:
         if self.models is None:
             signs = itertools.islice(itertools.product((-1, 1), repeat=self.problem.variables), MODELS)
             assignments = [[sign * k for k, sign in enumerate(row, 1)] for row in signs]
-            self.models = [model for model in assignments if all(row.holds(set(model)) for row in self.problem.rows)]
+            self.models = [model for model in assignments if all(row.slack(set(model)) >= 0 for row in self.problem.rows)]
         return self.models
 
     def sol_of_model(self):

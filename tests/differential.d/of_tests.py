@@ -7,7 +7,9 @@ import os
 import judges
 import program as programs
 
-COMMANDS = ('check', 'check-models', 'front', 'solve', 'upgrade', 'elaborate', 'trim', 'models')
+# How many files each command reads, which its first words name.
+READS = {'check': 3, 'check-models': 2, 'front': 1, 'solve': 1, 'upgrade': 2, 'elaborate': 2, 'trim': 3, 'models': 2}
+LARGE = 1 << 20    # a file of so many zero bytes isn't held as a text
 
 
 def cases_of(folder):
@@ -26,14 +28,15 @@ def judged(judge, case):
     """Whether a case concerns the second checker, and what is wrong with it or None."""
     words = [word.decode('utf-8', 'surrogateescape') for word in case.words]
     wanted = case.number, (case.said or case.warned).decode('latin-1').rstrip('\n').replace('scuttle: ', '', 1)
-    if not words or words[0] not in COMMANDS:
+    if not words or words[0] not in READS:
         return False, None
     if words[0] in ('check', 'check-models'):
         module = judge.recheck if words[0] == 'check' else judge.second.models
         return True, judge.compared(wanted, judge.recheck.answer(module.check_files, words[1:]))
-    if case.number in (64, 74) or not all(name in case.files for name in words[1:2]):
-        return False, None
     files = {name: text.decode('latin-1') for name, text in case.files.items()}
+    files.update((name, '\0' * count) for name, count in case.zeros.items() if count < LARGE)
+    if case.number in (64, 74) or not all(name in files for name in words[1:1 + READS[words[0]]]):
+        return False, None
     answer, wrong = judge.judge(judges.Case(words, files))
     return True, wrong or (None if answer == wanted else 'the program says %r, wanted %r' % (answer, wanted))
 

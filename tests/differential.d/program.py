@@ -2,6 +2,7 @@
 import importlib.util
 import io
 import os
+import re
 import shutil
 import signal
 import sys
@@ -40,6 +41,32 @@ class Program:
         words = os.read(self.reader, 65536)[:-1].decode('latin-1')
         words = words[:-1] if words.endswith('\n') else words + ' without its end'
         return os.WEXITSTATUS(status) if os.WIFEXITED(status) else -os.WTERMSIG(status), words.replace('scuttle: ', '', 1)
+
+    def begin_checks(self, cases):
+        """Begins a `check` of each of some cases, all in one shell, since to begin a process costs more than a check. A text that several
+        have is written once."""
+        names, script = {}, []
+        for case in cases:
+            words = ['check']
+            for name in case.words[1:]:
+                key = case.files[name], name.rpartition('.')[2]
+                if key not in names:
+                    names[key] = 'b%d.%s' % (len(names), key[1])
+                    write(names[key], key[0])
+                words.append(names[key])
+            script.append("'%s' %s; echo = $?\n" % (self.path, ' '.join(words)))
+        write('batch.sh', ''.join(script))
+        self.runs += len(cases)
+        out = (os.POSIX_SPAWN_OPEN, 1, 'batch.out', os.O_WRONLY | os.O_CREAT | os.O_TRUNC | os.O_APPEND, 0o600)
+        self.running = os.posix_spawn('/bin/sh', ['sh', 'batch.sh'], {}, file_actions=[out, (os.POSIX_SPAWN_DUP2, 1, 2)])
+        signal.alarm(SECONDS)
+
+    def end_checks(self):
+        """The answers of the checks that were begun; fewer where one of them took too long."""
+        os.waitpid(self.running, 0)
+        signal.alarm(0)
+        answers = re.findall('(.*)\n= ([0-9]+)\n', read('batch.out'))
+        return [(int(number), words.replace('scuttle: ', '', 1)) for words, number in answers]
 
     def renew(self):
         """Goes on in an empty folder."""
@@ -91,7 +118,12 @@ class Second:
 
     def check(self, name, instance, listed, log):
         """What `check` answers to three texts."""
-        return self.answer(lambda: self.recheck.check(self.instance(name, instance), listed, io.BytesIO(log.encode('latin-1'))))
+        return self.answer(lambda: self.judge(self.instance(name, instance), listed, log))
+
+    def judge(self, instance, listed, log):
+        """As `check_files`, over texts."""
+        vectors = [instance.problem_vector(costs) for costs, _ in self.recheck.check_list(instance, listed)]
+        self.recheck.check_log(self.recheck.normal_form_of_instance(instance), vectors, io.BytesIO(log.encode('latin-1')))
 
     def check_models(self, words):
         """What `check-models` answers to files."""

@@ -12,6 +12,7 @@ SHARES = {'instance': 14, 'list': 9, 'line': 34, 'log': 28, 'front': 1, 'solve':
           'check-models': 3, 'long': .02}
 SEARCHES = ((), ('--search', 'lower-bounding'), ('--search', 'p-minimal'), ('--search', 'turns', '--turns', '12'), ('--search', 'turns', '--turns', '21'))
 TWO_OBJECTIVES = (('--search', 'bioptsat'), ('--search', 'turns', '--turns', '123'), ('--search', 'turns', '--turns', '3'))
+HEADER = 'scuttle proof version 1\n'
 OTHERS = 40    # texts that are kept to be spliced with
 
 
@@ -23,15 +24,29 @@ class Rounds:
         self.recheck = judge.recheck
         self.maker = instances.Maker(random)
         self.others = {'instance': {}, 'log': [], 'list': []}
+        self.checks = []    # that wait to be judged together, each with its group
+
+    def try_check(self, group, name, text, listed, log):
+        """Puts off a case of `check`."""
+        self.checks.append((group, judges.Case(['check', name, 'a.list', 'a.log'], {name: text, 'a.list': listed, 'a.log': log})))
+
+    def judge_checks(self):
+        """Has the cases judged that were put off."""
+        checks, self.checks = self.checks, []
+        for (group, case), (answer, wrong) in zip(checks, self.judge.judge_checks([case for _, case in checks])):
+            self.take(group, case, answer, wrong)
 
     def try_case(self, group, words, files):
         """The answer of a case."""
         case = judges.Case(words, files)
         answer, wrong = self.judge.judge(case)
+        self.take(group, case, answer, wrong)
+        return answer
+
+    def take(self, group, case, answer, wrong):
         self.counts.add(group, case, answer)
         if wrong:
             self.take_difference(case, answer, wrong)
-        return answer
 
     def times(self, group):
         """How many cases of a group come in this round."""
@@ -48,13 +63,16 @@ class Rounds:
 
     def round(self):
         """One instance, its list, its logs, and what is made of them."""
-        name, text = self.maker.instance()
+        self.try_all(*self.maker.instance())
+        self.judge_checks()
+
+    def try_all(self, name, text):
         for _ in range(self.times('instance')):
             self.try_instance(name, text)
         try:
             instance = self.judge.second.instance(name, text)
         except self.recheck.Wrong:
-            self.try_case('instance', ['check', name, 'a.list', 'a.log'], {name: text, 'a.list': 's COMPLETE 0\n', 'a.log': ''})
+            self.try_check('instance', name, text, 's COMPLETE 0\n', HEADER)
             return
         models = enumeration.models_of(instance)
         front = enumeration.front_of(instance, models)
@@ -72,10 +90,11 @@ class Rounds:
         kept = list(self.others['instance'].setdefault(kind, []))
         kept.append(text)
         self.others['instance'][kind] = kept[-OTHERS:]
-        text = self.random.choice((text, text, text, '', self.limit_text(kind)))
-        for _ in range(self.random.choice((1, 1, 2))):
+        is_at_limit = self.random.random() < .3
+        text = self.limit_text(kind) if is_at_limit else self.random.choice((text, text, text, ''))
+        for _ in range(self.random.choice((0, 0, 1) if is_at_limit else (1, 1, 2))):
             text = mutations.mutated(self.random, text, kind, kept)
-        self.try_case('instance', ['check', name, 'a.list', 'a.log'], {name: text, 'a.list': 's COMPLETE 0\n', 'a.log': ''})
+        self.try_check('instance', name, text, 's COMPLETE 0\n', HEADER)
 
     def limit_text(self, kind):
         """A text at a limit, or just past it."""
@@ -108,7 +127,7 @@ class Rounds:
         other = self.other_list(instance, models, listed) if self.random.random() < .5 else listed
         if self.random.random() < .7:
             other = mutations.mutated(self.random, other, 'list', self.others['list'])
-        self.try_case('list', ['check', name, 'a.list', 'a.log'], {name: text, 'a.list': other, 'a.log': ''})
+        self.try_check('list', name, text, other, HEADER)
 
     def try_lines(self, name, text, instance, models, listed):
         """A log of random lines, over the front's list or another one."""
@@ -117,7 +136,7 @@ class Rounds:
             listed = enumeration.list_text([(list(costs), one) for costs, one in model])
         log = lines.LogMaker(self.random, self.recheck, instance).make()
         self.remember('log', log)
-        self.try_case('line', ['check', name, 'a.list', 'a.log'], {name: text, 'a.list': listed, 'a.log': log})
+        self.try_check('line', name, text, listed, log)
 
     def options(self, instance):
         """Options of `solve` that the instance takes."""
@@ -138,9 +157,9 @@ class Rounds:
         logs = [log] + self.rewritten(name, text, own_list, log)
         for _ in range(self.times('log')):
             mutated = mutations.mutated(self.random, self.random.choice(logs), 'log', self.others['log'])
-            self.try_case('log', ['check', name, 'a.list', 'a.log'], {name: text, 'a.list': own_list, 'a.log': mutated})
+            self.try_check('log', name, text, own_list, mutated)
         for _ in range(self.times('models')):
-            self.try_models(name, text, own_list)
+            self.try_models(name, text, own_list, instance)
         if self.times('long'):
             self.try_long(name, text, instance, own_list)
 
@@ -164,7 +183,7 @@ class Rounds:
                     new_logs.append(programs.read('n.log'))
         return new_logs
 
-    def try_models(self, name, text, listed):
+    def try_models(self, name, text, listed, instance):
         """Models for the list's entries, and these and their logs mutated."""
         most = self.random.choice((1, 2, 3, 100))
         files = {name: text, 'a.list': listed}
@@ -181,16 +200,20 @@ class Rounds:
             of = self.random.choice([key for key in files if key.startswith('m.')] + ['m.models'])
             if self.random.random() < .9:
                 mutated[of] = mutations.mutated(self.random, files[of], 'models' if of == 'm.models' else 'log', [files[of]])
-            if of == 'm.models' and self.random.random() < .3:
-                mutated[of] = self.doubled(files[of])
+            if of == 'm.models' and self.random.random() < .5:
+                mutated[of] = self.with_other_model(files[of], instance)
             self.try_case('check-models', ['check-models', name, 'a.list', str(self.random.choice((most, most, most + 1))), 'm'], mutated)
 
-    def doubled(self, text):
-        """A text of models in which one model stands in place of another, or is none."""
+    def with_other_model(self, text, instance):
+        """A text of models in which another stands in place of one: any that is there, any model, or any assignment."""
         rows = text.split('\n')
         places = [place for place, row in enumerate(rows) if row.startswith('v')]
-        if places:
-            rows[self.random.choice(places)] = rows[self.random.choice(places)]
+        if not places:
+            return text
+        models = [model for _, model in enumeration.models_of(instance)]
+        any_signs = [self.random.choice((-1, 1)) * k for k in range(1, instance.variables + 1)]
+        other = self.random.choice((self.random.choice(models), any_signs))
+        rows[self.random.choice(places)] = self.random.choice((rows[self.random.choice(places)], ' '.join(['v'] + [str(l) for l in other] + ['0'])))
         return '\n'.join(rows)
 
     def try_long(self, name, text, instance, listed):
@@ -203,4 +226,4 @@ class Rounds:
         if self.random.random() < .5:
             first, _, last = log[:-1].rpartition('\n')
             log = first + '\n' + mutations.by_word(self.random, last, 'log', ()) + '\n'
-        self.try_case('long', ['check', name, 'a.list', 'a.log'], {name: text, 'a.list': listed, 'a.log': log})
+        self.try_check('long', name, text, listed, log)

@@ -47,7 +47,7 @@ class Speller:
 
     def goal(self, goal):
         kind, number = goal
-        return self.id(number) if kind == 'id' else '%s%d' % (kind, number) if kind == 'o' else kind
+        return self.id(number) if kind == '' else '%s%d' % goal if kind == 'o' else kind
 
     def words(self, line):
         """The words of a line that the second checker has read."""
