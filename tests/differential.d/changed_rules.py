@@ -18,7 +18,7 @@ def rules():
         for line in file.read().splitlines():
             if line.startswith('# '):
                 found.append((line[2:], [], []))
-            elif line:
+            elif line and found:
                 found[-1][1 if line[0] == '-' else 2].append(line[1:])
     return found
 

@@ -114,3 +114,13 @@ class Maker:
         if self.random.random() < .5:
             return 'a.mcnf', self.mcnf(variables)
         return self.random.choice(('a.opb', 'a.opb', 'a.mopb')), self.opb(variables)
+
+    def short(self, kind):
+        """A text of one line or one statement."""
+        variables = self.random.randint(1, 3)
+        if kind == 'mcnf':
+            words = self.random.choice((['h'], ['o1', str(self.weight(False))]))
+            return self.line(words + [self.signed(l) for l in self.clause(variables)] + ['0'])
+        objective = [self.random.choice(('min:', 'max:'))] + self.terms(variables) + [';']
+        constraint = self.terms(variables) + [pick(self.random, RELATIONS)] + self.bound() + [';']
+        return ' '.join(self.random.choice((objective, constraint, objective + constraint)))

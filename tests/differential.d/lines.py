@@ -117,8 +117,9 @@ class LogMaker:
         """A line whose size times a factor is the largest, or one more; or one that may just be substituted into."""
         number = self.any_id()
         size = self.state.live[number].size() if number in self.state.live else 1
-        if self.random.random() < .4:
-            return 'pol %s %d *' % (spelled.literal(self.literal()), self.random.choice((SUBSTITUTED, SUBSTITUTED + 1, SUBSTITUTED - 1)))
+        if self.random.random() < .5:
+            near = self.random.choice((SUBSTITUTED, SUBSTITUTED + 1, SUBSTITUTED - 1, SIZE, SIZE, SIZE + 1))
+            return 'pol %s %d *' % (spelled.literal(self.literal()), near)
         return 'pol %d %d *' % (number, SIZE // max(1, size) + self.random.choice((0, 0, 1)))
 
     def pol_of_two_at_the_limit(self):

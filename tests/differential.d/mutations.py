@@ -40,13 +40,15 @@ def by_word(random, text, kind, others):
     place = random.randrange(len(lines))
     words = lines[place].split(' ')
     at = random.randrange(len(words))
-    change = random.choice(('replace', 'replace', 'replace', 'put', 'drop', 'double', 'swap', 'number', 'number', 'number', 'sign', 'other'))
+    change = random.choice(('replace', 'replace', 'replace', 'put', 'drop', 'double', 'swap', 'number', 'number', 'number', 'sign', 'other', 'piece'))
     if change == 'drop':
         del words[at]
     elif change in ('put', 'double'):
         words.insert(at, random.choice(WORDS[kind]) if change == 'put' else words[at])
     elif change == 'swap':
         words[at:at + 2] = words[at:at + 2][::-1]
+    elif change == 'piece':
+        words[at:at + 3] = other_pieces(random, words[at:at + 3])
     elif change == 'other':
         words[at] = random.choice(random.choice(lines).split(' '))
     else:
@@ -61,6 +63,21 @@ def other_number(random, word):
     if not digits.isdecimal() or len(digits) > 45:
         return word
     return word[:len(word) - len(digits)] + str(max(0, int(digits) + random.choice((-2, -1, -1, 1, 1, 2, 7))))
+
+
+def other_pieces(random, words):
+    """A piece of ids as single ones, or in two pieces; or some ids as one piece."""
+    first, dots, last = words[0].partition('..')
+    ends = [end.lstrip('-').isdecimal() and len(end) < 9 for end in (first, last if dots else words[-1])]
+    if not all(ends):
+        return words
+    if not dots:
+        return [first + '..' + words[-1]]
+    ids = [str(number) for number in range(int(first), int(last) + 1)]
+    if len(ids) < 9 and random.random() < .6:
+        return ids + words[1:]
+    middle = random.randint(0, len(ids))
+    return [part[0] + '..' + part[-1] if len(part) > 2 else ' '.join(part) for part in (ids[:middle], ids[middle:]) if part] + words[1:]
 
 
 def other_sign(random, word):

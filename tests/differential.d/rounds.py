@@ -9,7 +9,7 @@ import spelled
 
 # Of each group, how many cases a round has on average.
 SHARES = {'instance': 14, 'list': 9, 'line': 34, 'log': 28, 'front': 1, 'solve': 1, 'upgrade': 1, 'elaborate': 1.5, 'trim': 1, 'models': .5,
-          'check-models': 3, 'long': .02}
+          'check-models': 3, 'pieces': 1}
 SEARCHES = ((), ('--search', 'lower-bounding'), ('--search', 'p-minimal'), ('--search', 'turns', '--turns', '12'), ('--search', 'turns', '--turns', '21'))
 TWO_OBJECTIVES = (('--search', 'bioptsat'), ('--search', 'turns', '--turns', '123'), ('--search', 'turns', '--turns', '3'))
 HEADER = 'scuttle proof version 1\n'
@@ -91,7 +91,7 @@ class Rounds:
         kept.append(text)
         self.others['instance'][kind] = kept[-OTHERS:]
         is_at_limit = self.random.random() < .3
-        text = self.limit_text(kind) if is_at_limit else self.random.choice((text, text, text, ''))
+        text = self.limit_text(kind) if is_at_limit else self.random.choice((text, text, self.maker.short(kind), self.maker.short(kind), ''))
         for _ in range(self.random.choice((0, 0, 1) if is_at_limit else (1, 1, 2))):
             text = mutations.mutated(self.random, text, kind, kept)
         self.try_check('instance', name, text, 's COMPLETE 0\n', HEADER)
@@ -160,8 +160,8 @@ class Rounds:
             self.try_check('log', name, text, own_list, mutated)
         for _ in range(self.times('models')):
             self.try_models(name, text, own_list, instance)
-        if self.times('long'):
-            self.try_long(name, text, instance, own_list)
+        for _ in range(self.times('pieces')):
+            self.try_pieces(name, text, instance, own_list)
 
     def without_hints(self, log):
         """A log in which some lines have no hints."""
@@ -216,14 +216,16 @@ class Rounds:
         rows[self.random.choice(places)] = self.random.choice((rows[self.random.choice(places)], ' '.join(['v'] + [str(l) for l in other] + ['0'])))
         return '\n'.join(rows)
 
-    def try_long(self, name, text, instance, listed):
-        """A log with runs of ids that are deleted in pieces."""
-        count, rows = self.random.randint(1020, 2100), len(self.recheck.normal_form_of_instance(instance).rows)
-        kept = set(self.random.sample(range(count), self.random.choice((0, 0, 1, 2))))
+    def try_pieces(self, name, text, instance, listed):
+        """A log with runs of ids that are deleted, sometimes in more than one piece."""
+        count = self.random.randint(1020, 2100) if self.random.random() < .02 else self.random.randint(1, 9)
+        rows = len(self.recheck.normal_form_of_instance(instance).rows)
+        kept = set(self.random.sample(range(count), min(count - 1, self.random.choice((0, 0, 1, 2)))))
         ids = [rows + 1 + place for place in range(count) if place not in kept]
+        kind = self.random.choice(('del', 'reduce'))
         log = spelled.log_of(self.recheck, [self.recheck.Spelling('scuttle proof version 1').line_in('rup >= 0 :')] * count
-                             + [self.recheck.Line('del', [], ids=ids)], self.random.choice((rows, 0, None)))
-        if self.random.random() < .5:
+                             + [self.recheck.Line(kind, [], ids=ids)], self.random.choice((rows, rows, 0, None)))
+        if self.random.random() < .7:
             first, _, last = log[:-1].rpartition('\n')
             log = first + '\n' + mutations.by_word(self.random, last, 'log', ()) + '\n'
-        self.try_check('long', name, text, listed, log)
+        self.try_check('pieces', name, text, listed, log)
