@@ -3,6 +3,7 @@ import importlib.util
 import io
 import os
 import re
+import shlex
 import shutil
 import signal
 import sys
@@ -54,7 +55,7 @@ class Program:
                     names[key] = 'b%d.%s' % (len(names), key[1])
                     write(names[key], key[0])
                 words.append(names[key])
-            script.append("'%s' %s; echo = $?\n" % (self.path, ' '.join(words)))
+            script.append('%s; echo = $?\n' % ' '.join([shlex.quote(self.path)] + words))
         write('batch.sh', ''.join(script))
         self.runs += len(cases)
         out = (os.POSIX_SPAWN_OPEN, 1, 'batch.out', os.O_WRONLY | os.O_CREAT | os.O_TRUNC | os.O_APPEND, 0o600)
