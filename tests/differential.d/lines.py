@@ -13,7 +13,7 @@ RECIPES = (
     (8, 'pol_derived'), (3, 'pol_of_any_tokens'), (2, 'pol_at_the_limit'), (2, 'pol_of_two_at_the_limit'),
     (8, 'rup_of_weaker'), (5, 'rup_of_any'), (2, 'rup_at_the_limit'), (3, 'rup_of_nothing'), (5, 'learn_of_weaker'), (3, 'learn_of_any'),
     (5, 'def_of_any'), (2, 'def_at_the_limit'), (5, 'def_of_costs'),
-    (12, 'red_of_any'), (12, 'dom_of_any'), (2, 'red_at_the_limit'), (9, 'sol_of_model'), (1, 'sol_of_any'),
+    (14, 'red_of_line'), (12, 'red_of_any'), (12, 'dom_of_any'), (2, 'red_at_the_limit'), (9, 'sol_of_model'), (1, 'sol_of_any'),
     (3, 'del_of_any'), (3, 'reduce_of_any'), (4, 'end_of_any'))
 MODELS = 2**9    # so many assignments of a problem are tried for models
 
@@ -261,6 +261,16 @@ class LogMaker:
 
     def dom_of_any(self):
         return self.substitution('dom', *self.any_goal())
+
+    def red_of_line(self):
+        """The constraint of a live line, mostly one of the last, as it is or a little more: legal exactly where the line says as much."""
+        ids = list(self.state.live)
+        if not ids:
+            return self.red_of_any()
+        number = self.random.choice(ids[-3:] if self.random.random() < .8 else ids)
+        terms, degree = self.state.live[number]
+        shown = spelled.constraint(terms, degree + (self.random.random() < .3))
+        return 'red %s : : c pol ~ %d +' % (shown, number)
 
     def red_at_the_limit(self):
         """A constraint that may just be substituted into, or whose negation may just be made."""
