@@ -107,6 +107,7 @@ class Second:
         with open(os.path.join(folder, 'recheck.py'), encoding='utf-8') as file:
             source = file.read()
         self.recheck = module_of('recheck', change(source) if change else source, os.path.join(folder, 'recheck.py'))
+        self.last = None, None, None
         with open(os.path.join(folder, 'recheck_models.py'), encoding='utf-8') as file:
             self.models = module_of('recheck_models', file.read(), os.path.join(folder, 'recheck_models.py'))
 
@@ -119,12 +120,16 @@ class Second:
 
     def check(self, name, instance, listed, log):
         """What `check` answers to three texts."""
-        return self.answer(lambda: self.judge(self.instance(name, instance), listed, log))
+        return self.answer(lambda: self.judge(name, instance, listed, log))
 
-    def judge(self, instance, listed, log):
-        """As `check_files`, over texts."""
+    def judge(self, name, text, listed, log):
+        """As `check_files`, over texts. The last instance is kept, since many lists and logs come with it."""
+        if self.last[0] != (name, text):
+            instance = self.instance(name, text)
+            self.last = (name, text), instance, self.recheck.normal_form_of_instance(instance)
+        _, instance, problem = self.last
         vectors = [instance.problem_vector(costs) for costs, _ in self.recheck.check_list(instance, listed)]
-        self.recheck.check_log(self.recheck.normal_form_of_instance(instance), vectors, io.BytesIO(log.encode('latin-1')))
+        self.recheck.check_log(problem, vectors, io.BytesIO(log.encode('latin-1')))
 
     def check_models(self, words):
         """What `check-models` answers to files."""
