@@ -40,6 +40,7 @@ def run(checker, program, test, seed, seconds):
         tried.run(seed, 10**9, seconds)
         lived += not tried.differences
         cases = sum(tried.counts.groups.values())
-        print('%s after %d cases, %.1f seconds: %s' % ('noticed' if tried.differences else 'LIVED', cases, time.monotonic() - began, name), flush=True)
+        outcome = 'noticed' if tried.differences else 'LIVED'
+        print('%s after %d cases, %.1f seconds: %s' % (outcome, cases, time.monotonic() - began, name), flush=True)
     print('differential: %d of %d changed rules are noticed' % (len(rules()) - lived, len(rules())))
     return not lived

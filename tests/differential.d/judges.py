@@ -2,6 +2,8 @@
 
 A judge runs the program on the files of a case and gives the answer, and what is wrong with it or None.
 """
+import traceback
+
 import enumeration
 import program as programs
 import spelled
@@ -34,7 +36,10 @@ class Judge:
         """The answer, and what is wrong with it or None."""
         case.write()
         answer = self.program.run(case.words)
-        return answer, getattr(self, 'judge_' + case.words[0].replace('-', '_'))(case, answer)
+        try:
+            return answer, getattr(self, 'judge_' + case.words[0].replace('-', '_'))(case, answer)
+        except Exception:    # the files may be what none of the judges expects
+            return answer, 'what it has written can\'t be judged: ' + traceback.format_exc()
 
     def judge_checks(self, cases):
         """The same of many checks: the program answers while the second checker does."""
@@ -148,21 +153,21 @@ class Judge:
         if line.kind not in ('rup', 'learn') or line.tokens:
             return line
         try:
-            true, hints, is_changed = set(), [], True
-            is_over = self.recheck.propagate(line.constraint.negation(), true)
-            while is_changed and not is_over:
-                is_changed = False
-                for number, constraint in state.live.items():
-                    before = len(true)
-                    is_over = is_over or self.recheck.propagate(constraint, true)
-                    if is_over or len(true) > before:
-                        hints.append(('id', number))
-                        is_changed = True
-                    if is_over:
-                        break
-            return line._replace(tokens=hints) if is_over else line
+            negated = line.constraint.negation()
         except self.recheck.Refused:
             return line
+        lines = [(('~', 0), negated)] + [(('id', number), constraint) for number, constraint in state.live.items()]
+        true, hints, before = set(), [], -1
+        while len(true) > before:
+            before = len(true)
+            for hint, constraint in lines:
+                count = len(true)
+                is_over = self.recheck.propagate(constraint, true)
+                if is_over or len(true) > count:
+                    hints.append(hint)
+                if is_over:
+                    return line._replace(tokens=hints)
+        return line
 
     def judge_elaborate(self, case, answer):
         fault = self.read_fault(case)

@@ -230,10 +230,11 @@ class LogMaker:
         negated, ids = required.negation(), list(self.state.live)[-12:]
         self.random.shuffle(ids)
         all_hints = [('id', number) for number in ids]
-        proofs = [('rup', [('~', 0)]), ('rup', [('~', 0), ('!', 0)]), ('rup', [('!', 0)] + all_hints), ('rup', [('!', 0)] + all_hints + [('~', 0)] + all_hints),
-                  ('pol', [('~', 0), ('!', 0), ('+', 0)]), ('pol', [('~', 0)])]
+        goal_only, both, denied_first = [('~', 0)], [('~', 0), ('!', 0)], [('!', 0)] + all_hints
+        proofs = [('rup', goal_only), ('rup', both), ('rup', denied_first), ('rup', denied_first + goal_only + all_hints),
+                  ('pol', both + [('+', 0)]), ('pol', goal_only), ('pol', both), ('pol', goal_only + [('*', 0)]),
+                  ('pol', goal_only + [('w', self.variable()), ('s', 0), ('!', 0), ('+', 0)])]
         proofs += [('pol', [('id', number), ('~', 0), ('+', 0)]) for number in ids[:3] + ([goal[1]] if goal[0] == '' else [])]
-        proofs += [('pol', [('~', 0), ('w', self.variable()), ('s', 0), ('!', 0), ('+', 0)]), ('pol', [('~', 0), ('*', 0)]), ('pol', [('~', 0), ('!', 0)])]
         self.random.shuffle(proofs)
         if self.random.random() < .93:
             proofs.sort(key=lambda proof: not self.proves(proof, negated, denied))

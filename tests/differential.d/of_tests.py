@@ -20,7 +20,8 @@ def cases_of(folder):
     for name in runner.case_files():
         with open(os.path.join(folder, name), encoding='utf-8') as file:
             for row, case in runner.cases_of(file.read()):
-                if not (case.full or case.closed or case.pipes or case.open_pipes or case.links or case.forbidden or case.room or case.largest is not None):
+                streams = case.full or case.closed or case.pipes or case.open_pipes
+                if not (streams or case.links or case.forbidden or case.room or case.largest is not None):
                     yield name + row, case
 
 

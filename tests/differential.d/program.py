@@ -116,7 +116,14 @@ class Second:
 
     def answer(self, work):
         """The number and the words of what is done, as a program ends and says."""
-        return self.recheck.answer(lambda words: work(), [])
+        return self.guarded(lambda: self.recheck.answer(lambda words: work(), []))
+
+    def guarded(self, work):
+        """An answer; a failure of the second checker is one that no program gives."""
+        try:
+            return work()
+        except Exception as failure:
+            return None, 'it fails: %r' % failure
 
     def check(self, name, instance, listed, log):
         """What `check` answers to three texts."""
@@ -133,4 +140,4 @@ class Second:
 
     def check_models(self, words):
         """What `check-models` answers to files."""
-        return self.recheck.answer(self.models.check_files, words)
+        return self.guarded(lambda: self.recheck.answer(self.models.check_files, words))

@@ -10,7 +10,8 @@ import spelled
 # Of each group, how many cases a round has on average.
 SHARES = {'instance': 14, 'list': 9, 'line': 34, 'log': 28, 'front': 1, 'solve': 1, 'upgrade': 1, 'elaborate': 1.5, 'trim': 1, 'models': .5,
           'check-models': 3, 'pieces': 1}
-SEARCHES = ((), ('--search', 'lower-bounding'), ('--search', 'p-minimal'), ('--search', 'turns', '--turns', '12'), ('--search', 'turns', '--turns', '21'))
+SEARCHES = ((), ('--search', 'lower-bounding'), ('--search', 'p-minimal'), ('--search', 'turns', '--turns', '12'),
+            ('--search', 'turns', '--turns', '21'))
 TWO_OBJECTIVES = (('--search', 'bioptsat'), ('--search', 'turns', '--turns', '123'), ('--search', 'turns', '--turns', '3'))
 HEADER = 'scuttle proof version 1\n'
 OTHERS = 40    # texts that are kept to be spliced with
