@@ -15,6 +15,9 @@ RECIPES = (
     (5, 'def_of_any'), (2, 'def_at_the_limit'), (5, 'def_of_costs'),
     (14, 'red_of_line'), (12, 'red_of_any'), (12, 'dom_of_any'), (2, 'red_at_the_limit'), (9, 'sol_of_model'), (1, 'sol_of_any'),
     (3, 'del_of_any'), (3, 'reduce_of_any'), (4, 'end_of_any'))
+# Proofs that mostly prove nothing.
+PROOFS = ('rup', 'rup ~', 'rup 99 ~', 'rup 0', 'rup ! 99', 'pol ~ x1 +', 'pol x9 w', 'pol + +', 'pol 0', 'pol ~ 99 +', 'pol ~ 0 *',
+          'pol ~ 0 d', 'pol ~ ~')
 MODELS = 2**9    # so many assignments of a problem are tried for models
 
 
@@ -94,8 +97,8 @@ class LogMaker:
         hints = [str(number) for number in ids]
         if self.random.random() < .3:
             hints = hints[:self.random.randint(0, len(hints))]
-        if self.random.random() < .2:
-            hints.insert(self.random.randint(0, len(hints)), self.random.choice(('~', '!', '0', str(self.any_id()), str(self.state.next_id))))
+        if self.random.random() < .25:
+            hints.insert(0 if self.random.random() < .5 else self.random.randint(0, len(hints)), self.random.choice(('~', '!', '0', str(self.any_id()), str(self.state.next_id))))
         return hints
 
     # Pol
@@ -111,7 +114,8 @@ class LogMaker:
     def pol_of_any_tokens(self):
         tokens = ('+', 's', '0 *', '0 d', '2 *', '3 d', '~', '!', str(self.any_id()), str(self.any_id()), spelled.literal(self.literal()),
                   'x%d w' % self.variable())
-        return ' '.join(['pol'] + [self.random.choice(tokens) for _ in range(self.random.randint(1, 6))])
+        first = [str(self.any_id())] if self.random.random() < .6 else []
+        return ' '.join(['pol'] + first + [self.random.choice(tokens) for _ in range(self.random.randint(1, 5))])
 
     def pol_at_the_limit(self):
         """A line whose size times a factor is the largest, or one more; or one that may just be substituted into."""
@@ -218,9 +222,11 @@ class LogMaker:
                     proofs[goal] = self.proof(goal, required, denied)
         except self.recheck.Refused:
             pass
+        if proofs and self.random.random() < .1:
+            proofs[self.random.choice(sorted(proofs))] = self.random.choice(PROOFS)
         if self.random.random() < .15:
             extra = self.random.choice((('', self.any_id()), ('c', 0), ('o', self.random.randint(1, 4)), ('s', 0)))
-            proofs[extra] = self.random.choice(('rup', 'rup ~', 'rup ! ~ 99', 'pol ~ x1 +', 'pol x9 w', 'pol + +', 'pol 0', 'rup !'))
+            proofs[extra] = self.random.choice(PROOFS)
         order = sorted(proofs)
         speller = spelled.Speller(self.recheck)
         return text + ''.join(' : %s %s' % (speller.goal(goal), proofs[goal]) for goal in order)
@@ -303,7 +309,9 @@ class LogMaker:
                 ids.append(line)
             else:
                 cut.update(-l for l in row.terms if l in true)
-                ids.append(self.any_id() if self.random.random() < .15 else 0)
+                ids.append(self.random.choice((self.any_id(), self.state.next_id)) if self.random.random() < .15 else 0)
+        if self.random.random() < .05:
+            ids.append(0)
         if cut and self.random.random() < .1:
             cut.discard(self.random.choice(sorted(cut)))
         if self.random.random() < .1:

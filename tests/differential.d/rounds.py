@@ -14,6 +14,9 @@ SEARCHES = ((), ('--search', 'lower-bounding'), ('--search', 'p-minimal'), ('--s
             ('--search', 'turns', '--turns', '21'))
 TWO_OBJECTIVES = (('--search', 'bioptsat'), ('--search', 'turns', '--turns', '123'), ('--search', 'turns', '--turns', '3'))
 HEADER = 'scuttle proof version 1\n'
+# A line of each kind, to stand after an end.
+LINES = ('pol 1\n', 'rup >= 0 :\n', 'learn >= 1 :\n', 'def x9 : >= 0\n', 'red >= 0 :\n', 'dom >= 0 :\n', 'sol : :\n', 'del 1\n',
+         'reduce 1\n', 'end 1\n')
 OTHERS = 40    # texts that are kept to be spliced with
 
 
@@ -105,11 +108,12 @@ class Rounds:
         if kind == 'mcnf':
             index = self.random.choice((1, 2, 64))
             return self.random.choice((
-                'o%d %d 1 0\no%d %d -2 0\n' % (index, first, index, second), 'o%d 0 1 0\n' % (64 + past), 'h %d 0\n' % (2**24 + past),
+                'o%d %d 1 0\no%d %d -2 0\n' % (index, first, index, second), 'o%d 0 1 0\n' % (64 + past), 'o%d 0 0\n' % (1 - past),
+                'h %d 0\n' % (2**24 + past),
                 'o1 %d 0\n' % (2**63 - 1 + past), 'h %d 0\n' % (2**63 - 1 + past)))
         return self.random.choice((
             'min: %d x1 -%d x2 ;\n' % (first, second), '%d x1 -%d x2 >= 0 ;' % (first, second), '%d x1 <= -%d ;\n' % (first, second),
-            'min: x1 %d x2 ;' % (2**63 - 2 + past), '%d x1 x2 = 1 ;' % (2**63 - 2 + past), 'min: ;\n' * (64 + past), 'x%d >= 0 ;' % (2**24 + past),
+            'min: x1 %d x2 ;' % (2**63 - 2 + past), '%d x1 x2 = 1 ;' % (2**63 - 2 + past), 'min: ;\n' * (64 + past), 'max: ; min: x1 ;\n' * 32 + 'min: ;' * past, 'x%d >= 0 ;' % (2**24 + past),
             'x1 >= %d ;' % (2**63 - 2 + past), 'x%d >= 1 ;' % (2**63 - 1 + past), 'x1 >= 1 ; max: ;', 'max: ;' * 64 + ' x1 >= 1 ; max: ;'))
 
     def other_list(self, instance, models, listed):
@@ -117,7 +121,7 @@ class Rounds:
         entries = [(list(costs), list(model)) for costs, model in self.random.sample(models, min(len(models), self.random.randint(0, 3)))]
         if self.random.random() < .6:
             entries.sort()
-        if entries and self.random.random() < .2:
+        if entries and self.random.random() < .4:
             costs, model = self.random.choice(entries)
             place = self.random.randrange(len(model)) if model else None
             if place is not None:
@@ -126,7 +130,7 @@ class Rounds:
 
     def try_list(self, name, text, instance, models, listed):
         other = self.other_list(instance, models, listed) if self.random.random() < .5 else listed
-        if self.random.random() < .7:
+        if other == listed or self.random.random() < .4:
             other = mutations.mutated(self.random, other, 'list', self.others['list'])
         self.try_check('list', name, text, other, HEADER)
 
@@ -157,7 +161,9 @@ class Rounds:
         self.remember('log', log)
         logs = [log] + self.rewritten(name, text, own_list, log)
         for _ in range(self.times('log')):
-            mutated = mutations.mutated(self.random, self.random.choice(logs), 'log', self.others['log'])
+            old = self.random.choice(logs)
+            is_ended = self.random.random() < .06
+            mutated = old + self.random.choice(LINES) if is_ended else mutations.mutated(self.random, old, 'log', self.others['log'])
             self.try_check('log', name, text, own_list, mutated)
         for _ in range(self.times('models')):
             self.try_models(name, text, own_list, instance)
@@ -198,12 +204,13 @@ class Rounds:
                 files['m.%d.log' % number] = ''
         for _ in range(self.times('check-models') * 2):
             mutated = dict(files)
-            of = self.random.choice([key for key in files if key.startswith('m.')] + ['m.models'])
-            if self.random.random() < .9:
+            of = self.random.choice([key for key in files if key.startswith('m.')] + ['m.models', 'm.models'])
+            if self.random.random() < .8:
                 mutated[of] = mutations.mutated(self.random, files[of], 'models' if of == 'm.models' else 'log', [files[of]])
-            if of == 'm.models' and self.random.random() < .5:
+            if of == 'm.models' and self.random.random() < .6:
                 mutated[of] = self.with_other_model(files[of], instance)
-            self.try_case('check-models', ['check-models', name, 'a.list', str(self.random.choice((most, most, most + 1))), 'm'], mutated)
+            asked = self.random.choice((most, most, most, most + 1))
+            self.try_case('check-models', ['check-models', name, 'a.list', str(asked), 'm'], mutated)
 
     def with_other_model(self, text, instance):
         """A text of models in which another stands in place of one: any that is there, any model, or any assignment."""
@@ -213,8 +220,9 @@ class Rounds:
             return text
         models = [model for _, model in enumeration.models_of(instance)]
         any_signs = [self.random.choice((-1, 1)) * k for k in range(1, instance.variables + 1)]
-        other = self.random.choice((self.random.choice(models), any_signs))
-        rows[self.random.choice(places)] = self.random.choice((rows[self.random.choice(places)], ' '.join(['v'] + [str(l) for l in other] + ['0'])))
+        other = self.random.choice((self.random.choice(models), any_signs, any_signs))
+        given = ' '.join(['v'] + [str(l) for l in other] + ['0'])
+        rows[self.random.choice(places)] = self.random.choice((rows[self.random.choice(places)], given, given))
         return '\n'.join(rows)
 
     def try_pieces(self, name, text, instance, listed):
