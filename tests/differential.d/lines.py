@@ -98,7 +98,8 @@ class LogMaker:
         if self.random.random() < .3:
             hints = hints[:self.random.randint(0, len(hints))]
         if self.random.random() < .25:
-            hints.insert(0 if self.random.random() < .5 else self.random.randint(0, len(hints)), self.random.choice(('~', '!', '0', str(self.any_id()), str(self.state.next_id))))
+            hint = self.random.choice(('~', '!', '0', str(self.any_id()), str(self.state.next_id)))
+            hints.insert(0 if self.random.random() < .5 else self.random.randint(0, len(hints)), hint)
         return hints
 
     # Pol

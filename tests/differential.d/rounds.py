@@ -113,7 +113,8 @@ class Rounds:
                 'o1 %d 0\n' % (2**63 - 1 + past), 'h %d 0\n' % (2**63 - 1 + past)))
         return self.random.choice((
             'min: %d x1 -%d x2 ;\n' % (first, second), '%d x1 -%d x2 >= 0 ;' % (first, second), '%d x1 <= -%d ;\n' % (first, second),
-            'min: x1 %d x2 ;' % (2**63 - 2 + past), '%d x1 x2 = 1 ;' % (2**63 - 2 + past), 'min: ;\n' * (64 + past), 'max: ; min: x1 ;\n' * 32 + 'min: ;' * past, 'x%d >= 0 ;' % (2**24 + past),
+            'min: x1 %d x2 ;' % (2**63 - 2 + past), '%d x1 x2 = 1 ;' % (2**63 - 2 + past), 'min: ;\n' * (64 + past),
+            'max: ; min: x1 ;\n' * 32 + 'min: ;' * past, 'x%d >= 0 ;' % (2**24 + past),
             'x1 >= %d ;' % (2**63 - 2 + past), 'x%d >= 1 ;' % (2**63 - 1 + past), 'x1 >= 1 ; max: ;', 'max: ;' * 64 + ' x1 >= 1 ; max: ;'))
 
     def other_list(self, instance, models, listed):
