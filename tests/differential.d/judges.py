@@ -110,22 +110,16 @@ class Judge:
 
     def read_lines(self, log):
         """The lines of a log up to the first that is none, and what is answered of that one, or None."""
-        lines, whole = [], self.recheck.whole_lines(log) or ['\n']
-        try:
-            spelling = self.recheck.Spelling(whole[0])
-            for text in whole[1:]:
-                lines.append(spelling.line_in(text))
-            return lines, None
-        except self.recheck.Refused as refused:
-            at = len(lines) + 1 if not lines and self.is_no_header(whole[0]) else len(lines) + 2
-            return lines, 'log line %d: %s' % (at, refused)
-
-    def is_no_header(self, text):
-        try:
-            self.recheck.Spelling(text)
-            return False
-        except self.recheck.Refused:
-            return True
+        lines, spelling = [], None
+        for number, text in enumerate(self.recheck.whole_lines(log) or ['\n'], 1):
+            try:
+                if spelling is None:
+                    spelling = self.recheck.Spelling(text)
+                else:
+                    lines.append(spelling.line_in(text))
+            except self.recheck.Refused as refused:
+                return lines, 'log line %d: %s' % (number, refused)
+        return lines, None
 
     def judge_upgrade(self, case, answer):
         fault = self.read_fault(case)

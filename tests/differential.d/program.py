@@ -21,7 +21,6 @@ class Program:
         self.folder = tempfile.mkdtemp(dir=MEMORY_FOLDER if os.access(MEMORY_FOLDER, os.W_OK) else None)
         os.chdir(self.folder)
         self.reader, self.writer = os.pipe()
-        self.runs = 0
         signal.signal(signal.SIGALRM, self.too_long)
         self.running = 0
 
@@ -30,7 +29,6 @@ class Program:
 
     def run(self, words):
         """The number with which a run ends, and its words: what it says, or what it warns of after its name."""
-        self.runs += 1
         nothing = (os.POSIX_SPAWN_OPEN, 0, os.devnull, os.O_RDONLY, 0)
         self.running = os.posix_spawn(self.path, [self.path] + words, {}, file_actions=[
             nothing, (os.POSIX_SPAWN_DUP2, self.writer, 1), (os.POSIX_SPAWN_DUP2, self.writer, 2)])
@@ -57,7 +55,6 @@ class Program:
                 words.append(names[key])
             script.append('%s; echo = $?\n' % ' '.join([shlex.quote(self.path)] + words))
         write('batch.sh', ''.join(script))
-        self.runs += len(cases)
         out = (os.POSIX_SPAWN_OPEN, 1, 'batch.out', os.O_WRONLY | os.O_CREAT | os.O_TRUNC | os.O_APPEND, 0o600)
         self.running = os.posix_spawn('/bin/sh', ['sh', 'batch.sh'], {}, file_actions=[out, (os.POSIX_SPAWN_DUP2, 1, 2)])
         signal.alarm(SECONDS)

@@ -84,11 +84,3 @@ def log_of(recheck, lines, rows=None):
     """The text of a log."""
     speller = Speller(recheck, rows)
     return speller.header() + ''.join(speller.text(line) for line in lines)
-
-
-def lines_of(recheck, log):
-    """The lines that a log of either version spells; Refused is raised at the first that is none."""
-    first, *rest = log.split('\n')
-    spelling = recheck.Spelling(first)
-    recheck.require(rest and rest[-1] == '')
-    return [spelling.line_in(text) for text in rest[:-1]]
