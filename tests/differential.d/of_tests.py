@@ -3,12 +3,15 @@ commands do is judged by it."""
 import importlib.machinery
 import importlib.util
 import os
+import subprocess
+import sys
 
 import judges
 import program as programs
 
 # How many files each command reads, which its first words name.
 READS = {'check': 3, 'check-models': 2, 'front': 1, 'solve': 1, 'upgrade': 2, 'elaborate': 2, 'trim': 3, 'models': 2}
+BY_ITSELF = (0, 74)    # cases that end so are few: their words are given to the script, too
 LARGE = 1 << 20    # a file of so many zero bytes isn't held as a text
 
 
@@ -42,12 +45,22 @@ def judged(judge, case):
     return True, wrong or (None if answer == wanted else 'the program says %r, wanted %r' % (answer, wanted))
 
 
+def script_difference(checker, case):
+    """What is wrong with what the second checker's file says and warns where it is run by itself, or None."""
+    name = 'recheck.py' if case.words[0] == b'check' else 'recheck_models.py'
+    done = subprocess.run([sys.executable, os.path.join(checker, name)] + case.words[1:], stdout=subprocess.PIPE, stderr=subprocess.PIPE)
+    found, wanted = (done.returncode, done.stdout, done.stderr), (case.number, case.said, case.warned)
+    return None if found == wanted else '%s ends with %r, wanted %r' % (name, found, wanted)
+
+
 def run(folder, program, second):
     """Prints each case that differs, and how many there were; whether none did."""
     judge, passed, failed = judges.Judge(program, second), {}, 0
     for name, case in cases_of(folder):
         prepare(program, case)
         concerned, wrong = judged(judge, case)
+        if concerned and case.number in BY_ITSELF and case.words[0] in (b'check', b'check-models'):
+            wrong = wrong or script_difference(second.folder, case)
         if wrong:
             failed += 1
             print('%s: %s' % (name, wrong))

@@ -104,6 +104,7 @@ class Second:
         with open(os.path.join(folder, 'recheck.py'), encoding='utf-8') as file:
             source = file.read()
         self.recheck = module_of('recheck', change(source) if change else source, os.path.join(folder, 'recheck.py'))
+        self.folder = folder
         self.last = None, None, None
         with open(os.path.join(folder, 'recheck_models.py'), encoding='utf-8') as file:
             self.models = module_of('recheck_models', file.read(), os.path.join(folder, 'recheck_models.py'))
