@@ -1,8 +1,8 @@
 #!/usr/bin/env python3
 """A second checker: judges a list and a log as `check` does, and says the same words.
 
-It was written from docs/FORMATS.md and docs/PROOF_RULES.md alone and shares nothing with the program that is proved. It is to be read:
-one function a rule, named as those pages name it; docs/RECHECK.md says which function is which part of them.
+It goes by docs/FORMATS.md and docs/PROOF_RULES.md, and was written without a look at the program's source or definitions. It is to be
+read: one function a rule, named as those pages name it; docs/RECHECK.md says which function is which part of them.
 
 usage: recheck.py IN LIST LOG      IN ends in .mcnf, .opb or .mopb; the three names differ
 
@@ -892,9 +892,9 @@ def check_files(words: Sequence[str]) -> None:
         check_log(normal_form_of_instance(instance), vectors, log)
 
 
-def main(arguments: Sequence[str]) -> int:
-    return say(*answer(check_files, arguments))
+def main(arguments: Optional[Sequence[str]] = None) -> int:
+    return say(*answer(check_files, sys.argv[1:] if arguments is None else arguments))
 
 
 if __name__ == '__main__':
-    sys.exit(main(sys.argv[1:]))
+    sys.exit(main())

@@ -1,8 +1,8 @@
 #!/usr/bin/env python3
 """A second checker of models: judges a list, the models of its entries and their logs as `check-models` does, and says the same words.
 
-It stands on recheck.py beside it, and was written from docs/FORMATS.md, docs/PROOF_RULES.md and the conditions of `check-models` in
-docs/ANSWERS.md alone.
+It stands on recheck.py beside it, and goes by docs/FORMATS.md, docs/PROOF_RULES.md and the conditions of `check-models` in
+docs/ANSWERS.md.
 
 usage: recheck_models.py IN LIST K BASE      the models are in BASE.models, the log of entry n in BASE.n.log
 
@@ -10,7 +10,7 @@ It ends as recheck.py does.
 """
 import re
 import sys
-from typing import Iterable, List, NamedTuple, Sequence, Set, Tuple
+from typing import Iterable, List, NamedTuple, Optional, Sequence, Set, Tuple
 
 if __package__:
     from . import recheck
@@ -105,9 +105,9 @@ def check_files(words: Sequence[str]) -> None:
     check_models(recheck.read_instance(instance), recheck.read_file(listed), recheck.value(most), base)
 
 
-def main(arguments: Sequence[str]) -> int:
-    return recheck.say(*recheck.answer(check_files, arguments))
+def main(arguments: Optional[Sequence[str]] = None) -> int:
+    return recheck.say(*recheck.answer(check_files, sys.argv[1:] if arguments is None else arguments))
 
 
 if __name__ == '__main__':
-    sys.exit(main(sys.argv[1:]))
+    sys.exit(main())
