@@ -6,6 +6,8 @@ SHAPES = ((10, 'plain'), (2, 'empty'), (2, 'single'), (2, 'repeated'), (1, 'oppo
 RELATIONS = ((3, '>='), (3, '<='), (2, '='))
 BLANKS = ((8, ' '), (1, '  '), (1, '\t'), (1, ' \t '))
 ENDS = ((12, '\n'), (1, '\r\n'), (1, '\n\n'), (1, ' \n'))
+# Numbers of variables: few, so that all assignments are soon tried.
+VARIABLES = (0, 1, 1) + (2, 3, 4, 5) * 5 + (6, 6, 7, 8)
 HUGE = 2**63 - 1
 
 
@@ -49,7 +51,7 @@ class Maker:
     def mcnf(self, variables):
         """A text of the format MCNF."""
         lines = []
-        for _ in range(self.random.randint(0, 4)):
+        for _ in range(self.random.randint(0, max(4, variables))):
             literals = self.clause(variables)
             lines.append(['h'] + [self.signed(l) for l in (literals or self.clause(variables))] + [self.number(0)])
         for index in range(1, self.random.choice((0, 1, 1, 2, 2, 2, 3, 3, 4)) + 1):
@@ -93,7 +95,7 @@ class Maker:
         """A text of the format OPB."""
         statements = [[self.random.choice(('min:', 'min:', 'max:'))] + self.terms(variables) + [';']
                       for _ in range(self.random.choice((0, 1, 1, 2, 2, 2, 3, 3)))]
-        for _ in range(self.random.randint(0, 3)):
+        for _ in range(self.random.randint(0, max(3, variables // 2))):
             statements.append(self.terms(variables) + [pick(self.random, RELATIONS)] + self.bound() + [';'])
         text = ''
         for words in statements:
@@ -108,9 +110,9 @@ class Maker:
         """Whether two tokens stay two where nothing is between them, and nothing is put there."""
         return self.random.random() < .1 and not (word[-1].isdigit() and after[:1].isdigit()) and not after[:1] == '='
 
-    def instance(self, most=6):
+    def instance(self):
         """The name of a file, and its text."""
-        variables = self.random.choice((0, 1, 1) + (2, 3, 4, 5) * 3 + (most,))
+        variables = self.random.choice(VARIABLES)
         if self.random.random() < .5:
             return 'a.mcnf', self.mcnf(variables)
         return self.random.choice(('a.opb', 'a.opb', 'a.mopb')), self.opb(variables)
