@@ -244,10 +244,10 @@ class Front:
         the first of equal ones. `IndexError` where there is none."""
         if not self.plans:
             raise IndexError('there is no plan')
-        ends = [(min(column), max(column)) for column in zip(*[plan.vector for plan in self.plans])]
+        ends = [(min(column), max(column)) for column in zip(*[plan.vector for plan in self.plans])]  # type: List[Tuple[int, int]]
 
         def distance(plan: Plan) -> float:
-            shares = [((cost - least) if sense == 'min' else (greatest - cost)) / (greatest - least)
+            shares = [float((cost - least) if sense == 'min' else (greatest - cost)) / (greatest - least)
                       for cost, (least, greatest), sense in zip(plan.vector, ends, self.labels.senses) if least < greatest]
             return sum(share * share for share in shares)
         return min(self.plans, key=distance)
