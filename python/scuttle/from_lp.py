@@ -15,8 +15,8 @@ from typing import List, NamedTuple, Optional, Tuple
 
 from .commands import run_command, usage
 from .errors import Malformed
-from .files import MOST_DIGITS, read_lines, write_text
-from .linear import Expression, Goal, Limit, Program, Weights, instance_text
+from .files import MOST_DIGITS, Line, read_lines
+from .linear import Expression, Goal, Limit, Program, Weights, write_instance
 
 # A section by the words that begin it, in small letters.
 SECTIONS = [('min', r'min(imi[sz]e|imum)?'), ('max', r'max(imi[sz]e|imum)?'), ('rows', r'subject\s+to|such\s+that|s\.\s*t\.|st'),
@@ -42,10 +42,10 @@ class Token(NamedTuple):
     line: int
 
 
-def sections_of(path: str) -> List[Tuple[str, int, List[Token]]]:
+def sections_of(path: str, lines: List[Line]) -> List[Tuple[str, int, List[Token]]]:
     """The sections of a file: its kind, its line, and its tokens."""
     found = []  # type: List[Tuple[str, int, List[Token]]]
-    for number, text in read_lines(path):
+    for number, text in lines:
         text = text.split('\\', 1)[0].strip()
         kind, rest = _heading(text)
         if kind == 'left':
@@ -232,7 +232,8 @@ def read_lp(path: str) -> Program:
     """
     program = Program(path)
     stem = re.sub(r'\.lp$', '', path.replace('\\', '/').split('/')[-1])
-    sections = sections_of(path)
+    lines = read_lines(path)
+    sections = sections_of(path, lines)
     if not sections or sections[0][0] not in ('min', 'max'):
         raise Malformed(path, sections[0][1] if sections else 1, 'a model begins with Minimize or Maximize')
     for kind, line, tokens in sections:
@@ -245,6 +246,13 @@ def read_lp(path: str) -> Program:
             _read_bound(reader)
         while reader.peek().kind and kind in ('whole', 'binary'):
             _read_kind(reader, kind)
+    for line, text in lines:
+        # So glpsol says the number besides, for which the format has no place.
+        said = re.match(r'\\\* constant term = (\S+) \*\\', text)
+        if said:
+            number = Reader(program, line, _tokens(path, line, said.group(1))).number()
+            goal = program.goals[0]
+            program.goals[0] = goal._replace(sum=goal.sum._replace(constant=goal.sum.constant + (number or 0)))
     return program
 
 
@@ -267,8 +275,7 @@ def _read_kind(reader: Reader, kind: str) -> None:
 def _body(arguments: List[str]) -> int:
     if len(arguments) < 2 or not arguments[-1].endswith(('.opb', '.mopb')) or any(word.startswith('--') for word in arguments):
         return usage(str(__doc__))
-    write_text(arguments[-1], instance_text([read_lp(path) for path in arguments[:-1]]))
-    return 0
+    return write_instance('from-lp', arguments[-1], [read_lp(path) for path in arguments[:-1]])
 
 
 def main(arguments: List[str]) -> int:

@@ -2,18 +2,20 @@
 
 usage: tools/from-mps IN.mps [MORE.mps ..] OUT.opb
 
-Each `N` row of a file is an objective, to be made small, or large where `OBJSENSE` says it. Several files have the same other rows, and OUT
+Each `N` row of a file is an objective, to be made small, or large where `OBJSENSE`, or PuLP's comment `*SENSE:Maximize`, says it; glpsol
+writes neither, so look at what is said on standard error. Several files have the same other rows, and OUT
 has the objectives of all. All variables are 0 or 1, as tools/from-lp has it; a whole variable without an upper bound is refused, because
 programs differ in what it means. Names have no blanks.
 Ends with 64 where the words are wrong, 65 where a file can't be taken, 74 where one can't be read or written.
 """
+import re
 from fractions import Fraction
 from typing import Dict, List, Optional, Sequence, Tuple
 
 from .commands import run_command, usage
 from .errors import Malformed
-from .files import MOST_DIGITS, read_lines, write_text
-from .linear import Expression, Goal, Limit, Program, Weights, instance_text
+from .files import MOST_DIGITS, read_lines
+from .linear import Expression, Goal, Limit, Program, Weights, write_instance
 
 RELATIONS = {'G': '>=', 'L': '<=', 'E': '='}
 # Kinds of bounds that have a number, and those that have none.
@@ -129,6 +131,8 @@ def read_mps(path: str) -> Program:
     reader, section = _Reader(path), ''
     for reader.line, text in read_lines(path):
         words = text.split()
+        if re.match(r'\*SENSE:\s*Max', text):
+            reader.sense = 'max'
         if not words or text.startswith('*'):
             continue
         if not text[0].isspace():
@@ -151,8 +155,7 @@ def read_mps(path: str) -> Program:
 def _body(arguments: List[str]) -> int:
     if len(arguments) < 2 or not arguments[-1].endswith(('.opb', '.mopb')) or any(word.startswith('--') for word in arguments):
         return usage(str(__doc__))
-    write_text(arguments[-1], instance_text([read_mps(path) for path in arguments[:-1]]))
-    return 0
+    return write_instance('from-mps', arguments[-1], [read_mps(path) for path in arguments[:-1]])
 
 
 def main(arguments: List[str]) -> int:

@@ -1,8 +1,10 @@
 """Linear programs over 0-1 variables as other programs write them, and the instance that they are: shared by the readers of LP and MPS."""
+import sys
 from fractions import Fraction
 from typing import Dict, List, NamedTuple, Optional, Sequence, Set, Tuple
 
 from .errors import BadName, Malformed
+from .files import write_text
 from .sums import text_of_name
 
 # The largest sum of magnitudes of a row or an objective: docs/FORMATS.md.
@@ -106,6 +108,43 @@ def fixed_of(program: Program) -> Dict[str, Fraction]:
     return fixed
 
 
+def without_slacks(program: Program) -> Program:
+    """The same without the continuous variables that only say how far a row's sum may be from its bound, as glpsol writes rows of two bounds.
+
+    >>> program = Program('a.lp')
+    >>> program.limits = [Limit('c1', {'a': Fraction(1), 's': Fraction(-1)}, '=', Fraction(0), 3)]
+    >>> program.make_binary('a', 3); program.meet({'s': Fraction(1)}, 3); program.upper['s'] = Fraction(1)
+    >>> [(limit.relation, int(limit.bound)) for limit in without_slacks(program).limits]
+    [('>=', 0), ('<=', 1)]
+    """
+    places = {}  # type: Dict[str, List[int]]
+    for at, limit in enumerate(program.limits):
+        for name in limit.weights:
+            places.setdefault(name, []).append(at)
+    in_goals = {name for goal in program.goals for name in goal.sum.weights}
+    slacks = {}  # type: Dict[int, str]
+    for name, rows in places.items():
+        low, high = program.bounds(name)
+        if name not in program.whole and name not in in_goals and low != high and len(rows) == 1 \
+                and program.limits[rows[0]].relation == '=' and program.limits[rows[0]].weights[name] and rows[0] not in slacks:
+            slacks[rows[0]] = name
+    left = Program(program.path)
+    left.goals, left.whole, left.lower, left.upper = program.goals, program.whole, program.lower, program.upper
+    left.variables = {name: line for name, line in program.variables.items() if name not in set(slacks.values())}
+    for at, limit in enumerate(program.limits):
+        left.limits += _both_sides(program, limit, slacks[at]) if at in slacks else [limit]
+    return left
+
+
+def _both_sides(program: Program, limit: Limit, slack: str) -> List[Limit]:
+    """The bounds that a row has by a variable of its own: the sum is its bound less that variable's part."""
+    weights = {name: weight for name, weight in limit.weights.items() if name != slack}
+    ends = [None if end is None else limit.bound - limit.weights[slack] * end for end in program.bounds(slack)]
+    low, high = ends if limit.weights[slack] < 0 else ends[::-1]
+    sides = [] if low is None else [limit._replace(weights=weights, relation='>=', bound=low)]
+    return sides + ([] if high is None else [limit._replace(weights=weights, relation='<=', bound=high)])
+
+
 def places_of(program: Program, numbers: Sequence[Fraction], line: int) -> int:
     """The power of ten by which all numbers become whole; `Malformed` where they are none of 63 bits then.
 
@@ -132,11 +171,21 @@ def _written(weights: Weights, places: int, numbers: Dict[str, int]) -> str:
     return ' '.join('%+d x%d' % (int(weight * 10 ** places), numbers[name]) for name, weight in weights.items())
 
 
+def write_instance(command: str, path: str, programs: Sequence[Program]) -> int:
+    """Writes the instance of some programs, and says on standard error which costs it has: formats and programs differ in how they say it."""
+    text = instance_text(programs)
+    write_text(path, text)
+    costs = [line.split(' ', 3) for line in text.split('\n') if line.startswith(('* min ', '* max '))]
+    print('%s: costs: %s' % (command, '; '.join('%s %s' % (sense, name) for _, sense, _, name in costs) or 'none'), file=sys.stderr)
+    return 0
+
+
 def instance_text(programs: Sequence[Program]) -> str:
-    """The instance that some programs of the same rows are together: an objective for each of theirs.
+    """The instance that some programs of the same rows are together: an objective for each of theirs. `Malformed` names what can't be taken.
 
     Decimals are made whole, by a power of ten for each row and each objective, which the objective's name says.
     """
+    programs = [without_slacks(program) for program in programs]
     first = programs[0]
     for program in programs[1:]:
         if _shape(program) != _shape(first):
