@@ -5,7 +5,7 @@ usage: tools/from-mps IN.mps [MORE.mps ..] OUT.opb
 Each `N` row of a file is an objective, to be made small, or large where `OBJSENSE`, or PuLP's comment `*SENSE:Maximize`, says it; glpsol
 writes neither, so look at what is said on standard error. Several files have the same other rows, and OUT
 has the objectives of all. All variables are 0 or 1, as tools/from-lp has it; a whole variable without an upper bound is refused, because
-programs differ in what it means. Names have no blanks.
+programs differ in what it means, and so is a right side of an objective. Names have no blanks.
 Ends with 64 where the words are wrong, 65 where a file can't be taken, 74 where one can't be read or written.
 """
 import re
@@ -109,8 +109,10 @@ class _Reader:
         for name, (kind, line) in self.kinds.items():
             right, width = self.right.get(name, zero), self.ranges.get(name)
             if kind == 'N':
-                # On the right side of an objective stands what is taken from it.
-                self.program.goals.append(Goal(name, self.sense, Expression(self.weights[name], -right), line))
+                if right:
+                    raise self.program.wrong(line, 'the objective %s has a right side, which some programs add and others subtract: leave it out, '
+                                             'or let a variable that is fixed to 1 have it' % name)
+                self.program.goals.append(Goal(name, self.sense, Expression(self.weights[name], zero), line))
                 continue
             sides = [(RELATIONS[kind], right)]
             if width is not None:

@@ -48,6 +48,7 @@ class Model:
         self.numbers = {}  # type: Dict[str, int]
         self.rows = []  # type: List[Written]
         self._names = []  # type: List[Name]
+        self._found = {}  # type: Dict[Name, int]
         self._helping = set()  # type: Set[int]
         self._objectives = {}  # type: Dict[str, Tuple[str, List[Tuple[int, int]], List[int]]]
         self._known = set()  # type: Set[str]
@@ -80,6 +81,13 @@ class Model:
 
     def _number_of(self, name: Name) -> int:
         """The number of an option, which is there from its first use on."""
+        found = self._found.get(name)
+        if found is None:
+            found = self._found[name] = self._new_number(name)
+        return found
+
+    def _new_number(self, name: Name) -> int:
+        """The number of an option whose name wasn't met in this form."""
         text = text_of_name(name)
         number = self.numbers.get(text)
         if number is None:

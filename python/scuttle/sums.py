@@ -43,6 +43,9 @@ def text_of_name(name: Any) -> str:
     parts = name if isinstance(name, tuple) else (name,)
     is_text = bool(parts) and all(isinstance(part, str) or (isinstance(name, tuple) and type(part) is int) for part in parts)
     text = ' '.join(str(part) for part in parts) if is_text else ''
+    if text.isprintable() and text and '  ' not in text and text[0] != ' ' != text[-1]:
+        return text
+    # Marks of direction and joiners of emoji aren't called printable, and are welcome.
     if not text or text != ' '.join(text.split()) or any(unicodedata.category(letter) in ('Cc', 'Cs') for letter in text):
         raise BadName("a name is printable words on one line with one blank between them, and this isn't: %s" % (ascii(name),))
     return text
