@@ -165,16 +165,16 @@ def parts_of(cell: str, is_comma: bool) -> Optional[Tuple[int, str, str]]:
 
 def weights_of(table: Table, column: str, rows: Sequence[Tuple[int, Record]]) -> Weights:
     """The numbers of a column, made whole."""
-    is_comma = table.delimiter != ','
-    marks = {mark for _, row in rows for mark in '.,' if mark in row[column]}
-    found = []
+    is_comma, mark, found = table.delimiter != ',', '', []
     for line, row in rows:
-        parts = parts_of(row[column] or '0', is_comma)
-        if parts is None or len(marks) > 1 and is_comma:
-            why = 'mixes `.` and `,`' if parts else 'is no number'
-            raise table.wrong(line, "'%s' in the column %s %s" % (row[column][:MOST_DIGITS], column, why))
+        cell, parts = row[column], parts_of(row[column] or '0', is_comma)
+        own = ',' if ',' in cell else '.' if '.' in cell else mark
+        if parts is None or (mark and own != mark):
+            what = "'%s' in the column %s " % (cell[:MOST_DIGITS], column)
+            raise table.wrong(line, what + ('is no number' if parts is None else 'has another decimal mark than a row before'))
         if len(parts[1].lstrip('0')) + len(parts[2]) > MOST_DIGITS:
             raise table.wrong(line, 'a number in the column %s has too many digits' % column)
+        mark = own
         found.append(parts)
     places = max((len(decimals) for _, _, decimals in found), default=0)
     return Weights([sign * int(whole + decimals.ljust(places, '0')) for sign, whole, decimals in found], places)

@@ -13,6 +13,8 @@ HERE = os.path.dirname(os.path.abspath(__file__))
 PLACES = (os.path.join(HERE, 'bin', 'scuttle'), os.path.join(HERE, '..', '..', 'scuttle'))
 # How often a run is looked at, how long a stopped one may take to end, and how much of a log is read at once. Seconds, bytes.
 PAUSE, PATIENCE, PIECE = 0.05, 2.0, 1 << 24
+# What stops a run from outside: Ctrl-C, a request, and the system's lack of memory or patience.
+STOPPED = (signal.SIGINT, signal.SIGTERM, signal.SIGKILL)
 DOES_NOT_RUN = "the executable %s doesn't run on this system (it is for x86-64 Linux with glibc 2.34 or later): %s"
 
 
@@ -31,20 +33,22 @@ def find_program(program: Optional[str] = None) -> str:
 
 
 def run(program: Optional[str], words: Sequence[str], wanted: Sequence[int]) -> int:
-    """Runs the program to its end: the number with which it ends, which is one of the wanted; else `Failed`.
+    """Runs the program to its end: the number with which it ends, which is one of the wanted; else `Failed`, or `KeyboardInterrupt` where
+    it was stopped from outside.
 
     >>> run('/bin/true', [], (0,))
     0
     """
     number = run_until(program, words, None, lambda: None, wanted)
-    assert number is not None
+    if number is None:
+        raise KeyboardInterrupt
     return number
 
 
 def run_until(program: Optional[str], words: Sequence[str], seconds: Optional[float], look: Callable[[], object],
               wanted: Sequence[int]) -> Optional[int]:
     """The same, but for so many seconds at most: then it is stopped, and None is answered. `look` is called again and again meanwhile,
-    and once more at the end; what it raises stops the run, and is raised.
+    and once more at the end; what it raises stops the run, and is raised. A run that is stopped from outside, as by Ctrl-C, is None too.
 
     >>> print(run_until('/bin/sleep', ['9'], 0.1, lambda: None, (0,)))
     None
@@ -57,7 +61,7 @@ def run_until(program: Optional[str], words: Sequence[str], seconds: Optional[fl
         finally:
             _stop(process)
         look()
-        if not ended and process.returncode not in wanted:
+        if process.returncode not in wanted and (not ended or -process.returncode in STOPPED):
             return None
         warned.seek(0)
         warning = warned.read().decode(errors='replace').strip()
@@ -69,10 +73,9 @@ def run_until(program: Optional[str], words: Sequence[str], seconds: Optional[fl
 
 
 def _start(program: str, words: Sequence[str], warned: IO[bytes]) -> 'subprocess.Popen[bytes]':
-    """Starts it in a session of its own, so that Ctrl-C comes to us, and we stop it."""
+    """Starts it. It stays in our group, so that what stops the group stops it too."""
     try:
-        return subprocess.Popen([program] + list(words), stdin=subprocess.DEVNULL, stdout=subprocess.DEVNULL, stderr=warned,
-                                start_new_session=True)
+        return subprocess.Popen([program] + list(words), stdin=subprocess.DEVNULL, stdout=subprocess.DEVNULL, stderr=warned)
     except OSError as fault:
         raise NoProgram(DOES_NOT_RUN % (program, fault.strerror)) from None
 
@@ -92,14 +95,14 @@ def _wait(process: 'subprocess.Popen[bytes]', seconds: Optional[float], look: Ca
 
 
 def _stop(process: 'subprocess.Popen[bytes]') -> None:
-    """Ends a run that we started, and whatever it started."""
+    """Ends a run that we started."""
     for number in (signal.SIGTERM, signal.SIGKILL):
         if process.poll() is not None:
             return
+        process.send_signal(number)
         try:
-            os.killpg(process.pid, number)
             process.wait(PATIENCE)
-        except (ProcessLookupError, subprocess.TimeoutExpired):
+        except subprocess.TimeoutExpired:
             pass
 
 

@@ -1,4 +1,6 @@
 """What each test of the package stands on: the package of this tree, the executable, and a folder of its own."""
+import contextlib
+import io
 import os
 import subprocess
 import sys
@@ -35,8 +37,16 @@ class InFolder(unittest.TestCase):
         with open(name, encoding='utf-8', newline='') as file:
             return file.read()
 
-    def command(self, *words, **more):
-        """Runs `python -m scuttle`: the number, and what is said on both streams."""
+    def command(self, *words):
+        """Runs a command in this process: the number, and what is said on both streams."""
+        from scuttle.__main__ import main
+        said, warned = io.StringIO(), io.StringIO()
+        with contextlib.redirect_stdout(said), contextlib.redirect_stderr(warned):
+            number = main(list(words))
+        return number, said.getvalue(), warned.getvalue()
+
+    def process(self, *words, **more):
+        """Runs `python -m scuttle` as a process of its own: the same."""
         environment = dict(os.environ, PYTHONPATH=PACKAGE, PYTHONDONTWRITEBYTECODE='1', **more)
         ran = subprocess.run([sys.executable, '-m', 'scuttle'] + list(words), stdout=subprocess.PIPE, stderr=subprocess.PIPE,
                              env=environment, timeout=120)
