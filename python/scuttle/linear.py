@@ -89,7 +89,7 @@ class Program:
         return self.lower.get(name, Fraction(0)), self.upper.get(name)
 
 
-def fixed_of(program: Program) -> Dict[str, Fraction]:
+def fixed_of(program: Program) -> Weights:
     """The variables that have one value, with it; `Malformed` where another isn't 0 or 1."""
     fixed = {}
     for name, line in program.variables.items():
@@ -161,7 +161,7 @@ def places_of(program: Program, numbers: Sequence[Fraction], line: int) -> int:
     return places
 
 
-def _bare(weights: Weights, fixed: Dict[str, Fraction]) -> Expression:
+def _bare(weights: Weights, fixed: Weights) -> Expression:
     """A sum without the variables that have one value."""
     constant = sum((weight * fixed[name] for name, weight in weights.items() if name in fixed), Fraction(0))
     return Expression({name: weight for name, weight in weights.items() if name not in fixed and weight}, constant)
@@ -186,30 +186,49 @@ def instance_text(programs: Sequence[Program]) -> str:
     Decimals are made whole, by a power of ten for each row and each objective, which the objective's name says.
     """
     programs = [without_slacks(program) for program in programs]
-    first = programs[0]
-    for program in programs[1:]:
-        if _shape(program) != _shape(first):
-            raise program.wrong(1, 'its variables and rows aren\'t those of %s' % first.path)
-    fixed = fixed_of(first)
-    numbers = {name: k for k, name in enumerate((name for name in first.variables if name not in fixed), 1)}
-    lines = ['* x%d %s' % (number, _checked(first, name)) for name, number in numbers.items()]
+    fixed = [fixed_of(program) for program in programs]
+    numbers = {}  # type: Dict[str, int]
+    for program, values in zip(programs, fixed):
+        for name in program.variables:
+            if name not in values:
+                numbers.setdefault(name, len(numbers) + 1)
+    _have_same_rows(programs, fixed, numbers)
+    lines = ['* x%d %s' % (number, _checked(programs[0], name)) for name, number in numbers.items()]
     goals, taken = [], set()  # type: List[str], Set[str]
-    for program in programs:
+    for program, values in zip(programs, fixed):
         for goal in program.goals:
-            name, text = _goal_text(program, goal, fixed, numbers)
+            name, text = _goal_text(program, goal, values, numbers)
             if name in taken:
                 raise program.wrong(goal.line, 'two objectives have one name: %s' % name)
             taken.add(name)
             lines.append('* %s %d %s' % (goal.sense, len(goals) + 1, name))
             goals.append(text)
     lines += goals
-    for limit in first.limits:
-        bare = _bare(limit.weights, fixed)
-        bound = limit.bound - bare.constant
-        places = places_of(first, list(bare.weights.values()) + [bound], limit.line)
-        lines.append('* row %s%s' % (_checked(first, limit.name), ', times 1%s' % ('0' * places) if places else ''))
-        lines.append(('%s %s %d ;' % (_written(bare.weights, places, numbers), limit.relation, int(bound * 10 ** places))).strip())
+    for limit in programs[0].limits:
+        lines += _row_lines(programs[0], limit, fixed[0], numbers)
     return '\n'.join(lines + _last_row(lines, len(numbers))) + '\n'
+
+
+def _have_same_rows(programs: Sequence[Program], fixed: Sequence[Weights], numbers: Dict[str, int]) -> None:
+    """Refuses a file whose rows aren't those of the first, or in which a variable has one value that may have two in another."""
+    rows = []
+    for program, values in zip(programs, fixed):
+        for name, line in program.variables.items():
+            if name in values and name in numbers:
+                raise program.wrong(line, 'the variable %s has one value here, and not in another file' % name)
+        bare = [(_bare(limit.weights, values), limit) for limit in program.limits]
+        rows.append([(sorted(each.weights.items()), limit.relation, limit.bound - each.constant) for each, limit in bare])
+        if rows[-1] != rows[0]:
+            raise program.wrong(1, 'its rows aren\'t those of %s' % programs[0].path)
+
+
+def _row_lines(program: Program, limit: Limit, fixed: Weights, numbers: Dict[str, int]) -> List[str]:
+    """A row and a comment with its name."""
+    bare = _bare(limit.weights, fixed)
+    bound = limit.bound - bare.constant
+    places = places_of(program, list(bare.weights.values()) + [bound], limit.line)
+    row = '%s %s %d ;' % (_written(bare.weights, places, numbers), limit.relation, int(bound * 10 ** places))
+    return ['* row %s%s' % (_checked(program, limit.name), ', times 1%s' % ('0' * places) if places else ''), row.strip()]
 
 
 def _last_row(lines: Sequence[str], count: int) -> List[str]:
@@ -218,7 +237,7 @@ def _last_row(lines: Sequence[str], count: int) -> List[str]:
     return [] if not count or any(last in ' ' + line for line in lines if not line.startswith('*')) else ['+1%s>= 0 ;' % last]
 
 
-def _goal_text(program: Program, goal: Goal, fixed: Dict[str, Fraction], numbers: Dict[str, int]) -> Tuple[str, str]:
+def _goal_text(program: Program, goal: Goal, fixed: Weights, numbers: Dict[str, int]) -> Tuple[str, str]:
     """The name and the text of an objective. A number besides is written as a variable and its opposite, of which one counts."""
     bare = _bare(goal.sum.weights, fixed)
     constant = goal.sum.constant + bare.constant
@@ -228,12 +247,6 @@ def _goal_text(program: Program, goal: Goal, fixed: Dict[str, Fraction], numbers
         raise program.wrong(goal.line, 'the objective %s is a number, and there is no variable' % goal.name)
     both = '%+d x1 %+d ~x1' % (2 * (int(constant * 10 ** places),)) if constant else ''
     return name, ' '.join(('%s: %s %s ;' % (goal.sense, _written(bare.weights, places, numbers), both)).split())
-
-
-def _shape(program: Program) -> object:
-    """What has to be the same of two programs."""
-    rows = [(tuple(sorted(limit.weights.items())), limit.relation, limit.bound) for limit in program.limits]
-    return fixed_of(program), sorted(program.variables), rows
 
 
 def _checked(program: Program, name: str) -> str:
