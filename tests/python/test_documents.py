@@ -1,9 +1,12 @@
 """The examples in docstrings and in the documents run, and say what stands there."""
+import contextlib
 import doctest
 import importlib
+import io
 import os
 import pkgutil
 import re
+import sys
 import unittest
 
 from setting import EXAMPLES, ROOT, InFolder
@@ -56,7 +59,17 @@ class Documents(InFolder):
             pieces = re.findall(r'```python\n(.*?)```', file.read(), re.DOTALL)
         self.assertGreater(len(pieces), 0)
         for piece in pieces:
-            exec(piece, {})
+            said = io.StringIO()
+            with contextlib.redirect_stdout(said):
+                exec(piece, {})
+            self.assertIn('best compromises', said.getvalue())
+
+    def test_the_kept_model_of_the_nurses(self):
+        """It is what their script writes."""
+        sys.path.insert(0, EXAMPLES)
+        import nurses
+        with open(os.path.join(EXAMPLES, 'nurses.opb'), encoding='utf-8') as file:
+            self.assertEqual(file.read(), nurses.model().text())
 
 
 def plain(text):
