@@ -36,10 +36,10 @@ Record = Dict[str, str]
 Bounds = Tuple[int, Optional[int]]
 
 
-class Weights(NamedTuple):
+class _Weights(NamedTuple):
     """The numbers of a column, each times ten to the power of `places`, by the records' order; an empty cell is 0.
 
-    >>> Weights([205, 750], 1).places
+    >>> _Weights([205, 750], 1).places
     1
     """
 
@@ -47,10 +47,10 @@ class Weights(NamedTuple):
     places: int
 
 
-def decoded(path: str, data: bytes) -> str:
+def _decoded(path: str, data: bytes) -> str:
     """The text of a table's bytes.
 
-    >>> decoded('a.csv', b'\\xef\\xbb\\xbfoption'), decoded('a.csv', b'caf\\xe9')
+    >>> _decoded('a.csv', b'\\xef\\xbb\\xbfoption'), _decoded('a.csv', b'caf\\xe9')
     ('option', 'café')
     """
     is_wide = data.startswith((b'\xff\xfe', b'\xfe\xff'))
@@ -62,24 +62,24 @@ def decoded(path: str, data: bytes) -> str:
     raise Malformed(path, line, 'these bytes are no text: save the table as CSV in UTF-8')
 
 
-def delimiter_of(head: str) -> str:
+def _delimiter_of(head: str) -> str:
     """What stands between the cells: the first of `;`, a tab and a comma that the first row has outside of quotes.
 
-    >>> delimiter_of('"option;s",price'), delimiter_of('option;price')
+    >>> _delimiter_of('"option;s",price'), _delimiter_of('option;price')
     (',', ';')
     """
     bare = re.sub('"[^"]*"', '', head)
     return ';' if ';' in bare else '\t' if '\t' in bare else ','
 
 
-class Table:
+class _Table:
     """The rows of a table, each with its line's number, its columns, and the row of limits."""
 
     def __init__(self, path: str) -> None:
         self.path = path
         with open(path, 'rb') as file:
-            text = decoded(path, file.read())
-        self.delimiter = delimiter_of(text.split('\n', 1)[0])
+            text = _decoded(path, file.read())
+        self.delimiter = _delimiter_of(text.split('\n', 1)[0])
         self.rows = []  # type: List[Tuple[int, Record]]
         self.columns = []  # type: List[str]
         self._read(csv.reader(io.StringIO(text, newline=''), delimiter=self.delimiter, skipinitialspace=True))
@@ -107,14 +107,14 @@ class Table:
 
     def _limits(self) -> Optional[Tuple[int, Record]]:
         """Takes the row of limits out of the others, where there are budgets."""
-        if not any(is_budget(column) for column in self.columns):
+        if not any(_is_budget(column) for column in self.columns):
             return None
         found = [row for row in self.rows if row[1]['option'].lower() == WITHIN]
         if len(found) != 1:
             raise self.wrong(found[1][0] if found else 1, 'a table with budgets has one row whose option is `within`, with their limits')
         self.rows.remove(found[0])
         for column, cell in found[0][1].items():
-            if column != 'option' and bool(cell) != is_budget(column):
+            if column != 'option' and bool(cell) != _is_budget(column):
                 raise self.wrong(found[0][0], 'the row `within` has a limit for each budget and nothing else: see the column %s' % column)
         return found[0]
 
@@ -142,19 +142,19 @@ class Table:
         return [self.variables[name] for name in names]
 
 
-def is_budget(column: str) -> bool:
+def _is_budget(column: str) -> bool:
     """Whether a column is one of amounts that have a limit.
 
-    >>> is_budget('Budget capex'), is_budget('budget')
+    >>> _is_budget('Budget capex'), _is_budget('budget')
     (True, False)
     """
     return re.match(r'budget \S', column, re.IGNORECASE) is not None
 
 
-def parts_of(cell: str, is_comma: bool) -> Optional[Tuple[int, str, str]]:
+def _parts_of(cell: str, is_comma: bool) -> Optional[Tuple[int, str, str]]:
     """The sign, the digits and the decimals of a number, or None.
 
-    >>> parts_of('-9.25', False), parts_of('1,5', True), parts_of('²', False)
+    >>> _parts_of('-9.25', False), _parts_of('1,5', True), _parts_of('²', False)
     ((-1, '9', '25'), (1, '1', '5'), None)
     """
     digits = re.fullmatch(r'([-+]?)([0-9]*)(?:%s([0-9]*))?' % ('[.,]' if is_comma else '[.]'), cell)
@@ -163,11 +163,11 @@ def parts_of(cell: str, is_comma: bool) -> Optional[Tuple[int, str, str]]:
     return -1 if digits.group(1) == '-' else 1, digits.group(2) or '0', (digits.group(3) or '').rstrip('0')
 
 
-def weights_of(table: Table, column: str, rows: Sequence[Tuple[int, Record]]) -> Weights:
+def _weights_of(table: _Table, column: str, rows: Sequence[Tuple[int, Record]]) -> _Weights:
     """The numbers of a column, made whole."""
     is_comma, mark, found = table.delimiter != ',', '', []
     for line, row in rows:
-        cell, parts = row[column], parts_of(row[column] or '0', is_comma)
+        cell, parts = row[column], _parts_of(row[column] or '0', is_comma)
         own = ',' if ',' in cell else '.' if '.' in cell else mark
         if parts is None or (mark and own != mark):
             what = "'%s' in the column %s " % (cell[:MOST_DIGITS], column)
@@ -177,13 +177,13 @@ def weights_of(table: Table, column: str, rows: Sequence[Tuple[int, Record]]) ->
         mark = own
         found.append(parts)
     places = max((len(decimals) for _, _, decimals in found), default=0)
-    return Weights([sign * int(whole + decimals.ljust(places, '0')) for sign, whole, decimals in found], places)
+    return _Weights([sign * int(whole + decimals.ljust(places, '0')) for sign, whole, decimals in found], places)
 
 
-class Cost(NamedTuple):
+class _Cost(NamedTuple):
     """An objective: its sense, its name with the unit that its numbers are in, and their sum's text.
 
-    >>> Cost('min', 'price, in 0.01', '+2450 x1').name
+    >>> _Cost('min', 'price, in 0.01', '+2450 x1').name
     'price, in 0.01'
     """
 
@@ -192,23 +192,23 @@ class Cost(NamedTuple):
     terms: str
 
 
-def objective_of(table: Table, column: str) -> Cost:
+def _objective_of(table: _Table, column: str) -> _Cost:
     """The objective of a column, scaled where it has decimals."""
-    weights = weights_of(table, column, table.rows)
+    weights = _weights_of(table, column, table.rows)
     marked = re.fullmatch(r'(min|max) (.*)', column, re.IGNORECASE)
     sense, name = (marked.group(1).lower(), marked.group(2)) if marked else ('min', column)
     name += '' if weights.places == 0 else ', in 0.%s1' % ('0' * (weights.places - 1))
-    return Cost(sense, name, sum_of(zip(weights.numbers, range(1, len(weights.numbers) + 1))))
+    return _Cost(sense, name, _sum_of(zip(weights.numbers, range(1, len(weights.numbers) + 1))))
 
 
-def is_note(table: Table, column: str) -> bool:
+def _is_note(table: _Table, column: str) -> bool:
     """Whether a column has no number; one that says `min` or `max` is a cost in any case."""
     if re.match(r'(min|max)\b', column, re.IGNORECASE):
         return False
-    return not any(parts_of(row[column], True) for _, row in table.rows)
+    return not any(_parts_of(row[column], True) for _, row in table.rows)
 
 
-def groups_of(table: Table) -> List[Tuple[str, List[int], Bounds]]:
+def _groups_of(table: _Table) -> List[Tuple[str, List[int], Bounds]]:
     """For each group its variables, and the least and the greatest number that is taken."""
     groups = {}  # type: Dict[str, Tuple[List[int], List[Tuple[int, Bounds]]]]
     for line, row in table.rows:
@@ -220,7 +220,7 @@ def groups_of(table: Table) -> List[Tuple[str, List[int], Bounds]]:
         members, said = groups.setdefault(name, ([], []))
         members.append(table.variables[row['option']])
         if choose:
-            said.append((line, bounds_of(table, line, choose)))
+            said.append((line, _bounds_of(table, line, choose)))
         if len({bounds for _, bounds in said}) > 1:
             raise table.wrong(line, 'the group %s says twice how many are chosen' % name)
     for name, (members, said) in groups.items():
@@ -230,7 +230,7 @@ def groups_of(table: Table) -> List[Tuple[str, List[int], Bounds]]:
     return [(name, members, said[0][1] if said else (1, 1)) for name, (members, said) in groups.items()]
 
 
-def bounds_of(table: Table, line: int, choose: str) -> Bounds:
+def _bounds_of(table: _Table, line: int, choose: str) -> Bounds:
     """The bounds that a cell says."""
     bounds = re.fullmatch(r'([0-9]{1,9})(-?)([0-9]{0,9})', choose)
     if not bounds:
@@ -239,20 +239,20 @@ def bounds_of(table: Table, line: int, choose: str) -> Bounds:
     return least, int(bounds.group(3)) if bounds.group(3) else (None if bounds.group(2) else least)
 
 
-def sum_of(terms: Iterable[Tuple[int, int]]) -> str:
+def _sum_of(terms: Iterable[Tuple[int, int]]) -> str:
     """The text of a sum.
 
-    >>> sum_of([(1, 1), (-2, 3)])
+    >>> _sum_of([(1, 1), (-2, 3)])
     '+1 x1 -2 x3'
     """
     return ' '.join('%+d x%d' % term for term in terms)
 
 
-def rows_of(table: Table) -> List[str]:
+def _rows_of(table: _Table) -> List[str]:
     """The constraints, each with a comment."""
     lines = []  # type: List[str]
-    for name, members, (least, greatest) in groups_of(table):
-        ones = sum_of((1, member) for member in members)
+    for name, members, (least, greatest) in _groups_of(table):
+        ones = _sum_of((1, member) for member in members)
         lines.append('* group %s' % name)
         if least == greatest:
             lines.append('%s = %d ;' % (ones, least))
@@ -260,22 +260,22 @@ def rows_of(table: Table) -> List[str]:
             lines += ['%s >= %d ;' % (ones, least)] * (least > 0)
             lines += ['%s <= %d ;' % (ones, greatest)] if greatest is not None else []
     for column in table.columns:
-        if is_budget(column) and table.within:
-            weights = weights_of(table, column, table.rows + [table.within])
-            terms = sum_of(zip(weights.numbers, range(1, len(table.rows) + 1)))
+        if _is_budget(column) and table.within:
+            weights = _weights_of(table, column, table.rows + [table.within])
+            terms = _sum_of(zip(weights.numbers, range(1, len(table.rows) + 1)))
             lines += ['* %s' % column, '%s <= %d ;' % (terms, weights.numbers[-1])]
     for number, row in table.rows:
         own = table.variables[row['option']]
-        lines += ['%s >= 0 ;' % sum_of([(-1, own), (1, other)]) for other in table.others(number, row, 'needs')]
-        lines += ['%s <= 1 ;' % sum_of([(1, own), (1, other)]) for other in table.others(number, row, 'excludes')]
+        lines += ['%s >= 0 ;' % _sum_of([(-1, own), (1, other)]) for other in table.others(number, row, 'needs')]
+        lines += ['%s <= 1 ;' % _sum_of([(1, own), (1, other)]) for other in table.others(number, row, 'excludes')]
     return lines
 
 
-def _columns(table: Table) -> Tuple[List[Cost], List[str]]:
+def _columns(table: _Table) -> Tuple[List[_Cost], List[str]]:
     """The objectives, and the columns that are left out."""
-    columns = [column for column in table.columns if column not in WORDS and not is_budget(column)]
-    notes = [column for column in columns if is_note(table, column)]
-    costs = [objective_of(table, column) for column in columns if column not in notes]
+    columns = [column for column in table.columns if column not in WORDS and not _is_budget(column)]
+    notes = [column for column in columns if _is_note(table, column)]
+    costs = [_objective_of(table, column) for column in columns if column not in notes]
     for cost in costs:
         try:
             text_of_name(cost.name)
@@ -289,12 +289,12 @@ def _columns(table: Table) -> Tuple[List[Cost], List[str]]:
 def _body(arguments: List[str]) -> int:
     if len(arguments) != 2 or not arguments[1].endswith(('.opb', '.mopb')):
         return usage(str(__doc__))
-    table = Table(arguments[0])
+    table = _Table(arguments[0])
     costs, notes = _columns(table)
     lines = ['* x%d %s' % (number, name) for name, number in table.variables.items()]
     lines += ['* %s %d %s' % (cost.sense, number, cost.name) for number, cost in enumerate(costs, 1)]
     lines += [' '.join(('%s: %s ;' % (cost.sense, cost.terms)).split()) for cost in costs]
-    lines += rows_of(table)
+    lines += _rows_of(table)
     write_text(arguments[1], '\n'.join(lines) + '\n')
     print('from-csv: costs: %s' % ('; '.join('%s %s' % (cost.sense, cost.name) for cost in costs) or 'none'), file=sys.stderr)
     if notes:

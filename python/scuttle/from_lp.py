@@ -30,10 +30,10 @@ TURNED = {'<=': '>=', '>=': '<=', '=': '='}
 MOST_EXPONENT = 40
 
 
-class Token(NamedTuple):
+class _Token(NamedTuple):
     """A piece of the text: its kind (`relation`, `number`, `mark` or `name`), itself, and its line.
 
-    >>> Token('mark', '+', 1).kind
+    >>> _Token('mark', '+', 1).kind
     'mark'
     """
 
@@ -42,9 +42,9 @@ class Token(NamedTuple):
     line: int
 
 
-def sections_of(path: str, lines: List[Line]) -> List[Tuple[str, int, List[Token]]]:
+def _sections_of(path: str, lines: List[Line]) -> List[Tuple[str, int, List[_Token]]]:
     """The sections of a file: its kind, its line, and its tokens."""
-    found = []  # type: List[Tuple[str, int, List[Token]]]
+    found = []  # type: List[Tuple[str, int, List[_Token]]]
     for number, text in lines:
         text = text.split('\\', 1)[0].strip()
         kind, rest = _heading(text)
@@ -70,30 +70,30 @@ def _heading(text: str) -> Tuple[Optional[str], str]:
     return None, text
 
 
-def _tokens(path: str, number: int, text: str) -> List[Token]:
+def _tokens(path: str, number: int, text: str) -> List[_Token]:
     found, at = [], 0
     while at < len(text):
         piece = TOKEN.match(text, at)
         if not piece or piece.end() == at:
             raise Malformed(path, number, "'%s' is nothing that can stand here" % text[at:at + MOST_DIGITS].strip())
         kind = ('relation', 'number', 'mark', 'name')[(piece.lastindex or 1) - 1]
-        found.append(Token(kind, piece.group(piece.lastindex or 1), number))
+        found.append(_Token(kind, piece.group(piece.lastindex or 1), number))
         at = piece.end()
     return found
 
 
-class Reader:
+class _Reader:
     """Reads the tokens of a section from the left."""
 
-    def __init__(self, program: Program, line: int, tokens: List[Token]) -> None:
+    def __init__(self, program: Program, line: int, tokens: List[_Token]) -> None:
         self.program, self.tokens, self.at, self.line = program, tokens, 0, line
 
-    def peek(self, ahead: int = 0) -> Token:
+    def peek(self, ahead: int = 0) -> _Token:
         """A token that comes; at the end one of no kind."""
         at = self.at + ahead
-        return self.tokens[at] if at < len(self.tokens) else Token('', 'the end of the section', self.tokens[-1].line if self.tokens else self.line)
+        return self.tokens[at] if at < len(self.tokens) else _Token('', 'the end of the section', self.tokens[-1].line if self.tokens else self.line)
 
-    def take(self) -> Token:
+    def take(self) -> _Token:
         """The next token."""
         token = self.peek()
         self.at += 1
@@ -124,7 +124,7 @@ class Reader:
             raise self.wrong('here stands a number')
         return sign * self._value(self.take())
 
-    def _value(self, token: Token) -> Fraction:
+    def _value(self, token: _Token) -> Fraction:
         exponent = re.search('[eE]([-+]?[0-9]+)', token.text)
         if len(token.text) > MOST_DIGITS or exponent and abs(int(exponent.group(1))) > MOST_EXPONENT:
             raise self.program.wrong(token.line, 'the number %s is too large or too long' % token.text[:MOST_DIGITS])
@@ -156,7 +156,7 @@ class Reader:
         return RELATIONS[self.take().text] if self.peek().kind == 'relation' else None
 
 
-def _read_goals(reader: Reader, sense: str, stem: str) -> None:
+def _read_goals(reader: _Reader, sense: str, stem: str) -> None:
     """The objective of the section, or the several named ones."""
     program = reader.program
     several = reader.peek().text.lower() == 'multi' and reader.peek(1).text == '-'
@@ -174,7 +174,7 @@ def _read_goals(reader: Reader, sense: str, stem: str) -> None:
         raise reader.wrong('an objective ends here')
 
 
-def _read_row(reader: Reader, count: int) -> None:
+def _read_row(reader: _Reader, count: int) -> None:
     """One row, which may have a bound on either side."""
     program, line = reader.program, reader.peek().line
     name = reader.label() or 'R%d' % count
@@ -195,7 +195,7 @@ def _read_row(reader: Reader, count: int) -> None:
             program.limits.append(Limit(name, left.weights, relation, bound - left.constant, line))
 
 
-def _read_bound(reader: Reader) -> None:
+def _read_bound(reader: _Reader) -> None:
     """One line of bounds: `0 <= x <= 1`, `x <= 1`, `x = 1`, `x free`."""
     program = reader.program
     sides = []  # type: List[Tuple[str, Optional[Fraction]]]
@@ -233,11 +233,11 @@ def read_lp(path: str) -> Program:
     program = Program(path)
     stem = re.sub(r'\.lp$', '', path.replace('\\', '/').split('/')[-1])
     lines = read_lines(path)
-    sections = sections_of(path, lines)
+    sections = _sections_of(path, lines)
     if not sections or sections[0][0] not in ('min', 'max'):
         raise Malformed(path, sections[0][1] if sections else 1, 'a model begins with Minimize or Maximize')
     for kind, line, tokens in sections:
-        reader = Reader(program, line, tokens)
+        reader = _Reader(program, line, tokens)
         if kind in ('min', 'max'):
             _read_goals(reader, kind, stem)
         while reader.peek().kind and kind == 'rows':
@@ -250,13 +250,13 @@ def read_lp(path: str) -> Program:
         # So glpsol says the number besides, for which the format has no place.
         said = re.match(r'\\\* constant term = (\S+) \*\\', text)
         if said:
-            number = Reader(program, line, _tokens(path, line, said.group(1))).number()
+            number = _Reader(program, line, _tokens(path, line, said.group(1))).number()
             goal = program.goals[0]
             program.goals[0] = goal._replace(sum=goal.sum._replace(constant=goal.sum.constant + (number or 0)))
     return program
 
 
-def _read_kind(reader: Reader, kind: str) -> None:
+def _read_kind(reader: _Reader, kind: str) -> None:
     """One variable that is whole, or 0 or 1."""
     token = reader.take()
     if token.kind != 'name':

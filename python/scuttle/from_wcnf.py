@@ -63,7 +63,7 @@ def read_wcnf(path: str) -> Weighted:
     return found
 
 
-def mcnf_text(paths: List[str]) -> str:
+def _mcnf_text(paths: List[str]) -> str:
     """The instance of some files, with a cost for each."""
     files = [read_wcnf(path) for path in paths]
     hard = [sorted(tuple(sorted(clause)) for clause in file.hard) for file in files]
@@ -83,7 +83,7 @@ def mcnf_text(paths: List[str]) -> str:
 def _body(arguments: List[str]) -> int:
     if len(arguments) < 2 or not arguments[-1].endswith('.mcnf') or any(word.startswith('--') for word in arguments):
         return usage(str(__doc__))
-    write_text(arguments[-1], mcnf_text(arguments[:-1]))
+    write_text(arguments[-1], _mcnf_text(arguments[:-1]))
     return 0
 
 

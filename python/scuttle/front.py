@@ -214,7 +214,15 @@ class Front:
         return self.labels.objectives.index(name)
 
     def best(self, name: str) -> Plan:
-        """The plan with the best of one cost, the first of equal ones. `KeyError` where there is no such cost, `IndexError` where no plan."""
+        """The plan with the best of one cost, the first of equal ones. `KeyError` where there is no such cost, `IndexError` where no plan.
+
+        >>> from scuttle import Model
+        >>> m = Model(); red, box = m.option('red'), m.option('box')
+        >>> m.minimise('pay', 5 * red + 2 * box); m.maximise('joy', 3 * red + 2 * box)
+        >>> front = m.solve()
+        >>> front.best('joy')
+        <plan 4: pay: 7; joy: 5>
+        """
         k = self._objective(name)
         sign = 1 if self.labels.senses[k] == 'min' else -1
         if not self.plans:
@@ -241,7 +249,15 @@ class Front:
 
     def knee(self) -> Plan:
         """The plan nearest to the ideal, which has the best of each cost, where each cost goes from 0 to 1 over the plans that are left;
-        the first of equal ones. `IndexError` where there is none."""
+        the first of equal ones. `IndexError` where there is none.
+
+        >>> from scuttle import Model
+        >>> m = Model(); red, box = m.option('red'), m.option('box')
+        >>> m.minimise('pay', 5 * red + 2 * box); m.maximise('joy', 3 * red + 2 * box)
+        >>> front = m.solve()
+        >>> front.knee()
+        <plan 2: pay: 2; joy: 2>
+        """
         if not self.plans:
             raise IndexError('there is no plan')
         ends = [(min(column), max(column)) for column in zip(*[plan.vector for plan in self.plans])]  # type: List[Tuple[int, int]]
@@ -253,11 +269,27 @@ class Front:
         return min(self.plans, key=distance)
 
     def always(self) -> List[Name]:
-        """The options that each of the plans takes."""
+        """The options that each of the plans takes.
+
+        >>> from scuttle import Model
+        >>> m = Model(); red, box = m.option('red'), m.option('box')
+        >>> m.minimise('pay', 5 * red + 2 * box); m.maximise('joy', 3 * red + 2 * box)
+        >>> front = m.solve()
+        >>> front.where(pay=lambda v: v >= 5).always()
+        ['red']
+        """
         return self._shared(lambda counts: counts == len(self.plans)) if self.plans else []
 
     def never(self) -> List[Name]:
-        """The options that none of the plans takes."""
+        """The options that none of the plans takes.
+
+        >>> from scuttle import Model
+        >>> m = Model(); red, box = m.option('red'), m.option('box')
+        >>> m.minimise('pay', 5 * red + 2 * box); m.maximise('joy', 3 * red + 2 * box)
+        >>> front = m.solve()
+        >>> front.where(pay=lambda v: v < 5).never()
+        ['red']
+        """
         return self._shared(lambda counts: counts == 0) if self.plans else []
 
     def _shared(self, is_so: Callable[[int], bool]) -> List[Name]:
@@ -268,7 +300,15 @@ class Front:
         return [name for k, (name, count) in enumerate(zip(self.labels.options, counts), 1) if is_so(count) and k not in self.labels.helping]
 
     def diff(self, i: Union[int, Plan], j: Union[int, Plan]) -> Difference:
-        """How the second plan differs from the first; each is a plan or its place, from 0."""
+        """How the second plan differs from the first; each is a plan or its place, from 0.
+
+        >>> from scuttle import Model
+        >>> m = Model(); red, box = m.option('red'), m.option('box')
+        >>> m.minimise('pay', 5 * red + 2 * box); m.maximise('joy', 3 * red + 2 * box)
+        >>> front = m.solve()
+        >>> front.diff(1, 2)
+        Difference(costs={'pay': 3, 'joy': 1}, only_first=['box'], only_second=['red'])
+        """
         first, second = [plan if isinstance(plan, Plan) else self.plans[plan] for plan in (i, j)]
         names = [dict.fromkeys(plan.taken) for plan in (first, second)]
         return Difference({name: second.costs[name] - cost for name, cost in first.costs.items()},
@@ -317,6 +357,13 @@ class Front:
         `objectives` with `name` and `sense`, `options` with `name`, `parts` where a tuple gave it, and `helping`, `plans` with `number`, `costs`
         in the order of the objectives and `taken`, the places of options from 0, also of those that only help; `knee`, the place of that
         plan, or null; `more`, for each plan null or `all`, `accepted` and `plans`, each as `taken`.
+
+        >>> from scuttle import Model
+        >>> m = Model(); red, box = m.option('red'), m.option('box')
+        >>> m.minimise('pay', 5 * red + 2 * box); m.maximise('joy', 3 * red + 2 * box)
+        >>> front = m.solve()
+        >>> json.loads(front.to_json())['plans'][1]
+        {'number': 2, 'costs': [2, 2], 'taken': [1]}
         """
         knee = self.plans.index(self.knee()) if self.plans else None
         options = [dict({'name': text_of_name(name), 'helping': k in self.labels.helping},
@@ -333,7 +380,15 @@ class Front:
 
     def to_csv(self) -> str:
         """A row for each plan, with a column for each cost and 1 or 0 for each option. Names that a spreadsheet would take for formulas
-        get a quote before them."""
+        get a quote before them.
+
+        >>> from scuttle import Model
+        >>> m = Model(); red, box = m.option('red'), m.option('box')
+        >>> m.minimise('pay', 5 * red + 2 * box); m.maximise('joy', 3 * red + 2 * box)
+        >>> front = m.solve()
+        >>> front.to_csv().split('\\n')[:2]
+        ['entry,complete,pay,joy,red,box', '1,yes,0,0,0,0']
+        """
         text = io.StringIO()
         out = csv.writer(text, lineterminator='\n')
         shown = [k for k in range(len(self.labels.options)) if k + 1 not in self.labels.helping]
@@ -344,7 +399,15 @@ class Front:
         return text.getvalue()
 
     def to_svg(self) -> str:
-        """The picture that `scuttle-picture` draws."""
+        """The picture that `scuttle-picture` draws.
+
+        >>> from scuttle import Model
+        >>> m = Model(); red, box = m.option('red'), m.option('box')
+        >>> m.minimise('pay', 5 * red + 2 * box); m.maximise('joy', 3 * red + 2 * box)
+        >>> front = m.solve()
+        >>> front.to_svg().count('<circle')
+        4
+        """
         return picture.svg_of(self.title(), [(plan.number, plan.vector) for plan in self.plans],
                               picture.axis_names(self.labels.objectives, self.labels.senses), self.labels.senses)
 
@@ -360,13 +423,28 @@ class Front:
             html.escape(repr(self)[8:-1]), '<ul>%s</ul>' % conflict if conflict else '', cells('th', head), ''.join(rows), left)
 
     def to_dataframe(self) -> Any:
-        """A pandas DataFrame of the costs by plan; wants pandas."""
+        """A pandas DataFrame of the costs by plan; wants pandas.
+
+        >>> from scuttle import Model
+        >>> m = Model(); red, box = m.option('red'), m.option('box')
+        >>> m.minimise('pay', 5 * red + 2 * box); m.maximise('joy', 3 * red + 2 * box)
+        >>> front = m.solve()
+        >>> front.to_dataframe()['pay'].max()  # doctest: +SKIP
+        7
+        """
         pandas = importlib.import_module('pandas')
         return pandas.DataFrame([plan.costs for plan in self.plans], index=[plan.number for plan in self.plans],
                                 columns=self.labels.objectives)
 
     def plot(self) -> Any:
-        """Matplotlib axes with one cost against the other, or, where there aren't two, each plan's costs as a line; wants matplotlib."""
+        """Matplotlib axes with one cost against the other, or, where there aren't two, each plan's costs as a line; wants matplotlib.
+
+        >>> from scuttle import Model
+        >>> m = Model(); red, box = m.option('red'), m.option('box')
+        >>> m.minimise('pay', 5 * red + 2 * box); m.maximise('joy', 3 * red + 2 * box)
+        >>> front = m.solve()
+        >>> front.plot().figure.savefig('front.png')  # doctest: +SKIP
+        """
         axes = importlib.import_module('matplotlib.pyplot').subplots()[1]
         names = picture.axis_names(self.labels.objectives, self.labels.senses)
         if len(names) == 2:

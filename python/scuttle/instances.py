@@ -111,12 +111,20 @@ def read_names(path: str) -> Names:
 
 
 def instance_of(path: str, lines: Sequence[Line]) -> Instance:
-    """The instance that the lines of a file hold."""
+    """The instance that the lines of a file hold, whose name says the format.
+
+    >>> instance_of('a.opb', [Line(1, 'min: 3 x1 ;')]).objectives[0].terms
+    [(3, 1)]
+    """
     return _instance_of_clauses(path, lines) if is_clauses(path) else _instance_of_statements(path, lines)
 
 
 def names_of(path: str, lines: Sequence[Line]) -> Names:
-    """The names that the lines of a file give; of two the first counts."""
+    """The names that the lines of a file give; of two the first counts.
+
+    >>> names_of('a.opb', [Line(1, '* x1 shop'), Line(2, '* x1 stall')]).variables
+    {1: 'shop'}
+    """
     names = Names({}, {})
     mark = re.compile(r'\s*c\s+(.*)' if is_clauses(path) else r'\s*\*\s*(.*)')
     for line in lines:
@@ -129,12 +137,20 @@ def names_of(path: str, lines: Sequence[Line]) -> Names:
 
 
 def name_of_variable(names: Names, number: int) -> str:
-    """A variable's name, or `x` and its number."""
+    """A variable's name, or `x` and its number.
+
+    >>> name_of_variable(Names({}, {}), 7)
+    'x7'
+    """
     return names.variables.get(number, 'x%d' % number)
 
 
 def name_of_objective(names: Names, number: int) -> str:
-    """An objective's name, or `cost` and its number."""
+    """An objective's name, or `cost` and its number.
+
+    >>> name_of_objective(Names({}, {}), 2)
+    'cost 2'
+    """
     return names.objectives.get(number, 'cost %d' % number)
 
 

@@ -127,7 +127,13 @@ def read_models(path: str, variables: int) -> List[Choice]:
 
 
 def fits(path: str, listing: Listing, instance: Instance) -> None:
-    """Raises `Malformed` where a list is that of another instance."""
+    """Raises `Malformed` where a list is that of another instance.
+
+    >>> fits('a.list', Listing(True, [Entry((3,), [1])]), Instance(2, [], []))
+    Traceback (most recent call last):
+    ...
+    scuttle.errors.Malformed: a.list:2: an entry has 1 variables and 1 costs, and the instance has 2 and 0
+    """
     for entry in listing.entries[:1]:
         if (len(entry.model), len(entry.costs)) != (instance.variables, len(instance.objectives)):
             raise Malformed(path, 2, 'an entry has %d variables and %d costs, and the instance has %d and %d' % (

@@ -50,13 +50,14 @@ def models_of(path: str, instance: Instance) -> Dict[Costs, List[int]]:
     {(3,): [1]}
     """
     models = {}  # type: Dict[Costs, List[int]]
-    with open(path, encoding='ascii', errors='replace', newline='\n') as file:
+    # Logs may have gigabytes, and few lines of them count here: only these are made text.
+    with open(path, 'rb') as file:
         for number, line in enumerate(file, 1):
-            if not line.endswith('\n'):
+            if not line.endswith(b'\n'):
                 break
-            if number == 1 and not is_log_head(line[:-1]):
+            if number == 1 and not is_log_head(line[:-1].decode('ascii', 'replace')):
                 raise Malformed(path, 1, 'this is no log: the first line of one begins with `scuttle proof version`')
-            if line.startswith('sol '):
-                model = model_at(path, number, line, instance.variables)
+            if line.startswith(b'sol '):
+                model = model_at(path, number, line.decode('ascii', 'replace'), instance.variables)
                 models.setdefault(costs_of(instance, model), model)
     return models

@@ -11,8 +11,9 @@ from .errors import Failed, NoProgram
 HERE = os.path.dirname(os.path.abspath(__file__))
 # Where the executable stands in an installed package, and where in a clone.
 PLACES = (os.path.join(HERE, 'bin', 'scuttle'), os.path.join(HERE, '..', '..', 'scuttle'))
-# How often a run is looked at, how long a stopped one may take to end, and how much of a log is read at once. Seconds, bytes.
-PAUSE, PATIENCE, PIECE = 0.05, 2.0, 1 << 24
+# How often a run is looked at; how long a stopped one may take to end, which may write what it has; and how much of a log is read at once.
+# Seconds, bytes.
+PAUSE, PATIENCE, PIECE = 0.05, 20.0, 1 << 24
 # What stops a run from outside: Ctrl-C, a request, and the system's lack of memory or patience.
 STOPPED = (signal.SIGINT, signal.SIGTERM, signal.SIGKILL)
 DOES_NOT_RUN = "the executable %s doesn't run on this system (it is for x86-64 Linux with glibc 2.34 or later): %s"

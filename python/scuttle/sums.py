@@ -119,14 +119,14 @@ class Sum:
 
     def __eq__(self, other: Any) -> 'Row':  # type: ignore[override]
         if isinstance(self, Option) and isinstance(other, Option):
-            return Row(self - other, '=', self.key() == other.key())
+            return Row(self - other, '=', self._key() == other._key())
         if not _is_addend(other):
             return NotImplemented
         return Row(self - other, '=')
 
     def __ne__(self, other: Any) -> 'Row':  # type: ignore[override]
         if isinstance(self, Option) and isinstance(other, Option):
-            return Row(self + other - 1, '=', self.key() != other.key())
+            return Row(self + other - 1, '=', self._key() != other._key())
         if not _is_addend(other):
             return NotImplemented
         raise ModelError("`!=` between sums isn't one row: use `<` or `>`, with an option that says which")
@@ -158,12 +158,12 @@ class Option(Sum):
         """The name, and whether the opposite is meant."""
         return self.name, self.negated
 
-    def key(self) -> Tuple[str, bool, int]:
+    def _key(self) -> Tuple[str, bool, int]:
         """What tells options apart."""
         return text_of_name(self.name), self.negated, id(self.model)
 
     def __hash__(self) -> int:  # type: ignore[override]
-        return hash(self.key())
+        return hash(self._key())
 
     def __invert__(self) -> 'Option':
         return Option(self.name, not self.negated, self.model)
@@ -238,7 +238,11 @@ def option_of(thing: Any) -> Option:
 
 
 def sum_of(thing: Any) -> Sum:
-    """The sum that something stands for: a sum, an option, or a whole number. A name alone isn't one, so that none is added by mistake."""
+    """The sum that something stands for: a sum, an option, or a whole number. A name alone isn't one, so that none is added by mistake.
+
+    >>> sum_of(3) + Option('a')
+    a + 3
+    """
     if isinstance(thing, Sum):
         return thing
     if isinstance(thing, (str, tuple)):

@@ -23,10 +23,10 @@ def _sum(terms: Iterable[Tuple[int, str]]) -> str:
     return '\n   '.join(' '.join(words[at:at + TERMS_A_LINE]) for at in range(0, len(words), TERMS_A_LINE)) or '0 x1'
 
 
-def plain(terms: Iterable[Term]) -> Tuple[List[Tuple[int, str]], int]:
+def _plain(terms: Iterable[Term]) -> Tuple[List[Tuple[int, str]], int]:
     """A sum over variables alone, and the number that negated literals add. Each variable comes once.
 
-    >>> plain([(3, 1), (5, -2), (1, 1)])
+    >>> _plain([(3, 1), (5, -2), (1, 1)])
     ([(4, 'x1'), (-5, 'x2')], 5)
     """
     found, constant = {}, 0  # type: Dict[int, int], int
@@ -38,12 +38,12 @@ def plain(terms: Iterable[Term]) -> Tuple[List[Tuple[int, str]], int]:
 
 def _objective(k: int, objective: Objective) -> Tuple[List[Tuple[int, str]], int, List[str]]:
     """The terms of an objective, the number besides, and the rows that say which soft clauses are missed."""
-    terms, constant = plain(objective.terms)
+    terms, constant = _plain(objective.terms)
     rows = []
     for at, (weight, clause) in enumerate(objective.softs, 1):
         missed = 'missed_%d_%d' % (k, at)
         terms.append((weight, missed))
-        ones, negated = plain((1, literal) for literal in dict.fromkeys(clause))
+        ones, negated = _plain((1, literal) for literal in dict.fromkeys(clause))
         rows.append(' s%d: %s >= %d' % (at, _sum(ones + [(1, missed)]), 1 - negated))
     return terms, constant, rows
 
@@ -66,7 +66,7 @@ def lp_text(instance: Instance, names: Names, k: int) -> str:
     terms, constant, softs = _objective(k, objective)
     rows = []
     for at, row in enumerate(instance.rows, 1):
-        ones, negated = plain(row.terms)
+        ones, negated = _plain(row.terms)
         rows.append(' r%d: %s %s %d' % (at, _sum(ones), row.relation, row.bound - negated))
     comments = ['\\* x%d: %s *\\' % (number, printable(name)) for number, name in names.variables.items()]
     comments += ['\\* %s: %s *\\' % (objective.sense, printable(name_of_objective(names, k)))] if k in names.objectives else []

@@ -61,7 +61,7 @@ def clauses_of(path: str, row: Row) -> List[Tuple[int, ...]]:
     return found
 
 
-def wcnf_text(path: str, instance: Instance, names: Names, k: int) -> str:
+def _wcnf_text(path: str, instance: Instance, names: Names, k: int) -> str:
     """The file of the k-th objective, from 1."""
     objective = instance.objectives[k - 1] if instance.objectives else Objective('min', [], [])
     sign = 1 if objective.sense == 'min' else -1
@@ -82,7 +82,7 @@ def _body(arguments: List[str]) -> int:
     if len(arguments) != 2 or any(word.startswith('--') for word in arguments):
         return usage(str(__doc__))
     instance, names = read_named(arguments[0])
-    texts = [wcnf_text(arguments[0], instance, names, k) for k in range(1, max(1, len(instance.objectives)) + 1)]
+    texts = [_wcnf_text(arguments[0], instance, names, k) for k in range(1, max(1, len(instance.objectives)) + 1)]
     for k, text in enumerate(texts, 1):
         write_text('%s.%d.wcnf' % (arguments[1], k), text)
     return 0
