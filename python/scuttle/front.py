@@ -13,7 +13,7 @@ from .errors import ScuttleError
 from .files import cell_of, printable, read_lines, write_text
 from .instances import Costs, instance_of, name_of_objective, name_of_variable, names_of
 from .lists import Choice, Entry, Listing, fits, read_list, read_models, text_of, title_of
-from .running import run
+from .running import run, run_until
 from .sums import Name, Option, text_of_name
 
 # The most plans that a notebook shows at once: more are a file's matter.
@@ -314,9 +314,10 @@ class Front:
         return Difference({name: second.costs[name] - cost for name, cost in first.costs.items()},
                           [name for name in names[0] if name not in names[1]], [name for name in names[1] if name not in names[0]])
 
-    def more(self, i: Union[int, Plan], k: int) -> More:
+    def more(self, i: Union[int, Plan], k: int, seconds: Optional[float] = None) -> More:
         """Up to k plans of costs as good as those of a plan, or of its place, from 0, by `models`; and whether they are all, which
-        `check-models` judges. Plans that differ only in helping options are one, the first.
+        `check-models` judges. Plans that differ only in helping options are one, the first. When the seconds are up before the search has
+        ended, it is that plan alone.
 
         >>> from scuttle import Model
         >>> m = Model(); m.exactly(1, 'red car', 'blue car')
@@ -333,7 +334,8 @@ class Front:
             write_text(paths[0], self.source.text)
             write_text(paths[1], text_of(Listing(True, [Entry(plan.vector, plan.model)])))
             words = paths + [str(k), os.path.join(folder, 'more')]
-            run(self.source.program, ['models'] + words, (0,))
+            if run_until(self.source.program, ['models'] + words, seconds, lambda: None, (0,)) is None:
+                return More(False, None, [plan])
             accepted = run(self.source.program, ['check-models'] + words, (0, 11)) == 0
             choice = read_models(os.path.join(folder, 'more.models'), len(plan.model))[0]
         found = self._more_of(plan, choice, accepted)

@@ -64,7 +64,8 @@ class Model:
         """
         given = name[0] if len(name) == 1 and isinstance(name[0], str) else name  # type: Name
         made = Option(given, model=self)
-        self._number_of(given)
+        if self._number_of(given) in self._helping:
+            raise BadName('a helping option has this name: %s' % ascii(given))
         return made
 
     def options(self, *names: Iterable[Union[str, int]]) -> 'Dict[Tuple[Union[str, int], ...], Option]':

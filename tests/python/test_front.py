@@ -89,6 +89,8 @@ class Choosing(unittest.TestCase):
         self.assertEqual(len(taken), len(more.plans))
         self.assertEqual(taken, {(('x', a), ('x', b)) for a, b in ((0, 2), (0, 3), (2, 3))})
         self.assertEqual(front.choices, [more])
+        none = front.more(0, 9, seconds=0)
+        self.assertEqual((none.all, none.accepted, none.plans), (False, None, [front[0]]))
 
     def test_more_of_a_front_that_is_not_complete(self):
         front = shop().solve()

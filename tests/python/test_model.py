@@ -211,6 +211,16 @@ class Helping(unittest.TestCase):
         m.maximise('all', sum(xs))
         self.assertEqual(self.front_of(m), [(0, 0), (1, 1), (2, 2)])
 
+    def test_names_of_helping_options(self):
+        m = Model()
+        m.option('load, step 1')
+        with self.assertRaises(scuttle.BadName):
+            m.excess(m.option('a'), 0, name='load')
+        m.excess(m.option('a'), 0, name='other')
+        for wrong in (lambda: m.option('other, step 1'), lambda: m.excess(m.option('a'), 0, name='other')):
+            with self.assertRaises(scuttle.BadName):
+                wrong()
+
     def test_what_they_would_not_say_is_refused(self):
         m = Model()
         a, b = m.option('a'), m.option('b')
