@@ -7,7 +7,7 @@ from .conflicts import conflict_of
 from .errors import BadName, ModelError
 from .files import write_text
 from .front import Front, Labels, Plan, Source
-from .sums import (AnyOption, Name, Option, Row, Sum, at_least, at_most, bounds_of, exactly, if_then, in_words, no, options_of, sum_of,
+from .sums import (AnyOption, Name, Option, Row, Sum, at_least, at_most, bounds_of, exactly, if_then, in_words, no, option_of, options_of, sum_of,
                    text_of_name, total, whole)
 
 # Up to this many units a helping number is a ladder of units, which the search orders; beyond, each helping option is worth twice the one before.
@@ -184,7 +184,7 @@ class Model:
         >>> m = Model(); m.implies('a', 'b'); m.rows[0].text
         '+1 ~x1 +1 x2 >= 1 ;'
         """
-        self.add(*[at_least(1, no(option), other) for other in options_of(others)])
+        self.add(*[at_least(1, no(option), other) for other in others])
 
     def row(self, weighted: Iterable[Tuple[Any, AnyOption]], relation: str, bound: int) -> None:
         """The sum of (weight, option) pairs stands so to the bound: `>=`, `<=` or `=`.
@@ -194,7 +194,7 @@ class Model:
         """
         if relation not in ('>=', '<=', '='):
             raise ModelError('a relation is >=, <= or =')
-        self.add(Row(total(whole(weight) * options_of([option])[0] for weight, option in weighted) - whole(bound), relation))
+        self.add(Row(total(whole(weight) * option_of(option) for weight, option in weighted) - whole(bound), relation))
 
     # What is to be small or large.
 

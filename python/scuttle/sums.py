@@ -61,6 +61,8 @@ class Sum:
 
     __slots__ = ('model', '_pieces', '_constant')
     __hash__ = None  # type: ignore[assignment]
+    # Numbers of numpy leave it to a sum what they are times a sum.
+    __array_ufunc__ = None
 
     def __init__(self, model: Optional[object], pieces: 'Tuple[Tuple[int, Sum], ...]', constant: int) -> None:
         self.model, self._pieces, self._constant = model, pieces, constant

@@ -141,6 +141,11 @@ class Names(InFolder):
         self.assertEqual(m.option('Ann', 3).name, ('Ann', 3))
         m.add(m.option('Ann', 3) >= 1, at_least(1, [('Ben', 'Mon')]))
         self.assertEqual(m.solve()[0].taken, [('Ann', 3), ('Ben', 'Mon')])
+        m.implies(('Ann', 3), ('Cas', 1))
+        m.row([(2, ('Cas', 1)), (1, no(('Dan', 1)))], '>=', 3)
+        m.cost('pay', 2, ('Cas', 1), ('Dan', 1))
+        m.gain('joy', 2, [('Cas', 1)])
+        self.assertEqual((m.solve()[0].taken[2:], m.solve()[0].costs), ([('Cas', 1)], {'pay': 2, 'joy': 2}))
         self.assertTrue(m.solve()[0]['Ann 3'] and m.solve()[0]['Ann', 3] and m.solve()[0][m.option('Ann', 3)])
         with self.assertRaisesRegex(scuttle.BadName, 'one name'):
             m.add(m.option('Ben Mon', 'early') + m.option('Ben', 'Mon early') >= 1)
