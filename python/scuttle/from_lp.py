@@ -23,7 +23,7 @@ SECTIONS = [('min', r'min(imi[sz]e|imum)?'), ('max', r'max(imi[sz]e|imum)?'), ('
             ('bounds', r'bounds?'), ('whole', r'gen(erals?)?|int(egers?)?'), ('binary', r'bin(ary|aries)?'), ('end', r'end'),
             ('left', r'semi(s|-continuous)?|sos[12]?|lazy constraints|user cuts|(gen(eral)?) constraints|pwlobj')]
 TOKEN = re.compile(r'\s*(?:(<=|=<|<|>=|=>|>|=)|([0-9]+\.?[0-9]*(?:[eE][-+]?[0-9]+)?|\.[0-9]+(?:[eE][-+]?[0-9]+)?)|([-+:*/^\[\]])'
-                   r'|([^\s0-9<>=:+\-*/^\[\].\\][^\s<>=:+\-*/^\[\]\\]*))')
+                   r'|([^\s0-9<>=:+\-*/^\[\].\\][^\s<>=:+\-*/^\\]*))')
 RELATIONS = {'<': '<=', '=<': '<=', '<=': '<=', '>': '>=', '=>': '>=', '>=': '>=', '=': '='}
 TURNED = {'<=': '>=', '>=': '<=', '=': '='}
 # The largest exponent that is read as a number: more is no coefficient, and would take its digits in memory.
@@ -48,6 +48,9 @@ def _sections_of(path: str, lines: List[Line]) -> List[Tuple[str, int, List[_Tok
     for number, text in lines:
         text = text.split('\\', 1)[0].strip()
         kind, rest = _heading(text)
+        if kind in ('min', 'max') and found or kind == 'rows' and [begun for begun, _, _ in found] not in (['min'], ['max']):
+            # Such a word begins a section only where that may stand; here it is a name.
+            kind = None
         if kind == 'left':
             raise Malformed(path, number, 'a section `%s` can\'t be taken' % text)
         if kind:

@@ -188,9 +188,42 @@ max: +25 x1 +30 x2 -10 x3 +10 x4 +70 x1 +70 ~x1 ;
         self.assertIn("aren't those of a.lp", self.command('from-lp', 'a.lp', 'b.lp', 'w.opb')[2])
         self.assertIn('two objectives have one name', self.command('from-lp', 'a.lp', 'a.lp', 'w.opb')[2])
 
+    def test_as_pyomo_and_gurobi_write_it(self):
+        self.write('g.lp', '''\\* Source Pyomo model name=unknown *\\
+
+min
+cost:
++2 x[0]
++3 x(1,2)
++4 ONE_VAR_CONSTANT
+
+s.t.
+
+c_u_limit_:
++1 x[0]
++1 x(1,2)
+>= 1
+
+c_e_ONE_VAR_CONSTANT:
+ONE_VAR_CONSTANT = 1.0
+
+bounds
+  0 <= x[0] <= 1
+  1 <= ONE_VAR_CONSTANT <= 1
+binary
+  x[0]
+  x(1,2)
+end
+''')
+        self.assertEqual(self.command('from-lp', 'g.lp', 'g.opb')[0], 0)
+        self.assertEqual([line for line in self.read('g.opb').split('\n') if not line.startswith('* row')], [
+            '* x1 x[0]', '* x2 x(1,2)', '* min 1 cost', 'min: +2 x1 +3 x2 +4 x1 +4 ~x1 ;', '+1 x1 +1 x2 >= 1 ;', '= 0 ;', ''])
+
     def test_names_that_look_like_sections(self):
         self.write('s.lp', 'min\n max_load + bin_1 + e1 + st2\nst\n end_: max_load + bin_1 >= 1\n min_: e1 + st2 >= 1\nbin\n max_load bin_1 e1 st2\nend\n')
         self.assertEqual(list(read_lp('s.lp').variables), ['max_load', 'bin_1', 'e1', 'st2'])
+        self.write('s.lp', 'max\n a\n + min\nst\n st + a >= 1\n min - max <= 0\nbin\n a min max st\nend\n')
+        self.assertEqual(list(read_lp('s.lp').variables), ['a', 'min', 'st', 'max'])
 
 
 class FromMps(InFolder):
