@@ -386,8 +386,8 @@ class Model:
               turns: Optional[str] = None, program: Optional[str] = None, folder: Optional[str] = None) -> Front:
         """The front, with its list and log checked. See `solving.Settings` for the options of the search.
 
-        After so many seconds, after so many learned clauses, or with Ctrl-C it is the models so far, with `complete` False. `on_plan` is
-        called with each plan that the search finds, as it finds it. In the folder, where one is given, stay `model.opb`, `model.list`
+        After so many seconds, after so many learned clauses, or with Ctrl-C it is the models so far, with `complete` False; the check after a
+        search that has ended takes its own time besides. `on_plan` is called with each plan that the search finds, as it finds it. In the folder, where one is given, stay `model.opb`, `model.list`
         and `model.log`. Raises `Failed`, `NoProgram`, and `OSError` where the folder can't be written.
 
         >>> m = Model(); m.add(m.option('a') + m.option('b') >= 1)
