@@ -16,8 +16,9 @@ def rows_of(model):
     return [row.text for row in model.rows]
 
 
-class Sums(unittest.TestCase):
+class Sums(InFolder):
     def setUp(self):
+        super().setUp()
         self.m = Model()
         self.a, self.b, self.c = [self.m.option(name) for name in 'abc']
 

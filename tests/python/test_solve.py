@@ -6,6 +6,7 @@ import subprocess
 import sys
 import threading
 import unittest
+import unittest.mock
 
 from setting import PACKAGE, PROGRAM, InFolder
 
@@ -55,10 +56,12 @@ class Ended(InFolder):
         self.assertEqual(os.listdir('.'), ['new'])
 
     def test_nothing_stays_elsewhere(self):
-        before = set(os.listdir(os.environ.get('TMPDIR', '/tmp')))
-        Model().solve()
-        left = [name for name in set(os.listdir(os.environ.get('TMPDIR', '/tmp'))) - before if name.startswith('scuttle-')]
-        self.assertEqual(left, [])
+        os.mkdir('temporary')
+        with unittest.mock.patch('tempfile.tempdir', os.path.abspath('temporary')):
+            front = Model().solve()
+            front.more(0, 2)
+            projects(60).solve(seconds=0)
+        self.assertEqual((os.listdir('.'), os.listdir('temporary')), (['temporary'], []))
 
     def test_models_without_costs_rows_or_options(self):
         self.assertEqual([plan.costs for plan in Model().solve()], [{}])
