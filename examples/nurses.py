@@ -1,5 +1,5 @@
 #!/usr/bin/env python3
-"""A roster of 15 nurses over four weeks: its model, and its front with a page or as far as it comes in a minute.
+"""A roster of 15 nurses over four weeks: its model, and its front, or as much of it as is found in a minute.
 
 usage: examples/nurses.py [FOLDER [SECONDS]]
 
