@@ -5,7 +5,7 @@ ghost use Rattle.linear_front.specs.Told.{IsTold};
 
 use crate::defined::{DefinedOutput, DefinedOutputs, Standing};
 use front_set::CostVec;
-use linear_search::{Limit, LinearSearch, Reply, model_of};
+use linear_search::{Limit, LinearSearch, Reply, Target, model_of};
 use pb_lin::PbProblem;
 use proof_rules::{RecordFault, Recorder};
 use scut_base::{Assignment, Items, Lit, NoMemory};
@@ -47,13 +47,14 @@ pub(crate) struct Cut {
 }
 
 impl<'a> Asking<'a> {
-    // Whether a model's costs are at most the limits, as far as the relaxation tells. Costs an output for each
-    // objective, and what `LinearSearch::ask` does.
+    // Whether a model's costs are at most the limits, as far as the relaxation tells; of such models it seeks the best by the
+    // target. Costs an output for each objective, and what `LinearSearch::ask` does.
     pub(crate) fn ask<R: Recorder>(
         &mut self,
         rec: &mut R,
         problem: &PbProblem,
         limits: &CostVec,
+        target: Target,
     ) -> Result<Told, RecordFault>
         requires ready { IsReady (R.seen rec.old) }
         requires problem { (R.seen rec.old).problem ≡ problem.now }
@@ -63,32 +64,79 @@ impl<'a> Asking<'a> {
         let Some(question) = self.limits(rec, problem, limits)? else {
             return Ok(Told::Closed);
         };
-        self.answer(rec, problem, limits, &question)
+        let lits = question.lits.as_slice();
+        let reply = self
+            .linear
+            .ask(rec, lits, question.asked.as_slice(), target)?;
+        let told = in_memory(told_by(self.alloc, problem, limits, reply))?;
+        Ok(told)
     }
 
-    // What comes of the question whether a model keeps to these limits.
-    fn answer<R: Recorder>(
+    // The same; where it tells, as much may be lost on further questions as this one has cost.
+    pub(crate) fn ask_and_earn<R: Recorder>(
         &mut self,
         rec: &mut R,
         problem: &PbProblem,
         limits: &CostVec,
-        question: &Limits,
+        target: Target,
     ) -> Result<Told, RecordFault>
         requires ready { IsReady (R.seen rec.old) }
+        requires problem { (R.seen rec.old).problem ≡ problem.now }
         ensures recorded { IsRecorded (R.seen rec.old) (R.seen rec.new) result }
         ensures told { IfOk result (IsTold problem.now) }
     {
-        match self
-            .linear
-            .ask(rec, question.lits.as_slice(), question.asked.as_slice())?
-        {
-            Reply::Closed(_core) => Ok(Told::Closed),
-            Reply::Model(model) => {
-                let told = in_memory(told_of(self.alloc, problem, limits, model.as_slice()))?;
-                Ok(told)
-            }
-            Reply::Unknown => Ok(Told::Unknown),
+        let before = self.linear.work();
+        let told = self.ask(rec, problem, limits, target)?;
+        if !matches!(told, Told::Unknown) {
+            let spent = self.linear.work().saturating_sub(before);
+            self.linear.earn(spent);
         }
+        Ok(told)
+    }
+
+    // The same where the last question was about the limits around these: it goes on in that question's tree. Costs an output
+    // for each objective, and what `LinearSearch::ask_further` does.
+    pub(crate) fn ask_below<R: Recorder>(
+        &mut self,
+        rec: &mut R,
+        problem: &PbProblem,
+        limits: &CostVec,
+        around: &CostVec,
+    ) -> Result<Told, RecordFault>
+        requires ready { IsReady (R.seen rec.old) }
+        requires problem { (R.seen rec.old).problem ≡ problem.now }
+        ensures recorded { IsRecorded (R.seen rec.old) (R.seen rec.new) result }
+        ensures told { IfOk result (IsTold problem.now) }
+    {
+        let Some(question) = self.limits(rec, problem, limits)? else {
+            return Ok(Told::Closed);
+        };
+        self.ask_further(rec, problem, limits, around, &question)
+    }
+
+    // The same, where the limits have their outputs. Clauses of the tree name outputs of the limits around, so these are
+    // assumed too, as they follow.
+    fn ask_further<R: Recorder>(
+        &mut self,
+        rec: &mut R,
+        problem: &PbProblem,
+        limits: &CostVec,
+        around: &CostVec,
+        question: &Limits,
+    ) -> Result<Told, RecordFault>
+        requires ready { IsReady (R.seen rec.old) }
+        requires problem { (R.seen rec.old).problem ≡ problem.now }
+        ensures recorded { IsRecorded (R.seen rec.old) (R.seen rec.new) result }
+        ensures told { IfOk result (IsTold problem.now) }
+    {
+        let Some(wider) = self.limits(rec, problem, around)? else {
+            return Ok(Told::Closed);
+        };
+        let lits = in_memory(joined(self.alloc, &question.lits, &wider.lits))?;
+        let asked = question.asked.as_slice();
+        let reply = self.linear.ask_further(rec, lits.as_slice(), asked)?;
+        let told = in_memory(told_by(self.alloc, problem, limits, reply))?;
+        Ok(told)
     }
 
     // The limits of the objectives that may exceed theirs; `None` where one always does.
@@ -226,6 +274,34 @@ fn add_standing(
         lits.push(denial)?;
     }
     rows.push(output.lower)
+}
+
+// The literals of two questions, each once.
+fn joined(alloc: Global, some: &Items<Lit>, others: &Items<Lit>) -> Result<Items<Lit>, NoMemory> {
+    let mut lits = Items::new(alloc);
+    lits.extend_from_slice(some.as_slice())?;
+    for lit in others.as_slice() {
+        if !some.as_slice().contains(lit) {
+            lits.push(*lit)?;
+        }
+    }
+    Ok(lits)
+}
+
+// What a reply tells.
+fn told_by(
+    alloc: Global,
+    problem: &PbProblem,
+    limits: &CostVec,
+    reply: Reply,
+) -> Result<Told, NoMemory>
+    ensures told { IfOk result (IsTold problem.now) }
+{
+    match reply {
+        Reply::Closed(_core) => Ok(Told::Closed),
+        Reply::Model(model) => told_of(alloc, problem, limits, model.as_slice()),
+        Reply::Unknown => Ok(Told::Unknown),
+    }
 }
 
 // What a proposed model tells: it is one only where its costs are at most the limits.

@@ -1,12 +1,13 @@
 // The front as far as relaxations find it, before a search's first turn.
 ghost use Rattle.std.specs.Prelude.{◌≡◌, true, None, Ok, IfOk, IfErr, IfSome, IsOk, OnOk};
-ghost use Rattle.sum_outputs.specs.Adding.{IsFaultAt};
+ghost use Rattle.sum_outputs.specs.Adding.{IsFaultAt, IsReady, IsRecorded};
 ghost use Rattle.search_base.specs.Good.{GoesOn, IsGood, KeepsBoard};
 ghost use Rattle.search_base.specs.Pending.{AreOwnTerms, IsGoodBut};
 ghost use Rattle.search_base.specs.Turns.{IsEndLine, IsInOrder, IsSearchFault};
 ghost use Rattle.linear_front.specs.Ending.{IsKeptEnd};
 
 use crate::asking::Asking;
+use crate::cliques::add_cliques;
 use crate::defined::DefinedOutputs;
 use crate::ending::{end_line, tie_bounds};
 use crate::finding::find_all;
@@ -18,15 +19,19 @@ use proof_rules::{RecordFault, Recorder};
 use scut_base::{Assignment, Items};
 use search_base::{Board, Bounds, adding_stays_good_but, end_is_good, good_but_for_none};
 use std::alloc::Global;
+use sum_outputs::in_memory;
 
 // Objectives of fewer terms have small totalizers: where no objective has as many, nothing is done.
 const LEAST_TERMS: usize = 10;
 
+// Where there is no objective, nothing is done for fewer variables.
+const LEAST_VARIABLES: u64 = 20;
+
 /// What relaxations with open boxes tell of a problem's front, before a search's first turn: each model that they find
 /// is taken onto the board, until all boxes are closed or a question stays open. Where all are closed and the oracle
 /// answers that nothing is left, the id of a live line `0 >= 1`; else `None`, and the bounds have the outputs that a
-/// search needs to go on from there. Nothing is done where an objective is in other terms than its own, or all
-/// objectives have few terms.
+/// search needs to go on from there. Nothing is done where an objective is in other terms than its own, all objectives
+/// have few terms, or there is none and the problem is small.
 ///
 /// Costs what `LinearSearch::ask` does for each question, and at its end a call of the oracle, or totalizers' outputs.
 pub fn linear_front<O: Oracle>(
@@ -68,11 +73,19 @@ pub fn linear_front<O: Oracle>(
     Ok(None)
 }
 
-// Whether the relaxation can be asked, objectives are in their own terms, and some of them isn't short.
+// Whether the relaxation can be asked, objectives are in their own terms, and it is worth it.
 fn may_tell(linear: &LinearSearch, bounds: &Bounds, problem: &PbProblem) -> bool
     ensures { result ≡ true → AreOwnTerms bounds.now }
 {
-    bounds.are_own_terms() && !linear.is_spent() && has_long_objective(problem)
+    bounds.are_own_terms() && !linear.is_spent() && is_worth_it(problem)
+}
+
+// Whether some objective isn't short, or there is none and the problem isn't small.
+fn is_worth_it(problem: &PbProblem) -> bool {
+    if problem.costs().is_empty() {
+        return problem.vars() >= LEAST_VARIABLES;
+    }
+    has_long_objective(problem)
 }
 
 // Whether some objective has so many terms that its totalizer isn't small.
@@ -101,10 +114,24 @@ fn find_end<O: Oracle>(
     ensures goes_on { GoesOn (O.seen oracle.old) (O.seen oracle.new) }
     ensures board { KeepsBoard board.old board.new }
 {
+    prepare(asking, oracle, board.problem())?;
     if !find_all(asking, boxes, oracle, bounds, board, pending)? {
         return Ok(None);
     }
     end_line(asking.alloc, oracle)
+}
+
+// Adds the lines of cliques, and lets the relaxation take up what lines there are above the problem's rows.
+fn prepare<R: Recorder>(
+    asking: &mut Asking<'_>,
+    rec: &mut R,
+    problem: &PbProblem,
+) -> Result<(), RecordFault>
+    requires ready { IsReady (R.seen rec.old) }
+    ensures recorded { IsRecorded (R.seen rec.old) (R.seen rec.new) result }
+{
+    add_cliques(asking.alloc, rec, problem)?;
+    in_memory(asking.linear.take_up(rec.state()))
 }
 
 // Makes the state good again: the bounds get what the relaxation has defined, and the models are settled.

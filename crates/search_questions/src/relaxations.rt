@@ -16,8 +16,15 @@ use scut_base::{Items, NoMemory};
 use search_base::{Board, Bounds};
 use std::alloc::Global;
 
-// What may be lost on questions that stay open: pivots times rows times columns, a second or two of work.
-const PURSE: u64 = 200_000_000;
+// What may be lost on questions that stay open before anything is earned, in numbers touched: a quarter of it, on one
+// question, takes some tenths of a second.
+const PURSE: u64 = 300_000_000;
+
+// So many passes over the rows and columns for each row come to that: the first linear program alone takes some.
+const PASSES_A_ROW: u64 = 20;
+
+// What relaxations earn by each clause that the oracle learned: about as much work as that took.
+const WORK_OF_A_CLAUSE: u64 = 200_000;
 
 // Where there are more boxes, they are neither asked nor divided any more.
 const MOST_BOXES: usize = 500;
@@ -34,6 +41,8 @@ pub struct Relaxations {
     boxes: OpenBoxes,
     // Limits to which nothing that is left keeps. None is below another.
     settled: Vec<CostVec>,
+    // How many learned clauses they have earned by.
+    learned: u64,
 }
 
 impl Relaxations {
@@ -41,22 +50,23 @@ impl Relaxations {
     pub fn new(alloc: Global, problem: &PbProblem) -> Result<Relaxations, NoMemory> {
         Ok(Relaxations {
             alloc,
-            linear: LinearSearch::new(alloc, problem, PURSE)?,
+            linear: LinearSearch::new(alloc, problem, first_purse(problem))?,
             boxes: OpenBoxes::new(alloc, problem.costs().len())?,
             settled: Vec::new(alloc),
+            learned: 0,
         })
     }
 
     /// Takes the vectors that this one is below out of the boxes, since they aren't left. Costs what
     /// `OpenBoxes::exclude` does.
     pub fn exclude(&mut self, costs: &CostVec) -> Result<(), NoMemory> {
-        if self.is_spent() || self.boxes.limits().len() > MOST_BOXES {
+        if self.boxes.limits().len() > MOST_BOXES {
             return Ok(());
         }
         self.boxes.exclude(costs)
     }
 
-    /// Whether they tell nothing any more, since too much was lost on questions that stayed open.
+    /// Whether they tell nothing now, since too much was lost on questions that stayed open.
     pub fn is_spent(&self) -> bool {
         self.linear.is_spent()
     }
@@ -94,6 +104,7 @@ impl Relaxations {
         ensures tells { IfOk result (λ below. IfSome below (Tells (O.seen oracle.new) limits.now)) }
         ensures seeks { SeeksOn (O.seen oracle.old) (O.seen oracle.new) bounds.old bounds.new result }
     {
+        self.earn(oracle.state().learned());
         seek_relaxed(
             self.alloc,
             oracle,
@@ -102,6 +113,13 @@ impl Relaxations {
             problem,
             limits,
         )
+    }
+
+    // Earns by the clauses that were learned since the last time.
+    fn earn(&mut self, learned: u64) {
+        let more = learned.saturating_sub(self.learned);
+        self.learned = self.learned.max(learned);
+        self.linear.earn(more.saturating_mul(WORK_OF_A_CLAUSE));
     }
 
     /// What `seek_below` asks, of the relaxations first, for each box that the limits meet: what they don't tell, the
@@ -258,6 +276,13 @@ pub fn is_closed(found: &Option<Below>) -> bool
     ensures { result ≡ is_closed found.now }
 {
     matches!(found, Some(Below::Above { .. }))
+}
+
+// What may be lost at first.
+fn first_purse(problem: &PbProblem) -> u64 {
+    let rows = problem.rows().len() as u64;
+    let size = rows.saturating_add(problem.vars());
+    PURSE.saturating_add(rows.saturating_mul(size).saturating_mul(PASSES_A_ROW))
 }
 
 // Whether each of the costs is at most the limit.
