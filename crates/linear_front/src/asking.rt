@@ -29,6 +29,8 @@ pub(crate) enum Told {
 pub(crate) struct Asking<'a> {
     pub(crate) alloc: Global,
     pub(crate) linear: &'a mut LinearSearch,
+    // How much work it may do in all.
+    pub(crate) most: u64,
     pub(crate) defined: DefinedOutputs,
 }
 
@@ -64,12 +66,39 @@ impl<'a> Asking<'a> {
         let Some(question) = self.limits(rec, problem, limits)? else {
             return Ok(Told::Closed);
         };
+        self.answer(rec, problem, limits, &question, target)
+    }
+
+    // What comes of the question whether a model keeps to these limits.
+    fn answer<R: Recorder>(
+        &mut self,
+        rec: &mut R,
+        problem: &PbProblem,
+        limits: &CostVec,
+        question: &Limits,
+        target: Target,
+    ) -> Result<Told, RecordFault>
+        requires ready { IsReady (R.seen rec.old) }
+        ensures recorded { IsRecorded (R.seen rec.old) (R.seen rec.new) result }
+        ensures told { IfOk result (IsTold problem.now) }
+    {
         let lits = question.lits.as_slice();
-        let reply = self
+        match self
             .linear
-            .ask(rec, lits, question.asked.as_slice(), target)?;
-        let told = in_memory(told_by(self.alloc, problem, limits, reply))?;
-        Ok(told)
+            .ask(rec, lits, question.asked.as_slice(), target)?
+        {
+            Reply::Closed(_core) => Ok(Told::Closed),
+            Reply::Model(model) => {
+                let told = in_memory(told_of(self.alloc, problem, limits, model.as_slice()))?;
+                Ok(told)
+            }
+            Reply::Unknown => Ok(Told::Unknown),
+        }
+    }
+
+    // Whether the relaxation may be asked once more.
+    pub(crate) fn may_ask(&self) -> bool {
+        self.linear.work() <= self.most
     }
 
     // The same; where it tells, as much may be lost on further questions as this one has cost.
@@ -132,11 +161,32 @@ impl<'a> Asking<'a> {
         let Some(wider) = self.limits(rec, problem, around)? else {
             return Ok(Told::Closed);
         };
+        self.answer_further(rec, problem, limits, question, &wider)
+    }
+
+    // What comes of the question in the tree of the wider one.
+    fn answer_further<R: Recorder>(
+        &mut self,
+        rec: &mut R,
+        problem: &PbProblem,
+        limits: &CostVec,
+        question: &Limits,
+        wider: &Limits,
+    ) -> Result<Told, RecordFault>
+        requires ready { IsReady (R.seen rec.old) }
+        ensures recorded { IsRecorded (R.seen rec.old) (R.seen rec.new) result }
+        ensures told { IfOk result (IsTold problem.now) }
+    {
         let lits = in_memory(joined(self.alloc, &question.lits, &wider.lits))?;
         let asked = question.asked.as_slice();
-        let reply = self.linear.ask_further(rec, lits.as_slice(), asked)?;
-        let told = in_memory(told_by(self.alloc, problem, limits, reply))?;
-        Ok(told)
+        match self.linear.ask_further(rec, lits.as_slice(), asked)? {
+            Reply::Closed(_core) => Ok(Told::Closed),
+            Reply::Model(model) => {
+                let told = in_memory(told_of(self.alloc, problem, limits, model.as_slice()))?;
+                Ok(told)
+            }
+            Reply::Unknown => Ok(Told::Unknown),
+        }
     }
 
     // The limits of the objectives that may exceed theirs; `None` where one always does.
@@ -286,22 +336,6 @@ fn joined(alloc: Global, some: &Items<Lit>, others: &Items<Lit>) -> Result<Items
         }
     }
     Ok(lits)
-}
-
-// What a reply tells.
-fn told_by(
-    alloc: Global,
-    problem: &PbProblem,
-    limits: &CostVec,
-    reply: Reply,
-) -> Result<Told, NoMemory>
-    ensures told { IfOk result (IsTold problem.now) }
-{
-    match reply {
-        Reply::Closed(_core) => Ok(Told::Closed),
-        Reply::Model(model) => told_of(alloc, problem, limits, model.as_slice()),
-        Reply::Unknown => Ok(Told::Unknown),
-    }
 }
 
 // What a proposed model tells: it is one only where its costs are at most the limits.

@@ -4,8 +4,10 @@ ghost use Rattle.pb_lin.specs.Problem.{IsProblemModel};
 ghost use Rattle.sum_outputs.specs.Adding.{IsFaultAt, IsReady, IsRecorded};
 ghost use Rattle.search_base.specs.Good.{GoesOn, KeepsBoard};
 ghost use Rattle.search_base.specs.Pending.{IsGoodBut};
+ghost use Rattle.linear_front.specs.Told.{IsTold};
 
 use crate::asking::{Asking, Told};
+use crate::cliques::add_cliques;
 use front_set::CostVec;
 use linear_search::Target;
 use open_boxes::OpenBoxes;
@@ -29,8 +31,42 @@ struct Next {
     target: Target,
 }
 
-// Asks box by box, the last first, takes each model that is found, and answers whether all boxes were closed.
+// Adds the lines of cliques, and asks box by box; answers whether all boxes were closed.
 pub(crate) fn find_all<R: Recorder>(
+    asking: &mut Asking<'_>,
+    boxes: &mut OpenBoxes,
+    rec: &mut R,
+    bounds: &Bounds,
+    board: &mut Board<'_>,
+    pending: &mut Items<Assignment>,
+) -> Result<bool, RecordFault>
+    requires good { IsGoodBut (R.seen rec.old) bounds.now board.old pending.old }
+    ensures good { OnOk result (IsGoodBut (R.seen rec.new) bounds.now board.new pending.new) }
+    ensures fault { IfErr result (IsFaultAt (R.seen rec.old) (R.seen rec.new)) }
+    ensures goes_on { GoesOn (R.seen rec.old) (R.seen rec.new) }
+    ensures board { KeepsBoard board.old board.new }
+{
+    adding_stays_good_but();
+    turn_lines_join();
+    prepare(asking, rec, board.problem())?;
+    ask_all(asking, boxes, rec, bounds, board, pending)
+}
+
+// Adds the lines of cliques, and lets the relaxation take up what lines there are above the problem's rows.
+fn prepare<R: Recorder>(
+    asking: &mut Asking<'_>,
+    rec: &mut R,
+    problem: &PbProblem,
+) -> Result<(), RecordFault>
+    requires ready { IsReady (R.seen rec.old) }
+    ensures recorded { IsRecorded (R.seen rec.old) (R.seen rec.new) result }
+{
+    add_cliques(asking.alloc, rec, problem)?;
+    in_memory(asking.linear.take_up(rec.state()))
+}
+
+// Asks box by box, the last first, takes each model that is found, and answers whether all boxes were closed.
+fn ask_all<R: Recorder>(
     asking: &mut Asking<'_>,
     boxes: &mut OpenBoxes,
     rec: &mut R,
@@ -46,15 +82,37 @@ pub(crate) fn find_all<R: Recorder>(
 {
     let mut left = LeftBoxes::new(asking.alloc);
     for _question in 0..MOST_QUESTIONS {
-        left.try_again(asking.linear.purse());
-        let Some(next) = next_box(boxes, &left) else {
-            break;
-        };
-        if !step(asking, boxes, &mut left, next, rec, bounds, board, pending)? {
-            break;
+        if !ask_next(asking, boxes, &mut left, rec, bounds, board, pending)? {
+            return Ok(boxes.limits().is_empty());
         }
     }
-    Ok(boxes.limits().is_empty())
+    Ok(false)
+}
+
+// Asks the next box, as far as the relaxation may be asked and a box may tell something; answers whether to go on.
+fn ask_next<R: Recorder>(
+    asking: &mut Asking<'_>,
+    boxes: &mut OpenBoxes,
+    left: &mut LeftBoxes,
+    rec: &mut R,
+    bounds: &Bounds,
+    board: &mut Board<'_>,
+    pending: &mut Items<Assignment>,
+) -> Result<bool, RecordFault>
+    requires good { IsGoodBut (R.seen rec.old) bounds.now board.old pending.old }
+    ensures good { OnOk result (IsGoodBut (R.seen rec.new) bounds.now board.new pending.new) }
+    ensures fault { IfErr result (IsFaultAt (R.seen rec.old) (R.seen rec.new)) }
+    ensures goes_on { GoesOn (R.seen rec.old) (R.seen rec.new) }
+    ensures board { KeepsBoard board.old board.new }
+{
+    if !asking.may_ask() {
+        return Ok(false);
+    }
+    left.try_again(asking.linear.purse());
+    match next_box(boxes, left) {
+        Some(next) => step(asking, boxes, left, next, rec, bounds, board, pending),
+        None => Ok(false),
+    }
 }
 
 // The last box that may tell something, and what is sought there: the least sum where nothing is known yet, and else the
@@ -116,10 +174,11 @@ impl LeftBoxes {
     }
 
     // Notes that a box stayed open.
-    fn keep(&mut self, limits: CostVec, target: Target) -> Result<(), NoMemory> {
+    fn keep(&mut self, alloc: Global, limits: &CostVec, target: Target) -> Result<(), NoMemory> {
+        let copy = limits.copy(alloc)?;
         match target {
-            Target::Sum => self.by_sum.push(limits)?,
-            Target::Objective(_) => self.by_objective.push(limits)?,
+            Target::Sum => self.by_sum.push(copy)?,
+            Target::Objective(_) => self.by_objective.push(copy)?,
         }
         Ok(())
     }
@@ -145,7 +204,35 @@ fn step<R: Recorder>(
 {
     adding_stays_good_but();
     let limits = in_memory(boxes.limits()[next.place].copy(asking.alloc))?;
-    match asking.ask_and_earn(rec, board.problem(), &limits, next.target)? {
+    let told = asking.ask_and_earn(rec, board.problem(), &limits, next.target)?;
+    go_on(
+        asking, boxes, left, next, rec, bounds, board, pending, &limits, &told,
+    )
+}
+
+// Closes the box at this place, or takes the model that was found there, or notes that it stays open.
+fn go_on<R: Recorder>(
+    asking: &mut Asking<'_>,
+    boxes: &mut OpenBoxes,
+    left: &mut LeftBoxes,
+    next: Next,
+    rec: &mut R,
+    bounds: &Bounds,
+    board: &mut Board<'_>,
+    pending: &mut Items<Assignment>,
+    limits: &CostVec,
+    told: &Told,
+) -> Result<bool, RecordFault>
+    requires there { next.place < length boxes.old }
+    requires good { IsGoodBut (R.seen rec.old) bounds.now board.old pending.old }
+    requires told { IsTold (R.seen rec.old).problem told.now }
+    ensures good { OnOk result (IsGoodBut (R.seen rec.new) bounds.now board.new pending.new) }
+    ensures fault { IfErr result (IsFaultAt (R.seen rec.old) (R.seen rec.new)) }
+    ensures goes_on { GoesOn (R.seen rec.old) (R.seen rec.new) }
+    ensures board { KeepsBoard board.old board.new }
+{
+    turn_lines_join();
+    match told {
         Told::Closed => {
             boxes.close(next.place);
             Ok(true)
@@ -157,12 +244,12 @@ fn step<R: Recorder>(
             bounds,
             board,
             pending,
-            &limits,
+            limits,
             next.target,
-            &model,
+            model,
         ),
         Told::Unknown => {
-            in_memory(left.keep(limits, next.target))?;
+            in_memory(left.keep(asking.alloc, limits, next.target))?;
             Ok(true)
         }
     }
@@ -191,9 +278,9 @@ fn take<R: Recorder>(
     adding_stays_good_but();
     turn_lines_join();
     let costs = in_memory(costs_at(asking.alloc, board.problem(), model))?;
-    let cut = asking.cut_at(rec, board.problem(), &costs)?;
     in_memory(boxes.exclude(&costs))?;
     close_below(asking, boxes, rec, board.problem(), limits, target, &costs)?;
+    let cut = asking.cut_at(rec, board.problem(), &costs)?;
     board.take_by_cut(rec, bounds, pending, model, cut.lits, cut.rows)
 }
 

@@ -1,13 +1,12 @@
 // The front as far as relaxations find it, before a search's first turn.
 ghost use Rattle.std.specs.Prelude.{◌≡◌, true, None, Ok, IfOk, IfErr, IfSome, IsOk, OnOk};
-ghost use Rattle.sum_outputs.specs.Adding.{IsFaultAt, IsReady, IsRecorded};
+ghost use Rattle.sum_outputs.specs.Adding.{IsFaultAt};
 ghost use Rattle.search_base.specs.Good.{GoesOn, IsGood, KeepsBoard};
 ghost use Rattle.search_base.specs.Pending.{AreOwnTerms, IsGoodBut};
 ghost use Rattle.search_base.specs.Turns.{IsEndLine, IsInOrder, IsSearchFault};
 ghost use Rattle.linear_front.specs.Ending.{IsKeptEnd};
 
 use crate::asking::Asking;
-use crate::cliques::add_cliques;
 use crate::defined::DefinedOutputs;
 use crate::ending::{end_line, tie_bounds};
 use crate::finding::find_all;
@@ -19,7 +18,6 @@ use proof_rules::{RecordFault, Recorder};
 use scut_base::{Assignment, Items};
 use search_base::{Board, Bounds, adding_stays_good_but, end_is_good, good_but_for_none};
 use std::alloc::Global;
-use sum_outputs::in_memory;
 
 // Objectives of fewer terms have small totalizers: where no objective has as many, nothing is done.
 const LEAST_TERMS: usize = 10;
@@ -33,11 +31,12 @@ const LEAST_VARIABLES: u64 = 20;
 /// search needs to go on from there. Nothing is done where an objective is in other terms than its own, all objectives
 /// have few terms, or there is none and the problem is small.
 ///
-/// Costs what `LinearSearch::ask` does for each question, and at its end a call of the oracle, or totalizers' outputs.
+/// Questions end where the relaxation has done so much work in all. Costs what `LinearSearch::ask` does for each question, and at its end a call of the oracle, or totalizers' outputs.
 pub fn linear_front<O: Oracle>(
     alloc: Global,
     linear: &mut LinearSearch,
     boxes: &mut OpenBoxes,
+    most: u64,
     oracle: &mut O,
     bounds: &mut Bounds,
     board: &mut Board<'_>,
@@ -63,6 +62,7 @@ pub fn linear_front<O: Oracle>(
     let mut asking = Asking {
         alloc,
         linear,
+        most,
         defined,
     };
     let mut pending = Items::new(alloc);
@@ -114,24 +114,10 @@ fn find_end<O: Oracle>(
     ensures goes_on { GoesOn (O.seen oracle.old) (O.seen oracle.new) }
     ensures board { KeepsBoard board.old board.new }
 {
-    prepare(asking, oracle, board.problem())?;
     if !find_all(asking, boxes, oracle, bounds, board, pending)? {
         return Ok(None);
     }
     end_line(asking.alloc, oracle)
-}
-
-// Adds the lines of cliques, and lets the relaxation take up what lines there are above the problem's rows.
-fn prepare<R: Recorder>(
-    asking: &mut Asking<'_>,
-    rec: &mut R,
-    problem: &PbProblem,
-) -> Result<(), RecordFault>
-    requires ready { IsReady (R.seen rec.old) }
-    ensures recorded { IsRecorded (R.seen rec.old) (R.seen rec.new) result }
-{
-    add_cliques(asking.alloc, rec, problem)?;
-    in_memory(asking.linear.take_up(rec.state()))
 }
 
 // Makes the state good again: the bounds get what the relaxation has defined, and the models are settled.

@@ -76,22 +76,11 @@ impl Simplex {
         self.put_sides(basis.is_at_upper.as_slice());
         self.put_basics(basis.basic.as_slice());
         if !goes_back {
+            // What is built anew has other places, and a column that has none is gone.
             self.rebuild()?;
-            basis.moment = self.moment_of(basis.basic.as_slice());
+            *basis = self.basis()?;
         }
         Ok(())
-    }
-
-    // The moment of now, if what stands in the basis is this: where columns had no place, others came in.
-    fn moment_of(&self, weighted: &[Weighted]) -> Option<Moment> {
-        let mut pairs = self.basics.iter().zip(weighted);
-        let is_same = self.basics.len() == weighted.len()
-            && pairs.all(|(basic, other)| basic.variable == other.variable);
-        if is_same {
-            Some(self.etas.moment())
-        } else {
-            None
-        }
     }
 
     fn put_sides(&mut self, sides: &[bool]) {

@@ -46,7 +46,7 @@ impl Relaxation {
         self.begin(question, tree);
         tree.reopen(state.vars())?;
         for at in 0..tree.branches.len() {
-            if self.program.work() > most {
+            if self.work() > most {
                 return Ok(Found::Nothing);
             }
             if tree.is_open(at) {
@@ -80,7 +80,7 @@ impl Relaxation {
         tree: &mut Tree,
         most: u64,
     ) -> Result<Found, NoMemory> {
-        let began = self.program.work();
+        let began = self.work();
         let mut most = most;
         let mut has_model = false;
         for _node in 0..MOST_NODES {
@@ -88,7 +88,7 @@ impl Relaxation {
                 has_model = true;
                 most = most.min(self.enough_after_a_model(began));
             }
-            if tree.root_clause().is_some() || self.program.work() > most {
+            if tree.root_clause().is_some() || self.work() > most {
                 break;
             }
             let Some(at) = tree.take_next(self.aim.step) else {
@@ -105,7 +105,7 @@ impl Relaxation {
         if self.aim.is_proof_wanted {
             return u64::MAX;
         }
-        let now = self.program.work();
+        let now = self.work();
         let more = now.saturating_sub(began).saturating_mul(TIMES_MORE);
         now.saturating_add(more)
             .saturating_add(self.passes(PASSES_MORE))

@@ -40,6 +40,11 @@ pub(crate) const FIRST_STAKE: u64 = 4;
 
 pub(crate) const MOST_STAKE: u64 = 16;
 
+// What is done at a node beside its linear program, and what rounding takes, is counted as so many passes over rows and columns.
+pub(crate) const PASSES_OF_A_VISIT: u64 = 20;
+
+pub(crate) const PASSES_OF_ROUNDING: u64 = 60;
+
 // A question isn't begun where the purse allows fewer passes over rows and columns: a few dozen pivots tell little.
 pub(crate) const LEAST_PASSES: u64 = 400;
 

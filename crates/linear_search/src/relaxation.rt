@@ -48,6 +48,8 @@ pub(crate) struct Relaxation {
     pub(crate) aim: Aim,
     // The id of the next line to be looked at.
     next_line: u64,
+    // What was done beside the linear programs, in numbers touched.
+    pub(crate) own_work: u64,
 }
 
 impl Relaxation {
@@ -66,6 +68,7 @@ impl Relaxation {
             shares: vec![in alloc; 1.0; columns]?,
             aim: Aim::new(alloc),
             next_line: (problem.rows().len() as u64).saturating_add(1),
+            own_work: 0,
         };
         relaxation.fill(problem)?;
         Ok(relaxation)
@@ -135,6 +138,16 @@ impl Relaxation {
     // The least work that a question is worth.
     pub(crate) fn least_stake(&self) -> u64 {
         self.passes(LEAST_PASSES)
+    }
+
+    // All work that was done, in numbers touched.
+    pub(crate) fn work(&self) -> u64 {
+        self.program.work().saturating_add(self.own_work)
+    }
+
+    // Counts so many passes over rows and columns.
+    pub(crate) fn count_passes(&mut self, count: u64) {
+        self.own_work = self.own_work.saturating_add(self.passes(count));
     }
 
     // The work of so many passes over rows and columns.

@@ -85,7 +85,7 @@ impl LinearSearch {
 
     /// The work that was done so far, in numbers touched.
     pub fn work(&self) -> u64 {
-        self.relaxation.program.work()
+        self.relaxation.work()
     }
 
     /// Whether no question can be answered now: the purse has nothing left for a question, or the relaxation is too large.
@@ -107,10 +107,10 @@ impl LinearSearch {
         if self.is_spent() {
             return Ok(Found::Nothing);
         }
-        let before = self.relaxation.program.work();
+        let before = self.relaxation.work();
         let most = before.saturating_add(self.stake.saturating_mul(self.purse / 4));
         let found = self.explore(state, question, target, most)?;
-        let spent = self.relaxation.program.work().saturating_sub(before);
+        let spent = self.relaxation.work().saturating_sub(before);
         self.settle(&found, spent);
         Ok(found)
     }

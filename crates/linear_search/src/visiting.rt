@@ -1,5 +1,5 @@
 // One node of the tree.
-use crate::limits::{MOST_PIVOTS, NO_MULTIPLIER, WHOLE};
+use crate::limits::{MOST_PIVOTS, NO_MULTIPLIER, PASSES_OF_A_VISIT, PASSES_OF_ROUNDING, WHOLE};
 use crate::question::{Limit, Question, limit_of};
 use crate::relaxation::{Relaxation, Row};
 use crate::rounding::{Point, THRESHOLDS};
@@ -38,6 +38,7 @@ impl Relaxation {
         at: usize,
     ) -> Result<(), NoMemory> {
         self.enter(question, tree, at)?;
+        self.count_passes(PASSES_OF_A_VISIT);
         tree.visits = tree.visits.saturating_add(1);
         // Where rounding costs the multipliers, once more from another inverse.
         for _attempt in 0..2 {
@@ -91,6 +92,7 @@ impl Relaxation {
         at: usize,
     ) -> Result<bool, NoMemory> {
         self.enter(question, tree, at)?;
+        self.count_passes(PASSES_OF_A_VISIT);
         let lines = match tree.kept.get(at) {
             Some(kept) => self.lines_of(question, kept.multipliers.as_slice())?,
             None => return Ok(false),
@@ -113,7 +115,7 @@ impl Relaxation {
 
     // Passes a node by that has nothing better than the best model, offers a model, or notes how the node can be split.
     fn look(
-        &self,
+        &mut self,
         question: &Question<'_>,
         tree: &mut Tree,
         at: usize,
@@ -128,6 +130,7 @@ impl Relaxation {
             let lits = self.model(values)?;
             tree.offer(lits, product(self.aim.main.as_slice(), values));
         } else if tree.is_time_to_round(at) {
+            self.count_passes(PASSES_OF_ROUNDING);
             self.round(question, tree, values)?;
         }
         let kept = self.kept_now(split.is_some())?;

@@ -5,6 +5,7 @@ ghost use Rattle.search_base.specs.Good.{GoesOn, IsGood, KeepsBoard};
 ghost use Rattle.search_base.specs.Turns.{IsEndLine, IsInOrder, IsSearchFault};
 ghost use Rattle.search_questions.specs.Telling.{IsGoodWithSome, SeeksOn, Tells, TellsAny, is_closed};
 
+use crate::allowance::{first_allowance, first_purse};
 use crate::{Below, seek_any, seek_below, seek_relaxed};
 use front_set::CostVec;
 use linear_front::linear_front;
@@ -15,13 +16,6 @@ use pb_lin::PbProblem;
 use scut_base::{Items, NoMemory};
 use search_base::{Board, Bounds};
 use std::alloc::Global;
-
-// What may be lost on questions that stay open before anything is earned, in numbers touched: a quarter of it, on one
-// question, takes some tenths of a second.
-const PURSE: u64 = 300_000_000;
-
-// So many passes over the rows and columns for each row come to that: the first linear program alone takes some.
-const PASSES_A_ROW: u64 = 20;
 
 // What relaxations earn by each clause that the oracle learned: about as much work as that took.
 const WORK_OF_A_CLAUSE: u64 = 200_000;
@@ -41,7 +35,8 @@ pub struct Relaxations {
     boxes: OpenBoxes,
     // Limits to which nothing that is left keeps. None is below another.
     settled: Vec<CostVec>,
-    // How many learned clauses they have earned by.
+    // How much work they may do in all, and how many learned clauses they have earned by.
+    allowance: u64,
     learned: u64,
 }
 
@@ -53,6 +48,7 @@ impl Relaxations {
             linear: LinearSearch::new(alloc, problem, first_purse(problem))?,
             boxes: OpenBoxes::new(alloc, problem.costs().len())?,
             settled: Vec::new(alloc),
+            allowance: first_allowance(problem),
             learned: 0,
         })
     }
@@ -66,9 +62,9 @@ impl Relaxations {
         self.boxes.exclude(costs)
     }
 
-    /// Whether they tell nothing now, since too much was lost on questions that stayed open.
+    /// Whether they tell nothing now, since they have done what they may, or too much was lost on questions that stayed open.
     pub fn is_spent(&self) -> bool {
-        self.linear.is_spent()
+        self.linear.is_spent() || self.linear.work() > self.allowance
     }
 
     /// What they tell of the front before a search's first turn: `linear_front`.
@@ -86,8 +82,16 @@ impl Relaxations {
         ensures goes_on { GoesOn (O.seen oracle.old) (O.seen oracle.new) }
         ensures board { KeepsBoard board.old board.new }
     {
-        let linear = &mut self.linear;
-        linear_front(self.alloc, linear, &mut self.boxes, oracle, bounds, board)
+        let (linear, most) = (&mut self.linear, self.allowance);
+        linear_front(
+            self.alloc,
+            linear,
+            &mut self.boxes,
+            most,
+            oracle,
+            bounds,
+            board,
+        )
     }
 
     /// What `seek_below` asks, of one relaxation alone: `seek_relaxed`.
@@ -105,6 +109,9 @@ impl Relaxations {
         ensures seeks { SeeksOn (O.seen oracle.old) (O.seen oracle.new) bounds.old bounds.new result }
     {
         self.earn(oracle.state().learned());
+        if self.is_spent() {
+            return Ok(None);
+        }
         seek_relaxed(
             self.alloc,
             oracle,
@@ -119,7 +126,9 @@ impl Relaxations {
     fn earn(&mut self, learned: u64) {
         let more = learned.saturating_sub(self.learned);
         self.learned = self.learned.max(learned);
-        self.linear.earn(more.saturating_mul(WORK_OF_A_CLAUSE));
+        let work = more.saturating_mul(WORK_OF_A_CLAUSE);
+        self.allowance = self.allowance.saturating_add(work);
+        self.linear.earn(work);
     }
 
     /// What `seek_below` asks, of the relaxations first, for each box that the limits meet: what they don't tell, the
@@ -276,13 +285,6 @@ pub fn is_closed(found: &Option<Below>) -> bool
     ensures { result ≡ is_closed found.now }
 {
     matches!(found, Some(Below::Above { .. }))
-}
-
-// What may be lost at first.
-fn first_purse(problem: &PbProblem) -> u64 {
-    let rows = problem.rows().len() as u64;
-    let size = rows.saturating_add(problem.vars());
-    PURSE.saturating_add(rows.saturating_mul(size).saturating_mul(PASSES_A_ROW))
 }
 
 // Whether each of the costs is at most the limit.

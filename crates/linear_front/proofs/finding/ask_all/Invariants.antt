@@ -1,6 +1,6 @@
 use Rattle.search_base.specs.Good.{GoesOn, KeepsBoard}
 use Rattle.search_base.specs.Pending.{IsGoodBut}
-use Rattle.linear_front.proofs.finding.find_all.Given as goal
+use Rattle.linear_front.proofs.finding.ask_all.Given as goal
 
 abbrev pub invariant-loop-question : goal.invariant-loop-question
 invariant-loop-question g l =
