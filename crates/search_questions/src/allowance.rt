@@ -49,7 +49,7 @@ fn lines_of_totalizer(row: &CostRow) -> u64 {
     if count == 0 {
         return 0;
     }
-    let share = total_of(row) / count + 1;
+    let share = (total_of(row) / count).saturating_add(1);
     let mut lines = 0u64;
     for level in 0..32u32 {
         let width = 1u64 << level;
@@ -57,7 +57,7 @@ fn lines_of_totalizer(row: &CostRow) -> u64 {
             break;
         }
         let outputs = width.saturating_mul(share).min(1u64 << width.min(32));
-        let nodes = count / width / 2 + 1;
+        let nodes = (count / width / 2).saturating_add(1);
         lines = lines.saturating_add(outputs.saturating_mul(outputs).saturating_mul(nodes));
     }
     lines
