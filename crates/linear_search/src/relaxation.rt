@@ -2,7 +2,7 @@
 use crate::limits::{LEAST_PASSES, MOST_SIZE_OF_LINE};
 use crate::rounding::Matrix;
 use crate::target::{Aim, Target};
-use linear_program::{LinearProgram, Range, Term};
+use linear_program::{LinearProgram, MOST_ENTRIES, MOST_ROWS, Range, Term};
 use pb_lin::{Constraint, CostRow, PbProblem};
 use proof_rules::ProofState;
 use scut_base::{Lit, NoMemory};
@@ -53,13 +53,14 @@ pub(crate) struct Relaxation {
 }
 
 impl Relaxation {
-    // That of a problem.
+    // That of a problem. One that is too large to be asked keeps nothing.
     pub(crate) fn new(alloc: Global, problem: &PbProblem) -> Result<Relaxation, NoMemory> {
-        let columns = problem.vars() as usize;
+        let is_whole = has_room(problem);
+        let columns = if is_whole { problem.vars() as usize } else { 0 };
         let mut relaxation = Relaxation {
             alloc,
             program: LinearProgram::new(alloc, columns)?,
-            is_whole: true,
+            is_whole,
             columns,
             rows: Vec::new(alloc),
             matrix: Matrix::new(alloc, columns)?,
@@ -70,7 +71,9 @@ impl Relaxation {
             next_line: (problem.rows().len() as u64).saturating_add(1),
             own_work: 0,
         };
-        relaxation.fill(problem)?;
+        if is_whole {
+            relaxation.fill(problem)?;
+        }
         Ok(relaxation)
     }
 
@@ -181,6 +184,22 @@ impl Relaxation {
         };
         self.program.set_column(column_of(lit), range);
     }
+}
+
+// Whether a problem's columns, its rows and their numbers are few enough.
+fn has_room(problem: &PbProblem) -> bool {
+    let rows = problem.rows().len().saturating_add(problem.costs().len());
+    if rows > MOST_ROWS || problem.vars() > MOST_ENTRIES as u64 {
+        return false;
+    }
+    let mut entries = 0usize;
+    for row in problem.rows() {
+        entries = entries.saturating_add(row.len());
+    }
+    for cost in problem.costs() {
+        entries = entries.saturating_add(cost.terms().len());
+    }
+    entries <= MOST_ENTRIES
 }
 
 // Counts a row for each of its columns.
