@@ -1,0 +1,212 @@
+"""A problem cut into parts: a tree of tests, each "this sum reaches that bound", whose two answers are two problems.
+
+A folder holds a part as `NAME.opb`, and once it is solved `NAME.list` and `NAME.log`. `split.json` says which tests made it.
+"""
+import hashlib
+import json
+import os
+from typing import Any, Dict, Iterable, Iterator, List, NamedTuple, Optional, Sequence, Tuple
+
+from .errors import Malformed
+from .files import write_text
+from .instances import Instance, Names, Term, instance_of, is_clauses, names_of
+from .files import Line
+from .statements import as_statements, cost_row, count_rows, row_text, text_of_statements, with_clauses_normal
+
+PLAN = 'split.json'
+FORMAT = 'scuttle split 1'
+# The largest sum of magnitudes of a row: docs/FORMATS.md.
+LARGEST = 2 ** 63 - 1
+
+
+class Test(NamedTuple):
+    """Whether a sum reaches a bound: the terms of a cost row (kind `cost`, numbered from 1), or one variable (kind `variable`, bound 1).
+
+    >>> Test('cost', 1, 40).bound
+    40
+    """
+
+    kind: str
+    number: int
+    bound: int
+
+
+class Condition(NamedTuple):
+    """A test with its answer.
+
+    >>> Condition(Test('variable', 3, 1), True).reached
+    True
+    """
+
+    test: Test
+    reached: bool
+
+
+class Node:
+    """A problem of the tree: its part's name, where it is a part, and, where it is cut, the test and the two problems of its answers.
+
+    A part may be cut later: then its own proof does, or those of the two.
+
+    >>> Node('part-1').test is None
+    True
+    """
+
+    def __init__(self, name: Optional[str] = None, test: Optional[Test] = None, below: 'Optional[Node]' = None,
+                 reached: 'Optional[Node]' = None) -> None:
+        self.name, self.test, self.below, self.reached = name, test, below, reached
+
+    def children(self) -> 'List[Tuple[Condition, Node]]':
+        """The problems of the two answers, none where it isn't cut."""
+        if self.test is None or self.below is None or self.reached is None:
+            return []
+        return [(Condition(self.test, False), self.below), (Condition(self.test, True), self.reached)]
+
+    def walk(self, path: Tuple[Condition, ...] = ()) -> 'Iterator[Tuple[Node, Tuple[Condition, ...]]]':
+        """Every problem with its conditions, the upper ones first."""
+        yield self, path
+        for condition, child in self.children():
+            yield from child.walk(narrowed(path + (condition,)))
+
+
+def narrowed(path: Iterable[Condition]) -> Tuple[Condition, ...]:
+    """The conditions that count, in order: of two bounds of one sum in one direction the narrower.
+
+    >>> [c.test.bound for c in narrowed([Condition(Test('cost', 1, 5), True), Condition(Test('cost', 1, 8), True)])]
+    [8]
+    """
+    found = {}  # type: Dict[Tuple[str, int, bool], Condition]
+    for condition in sorted(path, key=lambda c: c.test.bound if c.reached else -c.test.bound):
+        found[condition.test.kind, condition.test.number, condition.reached] = condition
+    return tuple(sorted(found.values()))
+
+
+class Source:
+    """The instance whose parts these are: its file's name, its digest, and its normal form as statements.
+
+    >>> Source('a.opb', b'min: 3 x1 ;\\nx1 >= 1 ;\\n').rows
+    1
+    """
+
+    def __init__(self, path: str, data: bytes) -> None:
+        self.path, self.digest = path, hashlib.sha256(data).hexdigest()
+        lines = [Line(k, line.rstrip('\r')) for k, line in enumerate(data.decode('utf-8', 'replace').split('\n'), 1)]
+        self.instance = instance_of(path, lines)  # type: Instance
+        self.names = names_of(path, lines)  # type: Names
+        self.statements = as_statements(with_clauses_normal(self.instance) if is_clauses(path) else self.instance)
+        self.rows, self.variables = count_rows(self.statements), self.statements.variables
+        self.costs = [cost_row(objective) for objective in self.statements.objectives]
+
+    @classmethod
+    def of_file(cls, path: str) -> 'Source':
+        """Reads the file once."""
+        with open(path, 'rb') as file:
+            return cls(path, file.read())
+
+    def terms(self, test: Test) -> Sequence[Term]:
+        """The sum of a test, with positive coefficients."""
+        return self.costs[test.number - 1].terms if test.kind == 'cost' else [(1, test.number)]
+
+    def most(self, test: Test) -> int:
+        """What the coefficients of a test's sum sum to."""
+        return sum(weight for weight, _ in self.terms(test))
+
+    def row_of(self, condition: Condition) -> str:
+        """A condition as a statement."""
+        bound = condition.test.bound
+        return row_text(self.terms(condition.test), *(('>=', bound) if condition.reached else ('<=', bound - 1)))
+
+    def words_of(self, condition: Condition) -> str:
+        """A condition in words, in the sense of the problem."""
+        test = condition.test
+        if test.kind == 'variable':
+            return '%sx%d' % ('' if condition.reached else '~', test.number)
+        is_max = self.instance.objectives[test.number - 1].sense == 'max'
+        bound = test.bound - (not condition.reached) + self.costs[test.number - 1].offset
+        return 'cost %d %s %d' % (test.number, '<=' if is_max == condition.reached else '>=', -bound if is_max else bound)
+
+
+class Split:
+    """The parts of an instance in a folder.
+
+    >>> Split(Source('a.opb', b'min: 3 x1 ;\\n'), 'parts', Node('part-1')).parts()[0][0].name
+    'part-1'
+    """
+
+    def __init__(self, source: Source, folder: str, root: Node, cost: int = 0, low: int = 0, high: int = 0) -> None:
+        """Slabs of a cost, whose values are expected from `low` to `high`, or cubes, where `cost` is 0."""
+        self.source, self.folder, self.root, self.cost, self.low, self.high = source, folder, root, cost, low, high
+
+    def parts(self) -> List[Tuple[Node, Tuple[Condition, ...]]]:
+        """The problems that are parts, with their conditions."""
+        return [(node, path) for node, path in self.root.walk() if node.name is not None]
+
+    def path(self, name: str, ending: str) -> str:
+        """A file of a part."""
+        return os.path.join(self.folder, name + ending)
+
+    def is_solved(self, name: str) -> bool:
+        """Whether a part's list is there and whole: it is written after the log."""
+        try:
+            with open(self.path(name, '.list'), 'rb') as file:
+                return file.read(11) == b's COMPLETE '
+        except FileNotFoundError:
+            return False
+
+    def tests(self) -> List[Test]:
+        """All tests of the tree, in a fixed order."""
+        return sorted({node.test for node, _ in self.root.walk() if node.test is not None})
+
+    def save(self) -> None:
+        """Writes the parts that aren't there yet, and then the plan, so that a plan's parts are there."""
+        text = None
+        for node, path in self.parts():
+            target = self.path(str(node.name), '.opb')
+            if not os.path.exists(target):
+                text = text or text_of_statements(self.source.statements, self.source.names)
+                words = ', '.join(map(self.source.words_of, path)) or 'all of it'
+                head = '* %s of %s: %s\n' % (node.name, os.path.basename(self.source.path).encode('ascii', 'replace').decode(), words)
+                write_text(target, head + text + ''.join(self.source.row_of(condition) + '\n' for condition in path))
+        plan = {'format': FORMAT, 'sha256': self.source.digest, 'cost': self.cost, 'low': self.low, 'high': self.high,
+                'tree': _as_json(self.root)}
+        write_text(os.path.join(self.folder, PLAN), json.dumps(plan, indent=1) + '\n')
+
+    @classmethod
+    def load(cls, source: Source, folder: str) -> 'Split':
+        """The parts that a folder has; `Malformed` where they are those of another instance, or there is no plan of them."""
+        path = os.path.join(folder, PLAN)
+        try:
+            with open(path, encoding='utf-8') as file:
+                plan = json.load(file)
+            if plan['format'] != FORMAT:
+                raise Malformed(path, 1, 'this is no plan of parts that this version knows')
+            root = _node_of(plan['tree'], source)
+            split = cls(source, folder, root, int(plan['cost']), int(plan['low']), int(plan['high']))
+        except (ValueError, KeyError, TypeError, IndexError):
+            raise Malformed(path, 1, 'this is no plan of parts') from None
+        if plan['sha256'] != source.digest:
+            raise Malformed(path, 1, 'these are parts of another instance than %s, or of it before it was changed' % source.path)
+        return split
+
+
+def _as_json(node: Node) -> Dict[str, Any]:
+    fields = {} if node.name is None else {'name': node.name}  # type: Dict[str, Any]
+    if node.test is not None and node.below is not None and node.reached is not None:
+        fields.update({node.test.kind: node.test.number, 'bound': node.test.bound,
+                       'below': _as_json(node.below), 'reached': _as_json(node.reached)})
+    return fields
+
+
+def _node_of(fields: Dict[str, Any], source: Source) -> Node:
+    """A problem of the tree; `ValueError` where a number isn't one of the instance, or a name isn't that of a file in the folder."""
+    name = fields.get('name')
+    if name is not None and (not isinstance(name, str) or os.path.basename(name) != name or not name):
+        raise ValueError(name)
+    if 'below' not in fields:
+        if name is None:
+            raise ValueError('a leaf without a name')
+        return Node(name)
+    kind = 'cost' if 'cost' in fields else 'variable'
+    test = Test(kind, int(fields[kind]), int(fields['bound']))
+    if not 1 <= test.number <= (len(source.costs) if kind == 'cost' else source.variables) or test.bound < 1:
+        raise ValueError(test)
+    return Node(name, test, _node_of(fields['below'], source), _node_of(fields['reached'], source))

@@ -1,0 +1,205 @@
+"""split: a folder of parts of an instance, to be solved apart.
+
+usage: tools/split IN FOLDER [--parts K] [--cost N] [--by VARIABLES] [--probe SECONDS]
+
+Writes FOLDER, which isn't there yet or is empty, with one instance a part, a Makefile (`make -j8` solves all parts that
+aren't solved yet) and commands.txt, a line a part, to be run in FOLDER by GNU parallel, Slurm array jobs or whatever runs
+commands. tools/join then makes one list and one log of them. The parts are slabs of cost N, or of the cost whose range is
+widest, with bounds at even steps of its range, or, where there are fewer than two costs or with --by, cubes: the values of a
+few variables (x3,x7, or 3,7).
+--parts K       so many parts, up to 4096; four for each processor of this machine where it is left out
+--probe SECONDS how long each of the quick runs may take that find the range; 10 where it is left out
+The program that runs is the value of SCUTTLE, or else this one. Other words for `solve`: make OPTIONS=--boost, and the
+variable OPTIONS with commands.txt; not --harden, whose logs can't be joined.
+Ends with 64 where the words are wrong, 65 where IN isn't an instance, or is too large, 69 without an executable, 74 where a
+file can't be read or written.
+"""
+import os
+import re
+import shlex
+import sys
+import tempfile
+from typing import Dict, List, Optional, Sequence
+
+from .commands import run_command, usage
+from .errors import CannotTake, ScuttleError
+from .files import write_text
+from .parts import LARGEST, Condition, Node, Source, Split, Test, narrowed
+from .ranges import NoModels, busiest_variables, find_range
+from .running import find_program, run
+
+# More parts than processors even the work out: the longest part is about a quarter of a processor's share then.
+PARTS_PER_PROCESSOR = 4
+# More parts than this make more work than they spread.
+MOST_PARTS = 4096
+# How long each quick run for a range may take. Seconds.
+PROBE = 10.0
+REFUSED = 11
+
+
+def make_split(path: str, folder: str, parts: int, cost: Optional[int] = None, by: Optional[Sequence[int]] = None,
+               probe: float = PROBE, program: Optional[str] = None) -> Split:
+    """Cuts an instance into parts and writes their folder. `Failed` where the program doesn't take the instance."""
+    source = Source.of_file(path)
+    judge(path, program)
+    if by is None and (cost is not None or len(source.costs) > 1):
+        split = _slabs(source, folder, parts, cost, probe, program)
+    else:
+        split = Split(source, folder, _cubes(list(by or busiest_variables(source)), parts))
+    os.makedirs(folder, exist_ok=True)
+    split.save()
+    write_runners(split, find_program(program))
+    return split
+
+
+def judge(path: str, program: Optional[str]) -> None:
+    """Has the program read an instance: `Failed` where it doesn't take it."""
+    with tempfile.TemporaryDirectory(prefix='scuttle-') as folder:
+        paths = [os.path.join(folder, name) for name in ('empty.list', 'empty.log')]
+        for empty in paths:
+            # An empty text is no list, so that nothing is judged after the instance.
+            write_text(empty, '')
+        run(program, ['check', path] + paths, (REFUSED,))
+
+
+def _slabs(source: Source, folder: str, parts: int, cost: Optional[int], probe: float, program: Optional[str]) -> Split:
+    try:
+        found = find_range(source, cost, probe, program)
+    except NoModels:
+        return Split(source, folder, Node('part-1'))
+    width = found.high + 1 - found.low
+    bounds = sorted({found.low + width * k // parts for k in range(1, parts)} - {0, found.low})
+    if bounds and source.costs[found.cost - 1].most + bounds[-1] > LARGEST:
+        raise CannotTake(source.path, 'the weights of cost %d are too large for a row that bounds it: name another by --cost, or use --by' %
+                         found.cost)
+    root = _tree([Test('cost', found.cost, bound) for bound in bounds])
+    return Split(source, folder, _named(root), found.cost, found.low, found.high)
+
+
+def _tree(tests: Sequence[Test]) -> Node:
+    """Tests of one sum, with rising bounds, as a tree that is as low as can be."""
+    if not tests:
+        return Node()
+    middle = len(tests) // 2
+    return Node(None, tests[middle], _tree(tests[:middle]), _tree(tests[middle + 1:]))
+
+
+def _cubes(variables: Sequence[int], parts: int) -> Node:
+    """So many cubes, or fewer where there aren't enough variables; problems on one level are cut by one variable."""
+    root = Node()
+    level, count = [root], 1
+    for variable in variables:
+        cut = level[:parts - count]
+        for node in cut:
+            node.test, node.below, node.reached = Test('variable', variable, 1), Node(), Node()
+        count += len(cut)
+        level = [child for node in cut for _, child in node.children()]
+        if count == parts:
+            break
+    return _named(root)
+
+
+def _named(root: Node) -> Node:
+    """Names the leaves in their order."""
+    leaves = [node for node, _ in root.walk() if node.test is None]
+    for number, node in enumerate(leaves, 1):
+        node.name = 'part-%0*d' % (len(str(len(leaves))), number)
+    return root
+
+
+def cut_again(split: Split, node: Node, path: Sequence[Condition]) -> bool:
+    """Cuts a part into two: the rest of its range of the cost in half, or by the next variable; whether it can be."""
+    test = _next_test(split, path)
+    if test is None or node.test is not None:
+        return False
+    node.test, node.below, node.reached = test, Node('%s-1' % node.name), Node('%s-2' % node.name)
+    return True
+
+
+def _next_test(split: Split, path: Sequence[Condition]) -> Optional[Test]:
+    if split.cost:
+        low = max([split.low] + [c.test.bound for c in path if c.reached and c.test.kind == 'cost'])
+        high = min([split.high] + [c.test.bound - 1 for c in path if not c.reached and c.test.kind == 'cost'])
+        if low < high:
+            return Test('cost', split.cost, (low + high + 1) // 2)
+    taken = {c.test.number for c in path if c.test.kind == 'variable'}
+    left = [variable for variable in busiest_variables(split.source) if variable not in taken]
+    return Test('variable', left[0], 1) if left else None
+
+
+def write_runners(split: Split, program: str) -> None:
+    """Writes the Makefile and commands.txt: a part's list gets its name when it is whole."""
+    names = [str(node.name) for node, _ in split.parts() if node.test is None]
+    makefile = ['# make -j8 solves the parts that are not solved yet; another program: make SCUTTLE=/where/it/is',
+                'SCUTTLE ?= %s' % program.replace('$', '$$').replace('#', '\\#'), 'OPTIONS ?=', '',
+                'all: %s' % ' '.join(name + '.list' for name in names), '',
+                '%.list: %.opb', '\t"$(SCUTTLE)" solve $< $*.unfinished $*.log $(OPTIONS) && mv $*.unfinished $@', '', '.PHONY: all']
+    write_text(os.path.join(split.folder, 'Makefile'), '\n'.join(makefile) + '\n')
+    command = '"${SCUTTLE:-%s}"' % re.sub(r'(["$`\\])', r'\\\1', program)
+    lines = ['%s solve %s.opb %s.unfinished %s.log $OPTIONS && mv %s.unfinished %s.list\n' % ((command,) + (shlex.quote(name),) * 5)
+             for name in names]
+    write_text(os.path.join(split.folder, 'commands.txt'), ''.join(lines))
+
+
+def _variables_of(word: str, source_variables: int) -> Optional[List[int]]:
+    """The variables that a word names; None where it names none, or one twice or that isn't there."""
+    if not re.fullmatch('x?[0-9]{1,9}(,x?[0-9]{1,9})*', word):
+        return None
+    variables = [int(each.lstrip('x')) for each in word.split(',')]
+    return variables if len(set(variables)) == len(variables) and all(1 <= v <= source_variables for v in variables) else None
+
+
+def options_of(words: List[str], names: Sequence[str]) -> Optional[Dict[str, str]]:
+    """Takes the options with their values out of the words; None where one has none, or stands twice, or isn't one of the names."""
+    found = {}  # type: Dict[str, str]
+    while True:
+        at = next((k for k, word in enumerate(words) if word.startswith('--')), None)
+        if at is None:
+            return found
+        if words[at] not in names or words[at] in found or at + 1 == len(words):
+            return None
+        found[words[at]] = words[at + 1]
+        del words[at:at + 2]
+
+
+def number_of(word: Optional[str], least: int, most: int, otherwise: int) -> int:
+    """The number that an option says, or another where it isn't there; `ValueError` where it isn't between two."""
+    if word is None:
+        return otherwise
+    if not re.fullmatch('[0-9]{1,9}', word) or not least <= int(word) <= most:
+        raise ValueError(word)
+    return int(word)
+
+
+def processors() -> int:
+    """How many processors this process may use."""
+    return len(os.sched_getaffinity(0)) if hasattr(os, 'sched_getaffinity') else os.cpu_count() or 1
+
+
+def _body(arguments: List[str]) -> int:
+    words = list(arguments)
+    found = options_of(words, ('--parts', '--cost', '--by', '--probe'))
+    if found is None or len(words) != 2 or '--by' in found and '--cost' in found:
+        return usage(str(__doc__))
+    source = Source.of_file(words[0])
+    by = _variables_of(found['--by'], source.instance.variables) if '--by' in found else None
+    try:
+        parts = number_of(found.get('--parts'), 1, MOST_PARTS, 2 ** len(by) if by else PARTS_PER_PROCESSOR * processors())
+        cost = number_of(found.get('--cost'), 1, len(source.costs), 0) or None
+        probe = number_of(found.get('--probe'), 1, 10 ** 6, int(PROBE))
+    except ValueError as fault:
+        print("split: '%s' is no such number" % fault, file=sys.stderr)
+        return usage(str(__doc__))
+    if '--by' in found and by is None:
+        print("split: '%s' names no different variables of %s, as x3,x7 does" % (found['--by'], words[0]), file=sys.stderr)
+        return usage(str(__doc__))
+    if os.path.exists(words[1]) and (not os.path.isdir(words[1]) or os.listdir(words[1])):
+        raise ScuttleError('%s is there already, and not empty' % words[1])
+    split = make_split(words[0], words[1], parts, cost, by, probe)
+    print('%d parts' % len(split.parts()))
+    return 0
+
+
+def main(arguments: List[str]) -> int:
+    """Runs the command."""
+    return run_command(str(__doc__), _body, arguments)
