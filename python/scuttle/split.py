@@ -24,7 +24,8 @@ from typing import Dict, List, Optional, Sequence
 from .commands import run_command, usage
 from .errors import CannotTake, ScuttleError
 from .files import write_text
-from .parts import LARGEST, Condition, Node, Source, Split, Test, narrowed
+from .part_runs import halves_of
+from .parts import LARGEST, Condition, Node, Source, Split, Test
 from .ranges import NoModels, busiest_variables, find_range
 from .running import find_program, run
 
@@ -33,8 +34,9 @@ PARTS_PER_PROCESSOR = 4
 # More parts than this make more work than they spread.
 MOST_PARTS = 4096
 # How long each quick run for a range may take. Seconds.
-PROBE = 10.0
+PROBE, LONGEST_PROBE = 10.0, 10 ** 6
 REFUSED = 11
+MAKEFILE, COMMANDS = 'Makefile', 'commands.txt'
 
 
 def make_split(path: str, folder: str, parts: int, cost: Optional[int] = None, by: Optional[Sequence[int]] = None,
@@ -48,7 +50,7 @@ def make_split(path: str, folder: str, parts: int, cost: Optional[int] = None, b
         split = Split(source, folder, _cubes(list(by or busiest_variables(source)), parts))
     os.makedirs(folder, exist_ok=True)
     split.save()
-    write_runners(split, find_program(program))
+    write_runners(split, program)
     return split
 
 
@@ -112,7 +114,8 @@ def cut_again(split: Split, node: Node, path: Sequence[Condition]) -> bool:
     test = _next_test(split, path)
     if test is None or node.test is not None:
         return False
-    node.test, node.below, node.reached = test, Node('%s-1' % node.name), Node('%s-2' % node.name)
+    below, reached = halves_of(str(node.name))
+    node.test, node.below, node.reached = test, Node(below), Node(reached)
     return True
 
 
@@ -127,21 +130,22 @@ def _next_test(split: Split, path: Sequence[Condition]) -> Optional[Test]:
     return Test('variable', left[0], 1) if left else None
 
 
-def write_runners(split: Split, program: str) -> None:
+def write_runners(split: Split, program: Optional[str]) -> None:
     """Writes the Makefile and commands.txt: a part's list gets its name when it is whole."""
+    program = find_program(program)
     names = [str(node.name) for node, _ in split.parts() if node.test is None]
     makefile = ['# make -j8 solves the parts that are not solved yet; another program: make SCUTTLE=/where/it/is',
                 'SCUTTLE ?= %s' % program.replace('$', '$$').replace('#', '\\#'), 'OPTIONS ?=', '',
                 'all: %s' % ' '.join(name + '.list' for name in names), '',
                 '%.list: %.opb', '\t"$(SCUTTLE)" solve $< $*.unfinished $*.log $(OPTIONS) && mv $*.unfinished $@', '', '.PHONY: all']
-    write_text(os.path.join(split.folder, 'Makefile'), '\n'.join(makefile) + '\n')
+    write_text(os.path.join(split.folder, MAKEFILE), '\n'.join(makefile) + '\n')
     command = '"${SCUTTLE:-%s}"' % re.sub(r'(["$`\\])', r'\\\1', program)
     lines = ['%s solve %s.opb %s.unfinished %s.log $OPTIONS && mv %s.unfinished %s.list\n' % ((command,) + (shlex.quote(name),) * 5)
              for name in names]
-    write_text(os.path.join(split.folder, 'commands.txt'), ''.join(lines))
+    write_text(os.path.join(split.folder, COMMANDS), ''.join(lines))
 
 
-def _variables_of(word: str, source_variables: int) -> Optional[List[int]]:
+def variables_of(word: str, source_variables: int) -> Optional[List[int]]:
     """The variables that a word names; None where it names none, or one twice or that isn't there."""
     if not re.fullmatch('x?[0-9]{1,9}(,x?[0-9]{1,9})*', word):
         return None
@@ -162,10 +166,10 @@ def options_of(words: List[str], names: Sequence[str]) -> Optional[Dict[str, str
         del words[at:at + 2]
 
 
-def number_of(word: Optional[str], least: int, most: int, otherwise: int) -> int:
-    """The number that an option says, or another where it isn't there; `ValueError` where it isn't between two."""
+def number_of(word: Optional[str], least: int, most: int) -> Optional[int]:
+    """The number that an option says, None where it isn't there; `ValueError` where it isn't between two."""
     if word is None:
-        return otherwise
+        return None
     if not re.fullmatch('[0-9]{1,9}', word) or not least <= int(word) <= most:
         raise ValueError(word)
     return int(word)
@@ -182,11 +186,11 @@ def _body(arguments: List[str]) -> int:
     if found is None or len(words) != 2 or '--by' in found and '--cost' in found:
         return usage(str(__doc__))
     source = Source.of_file(words[0])
-    by = _variables_of(found['--by'], source.instance.variables) if '--by' in found else None
+    by = variables_of(found['--by'], source.instance.variables) if '--by' in found else None
     try:
-        parts = number_of(found.get('--parts'), 1, MOST_PARTS, 2 ** len(by) if by else PARTS_PER_PROCESSOR * processors())
-        cost = number_of(found.get('--cost'), 1, len(source.costs), 0) or None
-        probe = number_of(found.get('--probe'), 1, 10 ** 6, int(PROBE))
+        parts = number_of(found.get('--parts'), 1, MOST_PARTS) or (2 ** len(by) if by else PARTS_PER_PROCESSOR * processors())
+        cost = number_of(found.get('--cost'), 1, len(source.costs))
+        probe = number_of(found.get('--probe'), 1, LONGEST_PROBE) or PROBE
     except ValueError as fault:
         print("split: '%s' is no such number" % fault, file=sys.stderr)
         return usage(str(__doc__))

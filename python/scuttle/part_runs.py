@@ -1,0 +1,94 @@
+"""One part's run, on whatever machine sees its folder, and when a part needn't be run any more."""
+import os
+import time
+from typing import List, NamedTuple, Optional, Sequence, Tuple
+
+from .running import run_until
+
+COMPLETE = 0
+# A file of this name in the folder stops all runs of its parts.
+STOP = 'stop'
+
+
+class Task(NamedTuple):
+    """What a worker has to know: the folder, the part's name and those of the parts that it was cut from, when it is to end by `time.time()`
+    (None: never), more words for `solve`, and the executable (None: the worker's own).
+
+    >>> Task('parts', 'part-1', (), None, (), None).name
+    'part-1'
+    """
+
+    folder: str
+    name: str
+    uppers: Tuple[str, ...]
+    deadline: Optional[float]
+    words: Tuple[str, ...]
+    program: Optional[str]
+
+
+class Outcome(NamedTuple):
+    """Whether the part was solved, and the seconds that its run took. One that isn't was stopped, or isn't needed any more.
+
+    >>> Outcome(True, 4.2).solved
+    True
+    """
+
+    solved: bool
+    seconds: float
+
+
+class _NotNeeded(Exception):
+    """Others have done this part's work, or all runs are to stop."""
+
+
+def solve_part(task: Task) -> Outcome:
+    """Solves a part: its list gets its name when it is whole, so that a run that dies leaves none. `Failed`, `NoProgram` and `OSError` say
+    what went wrong."""
+    begun = time.monotonic()
+    listed, unfinished = _path(task, '.list'), _path(task, '.unfinished')
+    seconds = None if task.deadline is None else max(0.0, task.deadline - time.time())
+    words = ['solve', _path(task, '.opb'), unfinished, _path(task, '.log')] + list(task.words)
+
+    def look() -> None:
+        if not is_needed(task.folder, task.name, task.uppers) or os.path.exists(os.path.join(task.folder, STOP)):
+            raise _NotNeeded
+    try:
+        look()
+        number = run_until(task.program, words, seconds, look, (COMPLETE,))
+    except _NotNeeded:
+        number = None
+    if number == COMPLETE:
+        os.replace(unfinished, listed)
+    elif os.path.exists(unfinished):
+        os.remove(unfinished)
+    return Outcome(number == COMPLETE, time.monotonic() - begun)
+
+
+def halves_of(name: str) -> List[str]:
+    """The names of the two parts into which a part is cut.
+
+    >>> halves_of('part-1')
+    ['part-1-1', 'part-1-2']
+    """
+    return [name + '-1', name + '-2']
+
+
+def is_needed(folder: str, name: str, uppers: Sequence[str]) -> bool:
+    """Whether neither a part that this one was cut from is solved, nor the two that it was cut into."""
+    return not any(_has_list(folder, upper) for upper in uppers) and not all(_is_done(folder, half) for half in halves_of(name))
+
+
+def _is_done(folder: str, name: str) -> bool:
+    """Whether a part is solved, or all that it is cut into."""
+    if _has_list(folder, name):
+        return True
+    halves = halves_of(name)
+    return os.path.exists(os.path.join(folder, halves[0] + '.opb')) and all(_is_done(folder, half) for half in halves)
+
+
+def _has_list(folder: str, name: str) -> bool:
+    return os.path.exists(os.path.join(folder, name + '.list'))
+
+
+def _path(task: Task, ending: str) -> str:
+    return os.path.join(task.folder, task.name + ending)

@@ -1,0 +1,250 @@
+"""spread: solves an instance on several processors: in parts, with one list and one log.
+
+usage: tools/spread IN LIST LOG [--jobs N] [--seconds S] [--parts K] [--cost N] [--by VARIABLES] [--folder FOLDER] [--log-version V] [--boost]
+
+Does what tools/split, `solve` of each part and tools/join do, in one call: LIST gets every best compromise, and LOG the proof,
+which `check` has then judged. --parts, --cost and --by are those of tools/split.
+--jobs N          so many parts at a time; as many as there are processors where it is left out
+--seconds S       stops after about so many seconds: LIST then has the best models so far, marked INCOMPLETE
+--folder FOLDER   where the parts are, and stay; LOG.parts where it is left out, which goes when all is done
+A part that fails is tried once more, and then named. What is solved stays in FOLDER, and the next call takes it up. Where no part
+waits any more, one that still runs is cut in two besides: its own run goes on, and whoever is done first counts.
+Ends with 0 where `check` accepts, 10 where parts aren't solved (stopped, or failed twice), 11 where `check` refuses, 64 where the
+words are wrong, 65 where IN isn't an instance, or is too large, 69 without an executable, 74 where a file fails.
+"""
+import os
+import sys
+import time
+from collections import deque
+from concurrent.futures import FIRST_COMPLETED, Executor, Future, ThreadPoolExecutor, wait
+from typing import Callable, Deque, Dict, List, NamedTuple, Optional, Sequence, Tuple
+
+from .commands import run_command, usage
+from .dominance import best_of
+from .errors import NoProgram
+from .files import write_text
+from .instances import Costs, costs_of
+from .join import UNSOLVED, Joined, join, say, unsolved_of
+from .lists import Entry, Listing, text_of
+from .logs import models_of
+from .part_runs import STOP, Outcome, Task, is_needed, solve_part
+from .parts import PLAN, Condition, Node, Source, Split
+from .split import COMMANDS, MAKEFILE, MOST_PARTS, PARTS_PER_PROCESSOR, PROBE, cut_again, make_split, number_of, options_of, processors
+from .split import variables_of, write_runners
+
+# How often the parts that run are looked at, and how long a part runs before idle workers share its work. Seconds.
+PAUSE, LONG = 0.2, 2.0
+# A part that failed is tried again once.
+TRIES = 2
+
+Tell = Callable[[str], object]
+
+
+class Settings(NamedTuple):
+    """How an instance is spread: so many parts at a time, at most so many seconds, how it is cut (see `split.make_split`), the words for
+    `solve`, the version of the joined log, the executable, and the folder of the parts (None: beside the log, and gone afterwards).
+
+    >>> Settings(jobs=2).version
+    1
+    """
+
+    jobs: Optional[int] = None
+    seconds: Optional[float] = None
+    parts: Optional[int] = None
+    cost: Optional[int] = None
+    by: Optional[Sequence[int]] = None
+    words: Tuple[str, ...] = ()
+    version: int = 1
+    program: Optional[str] = None
+    folder: Optional[str] = None
+
+
+class Spread(NamedTuple):
+    """What came of it: the split, what came of joining, and the parts that failed twice with what was said.
+
+    >>> Spread.__name__
+    'Spread'
+    """
+
+    split: Split
+    joined: Joined
+    failed: Dict[str, str]
+
+
+def spread(path: str, listed: str, logged: str, settings: Settings, executor: Optional[Executor] = None,
+           tell: Tell = lambda text: None) -> Spread:
+    """Solves an instance in parts by an executor (by threads of this process, each with a run of the program, where none is given), and joins
+    them. Workers on other machines have to see the folder under the same name.
+
+    With an executor and no number of jobs all parts are handed over at once, and none is cut again.
+    """
+    deadline = None if settings.seconds is None else time.time() + settings.seconds
+    folder = os.path.abspath(settings.folder or logged + '.parts')
+    jobs = settings.jobs or processors()
+    split = _split_in(folder, path, jobs, settings)
+    run = _Run(split, settings, None if executor is not None and settings.jobs is None else jobs, deadline, tell)
+    # It starts threads as work is handed over: none, where the executor is another's.
+    own = ThreadPoolExecutor(jobs)
+    try:
+        run.work(executor or own)
+    finally:
+        _stop(split, run)
+        own.shutdown()
+    joined = join(split, listed, logged, settings.version, settings.program)
+    if joined.unsolved:
+        write_text(listed, text_of(models_so_far(split)))
+    elif joined.refused is None and settings.folder is None:
+        remove(split)
+    return Spread(split, joined, run.failed)
+
+
+def _split_in(folder: str, path: str, jobs: int, settings: Settings) -> Split:
+    """The parts that the folder has already, or new ones."""
+    if os.path.exists(os.path.join(folder, PLAN)):
+        return Split.load(Source.of_file(path), folder)
+    probe = PROBE if settings.seconds is None else min(PROBE, settings.seconds / 10)
+    return make_split(path, folder, settings.parts or jobs * PARTS_PER_PROCESSOR, settings.cost, settings.by, probe, settings.program)
+
+
+def _stop(split: Split, run: '_Run') -> None:
+    """Ends what still runs, and waits for that."""
+    if run.flying:
+        stop = split.path(STOP, '')
+        write_text(stop, '')
+        for future in run.flying:
+            future.cancel()
+        wait(run.flying)
+        os.remove(stop)
+
+
+class _Run:
+    """The parts that wait and those that run."""
+
+    def __init__(self, split: Split, settings: Settings, jobs: Optional[int], deadline: Optional[float], tell: Tell) -> None:
+        self.split, self.settings, self.jobs, self.deadline, self.tell = split, settings, jobs, deadline, tell
+        self.waiting = deque(unsolved_of(split))  # type: Deque[str]
+        self.flying = {}  # type: Dict[Future[Outcome], Tuple[str, float]]
+        self.tries = {}  # type: Dict[str, int]
+        self.failed = {}  # type: Dict[str, str]
+
+    def work(self, executor: Executor) -> None:
+        """Runs all parts, as many at a time as there are jobs."""
+        while self.waiting or self.flying:
+            if self.deadline is not None and time.time() >= self.deadline:
+                self.waiting.clear()
+            else:
+                self._fill(executor)
+            for future in wait(self.flying, PAUSE, FIRST_COMPLETED).done:
+                self._take(future)
+
+    def _fill(self, executor: Executor) -> None:
+        while self.jobs is None or len(self.flying) < self.jobs:
+            if not self.waiting and (self.jobs is None or not self._share()):
+                return
+            name = self.waiting.popleft()
+            uppers = self._uppers(name)
+            if is_needed(self.split.folder, name, uppers):
+                task = Task(self.split.folder, name, uppers, self.deadline, self.settings.words, self.settings.program)
+                self.tries[name] = self.tries.get(name, 0) + 1
+                self.flying[executor.submit(solve_part, task)] = name, time.monotonic()
+
+    def _take(self, future: 'Future[Outcome]') -> None:
+        """Tells of a part that has ended; one that failed waits again, behind the others."""
+        name, _ = self.flying.pop(future)
+        fault = future.exception()
+        if isinstance(fault, NoProgram):
+            raise fault
+        if fault is not None:
+            again = self.tries[name] < TRIES
+            self.tell('%s: %s%s' % (name, fault, '; it is tried again' if again else ''))
+            if again:
+                self.waiting.append(name)
+            else:
+                self.failed[name] = str(fault)
+        elif future.result().solved:
+            self.tell('%s: %.1f s, %d left' % (name, future.result().seconds, len(unsolved_of(self.split))))
+
+    def _share(self) -> bool:
+        """Cuts the part that has run longest, if one has run long, so that idle workers take the halves; whether there is one."""
+        now = time.monotonic()
+        running = {name: begun for name, begun in self.flying.values() if now - begun >= LONG}
+        parts = sorted(((node, path) for node, path in self.split.parts() if node.name in running and node.test is None),
+                       key=lambda part: running[str(part[0].name)])
+        for node, path in parts:
+            if cut_again(self.split, node, path):
+                self.split.save()
+                write_runners(self.split, None)
+                self.tell('%s: cut in two' % node.name)
+                self.waiting.extend(str(half.name) for _, half in node.children())
+                return True
+        return False
+
+    def _uppers(self, name: str) -> Tuple[str, ...]:
+        """The parts that a part was cut from."""
+        return tuple(str(node.name) for node, _ in self.split.parts() if name.startswith('%s-' % node.name))
+
+
+def models_so_far(split: Split) -> Listing:
+    """The best of the models that the parts' logs have, as a list that isn't complete."""
+    source, found = split.source, {}  # type: Source, Dict[Costs, List[int]]
+    for node, _ in split.parts():
+        log = split.path(str(node.name), '.log')
+        if os.path.exists(log) and os.path.getsize(log):
+            for model in models_of(log, source.statements).values():
+                own = model[:source.instance.variables]
+                found.setdefault(costs_of(source.instance, own), own)
+    best = best_of(list(found), [objective.sense for objective in source.instance.objectives])
+    return Listing(False, [Entry(costs, found[costs]) for costs in best])
+
+
+def remove(split: Split) -> None:
+    """Removes a folder's parts, and the folder, where nothing else is in it."""
+    names = [PLAN, MAKEFILE, COMMANDS]
+    names += [str(node.name) + ending for node, _ in split.parts() for ending in ('.opb', '.list', '.log', '.unfinished')]
+    for name in names:
+        path = os.path.join(split.folder, name)
+        if os.path.exists(path):
+            os.remove(path)
+    if not os.listdir(split.folder):
+        os.rmdir(split.folder)
+
+
+def settings_of(words: List[str], variables: int, costs: int) -> Optional[Settings]:
+    """Takes the options out of the words; None where they are wrong."""
+    has_boost = '--boost' in words
+    if has_boost:
+        words.remove('--boost')
+    found = options_of(words, ('--jobs', '--seconds', '--parts', '--cost', '--by', '--folder', '--log-version'))
+    if found is None or '--by' in found and '--cost' in found:
+        return None
+    by = variables_of(found['--by'], variables) if '--by' in found else None
+    if '--by' in found and by is None:
+        return None
+    try:
+        return Settings(number_of(found.get('--jobs'), 1, MOST_PARTS), number_of(found.get('--seconds'), 1, 10 ** 9),
+                        number_of(found.get('--parts'), 1, MOST_PARTS), number_of(found.get('--cost'), 1, costs), by,
+                        ('--boost',) * has_boost, number_of(found.get('--log-version'), 1, 2) or 1, None, found.get('--folder'))
+    except ValueError:
+        return None
+
+
+def _body(arguments: List[str]) -> int:
+    words = list(arguments)
+    named = [word for word in words if word.endswith(('.opb', '.mopb', '.mcnf'))]
+    source = Source.of_file(named[0]) if named and os.path.exists(named[0]) else None
+    settings = settings_of(words, source.instance.variables, len(source.costs)) if source else settings_of(words, 0, 0)
+    if settings is None or len(words) != 3 or len({os.path.realpath(word) for word in words}) < 3:
+        return usage(str(__doc__))
+    result = spread(words[0], words[1], words[2], settings, None, lambda text: print('spread: ' + text, file=sys.stderr, flush=True))
+    if result.joined.unsolved:
+        for name, what in result.failed.items():
+            print('spread: %s failed twice: %s' % (name, what), file=sys.stderr)
+        print('stopped: %d so far in %s' % (len(models_so_far(result.split).entries), words[1]))
+        print('spread: %d parts are left, and what is solved stays in %s' % (len(result.joined.unsolved), result.split.folder), file=sys.stderr)
+        return UNSOLVED
+    return say('spread', result.joined, result.split)
+
+
+def main(arguments: List[str]) -> int:
+    """Runs the command."""
+    return run_command(str(__doc__), _body, arguments)
