@@ -1,5 +1,6 @@
 """One part's run, on whatever machine sees its folder, and when a part needn't be run any more."""
 import os
+import tempfile
 import time
 from typing import List, NamedTuple, Optional, Sequence, Tuple
 
@@ -8,6 +9,8 @@ from .running import run_until
 COMPLETE = 0
 # A file of this name in the folder stops all runs of its parts.
 STOP = 'stop'
+# What stands between a part's name and chance letters in the name of a run's folder.
+RUN = '.run-'
 
 
 class Task(NamedTuple):
@@ -37,31 +40,41 @@ class Outcome(NamedTuple):
     seconds: float
 
 
-class _NotNeeded(Exception):
+class _NotWanted(Exception):
     """Others have done this part's work, or all runs are to stop."""
 
 
 def solve_part(task: Task) -> Outcome:
-    """Solves a part: its list gets its name when it is whole, so that a run that dies leaves none. `Failed`, `NoProgram` and `OSError` say
-    what went wrong."""
+    """Solves a part in a folder of its own, and then gives its log and its list their names: a run that dies leaves none, and two of the same
+    part don't meet. The log of one that is stopped is left without a list. `Failed`, `NoProgram` and `OSError` say what went wrong."""
     begun = time.monotonic()
-    listed, unfinished = _path(task, '.list'), _path(task, '.unfinished')
+    if not _is_wanted(task):
+        return Outcome(False, 0.0)
+    with tempfile.TemporaryDirectory(prefix=task.name + RUN, dir=task.folder) as own:
+        listed, log = os.path.join(own, 'list'), os.path.join(own, 'log')
+        number = _run(task, [_path(task, '.opb'), listed, log])
+        if os.path.exists(log) and not _has_list(task.folder, task.name):
+            os.replace(log, _path(task, '.log'))
+            if number == COMPLETE:
+                os.replace(listed, _path(task, '.list'))
+    return Outcome(number == COMPLETE, time.monotonic() - begun)
+
+
+def _run(task: Task, paths: List[str]) -> Optional[int]:
     seconds = None if task.deadline is None else max(0.0, task.deadline - time.time())
-    words = ['solve', _path(task, '.opb'), unfinished, _path(task, '.log')] + list(task.words)
 
     def look() -> None:
-        if not is_needed(task.folder, task.name, task.uppers) or os.path.exists(os.path.join(task.folder, STOP)):
-            raise _NotNeeded
+        if not _is_wanted(task):
+            raise _NotWanted
     try:
-        look()
-        number = run_until(task.program, words, seconds, look, (COMPLETE,))
-    except _NotNeeded:
-        number = None
-    if number == COMPLETE:
-        os.replace(unfinished, listed)
-    elif os.path.exists(unfinished):
-        os.remove(unfinished)
-    return Outcome(number == COMPLETE, time.monotonic() - begun)
+        return run_until(task.program, ['solve'] + paths + list(task.words), seconds, look, (COMPLETE,))
+    except _NotWanted:
+        return None
+
+
+def _is_wanted(task: Task) -> bool:
+    return is_needed(task.folder, task.name, task.uppers) and os.path.isdir(task.folder) \
+        and not os.path.exists(os.path.join(task.folder, STOP))
 
 
 def halves_of(name: str) -> List[str]:

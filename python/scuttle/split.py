@@ -74,16 +74,16 @@ def _slabs(source: Source, folder: str, parts: int, cost: Optional[int], probe: 
     if bounds and source.costs[found.cost - 1].most + bounds[-1] > LARGEST:
         raise CannotTake(source.path, 'the weights of cost %d are too large for a row that bounds it: name another by --cost, or use --by' %
                          found.cost)
-    root = _tree([Test('cost', found.cost, bound) for bound in bounds])
-    return Split(source, folder, _named(root), found.cost, found.low, found.high)
+    root = tree([Test('cost', found.cost, bound) for bound in bounds])
+    return Split(source, folder, named(root), found.cost, found.low, found.high)
 
 
-def _tree(tests: Sequence[Test]) -> Node:
+def tree(tests: Sequence[Test]) -> Node:
     """Tests of one sum, with rising bounds, as a tree that is as low as can be."""
     if not tests:
         return Node()
     middle = len(tests) // 2
-    return Node(None, tests[middle], _tree(tests[:middle]), _tree(tests[middle + 1:]))
+    return Node(None, tests[middle], tree(tests[:middle]), tree(tests[middle + 1:]))
 
 
 def _cubes(variables: Sequence[int], parts: int) -> Node:
@@ -98,10 +98,10 @@ def _cubes(variables: Sequence[int], parts: int) -> Node:
         level = [child for node in cut for _, child in node.children()]
         if count == parts:
             break
-    return _named(root)
+    return named(root)
 
 
-def _named(root: Node) -> Node:
+def named(root: Node) -> Node:
     """Names the leaves in their order."""
     leaves = [node for node, _ in root.walk() if node.test is None]
     for number, node in enumerate(leaves, 1):

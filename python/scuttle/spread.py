@@ -12,22 +12,25 @@ waits any more, one that still runs is cut in two besides: its own run goes on, 
 Ends with 0 where `check` accepts, 10 where parts aren't solved (stopped, or failed twice), 11 where `check` refuses, 64 where the
 words are wrong, 65 where IN isn't an instance, or is too large, 69 without an executable, 74 where a file fails.
 """
+import contextlib
+import fcntl
 import os
+import shutil
 import sys
 import time
 from collections import deque
 from concurrent.futures import FIRST_COMPLETED, Executor, Future, ThreadPoolExecutor, wait
-from typing import Callable, Deque, Dict, List, NamedTuple, Optional, Sequence, Tuple
+from typing import Callable, Deque, Dict, Iterator, List, NamedTuple, Optional, Sequence, Tuple
 
 from .commands import run_command, usage
 from .dominance import best_of
-from .errors import NoProgram
+from .errors import NoProgram, ScuttleError
 from .files import write_text
 from .instances import Costs, costs_of
 from .join import UNSOLVED, Joined, join, say, unsolved_of
 from .lists import Entry, Listing, text_of
 from .logs import models_of
-from .part_runs import STOP, Outcome, Task, is_needed, solve_part
+from .part_runs import RUN, STOP, Outcome, Task, is_needed, solve_part
 from .parts import PLAN, Condition, Node, Source, Split
 from .split import COMMANDS, MAKEFILE, MOST_PARTS, PARTS_PER_PROCESSOR, PROBE, cut_again, make_split, number_of, options_of, processors
 from .split import variables_of, write_runners
@@ -74,28 +77,57 @@ class Spread(NamedTuple):
 def spread(path: str, listed: str, logged: str, settings: Settings, executor: Optional[Executor] = None,
            tell: Tell = lambda text: None) -> Spread:
     """Solves an instance in parts by an executor (by threads of this process, each with a run of the program, where none is given), and joins
-    them. Workers on other machines have to see the folder under the same name.
+    them. Workers on other machines have to see the folder under the same name. Ctrl-C ends it as the time does.
 
-    With an executor and no number of jobs all parts are handed over at once, and none is cut again.
+    With an executor and no number of jobs all parts are handed over at once, and none is cut again. `Failed` where the program doesn't take
+    the instance, `Malformed` where the folder has parts of another.
     """
     deadline = None if settings.seconds is None else time.time() + settings.seconds
     folder = os.path.abspath(settings.folder or logged + '.parts')
     jobs = settings.jobs or processors()
-    split = _split_in(folder, path, jobs, settings)
-    run = _Run(split, settings, None if executor is not None and settings.jobs is None else jobs, deadline, tell)
-    # It starts threads as work is handed over: none, where the executor is another's.
-    own = ThreadPoolExecutor(jobs)
-    try:
-        run.work(executor or own)
-    finally:
-        _stop(split, run)
-        own.shutdown()
-    joined = join(split, listed, logged, settings.version, settings.program)
-    if joined.unsolved:
-        write_text(listed, text_of(models_so_far(split)))
-    elif joined.refused is None and settings.folder is None:
-        remove(split)
+    with _alone_in(folder):
+        split = _split_in(folder, path, jobs, settings)
+        run = _Run(split, settings, None if executor is not None and settings.jobs is None else jobs, deadline, tell)
+        # It starts threads as work is handed over: none, where the executor is another's.
+        with ThreadPoolExecutor(jobs) as own:
+            try:
+                run.work(executor or own)
+            except KeyboardInterrupt:
+                pass
+            finally:
+                run.stop()
+        joined = join(split, listed, logged, settings.version, settings.program)
+        if joined.unsolved:
+            write_text(listed, text_of(models_so_far(split)))
+        elif joined.refused is None and settings.folder is None:
+            remove(split)
     return Spread(split, joined, run.failed)
+
+
+@contextlib.contextmanager
+def _alone_in(folder: str) -> Iterator[None]:
+    """Makes the folder, and sees to it that no other call works in it; what runs of earlier calls left there goes."""
+    os.makedirs(folder, exist_ok=True)
+    handle = os.open(folder, os.O_RDONLY)
+    try:
+        fcntl.flock(handle, fcntl.LOCK_EX | fcntl.LOCK_NB)
+    except BlockingIOError:
+        os.close(handle)
+        raise ScuttleError('another call works in %s' % folder) from None
+    try:
+        _clear(folder)
+        yield
+    finally:
+        os.close(handle)
+
+
+def _clear(folder: str) -> None:
+    """Removes the folders of runs that have died, and the file that stopped some."""
+    for name in os.listdir(folder):
+        if RUN in name:
+            shutil.rmtree(os.path.join(folder, name), ignore_errors=True)
+        elif name == STOP:
+            os.remove(os.path.join(folder, name))
 
 
 def _split_in(folder: str, path: str, jobs: int, settings: Settings) -> Split:
@@ -104,17 +136,6 @@ def _split_in(folder: str, path: str, jobs: int, settings: Settings) -> Split:
         return Split.load(Source.of_file(path), folder)
     probe = PROBE if settings.seconds is None else min(PROBE, settings.seconds / 10)
     return make_split(path, folder, settings.parts or jobs * PARTS_PER_PROCESSOR, settings.cost, settings.by, probe, settings.program)
-
-
-def _stop(split: Split, run: '_Run') -> None:
-    """Ends what still runs, and waits for that."""
-    if run.flying:
-        stop = split.path(STOP, '')
-        write_text(stop, '')
-        for future in run.flying:
-            future.cancel()
-        wait(run.flying)
-        os.remove(stop)
 
 
 class _Run:
@@ -130,7 +151,7 @@ class _Run:
     def work(self, executor: Executor) -> None:
         """Runs all parts, as many at a time as there are jobs."""
         while self.waiting or self.flying:
-            if self.deadline is not None and time.time() >= self.deadline:
+            if self._is_late():
                 self.waiting.clear()
             else:
                 self._fill(executor)
@@ -148,21 +169,38 @@ class _Run:
                 self.tries[name] = self.tries.get(name, 0) + 1
                 self.flying[executor.submit(solve_part, task)] = name, time.monotonic()
 
+    def stop(self) -> None:
+        """Ends what still runs, and waits for what runs here. The file that says so stays, for workers elsewhere."""
+        if self.flying:
+            write_text(self.split.path(STOP, ''), '')
+            wait([future for future in self.flying if not future.cancel()])
+
     def _take(self, future: 'Future[Outcome]') -> None:
         """Tells of a part that has ended; one that failed waits again, behind the others."""
         name, _ = self.flying.pop(future)
         fault = future.exception()
         if isinstance(fault, NoProgram):
             raise fault
-        if fault is not None:
-            again = self.tries[name] < TRIES
-            self.tell('%s: %s%s' % (name, fault, '; it is tried again' if again else ''))
-            if again:
-                self.waiting.append(name)
-            else:
-                self.failed[name] = str(fault)
-        elif future.result().solved:
+        if fault is None and future.result().solved:
             self.tell('%s: %.1f s, %d left' % (name, future.result().seconds, len(unsolved_of(self.split))))
+        elif fault is not None or self._was_ended(name):
+            self._fail(name, str(fault or 'its run was ended from outside, as for want of memory'))
+
+    def _was_ended(self, name: str) -> bool:
+        """Whether a run that was stopped is one that nobody here has stopped."""
+        return not self._is_late() and is_needed(self.split.folder, name, self._uppers(name))
+
+    def _is_late(self) -> bool:
+        return self.deadline is not None and time.time() >= self.deadline
+
+    def _fail(self, name: str, what: str) -> None:
+        """A part that failed waits again, behind the others, or is named."""
+        again = self.tries[name] < TRIES
+        self.tell('%s: %s%s' % (name, what, '; it is tried again' if again else ''))
+        if again:
+            self.waiting.append(name)
+        else:
+            self.failed[name] = what
 
     def _share(self) -> bool:
         """Cuts the part that has run longest, if one has run long, so that idle workers take the halves; whether there is one."""
@@ -199,6 +237,7 @@ def models_so_far(split: Split) -> Listing:
 
 def remove(split: Split) -> None:
     """Removes a folder's parts, and the folder, where nothing else is in it."""
+    _clear(split.folder)
     names = [PLAN, MAKEFILE, COMMANDS]
     names += [str(node.name) + ending for node, _ in split.parts() for ending in ('.opb', '.list', '.log', '.unfinished')]
     for name in names:
