@@ -16,32 +16,25 @@ import contextlib
 import fcntl
 import os
 import shutil
+import signal
 import sys
 import time
-from collections import deque
-from concurrent.futures import FIRST_COMPLETED, Executor, Future, ThreadPoolExecutor, wait
-from typing import Callable, Deque, Dict, Iterator, List, NamedTuple, Optional, Sequence, Tuple
+from concurrent.futures import Executor, ThreadPoolExecutor
+from typing import Dict, Iterator, List, NamedTuple, Optional, Sequence, Tuple
 
 from .commands import run_command, usage
 from .dominance import best_of
-from .errors import NoProgram, ScuttleError
+from .errors import ScuttleError
 from .files import write_text
 from .instances import Costs, costs_of
-from .join import UNSOLVED, Joined, join, say, unsolved_of
-from .lists import Entry, Listing, text_of
+from .join import UNSOLVED, Joined, join, say
+from .lists import Entry, Listing, read_list, text_of
 from .logs import models_of
-from .part_runs import RUN, STOP, Outcome, Task, is_needed, solve_part
-from .parts import PLAN, Condition, Node, Source, Split
-from .split import COMMANDS, MAKEFILE, MOST_PARTS, PARTS_PER_PROCESSOR, PROBE, cut_again, make_split, number_of, options_of, processors
-from .split import variables_of, write_runners
-
-# How often the parts that run are looked at, and how long a part runs before idle workers share its work. Seconds.
-PAUSE, LONG = 0.2, 2.0
-# A part that failed is tried again once.
-TRIES = 2
-
-Tell = Callable[[str], object]
-
+from .part_runs import RUN, STOP
+from .parts import PLAN, Source, Split
+from .pool import Pool, Tell
+from .split import (COMMANDS, MAKEFILE, MOST_PARTS, PARTS_PER_PROCESSOR, PROBE, make_split, number_of, options_of, processors,
+                    variables_of)
 
 class Settings(NamedTuple):
     """How an instance is spread: so many parts at a time, at most so many seconds, how it is cut (see `split.make_split`), the words for
@@ -87,26 +80,27 @@ def spread(path: str, listed: str, logged: str, settings: Settings, executor: Op
     jobs = settings.jobs or processors()
     with _alone_in(folder):
         split = _split_in(folder, path, jobs, settings)
-        run = _Run(split, settings, None if executor is not None and settings.jobs is None else jobs, deadline, tell)
+        at_once = None if executor is not None and settings.jobs is None else jobs
+        pool = Pool(split, at_once, deadline, settings.words, settings.program, tell)
         # It starts threads as work is handed over: none, where the executor is another's.
         with ThreadPoolExecutor(jobs) as own:
             try:
-                run.work(executor or own)
+                pool.work(executor or own)
             except KeyboardInterrupt:
                 pass
             finally:
-                run.stop()
+                pool.stop()
         joined = join(split, listed, logged, settings.version, settings.program)
         if joined.unsolved:
             write_text(listed, text_of(models_so_far(split)))
         elif joined.refused is None and settings.folder is None:
             remove(split)
-    return Spread(split, joined, run.failed)
+    return Spread(split, joined, pool.failed)
 
 
 @contextlib.contextmanager
 def _alone_in(folder: str) -> Iterator[None]:
-    """Makes the folder, and sees to it that no other call works in it; what runs of earlier calls left there goes."""
+    """Makes the folder, and sees to it that no other call works in it; an empty one goes at the end."""
     os.makedirs(folder, exist_ok=True)
     handle = os.open(folder, os.O_RDONLY)
     try:
@@ -115,10 +109,12 @@ def _alone_in(folder: str) -> Iterator[None]:
         os.close(handle)
         raise ScuttleError('another call works in %s' % folder) from None
     try:
-        _clear(folder)
         yield
     finally:
         os.close(handle)
+        with contextlib.suppress(OSError):
+            # Where there were no parts to make, or they aren't needed any more, it is empty.
+            os.rmdir(folder)
 
 
 def _clear(folder: str) -> None:
@@ -133,93 +129,13 @@ def _clear(folder: str) -> None:
 def _split_in(folder: str, path: str, jobs: int, settings: Settings) -> Split:
     """The parts that the folder has already, or new ones."""
     if os.path.exists(os.path.join(folder, PLAN)):
-        return Split.load(Source.of_file(path), folder)
+        split = Split.load(Source.of_file(path), folder)
+        _clear(folder)
+        return split
+    if os.listdir(folder):
+        raise ScuttleError('%s is there already, and has no parts but something else' % folder)
     probe = PROBE if settings.seconds is None else min(PROBE, settings.seconds / 10)
     return make_split(path, folder, settings.parts or jobs * PARTS_PER_PROCESSOR, settings.cost, settings.by, probe, settings.program)
-
-
-class _Run:
-    """The parts that wait and those that run."""
-
-    def __init__(self, split: Split, settings: Settings, jobs: Optional[int], deadline: Optional[float], tell: Tell) -> None:
-        self.split, self.settings, self.jobs, self.deadline, self.tell = split, settings, jobs, deadline, tell
-        self.waiting = deque(unsolved_of(split))  # type: Deque[str]
-        self.flying = {}  # type: Dict[Future[Outcome], Tuple[str, float]]
-        self.tries = {}  # type: Dict[str, int]
-        self.failed = {}  # type: Dict[str, str]
-
-    def work(self, executor: Executor) -> None:
-        """Runs all parts, as many at a time as there are jobs."""
-        while self.waiting or self.flying:
-            if self._is_late():
-                self.waiting.clear()
-            else:
-                self._fill(executor)
-            for future in wait(self.flying, PAUSE, FIRST_COMPLETED).done:
-                self._take(future)
-
-    def _fill(self, executor: Executor) -> None:
-        while self.jobs is None or len(self.flying) < self.jobs:
-            if not self.waiting and (self.jobs is None or not self._share()):
-                return
-            name = self.waiting.popleft()
-            uppers = self._uppers(name)
-            if is_needed(self.split.folder, name, uppers):
-                task = Task(self.split.folder, name, uppers, self.deadline, self.settings.words, self.settings.program)
-                self.tries[name] = self.tries.get(name, 0) + 1
-                self.flying[executor.submit(solve_part, task)] = name, time.monotonic()
-
-    def stop(self) -> None:
-        """Ends what still runs, and waits for what runs here. The file that says so stays, for workers elsewhere."""
-        if self.flying:
-            write_text(self.split.path(STOP, ''), '')
-            wait([future for future in self.flying if not future.cancel()])
-
-    def _take(self, future: 'Future[Outcome]') -> None:
-        """Tells of a part that has ended; one that failed waits again, behind the others."""
-        name, _ = self.flying.pop(future)
-        fault = future.exception()
-        if isinstance(fault, NoProgram):
-            raise fault
-        if fault is None and future.result().solved:
-            self.tell('%s: %.1f s, %d left' % (name, future.result().seconds, len(unsolved_of(self.split))))
-        elif fault is not None or self._was_ended(name):
-            self._fail(name, str(fault or 'its run was ended from outside, as for want of memory'))
-
-    def _was_ended(self, name: str) -> bool:
-        """Whether a run that was stopped is one that nobody here has stopped."""
-        return not self._is_late() and is_needed(self.split.folder, name, self._uppers(name))
-
-    def _is_late(self) -> bool:
-        return self.deadline is not None and time.time() >= self.deadline
-
-    def _fail(self, name: str, what: str) -> None:
-        """A part that failed waits again, behind the others, or is named."""
-        again = self.tries[name] < TRIES
-        self.tell('%s: %s%s' % (name, what, '; it is tried again' if again else ''))
-        if again:
-            self.waiting.append(name)
-        else:
-            self.failed[name] = what
-
-    def _share(self) -> bool:
-        """Cuts the part that has run longest, if one has run long, so that idle workers take the halves; whether there is one."""
-        now = time.monotonic()
-        running = {name: begun for name, begun in self.flying.values() if now - begun >= LONG}
-        parts = sorted(((node, path) for node, path in self.split.parts() if node.name in running and node.test is None),
-                       key=lambda part: running[str(part[0].name)])
-        for node, path in parts:
-            if cut_again(self.split, node, path):
-                self.split.save()
-                write_runners(self.split, None)
-                self.tell('%s: cut in two' % node.name)
-                self.waiting.extend(str(half.name) for _, half in node.children())
-                return True
-        return False
-
-    def _uppers(self, name: str) -> Tuple[str, ...]:
-        """The parts that a part was cut from."""
-        return tuple(str(node.name) for node, _ in self.split.parts() if name.startswith('%s-' % node.name))
 
 
 def models_so_far(split: Split) -> Listing:
@@ -236,7 +152,7 @@ def models_so_far(split: Split) -> Listing:
 
 
 def remove(split: Split) -> None:
-    """Removes a folder's parts, and the folder, where nothing else is in it."""
+    """Removes a folder's parts."""
     _clear(split.folder)
     names = [PLAN, MAKEFILE, COMMANDS]
     names += [str(node.name) + ending for node, _ in split.parts() for ending in ('.opb', '.list', '.log', '.unfinished')]
@@ -244,8 +160,6 @@ def remove(split: Split) -> None:
         path = os.path.join(split.folder, name)
         if os.path.exists(path):
             os.remove(path)
-    if not os.listdir(split.folder):
-        os.rmdir(split.folder)
 
 
 def settings_of(words: List[str], variables: int, costs: int) -> Optional[Settings]:
@@ -274,14 +188,19 @@ def _body(arguments: List[str]) -> int:
     settings = settings_of(words, source.instance.variables, len(source.costs)) if source else settings_of(words, 0, 0)
     if settings is None or len(words) != 3 or len({os.path.realpath(word) for word in words}) < 3:
         return usage(str(__doc__))
-    result = spread(words[0], words[1], words[2], settings, None, lambda text: print('spread: ' + text, file=sys.stderr, flush=True))
-    if result.joined.unsolved:
-        for name, what in result.failed.items():
-            print('spread: %s failed twice: %s' % (name, what), file=sys.stderr)
-        print('stopped: %d so far in %s' % (len(models_so_far(result.split).entries), words[1]))
-        print('spread: %d parts are left, and what is solved stays in %s' % (len(result.joined.unsolved), result.split.folder), file=sys.stderr)
-        return UNSOLVED
-    return say('spread', result.joined, result.split)
+    # A request to end ends it as Ctrl-C does: what is solved stays, and no run goes on alone.
+    before = signal.signal(signal.SIGTERM, signal.default_int_handler)
+    try:
+        result = spread(words[0], words[1], words[2], settings, None, lambda text: print('spread: ' + text, file=sys.stderr, flush=True))
+    finally:
+        signal.signal(signal.SIGTERM, before)
+    if not result.joined.unsolved:
+        return say('spread', result.joined, result.split)
+    for name, what in result.failed.items():
+        print('spread: %s failed twice: %s' % (name, what), file=sys.stderr)
+    print('stopped: %d so far in %s' % (len(read_list(words[1]).entries), words[1]))
+    print('spread: %d parts are left, and what is solved stays in %s' % (len(result.joined.unsolved), result.split.folder), file=sys.stderr)
+    return UNSOLVED
 
 
 def main(arguments: List[str]) -> int:

@@ -1,15 +1,18 @@
 """Parts solved apart: how an instance is cut, what is joined, what is refused and named, and what a second call takes up."""
 import os
 import shutil
+import signal
 import stat
 import subprocess
+import sys
+import time
 import unittest
 import unittest.mock
 from concurrent.futures import ProcessPoolExecutor, ThreadPoolExecutor
 
-from setting import EXAMPLES, PROGRAM, InFolder
+from setting import EXAMPLES, PACKAGE, PROGRAM, InFolder
 
-from scuttle import joined_log, part_runs, spread
+from scuttle import joined_log, part_runs, pool, spread
 from scuttle.errors import Malformed, ScuttleError
 from scuttle.join import join
 from scuttle.lists import read_list
@@ -282,7 +285,7 @@ class Spread(Parts):
     def test_one_call(self):
         self.write('in.opb', SHOPS)
         number, said, warned = self.command('spread', 'in.opb', 'all.list', 'all.log', '--jobs', '2', '--parts', '3')
-        self.assertEqual((number, said.split('\n')[1], warned.count(' left\n')), (0, 'accepted', 3))
+        self.assertEqual((number, said.split('\n')[1], warned.count(': solved in ')), (0, 'accepted', 3))
         self.assertEqual(sorted(os.listdir('.')), ['all.list', 'all.log', 'in.opb'])
         self.is_front('all.list', 'all.log')
 
@@ -334,7 +337,7 @@ class Spread(Parts):
         make_split('in.opb', 'parts', 1, 1)
         program = self.program('case "$2" in */part-1.opb) exec sleep 60;; esac\nexec %s "$@"\n' % PROGRAM)
         said = []
-        with unittest.mock.patch.object(spread, 'LONG', 0.1):
+        with unittest.mock.patch.object(pool, 'LONG', 0.1):
             result = self.run_spread(None, said, jobs=3, folder='parts', program=program)
         self.assertEqual((result.joined.refused, result.joined.unsolved), (None, []))
         self.assertIn('part-1: cut in two', said)
@@ -369,6 +372,32 @@ class Spread(Parts):
         with self.assertRaises(Malformed):
             self.run_spread()
         self.assertEqual(sorted(os.listdir('.')), ['all.log.parts', 'in.opb'])
+
+    def test_a_folder_that_has_something_else(self):
+        self.write('in.opb', SHOPS)
+        os.mkdir('all.log.parts')
+        self.write('all.log.parts/stop', 'mine\n')
+        with self.assertRaises(ScuttleError):
+            self.run_spread()
+        self.assertEqual(os.listdir('all.log.parts'), ['stop'])
+
+    def test_what_is_no_instance_leaves_nothing(self):
+        self.write('in.opb', 'min: x1 x2 ;\n')
+        self.assertEqual(self.command('spread', 'in.opb', 'all.list', 'all.log')[0], 65)
+        self.assertEqual(os.listdir('.'), ['in.opb'])
+
+    def test_a_request_to_end(self):
+        self.write('in.opb', SHOPS)
+        make_split('in.opb', 'parts', 3, 1)
+        program = self.program('case "$2" in */part-2.opb) touch begun; exec sleep 60;; esac\nexec %s "$@"\n' % PROGRAM)
+        words = [sys.executable, '-m', 'scuttle', 'spread', 'in.opb', 'all.list', 'all.log', '--jobs', '2', '--folder', 'parts']
+        ran = subprocess.Popen(words, stdout=subprocess.PIPE, stderr=subprocess.PIPE, env=dict(os.environ, SCUTTLE=program, PYTHONPATH=PACKAGE))
+        while not os.path.exists('begun'):
+            time.sleep(0.1)
+        ran.send_signal(signal.SIGTERM)
+        said, warned = ran.communicate(timeout=60)
+        self.assertEqual((ran.returncode, said.startswith(b'stopped: '), b'what is solved stays in' in warned), (10, True, True))
+        self.assertFalse([name for name in os.listdir('parts') if '.run-' in name])
 
     def test_any_executor(self):
         shutil.copy(os.path.join(EXAMPLES, 'grants.opb'), 'in.opb')
