@@ -12,8 +12,8 @@ from concurrent.futures import ProcessPoolExecutor, ThreadPoolExecutor
 
 from setting import EXAMPLES, PACKAGE, PROGRAM, InFolder
 
-from scuttle import joined_log, part_runs, pool, spread
-from scuttle.errors import Malformed, ScuttleError
+from scuttle import Model, joined_log, part_runs, pool, spread
+from scuttle.errors import Malformed, ModelError, ScuttleError
 from scuttle.join import join
 from scuttle.lists import read_list
 from scuttle.parts import Condition, Node, Source, Split, Test, narrowed
@@ -407,15 +407,50 @@ class Spread(Parts):
             self.is_front('all.list', 'all.log')
 
     def test_a_cluster_of_dask(self):
-        try:
-            import distributed
-        except ImportError:
-            self.skipTest('distributed is not installed')
+        # Its workers' farewells are no matter here.
+        with unittest.mock.patch.dict(os.environ, {'DASK_LOGGING__DISTRIBUTED': 'critical'}):
+            try:
+                import distributed
+            except ImportError:
+                self.skipTest('distributed is not installed (Debian: python3-distributed)')
+            self.solve_by_dask(distributed)
+
+    def solve_by_dask(self, distributed):
         self.write('in.opb', SHOPS)
         with distributed.LocalCluster(n_workers=2, threads_per_worker=1, dashboard_address=None) as cluster:
             with distributed.Client(cluster) as client:
                 self.assertIsNone(self.run_spread(client.get_executor(), parts=3).joined.refused)
         self.is_front('all.list', 'all.log')
+
+
+class InOneCall(Parts):
+    def model(self):
+        m = Model()
+        xs = [m.option('x', k) for k in range(12)]
+        m.add(sum(xs) >= 5)
+        m.minimise('pay', sum((3 * k * k + 7) % 11 * x for k, x in enumerate(xs)))
+        m.maximise('joy', sum((5 * k + 2) % 7 * x for k, x in enumerate(xs)))
+        return m
+
+    def test_a_model_in_parts(self):
+        with ThreadPoolExecutor(2) as executor:
+            fronts = [self.model().solve(**how) for how in ({}, {'jobs': 2}, {'executor': executor, 'boost': True, 'log_version': 2})]
+        self.assertTrue(fronts[0].complete)
+        for front in fronts[1:]:
+            self.assertEqual((front.complete, front.accepted, [p.costs for p in front]), (True, True, [p.costs for p in fronts[0]]))
+
+    def test_the_files_stay_in_the_folder(self):
+        self.model().solve(jobs=2, folder='mine')
+        self.assertEqual(sorted(os.listdir('mine')), ['model.list', 'model.log', 'model.opb'])
+
+    def test_a_time_that_is_up(self):
+        front = self.model().solve(jobs=1, seconds=0)
+        self.assertEqual((front.complete, front.accepted), (False, False))
+
+    def test_what_cant_be_had_in_parts(self):
+        for how in ({'harden': True}, {'learn': 5}, {'on_plan': print}):
+            with self.assertRaises(ModelError):
+                self.model().solve(jobs=2, **how)
 
 
 class Words(unittest.TestCase):
