@@ -11,7 +11,7 @@ Ends with 0 where `check` accepts, 10 where parts aren't solved yet, 11 where `c
 import os
 import sys
 import tempfile
-from typing import Dict, Iterator, List, NamedTuple, Optional, Sequence, Tuple
+from typing import Dict, List, NamedTuple, Optional, Sequence
 
 from .commands import run_command, usage
 from .dominance import best_of
@@ -20,7 +20,7 @@ from .files import write_text
 from .instances import Costs, costs_of, sum_at
 from .joined_log import JoinedLog, Span
 from .lists import Entry, Listing, read_list, text_of
-from .parts import Condition, Node, Source, Split, narrowed
+from .parts import Condition, Source, Split
 from .running import run
 
 ACCEPTED, UNSOLVED, REFUSED = 0, 10, 11
@@ -43,7 +43,7 @@ def join(split: Split, listed: str, logged: str, version: int = 1, program: Opti
 
     `Malformed` names a part's file that isn't one of this split's; nothing is written then.
     """
-    unsolved = unsolved_of(split)
+    unsolved = split.unsolved()
     if unsolved:
         return Joined(unsolved, 0, None)
     text = text_of(_joined_list(split))
@@ -67,25 +67,15 @@ def join(split: Split, listed: str, logged: str, version: int = 1, program: Opti
             os.unlink(beside)
 
 
-def unsolved_of(split: Split) -> List[str]:
-    """The parts that have no list yet, where those that they are cut into don't stand for them."""
-    return [name for name, _ in _proving(split.root, (), split) if not split.is_solved(name)]
-
-
-def _proving(node: Node, path: Tuple[Condition, ...], split: Split) -> Iterator[Tuple[str, Tuple[Condition, ...]]]:
-    """The parts whose logs are joined, with the conditions that made them."""
-    if node.name is not None and (not node.children() or split.is_solved(node.name)):
-        yield node.name, path
-        return
-    for condition, child in node.children():
-        yield from _proving(child, narrowed(path + (condition,)), split)
-
-
 def _joined_list(split: Split) -> Listing:
     """The best of the parts' models, by what they cost in the instance itself."""
     source, models = split.source, {}  # type: Source, Dict[Costs, List[int]]
-    for name, path in _proving(split.root, (), split):
-        listed = split.path(name, '.list')
+    for node, path in split.proving():
+        if node.model is not None:
+            model = [k if digit == '1' else -k for k, digit in enumerate(node.model[:source.instance.variables], 1)]
+            models.setdefault(costs_of(source.instance, model), model)
+            continue
+        listed = split.path(str(node.name), '.list')
         for at, entry in enumerate(read_list(listed).entries):
             if len(entry.model) != source.variables or not all(_holds(source, condition, entry.model) for condition in path):
                 raise Malformed(listed, 2 * at + 3, 'this model is of another problem than the part')

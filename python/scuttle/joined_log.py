@@ -87,11 +87,23 @@ class JoinedLog:
         return self.next_id - 1
 
     def add_node(self, node: Node, path: Tuple[Condition, ...] = ()) -> int:
-        """Shows that no solution is left where the conditions hold: by the part's own log, or by what both answers of its test show."""
-        if node.name is not None and (not node.children() or self.split.is_solved(node.name)):
+        """Shows that no solution is left where the conditions hold: by the part's own log, by a known model, or by what all problems show that
+        it is cut into. The id of the clause that says so."""
+        if node.model is not None:
+            return self._add_model(node.model, path)
+        if node.name is not None and self.split.proves(node):
             return self._add_part(node.name, path)
-        hints = [self.add_node(child, narrowed(path + (condition,))) for condition, child in node.children()]
+        hints = [self.add_node(child, narrowed(path + conditions)) for conditions, child in node.children]
         return self.add_clause(path, hints)
+
+    def _add_model(self, model: str, path: Tuple[Condition, ...]) -> int:
+        """Logs a model: where its own costs are reached, nothing is better. The line that says so of a cost is the first one of its test;
+        that a cost is at least 0 needs none."""
+        words = [spelled(k if digit == '1' else -k) for k, digit in enumerate(model, 1)]
+        reached = {c.test.number: self.spell(self.row_id(c)) for c in path if c.reached and c.test.kind == 'cost'}
+        ids = [reached.get(k, '0') for k in range(1, len(self.split.source.costs) + 1)]
+        self.put(' '.join(['sol'] + words + [':'] + [spelled(literal) for literal in self.denied(path)] + [':'] + ids), 1)
+        return self.next_id - 1
 
     def _add_part(self, name: str, path: Tuple[Condition, ...]) -> int:
         part = PartLog(self, self.split.path(name, '.log'), path)

@@ -9,7 +9,7 @@ from typing import Any, Dict, Iterable, Iterator, List, NamedTuple, Optional, Se
 
 from .errors import Malformed
 from .files import write_text
-from .instances import Instance, Names, Term, instance_of, is_clauses, names_of
+from .instances import Instance, Names, Term, instance_of, is_clauses, names_of, sum_at
 from .files import Line
 from .statements import as_statements, cost_row, count_rows, row_text, text_of_statements, with_clauses_normal
 
@@ -43,29 +43,30 @@ class Condition(NamedTuple):
 
 
 class Node:
-    """A problem of the tree: its part's name, where it is a part, and, where it is cut, the test and the two problems of its answers.
+    """A problem of the tree: a part with its name; or cut into others, each with the conditions that are added; or one in which a known model,
+    a digit 1 or 0 for each variable of the normal form, is as good in each cost as any other. A part may be cut later: then its own proof
+    does, or those of the others. `low` is about the least value of the cut cost in a part, where its conditions don't say it.
 
-    A part may be cut later: then its own proof does, or those of the two.
+    No solution of a problem is missing in all that it is cut into. The parts may overlap.
 
-    >>> Node('part-1').test is None
-    True
+    >>> Node('part-1').children
+    []
     """
 
-    def __init__(self, name: Optional[str] = None, test: Optional[Test] = None, below: 'Optional[Node]' = None,
-                 reached: 'Optional[Node]' = None) -> None:
-        self.name, self.test, self.below, self.reached = name, test, below, reached
+    def __init__(self, name: Optional[str] = None, model: Optional[str] = None, low: int = 0) -> None:
+        self.name, self.model, self.low = name, model, low
+        self.children = []  # type: List[Tuple[Tuple[Condition, ...], Node]]
 
-    def children(self) -> 'List[Tuple[Condition, Node]]':
-        """The problems of the two answers, none where it isn't cut."""
-        if self.test is None or self.below is None or self.reached is None:
-            return []
-        return [(Condition(self.test, False), self.below), (Condition(self.test, True), self.reached)]
+    def cut(self, test: Test, below: 'Node', reached: 'Node') -> 'Node':
+        """Cuts it by a test: the node itself."""
+        self.children = [((Condition(test, False),), below), ((Condition(test, True),), reached)]
+        return self
 
     def walk(self, path: Tuple[Condition, ...] = ()) -> 'Iterator[Tuple[Node, Tuple[Condition, ...]]]':
         """Every problem with its conditions, the upper ones first."""
         yield self, path
-        for condition, child in self.children():
-            yield from child.walk(narrowed(path + (condition,)))
+        for conditions, child in self.children:
+            yield from child.walk(narrowed(path + conditions))
 
 
 def narrowed(path: Iterable[Condition]) -> Tuple[Condition, ...]:
@@ -109,6 +110,10 @@ class Source:
     def most(self, test: Test) -> int:
         """What the coefficients of a test's sum sum to."""
         return sum(weight for weight, _ in self.terms(test))
+
+    def value(self, cost: int, model: Sequence[int]) -> int:
+        """The sum of a cost row's terms at a model of the normal form."""
+        return sum_at(self.costs[cost - 1].terms, model)
 
     def row_of(self, condition: Condition) -> str:
         """A condition as a statement."""
@@ -154,7 +159,26 @@ class Split:
 
     def tests(self) -> List[Test]:
         """All tests of the tree, in a fixed order."""
-        return sorted({node.test for node, _ in self.root.walk() if node.test is not None})
+        return sorted({c.test for node, _ in self.root.walk() for conditions, _ in node.children for c in conditions})
+
+    def proving(self) -> List[Tuple[Node, Tuple[Condition, ...]]]:
+        """The parts whose logs make the proof, whether they are solved yet or not, and the problems that a known model closes."""
+        found, left = [], [(self.root, ())]  # type: List[Tuple[Node, Tuple[Condition, ...]]], List[Tuple[Node, Tuple[Condition, ...]]]
+        while left:
+            node, path = left.pop()
+            if self.proves(node):
+                found.append((node, path))
+            else:
+                left += [(child, narrowed(path + conditions)) for conditions, child in reversed(node.children)]
+        return found
+
+    def proves(self, node: Node) -> bool:
+        """Whether it is a problem's own log, or model, that counts, and not what it is cut into."""
+        return not node.children or node.name is not None and self.is_solved(node.name)
+
+    def unsolved(self) -> List[str]:
+        """The parts that have no list yet, where those that they are cut into don't stand for them."""
+        return [node.name for node, _ in self.proving() if node.name is not None and not self.is_solved(node.name)]
 
     def save(self) -> None:
         """Writes the parts that aren't there yet, and then the plan, so that a plan's parts are there."""
@@ -189,24 +213,32 @@ class Split:
 
 
 def _as_json(node: Node) -> Dict[str, Any]:
-    fields = {} if node.name is None else {'name': node.name}  # type: Dict[str, Any]
-    if node.test is not None and node.below is not None and node.reached is not None:
-        fields.update({node.test.kind: node.test.number, 'bound': node.test.bound,
-                       'below': _as_json(node.below), 'reached': _as_json(node.reached)})
+    fields = {name: value for name, value in (('name', node.name), ('model', node.model), ('low', node.low)) if value}  # type: Dict[str, Any]
+    if node.children:
+        fields['children'] = [dict(_as_json(child), where=[[*c.test, 'reached' if c.reached else 'below'] for c in conditions])
+                              for conditions, child in node.children]
     return fields
 
 
 def _node_of(fields: Dict[str, Any], source: Source) -> Node:
     """A problem of the tree; `ValueError` where a number isn't one of the instance, or a name isn't that of a file in the folder."""
-    name = fields.get('name')
+    name, model = fields.get('name'), fields.get('model')
     if name is not None and (not isinstance(name, str) or os.path.basename(name) != name or not name):
         raise ValueError(name)
-    if 'below' not in fields:
-        if name is None:
-            raise ValueError('a leaf without a name')
-        return Node(name)
-    kind = 'cost' if 'cost' in fields else 'variable'
-    test = Test(kind, int(fields[kind]), int(fields['bound']))
-    if not 1 <= test.number <= (len(source.costs) if kind == 'cost' else source.variables) or test.bound < 1:
+    if model is not None and (len(model) != source.variables or set(model) - set('01')):
+        raise ValueError(model)
+    node = Node(name, model, int(fields.get('low', 0)))
+    for child in fields.get('children', []):
+        conditions = [Condition(_test_of(words, source), words[3] == 'reached') for words in child['where']]
+        node.children.append((narrowed(conditions), _node_of(child, source)))
+    if not node.children and name is None and model is None:
+        raise ValueError('nothing shows that this has no solution')
+    return node
+
+
+def _test_of(words: Sequence[Any], source: Source) -> Test:
+    test = Test(str(words[0]), int(words[1]), int(words[2]))
+    most = {'cost': len(source.costs), 'variable': source.variables}[test.kind]
+    if not 1 <= test.number <= most or test.bound < 1:
         raise ValueError(test)
-    return Node(name, test, _node_of(fields['below'], source), _node_of(fields['reached'], source))
+    return test

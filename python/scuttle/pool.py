@@ -6,7 +6,6 @@ from typing import Callable, Deque, Dict, Optional, Tuple
 
 from .errors import NoProgram
 from .files import write_text
-from .join import unsolved_of
 from .part_runs import STOP, Outcome, Task, is_needed, solve_part
 from .parts import Split
 from .split import cut_again, write_runners
@@ -29,7 +28,7 @@ class Pool:
         words for `solve`, by this executable; `tell` hears of each part that ends."""
         self.split, self.jobs, self.deadline, self.words, self.program, self.tell = split, jobs, deadline, words, program, tell
         self.names = {str(node.name) for node, _ in split.parts()}
-        self.waiting = deque(unsolved_of(split))  # type: Deque[str]
+        self.waiting = deque(split.unsolved())  # type: Deque[str]
         self.running = {}  # type: Dict[Future[Outcome], Tuple[str, float]]
         self.tries = {}  # type: Dict[str, int]
         self.failed = {}  # type: Dict[str, str]
@@ -92,14 +91,14 @@ class Pool:
         """Cuts the part that has run longest, if one has run long, so that idle workers take the halves; whether there is one."""
         now = time.monotonic()
         begun = {name: at for name, at in self.running.values() if now - at >= LONG}
-        parts = sorted(((node, path) for node, path in self.split.parts() if node.name in begun and node.test is None),
+        parts = sorted(((node, path) for node, path in self.split.parts() if node.name in begun and not node.children),
                        key=lambda part: begun[str(part[0].name)])
         for node, path in parts:
             if cut_again(self.split, node, path):
                 self.split.save()
                 write_runners(self.split, None)
                 self.tell('%s: cut in two' % node.name)
-                halves = [str(half.name) for _, half in node.children()]
+                halves = [str(half.name) for _, half in node.children if half.name]
                 self.names.update(halves)
                 self.waiting.extend(halves)
                 return True

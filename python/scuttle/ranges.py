@@ -51,6 +51,13 @@ def find_range(source: Source, cost: Optional[int], seconds: float, program: Opt
     return Range(wanted, min(values, default=0), max(values, default=source.costs[wanted - 1].most))
 
 
+def find_models(source: Source, cost: int, bounds: Sequence[int], seconds: float, program: Optional[str] = None) -> List[List[int]]:
+    """For each bound a model of the normal form that is below it in this cost, and in the other, of two, as good as a quick run found it."""
+    terms = source.costs[cost - 1].terms
+    found = [_least(source, 3 - cost, [Row(terms, '<=', bound - 1, 0)], seconds, program) for bound in bounds]
+    return [model for model in found if model is not None]
+
+
 def _value(source: Source, cost: int, model: Sequence[int]) -> int:
     return sum_at(source.costs[cost - 1].terms, model)
 

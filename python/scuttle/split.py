@@ -19,14 +19,14 @@ import re
 import shlex
 import sys
 import tempfile
-from typing import Dict, List, Optional, Sequence
+from typing import Dict, List, Optional, Sequence, Tuple
 
 from .commands import run_command, usage
 from .errors import CannotTake, ScuttleError
 from .files import write_text
 from .part_runs import halves_of
-from .parts import LARGEST, Condition, Node, Source, Split, Test
-from .ranges import NoModels, busiest_variables, find_range
+from .parts import LARGEST, Condition, Node, Source, Split, Test, narrowed
+from .ranges import NoModels, busiest_variables, find_models, find_range
 from .running import find_program, run
 
 # More parts than processors even the work out: the longest part is about a quarter of a processor's share then.
@@ -71,11 +71,48 @@ def _slabs(source: Source, folder: str, parts: int, cost: Optional[int], probe: 
         return Split(source, folder, Node('part-1'))
     width = found.high + 1 - found.low
     bounds = sorted({found.low + width * k // parts for k in range(1, parts)} - {0, found.low})
-    if bounds and source.costs[found.cost - 1].most + bounds[-1] > LARGEST:
-        raise CannotTake(source.path, 'the weights of cost %d are too large for a row that bounds it: name another by --cost, or use --by' %
-                         found.cost)
-    root = tree([Test('cost', found.cost, bound) for bound in bounds])
+    _refuse_too_large(source, found.cost, bounds)
+    if len(source.costs) == 2:
+        root = boxes(source, found.cost, find_models(source, found.cost, bounds, probe, program))
+    else:
+        root = tree([Test('cost', found.cost, bound) for bound in bounds])
     return Split(source, folder, named(root), found.cost, found.low, found.high)
+
+
+def _refuse_too_large(source: Source, cost: int, bounds: Sequence[int]) -> None:
+    """`CannotTake` where a row that bounds a cost would pass the limit of a row."""
+    highest = [(cost, max(bounds, default=0))] + [(k, source.costs[k - 1].most) for k in range(1, len(source.costs) + 1) if len(source.costs) == 2]
+    for k, bound in highest:
+        if source.costs[k - 1].most + bound > LARGEST:
+            raise CannotTake(source.path, 'the weights of cost %d are too large for a row that bounds it: use --by' % k)
+
+
+def boxes(source: Source, cost: int, models: Sequence[Sequence[int]]) -> Node:
+    """The problems between known models of two costs, which a slab's lower bound would only make harder: what a model makes worthless is
+    closed by it, and left are those that are better than one model in the other cost, and than the next in this one."""
+    other = 3 - cost
+    points = _staircase([(source.value(cost, model), source.value(other, model), model) for model in models])
+    root, low, above = Node(), 0, ()  # type: Node, int, Tuple[Condition, ...]
+    for value, rest, model in points:
+        tests = Test('cost', cost, value), Test('cost', other, rest)
+        root.children.append((narrowed(above + (Condition(tests[0], False),)), Node(low=low)))
+        digits = ''.join('1' if literal > 0 else '0' for literal in model)
+        root.children.append((narrowed(Condition(test, True) for test in tests if test.bound), Node(model=digits)))
+        low, above = value, (Condition(tests[1], False),)
+        if not rest:
+            # Nothing is below it: the rest is empty.
+            return root
+    root.children.append((above, Node(low=low)))
+    return root if points else Node()
+
+
+def _staircase(points: Sequence[Tuple[int, int, Sequence[int]]]) -> List[Tuple[int, int, Sequence[int]]]:
+    """Those that no other is as good as, by rising first values, without such of the value 0, below which there is nothing."""
+    left = []  # type: List[Tuple[int, int, Sequence[int]]]
+    for point in sorted(points, key=lambda p: p[:2]):
+        if point[0] and (not left or point[1] < left[-1][1]):
+            left.append(point)
+    return left
 
 
 def tree(tests: Sequence[Test]) -> Node:
@@ -83,7 +120,7 @@ def tree(tests: Sequence[Test]) -> Node:
     if not tests:
         return Node()
     middle = len(tests) // 2
-    return Node(None, tests[middle], tree(tests[:middle]), tree(tests[middle + 1:]))
+    return Node().cut(tests[middle], tree(tests[:middle]), tree(tests[middle + 1:]))
 
 
 def _cubes(variables: Sequence[int], parts: int) -> Node:
@@ -93,9 +130,9 @@ def _cubes(variables: Sequence[int], parts: int) -> Node:
     for variable in variables:
         cut = level[:parts - count]
         for node in cut:
-            node.test, node.below, node.reached = Test('variable', variable, 1), Node(), Node()
+            node.cut(Test('variable', variable, 1), Node(), Node())
         count += len(cut)
-        level = [child for node in cut for _, child in node.children()]
+        level = [child for node in cut for _, child in node.children]
         if count == parts:
             break
     return named(root)
@@ -103,7 +140,7 @@ def _cubes(variables: Sequence[int], parts: int) -> Node:
 
 def named(root: Node) -> Node:
     """Names the leaves in their order."""
-    leaves = [node for node, _ in root.walk() if node.test is None]
+    leaves = [node for node, _ in root.walk() if not node.children and node.model is None]
     for number, node in enumerate(leaves, 1):
         node.name = 'part-%0*d' % (len(str(len(leaves))), number)
     return root
@@ -111,17 +148,17 @@ def named(root: Node) -> Node:
 
 def cut_again(split: Split, node: Node, path: Sequence[Condition]) -> bool:
     """Cuts a part into two: the rest of its range of the cost in half, or by the next variable; whether it can be."""
-    test = _next_test(split, path)
-    if test is None or node.test is not None:
+    test = _next_test(split, node, path)
+    if test is None or node.children:
         return False
     below, reached = halves_of(str(node.name))
-    node.test, node.below, node.reached = test, Node(below), Node(reached)
+    node.cut(test, Node(below, low=node.low), Node(reached))
     return True
 
 
-def _next_test(split: Split, path: Sequence[Condition]) -> Optional[Test]:
+def _next_test(split: Split, node: Node, path: Sequence[Condition]) -> Optional[Test]:
     if split.cost:
-        low = max([split.low] + [c.test.bound for c in path if c.reached and c.test.kind == 'cost'])
+        low = max([split.low, node.low] + [c.test.bound for c in path if c.reached and c.test.kind == 'cost'])
         high = min([split.high] + [c.test.bound - 1 for c in path if not c.reached and c.test.kind == 'cost'])
         if low < high:
             return Test('cost', split.cost, (low + high + 1) // 2)
@@ -133,7 +170,7 @@ def _next_test(split: Split, path: Sequence[Condition]) -> Optional[Test]:
 def write_runners(split: Split, program: Optional[str]) -> None:
     """Writes the Makefile and commands.txt: a part's list gets its name when it is whole."""
     program = find_program(program)
-    names = [str(node.name) for node, _ in split.parts() if node.test is None]
+    names = [str(node.name) for node, _ in split.parts() if not node.children]
     makefile = ['# make -j8 solves the parts that are not solved yet; another program: make SCUTTLE=/where/it/is',
                 'SCUTTLE ?= %s' % program.replace('$', '$$').replace('#', '\\#'), 'OPTIONS ?=', '',
                 'all: %s' % ' '.join(name + '.list' for name in names), '',

@@ -49,10 +49,10 @@ def random_split(chance, source, folder, parts):
         return Split(source, folder, named(tree([Test('cost', cost, bound) for bound in sorted(bounds)])))
     root = Node()
     for _ in range(parts - 1):
-        node, path = chance.choice([(node, path) for node, path in root.walk() if node.test is None])
+        node, path = chance.choice([(node, path) for node, path in root.walk() if not node.children])
         kind = chance.choice(kinds)
         number = chance.randint(1, source.instance.variables if kind == 'variable' else len(source.costs))
         test = Test(kind, number, 1 if kind == 'variable' else chance.randint(1, source.costs[number - 1].most + 1))
         if test not in [condition.test for condition in path]:
-            node.test, node.below, node.reached = test, Node(), Node()
+            node.cut(test, Node(), Node())
     return Split(source, folder, named(root))

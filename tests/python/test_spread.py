@@ -36,12 +36,17 @@ class Parts(InFolder):
                 paths = [split.path(node.name, ending) for ending in ('.opb', '.list', '.log')]
                 subprocess.run([PROGRAM, 'solve'] + paths + list(words), check=True, stdout=subprocess.PIPE)
 
-    def slabs(self, text=SHOPS, name='in.opb', bounds=(2, 5), cost=1, *words):
-        """Slabs of a cost, solved."""
+    def unsolved_slabs(self, text=SHOPS, name='in.opb', bounds=(2, 5), cost=1):
+        """Slabs of a cost."""
         source = Source.of_file(self.write(name, text))
         os.mkdir('parts')
         split = Split(source, 'parts', named(tree([Test('cost', cost, bound) for bound in bounds])), cost, 0, source.costs[cost - 1].most)
         split.save()
+        return split
+
+    def slabs(self, text=SHOPS, name='in.opb', bounds=(2, 5), cost=1, *words):
+        """Slabs of a cost, solved."""
+        split = self.unsolved_slabs(text, name, bounds, cost)
         self.solve(split, *words)
         return split
 
@@ -92,10 +97,23 @@ class Cut(Parts):
             shutil.rmtree('parts')
 
     def test_the_cost_of_the_widest_range(self):
-        self.write('in.opb', 'min: 1 x1 ;\nmin: 20 ~x1 +10 x2 ;\nx1 +1 x2 +1 x3 >= 1 ;\n')
+        self.write('in.opb', 'min: 1 x1 ;\nmin: 20 ~x1 +10 x2 ;\nmin: x3 ;\nx1 +1 x2 +1 x3 >= 1 ;\n')
         split = make_split('in.opb', 'parts', 4)
         self.assertEqual((split.cost, split.low, split.high), (2, 0, 20))
         self.assertEqual([condition.test.bound for _, path in split.parts() for condition in path if condition.reached], [5, 10, 15])
+
+    def test_two_costs_make_boxes_between_models(self):
+        self.write('in.opb', 'min: 1 x1 +2 x2 +3 x3 ;\nmin: 4 ~x1 +4 ~x2 +4 ~x3 ;\nx1 +1 x2 +1 x3 >= 1 ;\n')
+        split = make_split('in.opb', 'parts', 3, 1)
+        self.assertEqual([self.lines('parts/part-%d.opb' % k)[0].split(': ')[1] for k in (1, 2, 3)],
+                         ['cost 1 <= 0', 'cost 2 <= 7, cost 1 <= 2', 'cost 2 <= 3'][:0] or
+                         [', '.join(map(split.source.words_of, path)) for node, path in split.parts()])
+        self.assertTrue(all(not c.reached for _, path in split.parts() for c in path))
+        models = [node.model for node, _ in split.root.walk() if node.model]
+        self.assertGreater(len(models), 0)
+        self.solve(split)
+        self.assertIsNone(join(Split.load(split.source, 'parts'), 'all.list', 'all.log').refused)
+        self.is_front('all.list', 'all.log')
 
     def test_a_problem_without_models_is_one_part(self):
         self.write('in.opb', 'min: 1 x1 ;\nmin: 2 ~x1 ;\nx1 >= 1 ;\nx1 <= 0 ;\n')
@@ -202,7 +220,8 @@ class Joined(Parts):
             log = joined_log.JoinedLog(out, split, 1)
             log.next_id, log.variables = 2 ** 40, 2 ** 33
             self.write('parts/part-1.log', 'scuttle proof version 1\ndef x3 : 1 x1 1 x2 >= 2\nrup 1 ~x3 >= 1 : 2 3\nreduce 5\nend 4\n')
-            log.add_node(split.root.below, (Condition(split.root.test, False),))
+            conditions, first = split.root.children[0]
+            log.add_node(first, conditions)
         self.assertEqual(self.lines('all.log')[2:-1], [
             'def x%d : 1 x1 1 x2 >= 2' % (2 ** 33 + 1), 'rup 1 x3 1 ~x%d >= 1 : 3 %d' % (2 ** 33 + 1, 2 ** 40), 'reduce %d' % (2 ** 40 + 2),
             'rup 1 x3 >= 1 : %d' % (2 ** 40 + 1), 'del %d %d' % (2 ** 40, 2 ** 40 + 1)])
@@ -285,7 +304,7 @@ class Spread(Parts):
     def test_one_call(self):
         self.write('in.opb', SHOPS)
         number, said, warned = self.command('spread', 'in.opb', 'all.list', 'all.log', '--jobs', '2', '--parts', '3')
-        self.assertEqual((number, said.split('\n')[1], warned.count(': solved in ')), (0, 'accepted', 3))
+        self.assertEqual((number, said.split('\n')[1], warned.count(': solved in ')), (0, 'accepted', 2))
         self.assertEqual(sorted(os.listdir('.')), ['all.list', 'all.log', 'in.opb'])
         self.is_front('all.list', 'all.log')
 
@@ -295,8 +314,7 @@ class Spread(Parts):
         self.is_front('all.list', 'all.log', 'in.mcnf')
 
     def test_what_is_solved_is_taken_up(self):
-        self.write('in.opb', SHOPS)
-        split = make_split('in.opb', 'parts', 3, 1)
+        split = self.unsolved_slabs()
         self.solve(split, names=['part-1', 'part-3'])
         said = []
         self.assertEqual(self.run_spread(None, said, jobs=2, folder='parts').joined.unsolved, [])
@@ -305,16 +323,14 @@ class Spread(Parts):
         self.is_front('all.list', 'all.log')
 
     def test_a_part_that_fails_is_tried_again_once(self):
-        self.write('in.opb', SHOPS)
-        make_split('in.opb', 'parts', 3, 1)
+        self.unsolved_slabs()
         program = self.program('case "$2" in */part-2.opb) [ -e failed ] || { echo full >&2; : > failed; exit 71; };; esac\nexec %s "$@"\n' % PROGRAM)
         said = []
         self.assertEqual(self.run_spread(None, said, jobs=2, folder='parts', program=program).joined.refused, None)
         self.assertIn('part-2: the program ended with 71: full; it is tried again', said)
 
     def test_a_part_that_fails_twice_or_is_killed_is_named_and_the_others_stay(self):
-        self.write('in.opb', SHOPS)
-        make_split('in.opb', 'parts', 3, 1)
+        self.unsolved_slabs()
         for what in ('exit 71', 'kill -9 $$'):
             program = self.program('case "$2" in */part-2.opb) %s;; esac\nexec %s "$@"\n' % (what, PROGRAM))
             result = self.run_spread(jobs=2, folder='parts', program=program)
@@ -324,8 +340,7 @@ class Spread(Parts):
         self.assertEqual(self.run_spread(jobs=2, folder='parts').joined.unsolved, [])
 
     def test_a_time_that_is_up(self):
-        self.write('in.opb', SHOPS)
-        make_split('in.opb', 'parts', 3, 1)
+        self.unsolved_slabs()
         program = self.program('case "$2" in */part-2.opb) exec sleep 60;; esac\nexec %s "$@"\n' % PROGRAM)
         result = self.run_spread(jobs=1, folder='parts', program=program, seconds=4)
         self.assertEqual((result.joined.unsolved[-2:], result.failed), (['part-2', 'part-3'], {}))
@@ -387,8 +402,7 @@ class Spread(Parts):
         self.assertEqual(os.listdir('.'), ['in.opb'])
 
     def test_a_request_to_end(self):
-        self.write('in.opb', SHOPS)
-        make_split('in.opb', 'parts', 3, 1)
+        self.unsolved_slabs()
         program = self.program('case "$2" in */part-2.opb) touch begun; exec sleep 60;; esac\nexec %s "$@"\n' % PROGRAM)
         words = [sys.executable, '-m', 'scuttle', 'spread', 'in.opb', 'all.list', 'all.log', '--jobs', '2', '--folder', 'parts']
         ran = subprocess.Popen(words, stdout=subprocess.PIPE, stderr=subprocess.PIPE, env=dict(os.environ, SCUTTLE=program, PYTHONPATH=PACKAGE))
