@@ -1,12 +1,15 @@
 """The parts of a split on their way through an executor: which wait and which run, which are tried again, and which are cut once more."""
+import glob
+import os
 import time
 from collections import deque
 from concurrent.futures import FIRST_COMPLETED, Executor, Future, wait
-from typing import Callable, Deque, Dict, Optional, Tuple
+from typing import Callable, Deque, Dict, List, Optional, Tuple
 
-from .errors import NoProgram
+from .errors import Malformed, NoProgram
 from .files import write_text
-from .part_runs import STOP, Outcome, Task, is_needed, solve_part
+from .logs import models_of
+from .part_runs import RUN, STOP, Outcome, Task, is_needed, solve_part
 from .parts import Split
 from .split import cut_again, write_runners
 
@@ -17,6 +20,16 @@ TRIES = 2
 ENDED = 'its run was ended from outside, as for want of memory'
 
 Tell = Callable[[str], object]
+
+
+def models_of_run(split: Split, name: str) -> List[List[int]]:
+    """The models that the log of a running part has so far."""
+    logs = glob.glob(os.path.join(glob.escape(split.path(name, RUN)) + '*', 'log'))
+    try:
+        return [model for log in logs if os.path.getsize(log) for model in models_of(log, split.source.statements).values()]
+    except (FileNotFoundError, Malformed):
+        # It has just ended.
+        return []
 
 
 class Pool:
@@ -94,11 +107,11 @@ class Pool:
         parts = sorted(((node, path) for node, path in self.split.parts() if node.name in begun and not node.children),
                        key=lambda part: begun[str(part[0].name)])
         for node, path in parts:
-            if cut_again(self.split, node, path):
+            if cut_again(self.split, node, path, models_of_run(self.split, str(node.name))):
                 self.split.save()
                 write_runners(self.split, None)
                 self.tell('%s: cut in two' % node.name)
-                halves = [str(half.name) for _, half in node.children if half.name]
+                halves = [half.name for _, half in node.children if half.name]
                 self.names.update(halves)
                 self.waiting.extend(halves)
                 return True

@@ -146,14 +146,32 @@ def named(root: Node) -> Node:
     return root
 
 
-def cut_again(split: Split, node: Node, path: Sequence[Condition]) -> bool:
-    """Cuts a part into two: the rest of its range of the cost in half, or by the next variable; whether it can be."""
-    test = _next_test(split, node, path)
-    if test is None or node.children:
+def cut_again(split: Split, node: Node, path: Sequence[Condition], models: Sequence[Sequence[int]] = ()) -> bool:
+    """Cuts a part into two: by one of its models so far, where there are two costs; else the rest of its range of the cost in half; else by the
+    next variable. Whether it can be cut."""
+    if node.children:
         return False
-    below, reached = halves_of(str(node.name))
-    node.cut(test, Node(below, low=node.low), Node(reached))
-    return True
+    names = halves_of(str(node.name))
+    halfway = _halfway(split, models)
+    if halfway is not None:
+        root = boxes(split.source, split.cost, [halfway])
+        (_, first), _, (_, last) = root.children
+        first.name, last.name, first.low = names[0], names[1], node.low
+        node.children = root.children
+        return True
+    test = _next_test(split, node, path)
+    if test is not None:
+        node.cut(test, Node(names[0], low=node.low), Node(names[1]))
+    return test is not None
+
+
+def _halfway(split: Split, models: Sequence[Sequence[int]]) -> Optional[Sequence[int]]:
+    """Of models of two costs the one in the middle, among those that leave something on both sides."""
+    source, cost = split.source, split.cost
+    if not cost or len(source.costs) != 2:
+        return None
+    left = [point for point in _staircase([(source.value(cost, m), source.value(3 - cost, m), m) for m in models]) if point[1]]
+    return left[len(left) // 2][2] if left else None
 
 
 def _next_test(split: Split, node: Node, path: Sequence[Condition]) -> Optional[Test]:

@@ -1,11 +1,13 @@
 """Random small instances of both formats, and random ways to cut them: what is easy to miss in the joining of logs, by chance."""
 from setting import PACKAGE  # noqa: F401
 
+from scuttle.instances import keeps_to
 from scuttle.parts import Node, Split, Test
-from scuttle.split import named, tree
+from scuttle.split import boxes, named, tree
 
-# The most variables of an instance, and the most costs.
-VARIABLES, COSTS = 7, 4
+# The most variables of an instance, and how many costs it has: two oftenest, as instances are cut otherwise then. And how often a model is guessed.
+VARIABLES, COSTS = 7, (0, 1, 2, 2, 2, 3, 4)
+GUESSES = 100
 
 
 def instance_text(chance, is_clauses):
@@ -20,7 +22,7 @@ def clauses_text(chance):
     def literals(lengths):
         return ''.join('%d ' % (chance.choice((-1, 1)) * chance.randint(1, count)) for _ in range(chance.choice(lengths)))
     lines = ['h %s0' % literals((1, 2, 2, 3, 3, 4)) for _ in range(chance.randint(0, 6))]
-    for k in range(1, chance.randint(0, COSTS) + 1):
+    for k in range(1, chance.choice(COSTS) + 1):
         lines += ['o%d %d %s0' % (k, chance.choice((0, 1, 1, 2, 3, 7)), literals((0, 1, 1, 2, 2, 3))) for _ in range(chance.randint(0, 5))]
     chance.shuffle(lines)
     return ''.join(line + '\n' for line in lines)
@@ -33,16 +35,29 @@ def statements_text(chance):
     def terms(most):
         return ' '.join('%+d %sx%d' % (chance.choice((-4, -3, -2, -1, 0, 1, 1, 2, 3, 5)), chance.choice(('', '~')), chance.randint(1, count))
                         for _ in range(chance.randint(0, most)))
-    lines = ['%s: %s ;' % (chance.choice(('min', 'min', 'max')), terms(6)) for _ in range(chance.randint(0, COSTS))]
+    lines = ['%s: %s ;' % (chance.choice(('min', 'min', 'max')), terms(6)) for _ in range(chance.choice(COSTS))]
     lines += ['%s %s %d ;' % (terms(5), chance.choice(('>=', '<=', '>=', '<=', '=')), chance.randint(-3, 4)) for _ in range(chance.randint(0, 4))]
     return ''.join(line + '\n' for line in lines)
 
 
+def random_models(chance, source, count):
+    """So many models of the normal form at most, by many guesses."""
+    models = []
+    for _ in range(GUESSES):
+        model = [chance.choice((-1, 1)) * variable for variable in range(1, source.variables + 1)]
+        if len(models) < count and all(keeps_to(row, model) for row in source.statements.rows):
+            models.append(model)
+    return models
+
+
 def random_split(chance, source, folder, parts):
-    """A tree of so many parts at most: slabs of one cost with any bounds, some of them out of reach, cubes, or both in turn."""
+    """A tree of so many parts at most: boxes between any models, slabs of one cost with any bounds, some of them out of reach, cubes, or both
+    in turn."""
     kinds = ['variable'] * bool(source.instance.variables) + ['cost'] * bool(source.costs)
     if not kinds:
         return Split(source, folder, Node('part-1'))
+    if len(source.costs) == 2 and chance.random() < 0.5:
+        return Split(source, folder, named(boxes(source, chance.randint(1, 2), random_models(chance, source, parts - 1))))
     if source.costs and chance.random() < 0.5:
         cost = chance.randint(1, len(source.costs))
         bounds = {chance.randint(1, source.costs[cost - 1].most + 2) for _ in range(parts - 1)}

@@ -106,8 +106,7 @@ class Cut(Parts):
         self.write('in.opb', 'min: 1 x1 +2 x2 +3 x3 ;\nmin: 4 ~x1 +4 ~x2 +4 ~x3 ;\nx1 +1 x2 +1 x3 >= 1 ;\n')
         split = make_split('in.opb', 'parts', 3, 1)
         self.assertEqual([self.lines('parts/part-%d.opb' % k)[0].split(': ')[1] for k in (1, 2, 3)],
-                         ['cost 1 <= 0', 'cost 2 <= 7, cost 1 <= 2', 'cost 2 <= 3'][:0] or
-                         [', '.join(map(split.source.words_of, path)) for node, path in split.parts()])
+                         ['cost 1 <= 1', 'cost 1 <= 2, cost 2 <= 7', 'cost 2 <= 3'])
         self.assertTrue(all(not c.reached for _, path in split.parts() for c in path))
         models = [node.model for node, _ in split.root.walk() if node.model]
         self.assertGreater(len(models), 0)
@@ -372,6 +371,19 @@ class Spread(Parts):
         self.assertEqual(join(split, 'all.list', 'all.log').unsolved, ['part-1-1', 'part-1-2'])
         self.solve(split, names=['part-1-1', 'part-1-2'])
         self.assertIsNone(join(split, 'all.list', 'all.log').refused)
+        self.is_front('all.list', 'all.log')
+
+    def test_a_long_part_is_shared_by_a_model_that_it_has(self):
+        """The models so far close a problem by themselves, so that no half has a bound that makes it harder."""
+        text = 'min: 1 x1 +2 x2 +3 x3 ;\nmin: 4 ~x1 +4 ~x2 +4 ~x3 ;\nx1 +1 x2 +1 x3 >= 1 ;\n'
+        split = self.unsolved_slabs(text, bounds=())
+        program = self.program('case "$2" in */part-1.opb) printf "scuttle proof version 1\\nsol x1 x2 ~x3 : : 0 0\\n" > "$4"; exec sleep 60;;\n'
+                               'esac\nexec %s "$@"\n' % PROGRAM)
+        with unittest.mock.patch.object(pool, 'LONG', 0.3):
+            result = self.run_spread(jobs=3, folder='parts', program=program)
+        self.assertEqual((result.joined.refused, result.joined.unsolved), (None, []))
+        self.assertEqual([(node.name, node.model, [split.source.words_of(c) for c in path]) for node, path in result.split.root.walk()][1:4], [
+            ('part-1-1', None, ['cost 1 <= 2']), (None, '110', ['cost 1 >= 3', 'cost 2 >= 4']), ('part-1-2', None, ['cost 2 <= 3'])])
         self.is_front('all.list', 'all.log')
 
     def test_two_calls_in_one_folder(self):

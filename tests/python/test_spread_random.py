@@ -54,7 +54,8 @@ class Random(InFolder):
         for node, _ in split.parts():
             paths = [split.path(node.name, ending) for ending in ('.opb', '.list', '.log')]
             self.run_program('solve', *paths, '--log-version', chance.choice('12'), *chance.choice(SEARCHES))
-            self.reached['parts without models'] += not costs_of(paths[1])
+            self.reached['parts without a model'] += not costs_of(paths[1])
+        self.reached['problems closed by a model'] += sum(node.model is not None for node, _ in split.root.walk())
         self.reached['splits of %s' % ('one part' if len(split.parts()) == 1 else 'parts')] += 1
         return Split.load(source, 'parts')
 
@@ -96,8 +97,8 @@ class Random(InFolder):
                 self.assertEqual(self.run_program('check', name, 'all.list', 'all.log'), b'accepted\n')
                 self.change_a_byte(chance, split, costs_of('one.list'))
         if self.cases >= REACHES_ALL:
-            wanted = ['clauses', 'statements', 'splits of one part', 'splits of parts', 'parts without models', 'changed logs that are none',
-                      'changed logs that check refuses', 'changed logs that check accepts']
+            wanted = ['clauses', 'statements', 'splits of one part', 'splits of parts', 'parts without a model', 'problems closed by a model',
+                      'changed logs that are none', 'changed logs that check refuses', 'changed logs that check accepts']
             self.assertEqual([what for what in wanted if not self.reached[what]], [])
         if self.cases != CASES:
             print(self.cases, 'cases;', '; '.join('%s: %d' % pair for pair in sorted(self.reached.items())))
