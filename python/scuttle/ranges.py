@@ -1,6 +1,7 @@
 """Where a problem is cut: the values between which a cost lies on the front, and the variables that stand in most rows."""
 import os
 import tempfile
+from concurrent.futures import ThreadPoolExecutor
 from typing import List, NamedTuple, Optional, Sequence
 
 from .errors import ScuttleError
@@ -27,35 +28,48 @@ class Range(NamedTuple):
     high: int
 
 
+class Quick(NamedTuple):
+    """How quick runs are made: the seconds that each may take, how many at a time, and the executable.
+
+    >>> Quick(10.0, 2, None).jobs
+    2
+    """
+
+    seconds: float
+    jobs: int
+    program: Optional[str]
+
+
 class NoModels(ScuttleError):
     """The rows have no model, so that there is nothing to cut."""
 
 
-def find_range(source: Source, cost: Optional[int], seconds: float, program: Optional[str] = None) -> Range:
-    """The range of a cost, from 1, or of the cost whose range is widest. Each of its quick runs, one for the least of a cost and one for its
-    value where another is least, may take so many seconds: what it has found until then counts. `NoModels` where there are none.
+def find_range(source: Source, cost: Optional[int], quick: Quick) -> Range:
+    """The range of a cost, from 1, or of the cost whose range is widest, by quick runs: for the least of each cost, and for this one's least
+    value where another is least. What a run has found when its time is up counts. `NoModels` where there are none.
 
     A range that is too narrow or too wide makes parts uneven and nothing else, since the outer ones have no bound on that side.
     """
     costs = range(1, len(source.costs) + 1)
-    least = {k: _least(source, k, [], seconds, program) for k in costs}
+    least = {k: _least(source, k, [], quick) for k in costs}
     found = {k: model for k, model in least.items() if model is not None}
     wanted = cost or max(costs, key=lambda k: _width(source, k, list(found.values())))
     seen = list(found.values())
     for k in costs:
         if k != wanted and k in found:
             bound = sum_at(source.costs[k - 1].terms, found[k])
-            seen.append(_least(source, wanted, [Row(source.costs[k - 1].terms, '<=', bound, 0)], seconds, program) or found[k])
+            seen.append(_least(source, wanted, [Row(source.costs[k - 1].terms, '<=', bound, 0)], quick) or found[k])
     # Of models that only say where another cost is least, those count in which the wanted one was made small.
     values = [_value(source, wanted, model) for model in seen[len(found):] + ([found[wanted]] if wanted in found else [])]
     return Range(wanted, min(values, default=0), max(values, default=source.costs[wanted - 1].most))
 
 
-def find_models(source: Source, cost: int, bounds: Sequence[int], seconds: float, program: Optional[str] = None) -> List[List[int]]:
+def find_models(source: Source, cost: int, bounds: Sequence[int], quick: Quick) -> List[List[int]]:
     """For each bound a model of the normal form that is below it in this cost, and in the other, of two, as good as a quick run found it."""
-    terms = source.costs[cost - 1].terms
-    found = [_least(source, 3 - cost, [Row(terms, '<=', bound - 1, 0)], seconds, program) for bound in bounds]
-    return [model for model in found if model is not None]
+    def find(bound: int) -> Optional[List[int]]:
+        return _least(source, 3 - cost, [Row(source.costs[cost - 1].terms, '<=', bound - 1, 0)], quick)
+    with ThreadPoolExecutor(quick.jobs) as pool:
+        return [model for model in pool.map(find, bounds) if model is not None]
 
 
 def _value(source: Source, cost: int, model: Sequence[int]) -> int:
@@ -67,7 +81,7 @@ def _width(source: Source, cost: int, models: Sequence[Sequence[int]]) -> int:
     return max(values, default=0) - min(values, default=0)
 
 
-def _least(source: Source, cost: int, rows: List[Row], seconds: float, program: Optional[str]) -> Optional[List[int]]:
+def _least(source: Source, cost: int, rows: List[Row], quick: Quick) -> Optional[List[int]]:
     """A model in which a cost is least, or the best that the time allowed; None where it allowed none."""
     whole = source.statements
     goal = Objective('min', list(source.costs[cost - 1].terms), [])
@@ -75,7 +89,7 @@ def _least(source: Source, cost: int, rows: List[Row], seconds: float, program: 
     with tempfile.TemporaryDirectory(prefix='scuttle-') as folder:
         paths = [os.path.join(folder, 'least' + ending) for ending in ('.opb', '.list', '.log')]
         write_text(paths[0], text_of_statements(problem, Names({}, {})))
-        number = run_until(program, ['solve'] + paths, seconds, lambda: None, (COMPLETE, INCOMPLETE))
+        number = run_until(quick.program, ['solve'] + paths, quick.seconds, lambda: None, (COMPLETE, INCOMPLETE))
         if number == COMPLETE:
             entries = read_list(paths[1]).entries
             if not entries and not rows:

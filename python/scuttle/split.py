@@ -4,11 +4,11 @@ usage: tools/split IN FOLDER [--parts K] [--cost N] [--by VARIABLES] [--probe SE
 
 Writes FOLDER, which isn't there yet or is empty, with one instance a part, a Makefile (`make -j8` solves all parts that
 aren't solved yet) and commands.txt, a line a part, to be run in FOLDER by GNU parallel, Slurm array jobs or whatever runs
-commands. tools/join then makes one list and one log of them. The parts are slabs of cost N, or of the cost whose range is
-widest, with bounds at even steps of its range, or, where there are fewer than two costs or with --by, cubes: the values of a
-few variables (x3,x7, or 3,7).
---parts K       so many parts, up to 4096; four for each processor of this machine where it is left out
---probe SECONDS how long each of the quick runs may take that find the range; 10 where it is left out
+commands. tools/join then makes one list and one log of them. Of two costs the parts are what is left between some models that
+quick runs find, at even steps of the range of cost N, or of the cost whose range is wider; of more costs, slabs of that range;
+where there are fewer than two costs, or with --by, cubes: the values of a few variables (x3,x7, or 3,7).
+--parts K       about so many parts, up to 4096; four for each processor of this machine where it is left out
+--probe SECONDS how long each quick run may take; 10 where it is left out
 The program that runs is the value of SCUTTLE, or else this one. Other words for `solve`: make OPTIONS=--boost, and the
 variable OPTIONS with commands.txt; not --harden, whose logs can't be joined.
 Ends with 64 where the words are wrong, 65 where IN isn't an instance, or is too large, 69 without an executable, 74 where a
@@ -26,26 +26,29 @@ from .errors import CannotTake, ScuttleError
 from .files import write_text
 from .part_runs import halves_of
 from .parts import LARGEST, Condition, Node, Source, Split, Test, narrowed
-from .ranges import NoModels, busiest_variables, find_models, find_range
+from .ranges import NoModels, Quick, busiest_variables, find_models, find_range
 from .running import find_program, run
 
 # More parts than processors even the work out: the longest part is about a quarter of a processor's share then.
 PARTS_PER_PROCESSOR = 4
 # More parts than this make more work than they spread.
 MOST_PARTS = 4096
-# How long each quick run for a range may take. Seconds.
+# How long each quick run may take, which finds a model with a small cost. Seconds.
 PROBE, LONGEST_PROBE = 10.0, 10 ** 6
 REFUSED = 11
 MAKEFILE, COMMANDS = 'Makefile', 'commands.txt'
 
 
 def make_split(path: str, folder: str, parts: int, cost: Optional[int] = None, by: Optional[Sequence[int]] = None,
-               probe: float = PROBE, program: Optional[str] = None) -> Split:
-    """Cuts an instance into parts and writes their folder. `Failed` where the program doesn't take the instance."""
+               probe: float = PROBE, program: Optional[str] = None, jobs: Optional[int] = None) -> Split:
+    """Cuts an instance into about so many parts and writes their folder: by the range of a cost, from 1, or the values of some variables. Each
+    of the quick runs, so many at a time, may take so many seconds. `Failed` where the program doesn't take the instance, `CannotTake` where
+    a cost's weights are too large for a row.
+    """
     source = Source.of_file(path)
     judge(path, program)
     if by is None and (cost is not None or len(source.costs) > 1):
-        split = _slabs(source, folder, parts, cost, probe, program)
+        split = _by_range(source, folder, parts, cost, Quick(probe, jobs or processors(), program))
     else:
         split = Split(source, folder, _cubes(list(by or busiest_variables(source)), parts))
     os.makedirs(folder, exist_ok=True)
@@ -64,16 +67,16 @@ def judge(path: str, program: Optional[str]) -> None:
         run(program, ['check', path] + paths, (REFUSED,))
 
 
-def _slabs(source: Source, folder: str, parts: int, cost: Optional[int], probe: float, program: Optional[str]) -> Split:
+def _by_range(source: Source, folder: str, parts: int, cost: Optional[int], quick: Quick) -> Split:
     try:
-        found = find_range(source, cost, probe, program)
+        found = find_range(source, cost, quick)
     except NoModels:
         return Split(source, folder, Node('part-1'))
     width = found.high + 1 - found.low
     bounds = sorted({found.low + width * k // parts for k in range(1, parts)} - {0, found.low})
     _refuse_too_large(source, found.cost, bounds)
     if len(source.costs) == 2:
-        root = boxes(source, found.cost, find_models(source, found.cost, bounds, probe, program))
+        root = boxes(source, found.cost, find_models(source, found.cost, bounds, quick))
     else:
         root = tree([Test('cost', found.cost, bound) for bound in bounds])
     return Split(source, folder, named(root), found.cost, found.low, found.high)

@@ -135,7 +135,7 @@ def _split_in(folder: str, path: str, jobs: int, settings: Settings) -> Split:
     if os.listdir(folder):
         raise ScuttleError('%s is there already, and has no parts but something else' % folder)
     probe = PROBE if settings.seconds is None else min(PROBE, settings.seconds / 10)
-    return make_split(path, folder, settings.parts or jobs * PARTS_PER_PROCESSOR, settings.cost, settings.by, probe, settings.program)
+    return make_split(path, folder, settings.parts or jobs * PARTS_PER_PROCESSOR, settings.cost, settings.by, probe, settings.program, jobs)
 
 
 def models_so_far(split: Split) -> Listing:
