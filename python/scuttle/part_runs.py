@@ -77,26 +77,29 @@ def _is_wanted(task: Task) -> bool:
         and not os.path.exists(os.path.join(task.folder, STOP))
 
 
-def halves_of(name: str) -> List[str]:
-    """The names of the two parts into which a part is cut.
+def cut_name(name: str, number: int) -> str:
+    """The name of one of the parts into which a part is cut, numbered from 1.
 
-    >>> halves_of('part-1')
-    ['part-1-1', 'part-1-2']
+    >>> cut_name('part-1', 2)
+    'part-1-2'
     """
-    return [name + '-1', name + '-2']
+    return '%s-%d' % (name, number)
 
 
 def is_needed(folder: str, name: str, uppers: Sequence[str]) -> bool:
-    """Whether neither a part that this one was cut from is solved, nor the two that it was cut into."""
-    return not any(_has_list(folder, upper) for upper in uppers) and not all(_is_done(folder, half) for half in halves_of(name))
+    """Whether neither a part that this one was cut from is solved, nor all that it was cut into."""
+    return not any(_has_list(folder, upper) for upper in uppers) and not _is_done_below(folder, name)
 
 
-def _is_done(folder: str, name: str) -> bool:
-    """Whether a part is solved, or all that it is cut into."""
-    if _has_list(folder, name):
-        return True
-    halves = halves_of(name)
-    return os.path.exists(os.path.join(folder, halves[0] + '.opb')) and all(_is_done(folder, half) for half in halves)
+def _is_done_below(folder: str, name: str) -> bool:
+    """Whether a part was cut, and all that it was cut into is solved."""
+    number = 1
+    while os.path.exists(os.path.join(folder, cut_name(name, number) + '.opb')):
+        lower = cut_name(name, number)
+        if not _has_list(folder, lower) and not _is_done_below(folder, lower):
+            return False
+        number += 1
+    return number > 1
 
 
 def _has_list(folder: str, name: str) -> bool:

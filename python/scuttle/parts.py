@@ -45,7 +45,7 @@ class Condition(NamedTuple):
 class Node:
     """A problem of the tree: a part with its name; or cut into others, each with the conditions that are added; or one in which a known model,
     a digit 1 or 0 for each variable of the normal form, is as good in each cost as any other. A part may be cut later: then its own proof
-    does, or those of the others. `low` is about the least value of the cut cost in a part, where its conditions don't say it.
+    does, or those of the others.
 
     No solution of a problem is missing in all that it is cut into. The parts may overlap.
 
@@ -53,8 +53,8 @@ class Node:
     []
     """
 
-    def __init__(self, name: Optional[str] = None, model: Optional[str] = None, low: int = 0) -> None:
-        self.name, self.model, self.low = name, model, low
+    def __init__(self, name: Optional[str] = None, model: Optional[str] = None) -> None:
+        self.name, self.model = name, model
         self.children = []  # type: List[Tuple[Tuple[Condition, ...], Node]]
 
     def cut(self, test: Test, below: 'Node', reached: 'Node') -> 'Node':
@@ -137,9 +137,9 @@ class Split:
     'part-1'
     """
 
-    def __init__(self, source: Source, folder: str, root: Node, cost: int = 0, low: int = 0, high: int = 0) -> None:
-        """Slabs of a cost, whose values are expected from `low` to `high`, or cubes, where `cost` is 0."""
-        self.source, self.folder, self.root, self.cost, self.low, self.high = source, folder, root, cost, low, high
+    def __init__(self, source: Source, folder: str, root: Node, cost: int = 0) -> None:
+        """Cut by the range of a cost, from 1, or, where it is 0, by variables."""
+        self.source, self.folder, self.root, self.cost = source, folder, root, cost
 
     def parts(self) -> List[Tuple[Node, Tuple[Condition, ...]]]:
         """The problems that are parts, with their conditions."""
@@ -190,8 +190,7 @@ class Split:
                 words = ', '.join(map(self.source.words_of, path)) or 'all of it'
                 head = '* %s of %s: %s\n' % (node.name, os.path.basename(self.source.path).encode('ascii', 'replace').decode(), words)
                 write_text(target, head + text + ''.join(self.source.row_of(condition) + '\n' for condition in path))
-        plan = {'format': FORMAT, 'sha256': self.source.digest, 'cost': self.cost, 'low': self.low, 'high': self.high,
-                'tree': _as_json(self.root)}
+        plan = {'format': FORMAT, 'sha256': self.source.digest, 'cost': self.cost, 'tree': _as_json(self.root)}
         write_text(os.path.join(self.folder, PLAN), json.dumps(plan, indent=1) + '\n')
 
     @classmethod
@@ -204,7 +203,7 @@ class Split:
             if plan['format'] != FORMAT:
                 raise Malformed(path, 1, 'this is no plan of parts that this version knows')
             root = _node_of(plan['tree'], source)
-            split = cls(source, folder, root, int(plan['cost']), int(plan['low']), int(plan['high']))
+            split = cls(source, folder, root, int(plan['cost']))
         except (ValueError, KeyError, TypeError, IndexError):
             raise Malformed(path, 1, 'this is no plan of parts') from None
         if plan['sha256'] != source.digest:
@@ -213,7 +212,7 @@ class Split:
 
 
 def _as_json(node: Node) -> Dict[str, Any]:
-    fields = {name: value for name, value in (('name', node.name), ('model', node.model), ('low', node.low)) if value}  # type: Dict[str, Any]
+    fields = {name: value for name, value in (('name', node.name), ('model', node.model)) if value is not None}  # type: Dict[str, Any]
     if node.children:
         fields['children'] = [dict(_as_json(child), where=[[*c.test, 'reached' if c.reached else 'below'] for c in conditions])
                               for conditions, child in node.children]
@@ -227,7 +226,7 @@ def _node_of(fields: Dict[str, Any], source: Source) -> Node:
         raise ValueError(name)
     if model is not None and (len(model) != source.variables or set(model) - set('01')):
         raise ValueError(model)
-    node = Node(name, model, int(fields.get('low', 0)))
+    node = Node(name, model)
     for child in fields.get('children', []):
         conditions = [Condition(_test_of(words, source), words[3] == 'reached') for words in child['where']]
         node.children.append((narrowed(conditions), _node_of(child, source)))

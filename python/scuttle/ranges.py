@@ -6,10 +6,10 @@ from typing import List, NamedTuple, Optional, Sequence
 
 from .errors import ScuttleError
 from .files import write_text
-from .instances import Instance, Names, Objective, Row, sum_at
+from .instances import Instance, Names, Objective, Row, Term, sum_at
 from .lists import read_list
 from .logs import models_of
-from .parts import Source
+from .parts import LARGEST, Source
 from .running import run_until
 from .statements import text_of_statements
 
@@ -51,40 +51,40 @@ def find_range(source: Source, cost: Optional[int], quick: Quick) -> Range:
     A range that is too narrow or too wide makes parts uneven and nothing else, since the outer ones have no bound on that side.
     """
     costs = range(1, len(source.costs) + 1)
-    least = {k: _least(source, k, [], quick) for k in costs}
+    least = {k: _least(source, source.costs[k - 1].terms, [], quick) for k in costs}
     found = {k: model for k, model in least.items() if model is not None}
     wanted = cost or max(costs, key=lambda k: _width(source, k, list(found.values())))
     seen = list(found.values())
     for k in costs:
         if k != wanted and k in found:
             bound = sum_at(source.costs[k - 1].terms, found[k])
-            seen.append(_least(source, wanted, [Row(source.costs[k - 1].terms, '<=', bound, 0)], quick) or found[k])
+            seen.append(_least(source, source.costs[wanted - 1].terms, [Row(source.costs[k - 1].terms, '<=', bound, 0)], quick) or found[k])
     # Of models that only say where another cost is least, those count in which the wanted one was made small.
-    values = [_value(source, wanted, model) for model in seen[len(found):] + ([found[wanted]] if wanted in found else [])]
+    values = [source.value(wanted, model) for model in seen[len(found):] + ([found[wanted]] if wanted in found else [])]
     return Range(wanted, min(values, default=0), max(values, default=source.costs[wanted - 1].most))
 
 
 def find_models(source: Source, cost: int, bounds: Sequence[int], quick: Quick) -> List[List[int]]:
-    """For each bound a model of the normal form that is below it in this cost, and in the other, of two, as good as a quick run found it."""
+    """For each bound a model of the normal form that is below it in this cost, and whose other costs sum to as little as a quick run found."""
+    others = [term for k, row in enumerate(source.costs, 1) if k != cost for term in row.terms]
+    if sum(weight for weight, _ in others) > LARGEST:
+        others = list(source.costs[cost % len(source.costs)].terms)
+
     def find(bound: int) -> Optional[List[int]]:
-        return _least(source, 3 - cost, [Row(source.costs[cost - 1].terms, '<=', bound - 1, 0)], quick)
+        return _least(source, others, [Row(source.costs[cost - 1].terms, '<=', bound - 1, 0)], quick)
     with ThreadPoolExecutor(quick.jobs) as pool:
         return [model for model in pool.map(find, bounds) if model is not None]
 
 
-def _value(source: Source, cost: int, model: Sequence[int]) -> int:
-    return sum_at(source.costs[cost - 1].terms, model)
-
-
 def _width(source: Source, cost: int, models: Sequence[Sequence[int]]) -> int:
-    values = [_value(source, cost, model) for model in models]
+    values = [source.value(cost, model) for model in models]
     return max(values, default=0) - min(values, default=0)
 
 
-def _least(source: Source, cost: int, rows: List[Row], quick: Quick) -> Optional[List[int]]:
-    """A model in which a cost is least, or the best that the time allowed; None where it allowed none."""
+def _least(source: Source, terms: Sequence[Term], rows: List[Row], quick: Quick) -> Optional[List[int]]:
+    """A model in which a sum is least, or the best that the time allowed; None where it allowed none."""
     whole = source.statements
-    goal = Objective('min', list(source.costs[cost - 1].terms), [])
+    goal = Objective('min', list(terms), [])
     problem = Instance(whole.variables, [goal], whole.rows + rows)
     with tempfile.TemporaryDirectory(prefix='scuttle-') as folder:
         paths = [os.path.join(folder, 'least' + ending) for ending in ('.opb', '.list', '.log')]

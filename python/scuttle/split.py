@@ -14,17 +14,19 @@ variable OPTIONS with commands.txt; not --harden, whose logs can't be joined.
 Ends with 64 where the words are wrong, 65 where IN isn't an instance, or is too large, 69 without an executable, 74 where a
 file can't be read or written.
 """
+import heapq
 import os
 import re
 import shlex
 import sys
 import tempfile
+from itertools import count
 from typing import Dict, List, Optional, Sequence, Tuple
 
 from .commands import run_command, usage
 from .errors import CannotTake, ScuttleError
 from .files import write_text
-from .part_runs import halves_of
+from .part_runs import cut_name
 from .parts import LARGEST, Condition, Node, Source, Split, Test, narrowed
 from .ranges import NoModels, Quick, busiest_variables, find_models, find_range
 from .running import find_program, run
@@ -68,54 +70,56 @@ def judge(path: str, program: Optional[str]) -> None:
 
 
 def _by_range(source: Source, folder: str, parts: int, cost: Optional[int], quick: Quick) -> Split:
+    _refuse_too_large(source)
     try:
         found = find_range(source, cost, quick)
     except NoModels:
         return Split(source, folder, Node('part-1'))
     width = found.high + 1 - found.low
     bounds = sorted({found.low + width * k // parts for k in range(1, parts)} - {0, found.low})
-    _refuse_too_large(source, found.cost, bounds)
-    if len(source.costs) == 2:
-        root = boxes(source, found.cost, find_models(source, found.cost, bounds, quick))
-    else:
-        root = tree([Test('cost', found.cost, bound) for bound in bounds])
-    return Split(source, folder, named(root), found.cost, found.low, found.high)
+    root = by_models(source, found.cost, find_models(source, found.cost, bounds, quick), parts)
+    return Split(source, folder, named(root), found.cost)
 
 
-def _refuse_too_large(source: Source, cost: int, bounds: Sequence[int]) -> None:
-    """`CannotTake` where a row that bounds a cost would pass the limit of a row."""
-    highest = [(cost, max(bounds, default=0))] + [(k, source.costs[k - 1].most) for k in range(1, len(source.costs) + 1) if len(source.costs) == 2]
-    for k, bound in highest:
-        if source.costs[k - 1].most + bound > LARGEST:
+def _refuse_too_large(source: Source) -> None:
+    """`CannotTake` where a row that bounds a cost could pass the limit of a row."""
+    for k, row in enumerate(source.costs, 1):
+        if 2 * row.most > LARGEST:
             raise CannotTake(source.path, 'the weights of cost %d are too large for a row that bounds it: use --by' % k)
 
 
-def boxes(source: Source, cost: int, models: Sequence[Sequence[int]]) -> Node:
-    """The problems between known models of two costs, which a slab's lower bound would only make harder: what a model makes worthless is
-    closed by it, and left are those that are better than one model in the other cost, and than the next in this one."""
-    other = 3 - cost
-    points = _staircase([(source.value(cost, model), source.value(other, model), model) for model in models])
-    root, low, above = Node(), 0, ()  # type: Node, int, Tuple[Condition, ...]
-    for value, rest, model in points:
-        tests = Test('cost', cost, value), Test('cost', other, rest)
-        root.children.append((narrowed(above + (Condition(tests[0], False),)), Node(low=low)))
-        digits = ''.join('1' if literal > 0 else '0' for literal in model)
-        root.children.append((narrowed(Condition(test, True) for test in tests if test.bound), Node(model=digits)))
-        low, above = value, (Condition(tests[1], False),)
-        if not rest:
-            # Nothing is below it: the rest is empty.
-            return root
-    root.children.append((above, Node(low=low)))
-    return root if points else Node()
+Values = Tuple[int, ...]
 
 
-def _staircase(points: Sequence[Tuple[int, int, Sequence[int]]]) -> List[Tuple[int, int, Sequence[int]]]:
-    """Those that no other is as good as, by rising first values, without such of the value 0, below which there is nothing."""
-    left = []  # type: List[Tuple[int, int, Sequence[int]]]
-    for point in sorted(points, key=lambda p: p[:2]):
-        if point[0] and (not left or point[1] < left[-1][1]):
-            left.append(point)
-    return left
+def by_models(source: Source, cost: int, models: Sequence[Sequence[int]], parts: int) -> Node:
+    """The problems, about so many, that known models leave: each is better than some of them in one cost each. What a model makes worthless
+    is closed by it. No problem has a lower bound of a cost, which would make it harder than it is as part of the whole; of more than two
+    costs they overlap.
+
+    A problem is cut by the middle one, by this cost, of the models that are in it, the one with the most of them first.
+    """
+    costs = range(1, len(source.costs) + 1)
+    known = sorted({tuple(source.value(k, model) for k in costs): tuple(model) for model in models}.items(), key=lambda m: m[0][cost - 1])
+    root, order = Node(), count()
+    waiting = [(-len(known), next(order), root, known)]
+    while waiting and len(waiting) < parts and waiting[0][0]:
+        _, _, node, inside = heapq.heappop(waiting)
+        middle = inside[len(inside) // 2]
+        cut_by_model(node, *middle)
+        for conditions, child in node.children[:-1]:
+            test = conditions[0].test
+            within = [model for model in inside if model[0][test.number - 1] < test.bound]
+            heapq.heappush(waiting, (-len(within), next(order), child, within))
+    return root
+
+
+def cut_by_model(node: Node, values: Values, model: Sequence[int]) -> None:
+    """Cuts a problem into those that are better than a known model in one cost, of which it has these values, and what the model closes. Of
+    costs of 0 there is nothing better."""
+    tests = [Test('cost', k, value) for k, value in enumerate(values, 1) if value]
+    node.children = [((Condition(test, False),), Node()) for test in tests]
+    digits = ''.join('1' if literal > 0 else '0' for literal in model)
+    node.children.append((narrowed(Condition(test, True) for test in tests), Node(model=digits)))
 
 
 def tree(tests: Sequence[Test]) -> Node:
@@ -150,42 +154,20 @@ def named(root: Node) -> Node:
 
 
 def cut_again(split: Split, node: Node, path: Sequence[Condition], models: Sequence[Sequence[int]] = ()) -> bool:
-    """Cuts a part into two: by one of its models so far, where there are two costs; else the rest of its range of the cost in half; else by the
-    next variable. Whether it can be cut."""
+    """Cuts a part by one of its models so far, where there are costs and models; else by a variable that no condition has yet. Whether it
+    can be cut."""
     if node.children:
         return False
-    names = halves_of(str(node.name))
-    halfway = _halfway(split, models)
-    if halfway is not None:
-        root = boxes(split.source, split.cost, [halfway])
-        (_, first), _, (_, last) = root.children
-        first.name, last.name, first.low = names[0], names[1], node.low
-        node.children = root.children
-        return True
-    test = _next_test(split, node, path)
-    if test is not None:
-        node.cut(test, Node(names[0], low=node.low), Node(names[1]))
-    return test is not None
-
-
-def _halfway(split: Split, models: Sequence[Sequence[int]]) -> Optional[Sequence[int]]:
-    """Of models of two costs the one in the middle, among those that leave something on both sides."""
-    source, cost = split.source, split.cost
-    if not cost or len(source.costs) != 2:
-        return None
-    left = [point for point in _staircase([(source.value(cost, m), source.value(3 - cost, m), m) for m in models]) if point[1]]
-    return left[len(left) // 2][2] if left else None
-
-
-def _next_test(split: Split, node: Node, path: Sequence[Condition]) -> Optional[Test]:
-    if split.cost:
-        low = max([split.low, node.low] + [c.test.bound for c in path if c.reached and c.test.kind == 'cost'])
-        high = min([split.high] + [c.test.bound - 1 for c in path if not c.reached and c.test.kind == 'cost'])
-        if low < high:
-            return Test('cost', split.cost, (low + high + 1) // 2)
-    taken = {c.test.number for c in path if c.test.kind == 'variable'}
-    left = [variable for variable in busiest_variables(split.source) if variable not in taken]
-    return Test('variable', left[0], 1) if left else None
+    source, taken = split.source, {c.test.number for c in path if c.test.kind == 'variable'}
+    variable = next((v for v in busiest_variables(source) if v not in taken), None)
+    if split.cost and models:
+        middle = sorted(models, key=lambda model: source.value(split.cost, model))[len(models) // 2]
+        cut_by_model(node, tuple(source.value(k, middle) for k in range(1, len(source.costs) + 1)), middle)
+    elif variable is not None:
+        node.cut(Test('variable', variable, 1), Node(), Node())
+    for number, (_, child) in enumerate(node.children, 1):
+        child.name = None if child.model else cut_name(str(node.name), number)
+    return bool(node.children)
 
 
 def write_runners(split: Split, program: Optional[str]) -> None:

@@ -3,10 +3,10 @@ from setting import PACKAGE  # noqa: F401
 
 from scuttle.instances import keeps_to
 from scuttle.parts import Node, Split, Test
-from scuttle.split import boxes, named, tree
+from scuttle.split import by_models, named, tree
 
-# The most variables of an instance, and how many costs it has: two oftenest, as instances are cut otherwise then. And how often a model is guessed.
-VARIABLES, COSTS = 7, (0, 1, 2, 2, 2, 3, 4)
+# The most variables of an instance, and how many costs it has; and how often a model is guessed.
+VARIABLES, COSTS = 7, (0, 1, 2, 2, 3, 3, 4)
 GUESSES = 100
 
 
@@ -51,13 +51,14 @@ def random_models(chance, source, count):
 
 
 def random_split(chance, source, folder, parts):
-    """A tree of so many parts at most: boxes between any models, slabs of one cost with any bounds, some of them out of reach, cubes, or both
+    """A tree of so many parts at most: what any models leave, slabs of one cost with any bounds, some of them out of reach, cubes, or both
     in turn."""
     kinds = ['variable'] * bool(source.instance.variables) + ['cost'] * bool(source.costs)
     if not kinds:
         return Split(source, folder, Node('part-1'))
-    if len(source.costs) == 2 and chance.random() < 0.5:
-        return Split(source, folder, named(boxes(source, chance.randint(1, 2), random_models(chance, source, parts - 1))))
+    if source.costs and chance.random() < 0.5:
+        models = random_models(chance, source, parts)
+        return Split(source, folder, named(by_models(source, chance.randint(1, len(source.costs)), models, parts)))
     if source.costs and chance.random() < 0.5:
         cost = chance.randint(1, len(source.costs))
         bounds = {chance.randint(1, source.costs[cost - 1].most + 2) for _ in range(parts - 1)}

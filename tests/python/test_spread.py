@@ -17,6 +17,7 @@ from scuttle.errors import Malformed, ModelError, ScuttleError
 from scuttle.join import join
 from scuttle.lists import read_list
 from scuttle.parts import Condition, Node, Source, Split, Test, narrowed
+from scuttle.ranges import Quick, find_range
 from scuttle.split import make_split, named, tree
 
 # Shops and a depot: two costs, of which one is to be large; a coefficient below 0, and one variable twice, with both its literals.
@@ -40,7 +41,7 @@ class Parts(InFolder):
         """Slabs of a cost."""
         source = Source.of_file(self.write(name, text))
         os.mkdir('parts')
-        split = Split(source, 'parts', named(tree([Test('cost', cost, bound) for bound in bounds])), cost, 0, source.costs[cost - 1].most)
+        split = Split(source, 'parts', named(tree([Test('cost', cost, bound) for bound in bounds])), cost)
         split.save()
         return split
 
@@ -97,22 +98,25 @@ class Cut(Parts):
             shutil.rmtree('parts')
 
     def test_the_cost_of_the_widest_range(self):
-        self.write('in.opb', 'min: 1 x1 ;\nmin: 20 ~x1 +10 x2 ;\nmin: x3 ;\nx1 +1 x2 +1 x3 >= 1 ;\n')
-        split = make_split('in.opb', 'parts', 4)
-        self.assertEqual((split.cost, split.low, split.high), (2, 0, 20))
-        self.assertEqual([condition.test.bound for _, path in split.parts() for condition in path if condition.reached], [5, 10, 15])
+        source = Source.of_file(self.write('in.opb', 'min: 1 x1 ;\nmin: 20 ~x1 +10 x2 ;\nmin: x3 ;\nx1 +1 x2 +1 x3 >= 1 ;\n'))
+        quick = Quick(10.0, 2, None)
+        self.assertEqual([find_range(source, cost, quick) for cost in (None, 1, 3)], [(2, 0, 20), (1, 0, 1), (3, 0, 0)])
 
-    def test_two_costs_make_boxes_between_models(self):
+    def test_costs_are_cut_by_models(self):
         self.write('in.opb', 'min: 1 x1 +2 x2 +3 x3 ;\nmin: 4 ~x1 +4 ~x2 +4 ~x3 ;\nx1 +1 x2 +1 x3 >= 1 ;\n')
         split = make_split('in.opb', 'parts', 3, 1)
         self.assertEqual([self.lines('parts/part-%d.opb' % k)[0].split(': ')[1] for k in (1, 2, 3)],
                          ['cost 1 <= 1', 'cost 1 <= 2, cost 2 <= 7', 'cost 2 <= 3'])
-        self.assertTrue(all(not c.reached for _, path in split.parts() for c in path))
+        self.assertTrue(all(not c.reached for node, path in split.parts() for c in path))
         models = [node.model for node, _ in split.root.walk() if node.model]
         self.assertGreater(len(models), 0)
         self.solve(split)
         self.assertIsNone(join(Split.load(split.source, 'parts'), 'all.list', 'all.log').refused)
         self.is_front('all.list', 'all.log')
+
+    def test_a_model_without_any_cost_leaves_no_part(self):
+        self.write('in.opb', 'min: 3 x1 ;\nmin: 2 x1 +1 x2 ;\nx1 +1 x2 +1 x3 >= 1 ;\n')
+        self.assertEqual(self.command('spread', 'in.opb', 'all.list', 'all.log')[:2], (0, 'complete 1\naccepted\n'))
 
     def test_a_problem_without_models_is_one_part(self):
         self.write('in.opb', 'min: 1 x1 ;\nmin: 2 ~x1 ;\nx1 >= 1 ;\nx1 <= 0 ;\n')
@@ -354,7 +358,7 @@ class Spread(Parts):
         with unittest.mock.patch.object(pool, 'LONG', 0.1):
             result = self.run_spread(None, said, jobs=3, folder='parts', program=program)
         self.assertEqual((result.joined.refused, result.joined.unsolved), (None, []))
-        self.assertIn('part-1: cut in two', said)
+        self.assertIn('part-1: cut in 2', said)
         self.assertEqual(sorted(name for name in os.listdir('parts') if name.endswith('.list')), ['part-1-1.list', 'part-1-2.list'])
         self.is_front('all.list', 'all.log')
 
@@ -374,7 +378,7 @@ class Spread(Parts):
         self.is_front('all.list', 'all.log')
 
     def test_a_long_part_is_shared_by_a_model_that_it_has(self):
-        """The models so far close a problem by themselves, so that no half has a bound that makes it harder."""
+        """The models so far close a problem by themselves, so that nothing that is left has a bound that makes it harder."""
         text = 'min: 1 x1 +2 x2 +3 x3 ;\nmin: 4 ~x1 +4 ~x2 +4 ~x3 ;\nx1 +1 x2 +1 x3 >= 1 ;\n'
         split = self.unsolved_slabs(text, bounds=())
         program = self.program('case "$2" in */part-1.opb) printf "scuttle proof version 1\\nsol x1 x2 ~x3 : : 0 0\\n" > "$4"; exec sleep 60;;\n'
@@ -383,7 +387,7 @@ class Spread(Parts):
             result = self.run_spread(jobs=3, folder='parts', program=program)
         self.assertEqual((result.joined.refused, result.joined.unsolved), (None, []))
         self.assertEqual([(node.name, node.model, [split.source.words_of(c) for c in path]) for node, path in result.split.root.walk()][1:4], [
-            ('part-1-1', None, ['cost 1 <= 2']), (None, '110', ['cost 1 >= 3', 'cost 2 >= 4']), ('part-1-2', None, ['cost 2 <= 3'])])
+            ('part-1-1', None, ['cost 1 <= 2']), ('part-1-2', None, ['cost 2 <= 3']), (None, '110', ['cost 1 >= 3', 'cost 2 >= 4'])])
         self.is_front('all.list', 'all.log')
 
     def test_two_calls_in_one_folder(self):

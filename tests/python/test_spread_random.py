@@ -56,7 +56,7 @@ class Random(InFolder):
             self.run_program('solve', *paths, '--log-version', chance.choice('12'), *chance.choice(SEARCHES))
             self.reached['parts without a model'] += not costs_of(paths[1])
         self.reached['problems closed by a model'] += sum(node.model is not None for node, _ in split.root.walk())
-        self.reached['splits of %s' % ('one part' if len(split.parts()) == 1 else 'parts')] += 1
+        self.reached['splits of %s' % {0: 'no part', 1: 'one part'}.get(len(split.parts()), 'parts')] += 1
         return Split.load(source, 'parts')
 
     def change_a_byte(self, chance, split, right):
@@ -95,7 +95,8 @@ class Random(InFolder):
                 self.assertEqual(join(split, 'all.list', 'all.log', chance.choice((1, 2)))[::2], ([], None))
                 self.assertEqual(costs_of('all.list'), costs_of('one.list'))
                 self.assertEqual(self.run_program('check', name, 'all.list', 'all.log'), b'accepted\n')
-                self.change_a_byte(chance, split, costs_of('one.list'))
+                if split.parts():
+                    self.change_a_byte(chance, split, costs_of('one.list'))
         if self.cases >= REACHES_ALL:
             wanted = ['clauses', 'statements', 'splits of one part', 'splits of parts', 'parts without a model', 'problems closed by a model',
                       'changed logs that are none', 'changed logs that check refuses', 'changed logs that check accepts']
