@@ -22,7 +22,9 @@ from scuttle.parts import Source, Split
 
 # How many cases run where no number is given, and how many reach everything that is counted.
 CASES, REACHES_ALL = 60, 60
-SEARCHES = ([], [], ['--search', 'lower-bounding'], ['--boost'])
+SEARCHES = ([], ['--search', 'lower-bounding'], ['--boost'], ['--search', 'turns', '--turns', '12'])
+# What wants two costs.
+SEARCHES_OF_TWO = (['--search', 'bioptsat'], ['--search', 'turns', '--turns', '132'])
 BYTES = b'0123456789x~:+ -*dsw>=!\n'
 
 
@@ -51,9 +53,10 @@ class Random(InFolder):
         os.mkdir('parts')
         split = random_split(chance, source, 'parts', chance.randint(1, 7))
         split.save()
+        searches = SEARCHES + (SEARCHES_OF_TWO if len(source.costs) == 2 else ())
         for node, _ in split.parts():
             paths = [split.path(node.name, ending) for ending in ('.opb', '.list', '.log')]
-            self.run_program('solve', *paths, '--log-version', chance.choice('12'), *chance.choice(SEARCHES))
+            self.run_program('solve', *paths, '--log-version', chance.choice('12'), *chance.choice(searches))
             self.reached['parts without a model'] += not costs_of(paths[1])
         self.reached['problems closed by a model'] += sum(node.model is not None for node, _ in split.root.walk())
         self.reached['splits of %s' % {0: 'no part', 1: 'one part'}.get(len(split.parts()), 'parts')] += 1
