@@ -1,6 +1,6 @@
-"""A problem cut into parts: a tree of tests, each "this sum reaches that bound", whose two answers are two problems.
+"""A problem cut into parts: a tree of problems, each with conditions that say of a sum that it reaches a bound, or that it doesn't.
 
-A folder holds a part as `NAME.opb`, and once it is solved `NAME.list` and `NAME.log`. `split.json` says which tests made it.
+A folder holds a part as `NAME.opb`, and once it is solved `NAME.list` and `NAME.log`. `split.json` says how they were cut.
 """
 import hashlib
 import json
@@ -8,9 +8,8 @@ import os
 from typing import Any, Dict, Iterable, Iterator, List, NamedTuple, Optional, Sequence, Tuple
 
 from .errors import Malformed
-from .files import write_text
+from .files import Line, write_text
 from .instances import Instance, Names, Term, instance_of, is_clauses, names_of, sum_at
-from .files import Line
 from .statements import as_statements, cost_row, count_rows, row_text, text_of_statements, with_clauses_normal
 
 PLAN = 'split.json'

@@ -4,9 +4,9 @@ usage: tools/split IN FOLDER [--parts K] [--cost N] [--by VARIABLES] [--probe SE
 
 Writes FOLDER, which isn't there yet or is empty, with one instance a part, a Makefile (`make -j8` solves all parts that
 aren't solved yet) and commands.txt, a line a part, to be run in FOLDER by GNU parallel, Slurm array jobs or whatever runs
-commands. tools/join then makes one list and one log of them. Of two costs the parts are what is left between some models that
-quick runs find, at even steps of the range of cost N, or of the cost whose range is wider; of more costs, slabs of that range;
-where there are fewer than two costs, or with --by, cubes: the values of a few variables (x3,x7, or 3,7).
+commands. tools/join then makes one list and one log of them. Of two costs or more the parts are what some models leave that quick
+runs find, at even steps of the range of cost N, or of the cost whose range is widest; where there are fewer than two costs, or
+with --by, the parts are cubes: the values of a few variables (x3,x7, or 3,7).
 --parts K       about so many parts, up to 4096; four for each processor of this machine where it is left out
 --probe SECONDS how long each quick run may take; 10 where it is left out
 The program that runs is the value of SCUTTLE, or else this one. Other words for `solve`: make OPTIONS=--boost, and the
@@ -15,12 +15,12 @@ Ends with 64 where the words are wrong, 65 where IN isn't an instance, or is too
 file can't be read or written.
 """
 import heapq
+import itertools
 import os
 import re
 import shlex
 import sys
 import tempfile
-from itertools import count
 from typing import Dict, List, Optional, Sequence, Tuple
 
 from .commands import run_command, usage
@@ -49,7 +49,7 @@ def make_split(path: str, folder: str, parts: int, cost: Optional[int] = None, b
     """
     source = Source.of_file(path)
     judge(path, program)
-    if by is None and (cost is not None or len(source.costs) > 1):
+    if by is None and len(source.costs) > 1:
         split = _by_range(source, folder, parts, cost, Quick(probe, jobs or processors(), program))
     else:
         split = Split(source, folder, _cubes(list(by or busiest_variables(source)), parts))
@@ -100,7 +100,7 @@ def by_models(source: Source, cost: int, models: Sequence[Sequence[int]], parts:
     """
     costs = range(1, len(source.costs) + 1)
     known = sorted({tuple(source.value(k, model) for k in costs): tuple(model) for model in models}.items(), key=lambda m: m[0][cost - 1])
-    root, order = Node(), count()
+    root, order = Node(), itertools.count()
     waiting = [(-len(known), next(order), root, known)]
     while waiting and len(waiting) < parts and waiting[0][0]:
         _, _, node, inside = heapq.heappop(waiting)
@@ -215,6 +215,11 @@ def number_of(word: Optional[str], least: int, most: int) -> Optional[int]:
     return int(word)
 
 
+def cuttable(source: Source) -> int:
+    """How many costs there are by whose range the instance can be cut: none, where there are fewer than two."""
+    return len(source.costs) if len(source.costs) > 1 else 0
+
+
 def processors() -> int:
     """How many processors this process may use."""
     return len(os.sched_getaffinity(0)) if hasattr(os, 'sched_getaffinity') else os.cpu_count() or 1
@@ -229,7 +234,7 @@ def _body(arguments: List[str]) -> int:
     by = variables_of(found['--by'], source.instance.variables) if '--by' in found else None
     try:
         parts = number_of(found.get('--parts'), 1, MOST_PARTS) or (2 ** len(by) if by else PARTS_PER_PROCESSOR * processors())
-        cost = number_of(found.get('--cost'), 1, len(source.costs))
+        cost = number_of(found.get('--cost'), 1, cuttable(source))
         probe = number_of(found.get('--probe'), 1, LONGEST_PROBE) or PROBE
     except ValueError as fault:
         print("split: '%s' is no such number" % fault, file=sys.stderr)

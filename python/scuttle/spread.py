@@ -3,12 +3,12 @@
 usage: tools/spread IN LIST LOG [--jobs N] [--seconds S] [--parts K] [--cost N] [--by VARIABLES] [--folder FOLDER] [--log-version V] [--boost]
 
 Does what tools/split, `solve` of each part and tools/join do, in one call: LIST gets every best compromise, and LOG the proof,
-which `check` has then judged. --parts, --cost and --by are those of tools/split.
+which `check` has then judged. --parts, --cost and --by are those of tools/split, and --boost is that of `solve`.
 --jobs N          so many parts at a time; as many as there are processors where it is left out
 --seconds S       stops after about so many seconds: LIST then has the best models so far, marked INCOMPLETE
 --folder FOLDER   where the parts are, and stay; LOG.parts where it is left out, which goes when all is done
 A part that fails is tried once more, and then named. What is solved stays in FOLDER, and the next call takes it up. Where no part
-waits any more, one that still runs is cut in two besides: its own run goes on, and whoever is done first counts.
+waits any more, one that still runs is cut again besides: its own run goes on, and whoever is done first counts.
 Ends with 0 where `check` accepts, 10 where parts aren't solved (stopped, or failed twice), 11 where `check` refuses, 64 where the
 words are wrong, 65 where IN isn't an instance, or is too large, 69 without an executable, 74 where a file fails.
 """
@@ -33,7 +33,7 @@ from .logs import models_of
 from .part_runs import RUN, STOP
 from .parts import PLAN, Source, Split
 from .pool import Pool, Tell
-from .split import (COMMANDS, MAKEFILE, MOST_PARTS, PARTS_PER_PROCESSOR, PROBE, make_split, number_of, options_of, processors,
+from .split import (COMMANDS, MAKEFILE, MOST_PARTS, PARTS_PER_PROCESSOR, PROBE, cuttable, make_split, number_of, options_of, processors,
                     variables_of)
 
 class Settings(NamedTuple):
@@ -185,13 +185,16 @@ def _body(arguments: List[str]) -> int:
     words = list(arguments)
     named = [word for word in words if word.endswith(('.opb', '.mopb', '.mcnf'))]
     source = Source.of_file(named[0]) if named and os.path.exists(named[0]) else None
-    settings = settings_of(words, source.instance.variables, len(source.costs)) if source else settings_of(words, 0, 0)
+    settings = settings_of(words, source.instance.variables, cuttable(source)) if source else settings_of(words, 0, 0)
     if settings is None or len(words) != 3 or len({os.path.realpath(word) for word in words}) < 3:
         return usage(str(__doc__))
     # A request to end ends it as Ctrl-C does: what is solved stays, and no run goes on alone.
     before = signal.signal(signal.SIGTERM, signal.default_int_handler)
     try:
         result = spread(words[0], words[1], words[2], settings, None, lambda text: print('spread: ' + text, file=sys.stderr, flush=True))
+    except KeyboardInterrupt:
+        print('spread: stopped before there were parts', file=sys.stderr)
+        return UNSOLVED
     finally:
         signal.signal(signal.SIGTERM, before)
     if not result.joined.unsolved:

@@ -67,7 +67,7 @@ class Cut(Parts):
         self.slabs(bounds=(2, 5), cost=2)
         first = [self.lines('parts/part-%d.opb' % k)[0] for k in (1, 2, 3)]
         # The cost row has the signs changed, and an offset of -6.
-        self.assertEqual(first, ['* part-1 of in.opb: cost 2 >= 5', '* part-2 of in.opb: cost 2 <= 4, cost 2 >= 2', '* part-3 of in.opb: cost 2 <= 1'])
+        self.assertEqual([line.split(' of in.opb: ')[1] for line in first], ['cost 2 >= 5', 'cost 2 <= 4, cost 2 >= 2', 'cost 2 <= 1'])
         self.assertEqual(sorted(value for k in (1, 2, 3) for _, value in costs_of('parts/part-%d.list' % k) if value >= 5),
                          sorted(value for _, value in costs_of('parts/part-1.list')))
 
@@ -130,7 +130,9 @@ class Cut(Parts):
                       ['in.opb', 'parts', '--parts', '0'], ['in.opb', 'parts', '--parts'], ['in.opb', 'parts', '--harden', '1'],
                       ['in.opb', 'parts', '--cost', '1', '--by', 'x1']):
             self.assertEqual(self.command('split', *words)[0], 64, words)
-        self.assertEqual(os.listdir('.'), ['in.opb'])
+        self.write('one.opb', 'min: 1 x1 ;\n')
+        self.assertEqual(self.command('split', 'one.opb', 'parts', '--cost', '1')[0], 64)
+        self.assertEqual(sorted(os.listdir('.')), ['in.opb', 'one.opb'])
 
     def test_nothing_is_written_into_a_folder_that_has_something(self):
         self.write('in.opb', SHOPS)
