@@ -177,8 +177,7 @@ class PartLog:
         elif kind == 'pol':
             self._put(' '.join(['pol'] + self._tokens(words[1:])), 1)
         elif kind == 'def':
-            variable, = [self.words[words[1]]]
-            self._put(' '.join(['def', variable] + self._literals(words[2:])), 2)
+            self._put(' '.join(['def'] + self._literals(words[1:])), 2)
             self.out.variables += 1
         elif kind == 'sol':
             self._copy_solution(words)

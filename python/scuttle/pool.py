@@ -101,7 +101,7 @@ class Pool:
             self.failed[name] = what
 
     def _share(self) -> bool:
-        """Cuts the part that has run longest, if one has run long, so that idle workers take what it is cut into; whether there is one."""
+        """Cuts the part that has run longest, if one has run long, so that idle workers take what it is cut into; whether they have something."""
         now = time.monotonic()
         begun = {name: at for name, at in self.running.values() if now - at >= LONG}
         parts = sorted(((node, path) for node, path in self.split.parts() if node.name in begun and not node.children),
@@ -109,12 +109,13 @@ class Pool:
         for node, path in parts:
             if cut_again(self.split, node, path, models_of_run(self.split, str(node.name))):
                 self.split.save()
-                write_runners(self.split, None)
+                write_runners(self.split, self.program)
                 lower = [child.name for _, child in node.children if child.name]
                 self.tell('%s: cut in %d' % (node.name, len(lower)))
                 self.names.update(lower)
                 self.waiting.extend(lower)
-                return True
+                if lower:
+                    return True
         return False
 
     def _uppers(self, name: str) -> Tuple[str, ...]:

@@ -392,6 +392,16 @@ class Spread(Parts):
             ('part-1-1', None, ['cost 1 <= 2']), ('part-1-2', None, ['cost 2 <= 3']), (None, '110', ['cost 1 >= 3', 'cost 2 >= 4'])])
         self.is_front('all.list', 'all.log')
 
+    def test_a_long_part_that_a_model_closes(self):
+        """Nothing is better than costs of 0: there is nothing left to hand over, and the part's own run goes on."""
+        split = self.unsolved_slabs('min: 1 x1 ;\nmin: 1 x2 ;\nx1 +1 x2 +1 x3 >= 1 ;\n', bounds=())
+        program = self.program('case "$2" in */part-1.opb) printf "scuttle proof version 1\\nsol ~x1 ~x2 x3 : : 0 0\\n" > "$4"; sleep 2;;\n'
+                               'esac\nexec %s "$@"\n' % PROGRAM)
+        with unittest.mock.patch.object(pool, 'LONG', 0.3):
+            self.assertIsNone(self.run_spread(jobs=2, folder='parts', program=program).joined.refused)
+        self.assertEqual([node.model for node, _ in split.load(split.source, 'parts').root.walk()], [None, '001'])
+        self.is_front('all.list', 'all.log')
+
     def test_two_calls_in_one_folder(self):
         self.write('in.opb', SHOPS)
         with spread._alone_in('parts'):
