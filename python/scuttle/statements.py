@@ -2,7 +2,7 @@
 
 A file of clauses becomes one of statements whose logs fit it: ids and variables are the same.
 """
-from typing import Dict, List, NamedTuple, Sequence, Tuple
+from typing import Dict, List, NamedTuple, Sequence
 
 from .instances import Instance, Names, Objective, Row, Term
 
