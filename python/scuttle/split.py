@@ -93,8 +93,8 @@ Values = Tuple[int, ...]
 
 def by_models(source: Source, cost: int, models: Sequence[Sequence[int]], parts: int) -> Node:
     """The problems, about so many, that known models leave: each is better than some of them in one cost each. What a model makes worthless
-    is closed by it. No problem has a lower bound of a cost, which would make it harder than it is as part of the whole; of more than two
-    costs they overlap.
+    is closed by it. No problem has a lower bound of a cost, which would give it best solutions of its own that the whole doesn't have; of more
+    than two costs they overlap.
 
     A problem is cut by the middle one, by this cost, of the models that are in it, the one with the most of them first.
     """
