@@ -19,9 +19,12 @@ COMMANDS = {
     'from-lp': 'an instance from models in the LP format of CPLEX',
     'from-mps': 'an instance from models in the MPS format',
     'from-wcnf': 'an instance from weighted clauses',
+    'join': 'one list and one log from those of the parts of an instance',
     'picture': 'the front of a list, as an SVG file',
     'plan': 'the plans of a list in words, as a table or as JSON',
     'recheck': 'a second reading of a proof',
+    'split': 'the parts of an instance, to be solved apart',
+    'spread': 'every best compromise, on several processors',
     'to-lp': 'an instance as models in the LP format of CPLEX',
     'to-wcnf': 'an instance as weighted clauses',
 }

@@ -1,5 +1,6 @@
 """A model: options, what has to hold of them, and what is to be small or large; written as an instance, and solved."""
 import re
+from concurrent.futures import Executor
 from typing import Any, Callable, Dict, Iterable, List, NamedTuple, Optional, Sequence, Set, Tuple, Union
 
 from . import solving
@@ -383,19 +384,23 @@ class Model:
 
     def solve(self, seconds: Optional[float] = None, learn: Optional[int] = None, search: Optional[str] = None, harden: bool = False,
               boost: bool = False, on_plan: Optional[Callable[[Plan], object]] = None, log_version: int = 1,
-              turns: Optional[str] = None, program: Optional[str] = None, folder: Optional[str] = None) -> Front:
+              turns: Optional[str] = None, program: Optional[str] = None, folder: Optional[str] = None, jobs: Optional[int] = None,
+              executor: Optional[Executor] = None) -> Front:
         """The front, with its list and log checked. See `solving.Settings` for the options of the search.
 
         After so many seconds, after so many learned clauses, or with Ctrl-C it is the models so far, with `complete` False; the check after a
         search that has ended takes its own time besides. `on_plan` is called with each plan that the search finds, as it finds it. In the folder, where one is given, stay `model.opb`, `model.list`
         and `model.log`. Raises `Failed`, `NoProgram`, and `OSError` where the folder can't be written.
 
+        With `jobs` it is solved in parts, so many at a time, and with an executor of `concurrent.futures` by that, as a Dask cluster's, whose
+        workers have to see the folder: `check` judges the one log that the parts' logs make. Without `harden`, `learn` and `on_plan` then.
+
         >>> m = Model(); m.add(m.option('a') + m.option('b') >= 1)
         >>> front = m.solve(seconds=60)
         >>> front.complete, front.accepted, len(front)
         (True, True, 1)
         """
-        settings = solving.Settings(seconds, learn, search, turns, harden, boost, log_version)
+        settings = solving.Settings(seconds, learn, search, turns, harden, boost, log_version, jobs, executor)
         source = Source('model.opb', self.text(), program)
         front = solving.solve(source, self.labels(), settings, on_plan, folder)
         if front.complete and not front.plans:

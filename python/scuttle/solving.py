@@ -1,9 +1,11 @@
 """Solves an instance: runs `solve` and `check` over its files, and reads what they leave."""
 import os
 import tempfile
+from concurrent.futures import Executor
 from typing import Callable, List, NamedTuple, Optional
 
 from .dominance import best_of, senses_of
+from .errors import Failed, ModelError, ScuttleError
 from .front import Front, Labels, Plan, Source
 from .files import Line, write_text
 from .instances import costs_of, instance_of, Instance
@@ -16,7 +18,8 @@ COMPLETE, INCOMPLETE, REFUSED = 0, 10, 11
 
 class Settings(NamedTuple):
     """How long is searched and how: at most so many seconds or learned clauses (None: to the end), by which search (`p-minimal`,
-    `lower-bounding`, `bioptsat`, `turns`, whose order `turns` says), with or without hardening and boosting, and the version of LOG.
+    `lower-bounding`, `bioptsat`, `turns`, whose order `turns` says), with or without hardening and boosting, and the version of LOG; and on
+    how many processors at a time, or by which executor, in parts (see `spread`; neither: one run).
 
     >>> Settings(learn=100, harden=True).words()
     ['--learn', '100', '--harden']
@@ -29,6 +32,8 @@ class Settings(NamedTuple):
     harden: bool = False
     boost: bool = False
     log_version: int = 1
+    jobs: Optional[int] = None
+    executor: Optional[Executor] = None
 
     def words(self) -> List[str]:
         """The options of the command."""
@@ -40,11 +45,14 @@ class Settings(NamedTuple):
 
 def solve(source: Source, labels: Labels, settings: Settings, on_plan: Optional[Callable[[Plan], object]] = None,
           folder: Optional[str] = None) -> Front:
-    """The front of an instance; its files stay in the folder, where one is given. See `Model.solve`.
+    """The front of an instance; its files stay in the folder, where one is given. See `Model.solve`. `ModelError` where it can't be solved
+    in parts as it is asked.
 
     >>> solve(Source('a.opb', 'min: 3 x1 ;\\nx1 >= 1 ;\\n'), Labels(['pay'], ['min'], ['shop']), Settings())
     <front: 1 best compromise, accepted by check>
     """
+    if (settings.jobs is not None or settings.executor is not None) and (settings.harden or settings.learn is not None or on_plan is not None):
+        raise ModelError('in parts, by jobs or an executor, neither harden, learn nor on_plan can be had')
     if folder is None:
         with tempfile.TemporaryDirectory(prefix='scuttle-') as made:
             return _solve_in(made, source, labels, settings, on_plan)
@@ -59,6 +67,8 @@ def _solve_in(folder: str, source: Source, labels: Labels, settings: Settings, o
         # What an earlier run left would be taken for this one's.
         if os.path.exists(path):
             os.remove(path)
+    if settings.jobs is not None or settings.executor is not None:
+        return _solve_in_parts(source, labels, settings, paths)
     instance = instance_of(source.name, [Line(k, line) for k, line in enumerate(source.text.split('\n'), 1)])
     look = _Look(paths[2], instance, labels, on_plan)
     try:
@@ -68,6 +78,20 @@ def _solve_in(folder: str, source: Source, labels: Labels, settings: Settings, o
     if number is None:
         write_text(paths[1], text_of(_so_far(paths[2], instance)))
     return Front.of_listing(read_list(paths[1]), number == COMPLETE and _is_accepted(source, paths), labels, source)
+
+
+def _solve_in_parts(source: Source, labels: Labels, settings: Settings, paths: List[str]) -> Front:
+    # Imported where it is needed: it wants a system with file locks, which the rest of the package doesn't.
+    from . import spread
+    words = tuple(settings._replace(log_version=1).words())
+    how = spread.Settings(settings.jobs, settings.seconds, words=words, version=settings.log_version, program=source.program)
+    result = spread.spread(paths[0], paths[1], paths[2], how, settings.executor)
+    if result.joined.refused is not None:
+        raise Failed(REFUSED, result.joined.refused)
+    if result.failed:
+        raise ScuttleError('; '.join('%s failed twice: %s' % each for each in result.failed.items()))
+    listing = read_list(paths[1])
+    return Front.of_listing(listing, listing.complete, labels, source)
 
 
 def _is_accepted(source: Source, paths: List[str]) -> bool:
