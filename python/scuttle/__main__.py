@@ -19,6 +19,7 @@ COMMANDS = {
     'from-lp': 'an instance from models in the LP format of CPLEX',
     'from-mps': 'an instance from models in the MPS format',
     'from-wcnf': 'an instance from weighted clauses',
+    'page': 'the front of a list, as a page for browsers in which it is explored',
     'picture': 'the front of a list, as an SVG file',
     'plan': 'the plans of a list in words, as a table or as JSON',
     'recheck': 'a second reading of a proof',
