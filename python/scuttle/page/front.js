@@ -21,7 +21,8 @@ const SHARES = VALUES.map(sharesOf);
  * @returns {number[]}
  */
 function sharesOf(values) {
-  return values.map((value) => (values.length < 2 ? 0 : Number(value - values[0]) / Number(values[values.length - 1] - values[0])));
+  const range = values.length < 2 ? 1 : Number(values[values.length - 1] - values[0]);
+  return values.map((value) => Number(value - values[0]) / range);
 }
 
 /**
@@ -67,42 +68,19 @@ function isWithin(entry, limits) {
  * @param {number[]} places of entries
  */
 function kneeOf(places) {
-  const ends = COSTS.map((_, k) => endsOf(places.map((at) => ENTRIES[at].ranks[k])));
+  const best = COSTS.map((_, k) => places.reduce((rank, at) => Math.min(rank, ENTRIES[at].ranks[k]), Infinity));
+  const worst = COSTS.map((_, k) => places.reduce((rank, at) => Math.max(rank, ENTRIES[at].ranks[k]), 0));
+  const shares = COSTS.map((_, k) => sharesOf(VALUES[k].slice(best[k], worst[k] + 1)));
   let found = -1;
   let least = Infinity;
   for (const at of places) {
-    const far = distance(ENTRIES[at], ends);
+    const far = ENTRIES[at].ranks.reduce((sum, rank, k) => sum + shares[k][rank - best[k]] ** 2, 0);
     if (far < least) {
       least = far;
       found = at;
     }
   }
   return found;
-}
-
-/**
- * The least and the greatest of some ranks.
- * @param {number[]} ranks
- * @returns {[number, number]}
- */
-function endsOf(ranks) {
-  return ranks.reduce((ends, rank) => [Math.min(ends[0], rank), Math.max(ends[1], rank)], [Infinity, -Infinity]);
-}
-
-/**
- * @param {Entry} entry
- * @param {[number, number][]} ends of the ranks of each cost
- */
-function distance(entry, ends) {
-  let sum = 0;
-  entry.ranks.forEach((rank, k) => {
-    const [best, worst] = ends[k].map((end) => VALUES[k][end]);
-    if (best !== worst) {
-      const share = Number(VALUES[k][rank] - best) / Number(worst - best);
-      sum += share * share;
-    }
-  });
-  return sum;
 }
 
 /**

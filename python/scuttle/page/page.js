@@ -13,19 +13,23 @@ const state = {
   beyond: false,
 };
 
-/** The places of all entries that are within the limits. */
-function left() {
-  return ENTRIES.map((_, at) => at).filter((at) => isWithin(ENTRIES[at], state.limits));
+/** The places of the entries that are left, which are within the limits, and their knee, or -1. */
+const left = { places: ENTRIES.map((_, at) => at), knee: -1 };
+
+/** Finds what is left. */
+function narrow() {
+  left.places = ENTRIES.map((_, at) => at).filter((at) => isWithin(ENTRIES[at], state.limits));
+  left.knee = ENTRIES.length > 2 ? kneeOf(left.places) : -1;
 }
 
 /** The places of the entries of the table, in its order. */
 function rows() {
-  return sorted(state.beyond ? ENTRIES.map((_, at) => at) : left(), state.order);
+  return sorted(state.beyond ? ENTRIES.map((_, at) => at) : left.places, state.order);
 }
 
 /** What is marked, for every view. */
 function marks() {
-  return { limits: state.limits, chosen: state.chosen, pinned: state.pinned, knee: ENTRIES.length > 2 ? kneeOf(left()) : -1 };
+  return { limits: state.limits, chosen: state.chosen, pinned: state.pinned, knee: left.knee };
 }
 
 /** Draws everything. */
@@ -37,12 +41,12 @@ function draw() {
 }
 
 function drawPicture() {
-  const now = marks();
   if (COSTS.length) {
-    drawAxes(now);
+    drawAxes(marks());
+    drawStrong(marks());
   }
   if (COSTS.length === 2) {
-    drawStairs(now);
+    drawStairs(marks());
   }
 }
 
@@ -85,7 +89,7 @@ function drawWhich(entry) {
 }
 
 function drawLeft() {
-  const places = left();
+  const places = left.places;
   const none = FRONT.complete && FRONT.listed === ENTRIES.length ? 'none is within these limits, and there is no other plan that is.' : 'none is within these limits.';
   byId('left').textContent = places.length + ' of ' + counted(ENTRIES.length, 'compromise') + (places.length === 1 ? ' is left.' : ' are left.') + (places.length ? '' : ' Of those, ' + none);
   byId('shared-body').replaceChildren(...sharedParts(places, drawLeft));
@@ -107,7 +111,9 @@ function setDisabled(id, disabled) {
 function choose(at) {
   state.chosen = at;
   state.which = 0;
-  drawPicture();
+  if (COSTS.length) {
+    drawStrong(marks());
+  }
   showRow();
   drawPlan();
 }
@@ -162,6 +168,7 @@ function limit(k, rank) {
   state.limits[k] = rank;
   state.first = 0;
   sayLimit(k);
+  narrow();
   draw();
 }
 
@@ -173,6 +180,7 @@ function acceptAll() {
     sayLimit(k);
   });
   state.first = 0;
+  narrow();
   draw();
   const slider = document.getElementById('slider-0');
   if (slider) {
@@ -228,7 +236,7 @@ function listenToPicture(id) {
     const box = svg.getBoundingClientRect();
     const [, top, wide] = (svg.getAttribute('viewBox') || '').split(' ').map(Number);
     const scale = wide / box.width;
-    return nearestTo({ x: (event.clientX - box.left) * scale, y: top + (event.clientY - box.top) * scale }, left(), id === 'stairs');
+    return nearestTo({ x: (event.clientX - box.left) * scale, y: top + (event.clientY - box.top) * scale }, left.places, id === 'stairs');
   };
   svg.addEventListener('pointermove', (event) => sayNear(under(event)));
   svg.addEventListener('pointerleave', () => sayNear(-1));
@@ -284,7 +292,7 @@ function listenToButtons() {
     ['after', () => turn(ROWS)],
     ['previous', () => step(-1)],
     ['next', () => step(1)],
-    ['nearest', () => choose(kneeOf(left()))],
+    ['nearest', () => choose(left.knee)],
     ['pin', () => {
       state.pinned = state.pinned === state.chosen ? null : state.chosen;
       choose(state.chosen);
@@ -331,7 +339,8 @@ function start() {
   byId('main').classList.toggle('wide', COSTS.length > 4);
   byId('limits').hidden = !COSTS.length;
   byId('picture').hidden = !COSTS.length;
-  state.chosen = Math.max(0, marks().knee);
+  narrow();
+  state.chosen = Math.max(0, left.knee);
   makeHead(sortBy);
   makeSliders();
   drawNotes();

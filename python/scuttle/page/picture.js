@@ -36,45 +36,86 @@ function heightOf(share) {
 }
 
 /**
- * Draws all of the parallel axes.
+ * The layers of a picture, one above the other: what the limits change, and what is chosen and pinned, which is drawn more often.
+ * @param {string} id
+ */
+function layersOf(id) {
+  const svg = byId(id);
+  if (!svg.firstChild) {
+    svg.append(shape('g', {}), shape('g', {}));
+  }
+  return { svg, below: svg.children[0], above: svg.children[1] };
+}
+
+/**
+ * Where the lines of entries go through, for axes at these places.
+ * @param {number[]} xs
+ * @returns {function(Entry): Point[]}
+ */
+function linePlace(xs) {
+  return (entry) => xs.map((x, k) => ({ x, y: heightOf(shareOf(entry, k)) }));
+}
+
+/**
+ * Draws the parallel axes, and the lines of all entries.
  * @param {Marks} marks
  */
 function drawAxes(marks) {
   const { wide, letters, xs } = axisPlaces();
-  const svg = byId('axes');
+  const { svg, below } = layersOf('axes');
   const unused = 14 * (NAME_LINES - Math.max(...COSTS.map((cost) => wrapped(cost.name, letters).length)));
   svg.setAttribute('viewBox', '0 ' + unused + ' ' + wide + ' ' + (HIGH.above + HIGH.axes + HIGH.below - unused));
-  const pointsOf = (/** @type {Entry} */ entry) => xs.map((x, k) => ({ x, y: heightOf(shareOf(entry, k)) }));
-  svg.replaceChildren(...linesOf(marks, pointsOf), ...xs.flatMap((x, k) => axis(x, k, letters, marks.limits[k])),
-    ...strong(marks, pointsOf, true));
+  below.replaceChildren(...linesOf(marks, linePaths(wide, xs)), ...xs.flatMap((x, k) => axis(x, k, letters, marks.limits[k])));
+}
+
+/** Draws what is chosen and pinned, in each picture. */
+function drawStrong(/** @type {Marks} */ marks) {
+  const { wide, xs } = axisPlaces();
+  layersOf('axes').above.replaceChildren(...strong(marks, linePlace(xs), true));
+  if (COSTS.length === 2) {
+    layersOf('stairs').above.replaceChildren(...strong(marks, stairPlace(wide), false));
+  }
+}
+
+/** @type {{wide: number, paths: string[]}} The line of each entry, kept while the width stays. */
+const kept = { wide: 0, paths: [] };
+
+/**
+ * @param {number} wide
+ * @param {number[]} xs
+ */
+function linePaths(wide, xs) {
+  if (kept.wide !== wide) {
+    kept.wide = wide;
+    kept.paths = ENTRIES.map(linePlace(xs)).map(pathOf);
+  }
+  return kept.paths;
 }
 
 /**
  * The lines of all entries: first those beyond the limits, then the others.
  * @param {Marks} marks
- * @param {function(Entry): Point[]} pointsOf
+ * @param {string[]} lines
  */
-function linesOf(marks, pointsOf) {
-  const within = ENTRIES.filter((entry) => isWithin(entry, marks.limits));
-  const beyond = ENTRIES.filter((entry) => !isWithin(entry, marks.limits));
+function linesOf(marks, lines) {
+  const within = lines.filter((_, at) => isWithin(ENTRIES[at], marks.limits));
+  const beyond = lines.filter((_, at) => !isWithin(ENTRIES[at], marks.limits));
   const light = { 'stroke-width': 1 };
   const stroke = STROKES.filter((each) => each.from <= within.length).slice(-1)[0];
   const dark = { 'stroke-width': stroke.width, 'stroke-opacity': stroke.opacity };
-  return [...paths(beyond, pointsOf, 'beyond', light, 1000), ...paths(within, pointsOf, 'within', dark, stroke.lines)];
+  return [...paths(beyond, 'beyond', light, 1000), ...paths(within, 'within', dark, stroke.lines)];
 }
 
 /**
- * @param {Entry[]} entries
- * @param {function(Entry): Point[]} pointsOf
+ * @param {string[]} lines
  * @param {string} kind
  * @param {Object<string, string|number>} attributes
- * @param {number} lines of a path
+ * @param {number} count of lines of a path
  */
-function paths(entries, pointsOf, kind, attributes, lines) {
+function paths(lines, kind, attributes, count) {
   const found = [];
-  for (let at = 0; at < entries.length; at += lines) {
-    const d = entries.slice(at, at + lines).map((entry) => pathOf(pointsOf(entry))).join('');
-    found.push(shape('path', { d, class: kind, ...attributes }));
+  for (let at = 0; at < lines.length; at += count) {
+    found.push(shape('path', { d: lines.slice(at, at + count).join(''), class: kind, ...attributes }));
   }
   return found;
 }
@@ -185,12 +226,12 @@ function entryMarks(entry, kind, pointsOf, isLine) {
   const dots = points.map((point) => (kind === 'chosen'
     ? shape('circle', { class: kind, cx: point.x, cy: point.y, r: isLine ? 5 : 7 })
     : shape('rect', { class: kind, x: point.x - 4.5, y: point.y - 4.5, width: 9, height: 9 })));
-  const values = isLine && kind === 'chosen' ? points.map((_, k) => valueBeside(entry, points, k)) : [];
+  const values = isLine && kind === 'chosen' ? points.flatMap((_, k) => (shareOf(entry, k) % 1 ? [valueBeside(entry, points, k)] : [])) : [];
   return [...line, ...dots, ...values];
 }
 
 /**
- * A cost beside its point, on the side of the line where there is room.
+ * A cost beside its point, on the side of the line where there is room; at an end of the axis it stands there already.
  * @param {Entry} entry
  * @param {Point[]} points
  * @param {number} k
@@ -198,7 +239,8 @@ function entryMarks(entry, kind, pointsOf, isLine) {
 function valueBeside(entry, points, k) {
   const isLast = k === points.length - 1 && k > 0;
   const other = points[isLast ? k - 1 : Math.min(k + 1, points.length - 1)];
-  const y = points[k].y + (other.y < points[k].y ? 18 : -9);
+  const isBelow = (other.y < points[k].y || points[k].y < heightOf(0) + 18) && points[k].y < heightOf(1) - 18;
+  const y = points[k].y + (isBelow ? 18 : -9);
   return text(points[k].x + (isLast ? -9 : 9), y, shortened(costOf(entry, k), 10), 'value', isLast ? 'end' : 'start');
 }
 
@@ -223,14 +265,14 @@ function stairPlace(wide) {
  */
 function drawStairs(marks) {
   const { wide } = axisPlaces();
-  const svg = byId('stairs');
+  const { svg, below } = layersOf('stairs');
   const pointsOf = stairPlace(wide);
   svg.setAttribute('viewBox', '0 0 ' + wide + ' ' + (HIGH.stairs + 66));
   const order = ENTRIES.slice().sort((one, two) => one.ranks[0] - two.ranks[0]).map((entry) => pointsOf(entry)[0]);
   const bends = order.flatMap((point, at) => (at ? [{ x: point.x, y: order[at - 1].y }, point] : [point]));
   const radius = ENTRIES.length > 500 ? 1.6 : ENTRIES.length > NUMBERED ? 2.6 : 4;
-  svg.replaceChildren(...frame(wide), shape('path', { class: 'stair', d: pathOf(bends) }),
-    ...ENTRIES.map((entry) => dot(entry, pointsOf(entry)[0], radius, isWithin(entry, marks.limits))), ...strong(marks, pointsOf, false));
+  below.replaceChildren(...frame(wide), shape('path', { class: 'stair', d: pathOf(bends) }),
+    ...ENTRIES.map((entry) => dot(entry, pointsOf(entry)[0], radius, isWithin(entry, marks.limits))));
 }
 
 /**

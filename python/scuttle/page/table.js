@@ -1,7 +1,7 @@
 /* The table: a row for each entry, with differences to the chosen one, sorted by any column. */
 
 /** How many rows stand in the table at once. */
-const ROWS = 200;
+const ROWS = 100;
 
 /** @typedef {{column: number, backwards: boolean}} Order  column -1 is the number */
 
