@@ -27,6 +27,8 @@ from .data import data_of
 # The parts of the script, in the order in which they stand in the page.
 SCRIPTS = ('front.js', 'elements.js', 'picture.js', 'table.js', 'plan.js', 'page.js')
 REFUSED = 11
+# Comments that have lines of their own are for those who read the parts, and don't go into each page.
+COMMENT = re.compile(r'^ */\*((?!\*/).)*\*/\n', re.MULTILINE | re.DOTALL)
 
 
 def page_of(front: Front, title: str = '') -> str:
@@ -36,7 +38,7 @@ def page_of(front: Front, title: str = '') -> str:
     1
     """
     heading = html.escape(printable(title) or 'Best compromises')
-    style, script = _part('page.css'), ''.join(_part(name) for name in SCRIPTS)
+    style, script = _part('page.css'), COMMENT.sub('', ''.join(_part(name) for name in SCRIPTS))
     parts = {'TITLE': heading, 'STYLE': style, 'SCRIPT': script, 'DATA': _text_in_page(data_of(front)), 'WITHOUT': front._repr_html_(),
              'POLICY': "default-src 'none'; img-src data:; base-uri 'none'; form-action 'none'; style-src %s; script-src %s" % (
                  _sum_of(style), _sum_of(script))}

@@ -1,11 +1,12 @@
 /* The page: what is chosen, pinned, sorted and still acceptable, and what is drawn anew when that changes. */
 
-/** What the reader has chosen: places of entries, the place among the plans of the chosen one, the limits as ranks, the order of the table. */
+/** What the reader has chosen: places of entries and of their plans, limits as ranks, the table's order, its first row, and what it shows. */
 const state = {
   chosen: 0,
   which: 0,
   /** @type {number|null} */
   pinned: null,
+  pinnedWhich: 0,
   limits: COSTS.map((cost) => cost.values.length - 1),
   /** @type {Order} */
   order: { column: -1, backwards: false },
@@ -67,31 +68,49 @@ function drawTable() {
 function drawPlan() {
   const entry = ENTRIES[state.chosen];
   const now = marks();
-  const words = marksOf(state.chosen, now).filter((word) => word !== 'chosen').map((word) => (word === 'beyond' ? 'beyond the limits' : word));
-  byId('plan-title').textContent = 'Plan ' + entry.number + (words.length ? ' (' + words.join(', ') + ')' : '');
-  byId('pin').textContent = state.pinned === state.chosen ? 'Unpin plan ' + entry.number : 'Pin plan ' + entry.number;
-  byId('pin').setAttribute('aria-pressed', String(state.pinned === state.chosen));
+  const words = marksOf(state.chosen, now).filter((word) => word !== 'chosen').join(', ').replace('beyond', 'beyond the limits');
+  byId('plan-title').textContent = 'Plan ' + entry.number + (words ? ' (' + words + ')' : '');
+  const chosen = { entry, which: state.which };
+  byId('pin').textContent = (isPinned() ? 'Unpin ' : 'Pin ') + nameOf(chosen);
+  byId('pin').setAttribute('aria-pressed', String(isPinned()));
   setDisabled('nearest', now.knee < 0 || now.knee === state.chosen);
   byId('nearest').hidden = ENTRIES.length < 3;
   drawWhich(entry);
-  const pinned = state.pinned === null || state.pinned === state.chosen ? null : ENTRIES[state.pinned];
-  byId('plan-body').replaceChildren(...planParts(entry, state.which, pinned, drawPlan));
+  const pinned = state.pinned === null || isPinned() ? null : { entry: ENTRIES[state.pinned], which: state.pinnedWhich };
+  byId('plan-body').replaceChildren(...planParts(chosen, pinned, drawPlan));
+}
+
+/** Whether the very plan that is shown is pinned. */
+function isPinned() {
+  return state.pinned === state.chosen && state.pinnedWhich === state.which;
+}
+
+/** Pins the plan that is shown, or unpins it. */
+function pin() {
+  state.pinned = isPinned() ? null : state.chosen;
+  state.pinnedWhich = state.which;
+  if (COSTS.length) {
+    drawStrong(marks());
+  }
+  drawTable();
+  drawPlan();
 }
 
 /**
- * The choice among the plans of the same costs, where there are several.
+ * The choice among the plans of the same costs, where there are some.
  * @param {Entry} entry
  */
 function drawWhich(entry) {
   byId('which-label').hidden = entry.plans.length < 2;
-  byId('which').replaceChildren(...entry.plans.map((_, at) => element('option', at === state.which ? { value: at, selected: '' } : { value: at },
-    (at + 1) + ' of ' + entry.plans.length)));
+  byId('which').replaceChildren(...entry.plans.map((_, at) => element('option', { value: at }, (at + 1) + ' of ' + entry.plans.length)));
+  /** @type {HTMLSelectElement} */ (byId('which')).value = String(state.which);
 }
 
 function drawLeft() {
   const places = left.places;
-  const none = FRONT.complete && FRONT.listed === ENTRIES.length ? 'none is within these limits, and there is no other plan that is.' : 'none is within these limits.';
-  byId('left').textContent = places.length + ' of ' + counted(ENTRIES.length, 'compromise') + (places.length === 1 ? ' is left.' : ' are left.') + (places.length ? '' : ' Of those, ' + none);
+  const count = places.length + ' of ' + counted(ENTRIES.length, 'compromise') + (places.length === 1 ? ' is left' : ' are left');
+  const isAll = FRONT.complete && FRONT.accepted && FRONT.listed === ENTRIES.length;
+  byId('left').textContent = count + (!places.length && isAll ? ': no plan is within these limits.' : '.');
   byId('shared-body').replaceChildren(...sharedParts(places, drawLeft));
   setDisabled('reset', places.length === ENTRIES.length);
 }
@@ -139,7 +158,8 @@ function step(by) {
 function makeSliders() {
   byId('sliders').replaceChildren(...COSTS.map((cost, k) => {
     const last = cost.values.length - 1;
-    const slider = /** @type {HTMLInputElement} */ (element('input', { type: 'range', min: 0, max: last, step: 1, value: last, id: 'slider-' + k }));
+    const attributes = { type: 'range', min: 0, max: last, step: 1, value: last, id: 'slider-' + k };
+    const slider = /** @type {HTMLInputElement} */ (element('input', attributes));
     slider.disabled = last === 0;
     slider.addEventListener('input', () => limit(k, Number(slider.value)));
     const label = element('label', { for: 'slider-' + k }, named(cost.name), ' ', element('span', { class: 'limit' }));
@@ -154,7 +174,8 @@ function makeSliders() {
  */
 function sayLimit(k) {
   const values = COSTS[k].values;
-  const words = values.length === 1 ? values[0] + ' in each' : (COSTS[k].sense === 'min' ? 'at most ' : 'at least ') + values[state.limits[k]];
+  const bound = COSTS[k].sense === 'min' ? 'at most ' : 'at least ';
+  const words = values.length === 1 ? values[0] + ' in each' : bound + values[state.limits[k]];
   const slider = byId('slider-' + k);
   slider.setAttribute('aria-valuetext', words);
   /** @type {HTMLElement} */ (/** @type {HTMLElement} */ (slider.parentElement).querySelector('.limit')).textContent = words;
@@ -198,7 +219,8 @@ function drawStatus() {
   const shownTitle = FRONT.title.charAt(0).toUpperCase() + FRONT.title.slice(1);
   byId('status').replaceChildren(element('p', { class: 'title' }, shownTitle), element('p', { class: 'asked ' + kind }, asked));
   if (FRONT.conflict.length) {
-    byId('status').append(element('p', {}, 'These rows can\u2019t hold together:'), element('ul', {}, ...FRONT.conflict.map((line) => element('li', {}, named(line)))));
+    byId('status').append(element('p', {}, 'These rows can\u2019t hold together:'),
+      element('ul', {}, ...FRONT.conflict.map((line) => element('li', {}, named(line)))));
   }
   if (warning()) {
     document.querySelectorAll('h2').forEach((head) => head.append(' ', element('span', { class: 'mark' }, warning())));
@@ -212,18 +234,16 @@ function drawNotes() {
     + ': each line is a compromise, and on each axis the best value is above.' : 'A plan without costs: there is nothing to draw.';
   byId('axes').toggleAttribute('hidden', !COSTS.length);
   if (COSTS.length === 2) {
-    const side = COSTS[0].sense === 'min' ? 'left' : 'right';
-    byId('stairs-caption').textContent = 'Each point is a compromise; better is above and to the ' + side + ', and no plan is better than the line of steps.';
-    if (!FRONT.complete) {
-      byId('stairs-caption').textContent = 'Each point is a compromise; better is above and to the ' + side + '. A plan may be better than the line of steps.';
-    }
+    byId('stairs-caption').textContent = 'Each point is a compromise; better is above and to the ' + (COSTS[0].sense === 'min' ? 'left' : 'right')
+      + (FRONT.complete ? ', and no plan is beyond the line of steps.' : ', and a plan may be missing beyond the line of steps.');
     byId('stairs').toggleAttribute('hidden', false);
     byId('stairs-caption').hidden = false;
   }
   byId('legend').replaceChildren(element('span', { class: 'key chosen' }, 'chosen'), element('span', { class: 'key pinned' }, 'pinned'),
     element('span', { class: 'key within' }, 'left'), element('span', { class: 'key beyond' }, 'beyond the limits'));
-  byId('table-note').replaceChildren(element('span', {}, 'Differences are to the chosen plan: '), element('span', { class: 'better' }, 'bold is better'),
-    element('span', {}, ', '), element('span', { class: 'worse' }, 'slanted is worse'), element('span', {}, ENTRIES.length > 2 ? '. The knee is nearest to the best of each cost.' : '.'));
+  const knee = ENTRIES.length > 2 ? '. The knee is nearest to the best of each cost.' : '.';
+  byId('table-note').replaceChildren('Differences are to the chosen plan: ', element('span', { class: 'better' }, 'bold is better'), ', ',
+    element('span', { class: 'worse' }, 'slanted is worse'), knee);
 }
 
 /**
@@ -252,7 +272,8 @@ function listenToPicture(id) {
  * @param {number} at
  */
 function sayNear(at) {
-  byId('near').textContent = at < 0 ? '' : 'plan ' + ENTRIES[at].number + ': ' + COSTS.map((cost, k) => isolated(cost.name) + ' ' + costOf(ENTRIES[at], k)).join('; ');
+  const costs = COSTS.map((cost, k) => (at < 0 ? '' : isolated(cost.name) + ' ' + costOf(ENTRIES[at], k)));
+  byId('near').textContent = at < 0 ? '' : 'plan ' + ENTRIES[at].number + ': ' + costs.join('; ');
 }
 
 /** @type {Object<string, function(number, number): number>} Where a key leads from a row, of so many. */
@@ -293,10 +314,7 @@ function listenToButtons() {
     ['previous', () => step(-1)],
     ['next', () => step(1)],
     ['nearest', () => choose(left.knee)],
-    ['pin', () => {
-      state.pinned = state.pinned === state.chosen ? null : state.chosen;
-      choose(state.chosen);
-    }],
+    ['pin', pin],
   ];
   clicks.forEach(([id, act]) => byId(id).addEventListener('click', act));
   byId('beyond').addEventListener('change', () => {

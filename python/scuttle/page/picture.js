@@ -2,7 +2,7 @@
 
 /** Heights of the axes and of the staircase, and what is left free above and below. Pixels. */
 const HIGH = { axes: 230, stairs: 250, above: 66, below: 30 };
-/** From how many entries on lines are drawn how wide and how dark, and how many lines make a path: more paths let lines that cross add up. */
+/** From how many entries on lines are drawn how wide and how dark, and how many lines are a path; paths that cross add up. */
 const STROKES = [
   { from: 0, width: 1.6, opacity: 0.75, lines: 1000 },
   { from: 60, width: 1.2, opacity: 0.45, lines: 10 },
@@ -222,11 +222,11 @@ function strong(marks, pointsOf, isLine) {
  */
 function entryMarks(entry, kind, pointsOf, isLine) {
   const points = pointsOf(entry);
-  const line = isLine ? [shape('path', { class: kind + ' halo', d: pathOf(points) }), shape('path', { class: kind, d: pathOf(points) })] : [];
+  const line = isLine ? [kind + ' halo', kind].map((each) => shape('path', { class: each, d: pathOf(points) })) : [];
   const dots = points.map((point) => (kind === 'chosen'
     ? shape('circle', { class: kind, cx: point.x, cy: point.y, r: isLine ? 5 : 7 })
     : shape('rect', { class: kind, x: point.x - 4.5, y: point.y - 4.5, width: 9, height: 9 })));
-  const values = isLine && kind === 'chosen' ? points.flatMap((_, k) => (shareOf(entry, k) % 1 ? [valueBeside(entry, points, k)] : [])) : [];
+  const values = isLine && kind === 'chosen' ? points.flatMap((_, k) => valueBeside(entry, points, k)) : [];
   return [...line, ...dots, ...values];
 }
 
@@ -235,13 +235,17 @@ function entryMarks(entry, kind, pointsOf, isLine) {
  * @param {Entry} entry
  * @param {Point[]} points
  * @param {number} k
+ * @returns {Element[]}
  */
 function valueBeside(entry, points, k) {
+  if ([0, 1].includes(shareOf(entry, k))) {
+    return [];
+  }
   const isLast = k === points.length - 1 && k > 0;
   const other = points[isLast ? k - 1 : Math.min(k + 1, points.length - 1)];
   const isBelow = (other.y < points[k].y || points[k].y < heightOf(0) + 18) && points[k].y < heightOf(1) - 18;
   const y = points[k].y + (isBelow ? 18 : -9);
-  return text(points[k].x + (isLast ? -9 : 9), y, shortened(costOf(entry, k), 10), 'value', isLast ? 'end' : 'start');
+  return [text(points[k].x + (isLast ? -9 : 9), y, shortened(costOf(entry, k), 10), 'value', isLast ? 'end' : 'start')];
 }
 
 /* The staircase. */
@@ -299,11 +303,13 @@ function frame(wide) {
   });
   const upwards = ticks(1).flatMap((rank) => {
     const y = 34 + (HIGH.stairs - 34) * SHARES[1][rank];
-    return [shape('line', { class: 'axis', x1: x0 - 5, x2: x0, y1: y, y2: y }), text(x0 - 8, y + 4, shortened(COSTS[1].values[rank], 7), 'end', 'end')];
+    const value = shortened(COSTS[1].values[rank], 7);
+    return [shape('line', { class: 'axis', x1: x0 - 5, x2: x0, y1: y, y2: y }), text(x0 - 8, y + 4, value, 'end', 'end')];
   });
   const letters = Math.floor(wide / LETTER) - 14;
+  const names = COSTS.map((cost) => cut(cost.name, letters));
   return [shape('line', { class: 'axis', x1: x0, x2: x1, y1, y2: y1 }), shape('line', { class: 'axis', x1: x0, x2: x0, y1: y0, y2: y1 }),
-    ...across, ...upwards, text((x0 + x1) / 2, y1 + 40, cut(COSTS[0].name, letters), 'name'), text(4, 12, cut(COSTS[1].name, letters), 'name', 'start')];
+    ...across, ...upwards, text((x0 + x1) / 2, y1 + 40, names[0], 'name'), text(4, 12, names[1], 'name', 'start')];
 }
 
 /**
@@ -331,11 +337,13 @@ function ticks(k) {
  */
 function nearestTo(at, places, isStairs) {
   const { wide, xs } = axisPlaces();
-  const stair = isStairs ? stairPlace(wide) : null;
+  const stair = stairPlace(wide);
+  const pointOf = (/** @type {Entry} */ entry) => (isStairs ? stair(entry)[0] : { x: at.x, y: lineAt(entry, at.x, xs) });
   let found = -1;
   let least = Infinity;
   for (const place of places) {
-    const far = stair ? Math.hypot(stair(ENTRIES[place])[0].x - at.x, stair(ENTRIES[place])[0].y - at.y) : Math.abs(lineAt(ENTRIES[place], at.x, xs) - at.y);
+    const point = pointOf(ENTRIES[place]);
+    const far = Math.hypot(point.x - at.x, point.y - at.y);
     if (far < least) {
       least = far;
       found = place;
@@ -351,10 +359,10 @@ function nearestTo(at, places, isStairs) {
  * @param {number[]} xs
  */
 function lineAt(entry, x, xs) {
-  const right = Math.min(xs.length - 1, Math.max(1, xs.findIndex((each) => each >= x) === -1 ? xs.length - 1 : xs.findIndex((each) => each >= x)));
   if (xs.length === 1) {
     return heightOf(shareOf(entry, 0));
   }
+  const right = Math.min(xs.length - 1, 1 + xs.slice(1).filter((each) => each < x).length);
   const part = Math.min(1, Math.max(0, (x - xs[right - 1]) / (xs[right] - xs[right - 1])));
   return heightOf(shareOf(entry, right - 1) * (1 - part) + shareOf(entry, right) * part);
 }

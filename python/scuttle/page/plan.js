@@ -56,13 +56,26 @@ function listOfOptions(title, options, redraw) {
   return found;
 }
 
+/** @typedef {{entry: Entry, which: number}} Shown  a plan: its entry, and its place among the plans of the same costs */
+
 /**
- * The costs of the chosen entry, and how they stand to the pinned one's.
- * @param {Entry} entry
- * @param {Entry|null} pinned
+ * What a plan is called.
+ * @param {Shown} plan
  */
-function costTable(entry, pinned) {
-  const heads = ['cost', 'plan ' + entry.number, ...(pinned ? ['pinned plan ' + pinned.number, 'difference'] : []), 'best', 'worst'];
+function nameOf(plan) {
+  const count = plan.entry.plans.length;
+  return 'plan ' + plan.entry.number + (count > 1 ? ', ' + (plan.which + 1) + ' of ' + count : '');
+}
+
+/**
+ * The costs of the chosen plan, and how they stand to the pinned one's.
+ * @param {Shown} chosen
+ * @param {Shown|null} other
+ */
+function costTable(chosen, other) {
+  const entry = chosen.entry;
+  const pinned = other ? other.entry : null;
+  const heads = ['cost', nameOf(chosen), ...(other ? ['pinned ' + nameOf(other), 'difference'] : []), 'best', 'worst'];
   const rows = COSTS.map((cost, k) => element('tr', {}, element('th', { scope: 'row' }, named(cost.name)),
     element('td', { class: 'own' }, costOf(entry, k)),
     ...(pinned ? [element('td', {}, costOf(pinned, k)), element('td', {}, marked(difference(entry, pinned, k)))] : []),
@@ -113,7 +126,8 @@ function gridCell(options, own, other) {
     }
     return other && other.has(option) ? [element('del', {}, '−', heard(' only the pinned plan: '), named(word))] : [];
   });
-  return element('td', own.size && options.some((option) => own.has(option)) ? { class: 'yes' } : {}, ...words.flatMap((word, at) => (at ? [' ', word] : [word])));
+  const isTaken = options.some((option) => own.has(option));
+  return element('td', isTaken ? { class: 'yes' } : {}, ...words.flatMap((word, at) => (at ? [' ', word] : [word])));
 }
 
 /**
@@ -133,24 +147,24 @@ function othersOf(entry) {
 
 /**
  * All that is said of the chosen plan.
- * @param {Entry} entry
- * @param {number} which of its plans
- * @param {Entry|null} pinned
+ * @param {Shown} chosen
+ * @param {Shown|null} pinned
  * @param {function(): void} redraw
  */
-function planParts(entry, which, pinned, redraw) {
-  const options = taken(entry.plans[which]);
+function planParts(chosen, pinned, redraw) {
+  const options = taken(chosen.entry.plans[chosen.which]);
   const own = new Set(options);
-  const other = pinned ? taken(pinned.plans[0]) : null;
-  const parts = [COSTS.length ? costTable(entry, pinned) : element('p', {}, 'This problem has no costs.'), element('p', { class: 'note' }, othersOf(entry))];
+  const other = pinned ? taken(pinned.entry.plans[pinned.which]) : null;
+  const parts = [COSTS.length ? costTable(chosen, pinned) : element('p', {}, 'This problem has no costs.'),
+    element('p', { class: 'note' }, othersOf(chosen.entry))];
   const beside = FRONT.grid ? options.filter((option) => /** @type {Grid} */ (FRONT.grid).row[option] < 0) : [];
   if (FRONT.grid) {
     parts.push(gridTable(own, other && new Set(other)));
   }
   if (pinned && other) {
     const has = new Set(other);
-    parts.push(listOfOptions('Only plan ' + entry.number + ' takes', options.filter((option) => !has.has(option)), redraw));
-    parts.push(listOfOptions('The pinned plan ' + pinned.number + ' takes instead', other.filter((option) => !own.has(option)), redraw));
+    parts.push(listOfOptions('Only ' + nameOf(chosen) + ' takes', options.filter((option) => !has.has(option)), redraw));
+    parts.push(listOfOptions('The pinned ' + nameOf(pinned) + ' takes instead', other.filter((option) => !own.has(option)), redraw));
   }
   if (!FRONT.grid || beside.length) {
     parts.push(listOfOptions(FRONT.grid ? 'It also takes' : 'It takes', FRONT.grid ? beside : options, redraw));
@@ -171,6 +185,6 @@ function sharedParts(places, redraw) {
   const isAll = places.every((at) => ENTRIES[at].all);
   const what = plans > places.length || isAll ? counted(plans, 'plan') + ' of ' + counted(places.length, 'compromise') : counted(plans, 'plan');
   const note = what + (isAll ? ', and these are all.' : '. Other plans of the same costs may differ.');
-  return [element('p', { class: 'note' }, note), listOfOptions(places.length === 1 && plans === 1 ? 'It takes in any case' : 'Each of them takes', withCount(counts, plans), redraw),
+  return [element('p', { class: 'note' }, note), listOfOptions('Each of them takes', withCount(counts, plans), redraw),
     listOfOptions('None of them takes', withCount(counts, 0), redraw)];
 }

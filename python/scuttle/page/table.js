@@ -104,8 +104,8 @@ function row(at, marks, isEntered) {
   const button = element('button', { type: 'button', tabindex: isEntered ? 0 : -1, 'aria-pressed': String(at === marks.chosen) },
     heard('plan '), entry.number);
   const cells = COSTS.map((_, k) => element('td', {}, costOf(entry, k), ...beside(entry, at, marks, k)));
-  return element('tr', { 'data-at': at, class: words.join(' ') },
-    element('th', { scope: 'row' }, button, ...words.filter((word) => word !== 'chosen').map((word) => element('span', { class: 'tag' }, word))), ...cells);
+  const tags = words.filter((word) => word !== 'chosen').map((word) => element('span', { class: 'tag' }, word));
+  return element('tr', { 'data-at': at, class: words.join(' ') }, element('th', { scope: 'row' }, button, ...tags), ...cells);
 }
 
 /**
