@@ -1,4 +1,5 @@
 """Chromium without a window, driven by chromedriver's HTTP interface (W3C WebDriver). All waits are bounded; it ends what it started."""
+import atexit
 import base64
 import json
 import os
@@ -29,6 +30,7 @@ class Browser:
         self._process = subprocess.Popen([DRIVER, '--port=%d' % port, '--silent'], env=places, stdin=subprocess.DEVNULL,
                                          stdout=subprocess.DEVNULL, stderr=subprocess.DEVNULL, start_new_session=True)
         self._session = ''
+        atexit.register(self.close)
         try:
             self._wait_for_driver()
             self._begin(width, height)
@@ -125,13 +127,11 @@ class Browser:
 
     def close(self):
         """Ends the browser and its driver, which stand in a group of their own."""
+        atexit.unregister(self.close)
         try:
             if self._session:
                 self.call('DELETE', '')
         except (AssertionError, OSError):
             pass
-        try:
-            os.killpg(self._process.pid, signal.SIGKILL)
-        except ProcessLookupError:
-            pass
+        os.killpg(self._process.pid, signal.SIGKILL)
         self._process.wait(PATIENCE)

@@ -1,17 +1,26 @@
 """The page in a browser: what is seen after sliding, sorting, choosing and pinning is what Python reckons."""
 import os
 import shutil
+import signal
 import sys
 import tempfile
 import unittest
 
-from browser import CHROMIUM, DRIVER, Browser
+from browser import CHROMIUM, DRIVER, ELEMENT, Browser
 from page_fronts import SENSES, front_of_costs, strange
 from setting import EXAMPLES, InFolder
 
 from scuttle import Front, Labels, More, Plan
 
 BROWSER, FOLDER = None, None
+# What a test asks of the page: a slider's value and the most it can have; the words of each row of a table; the middle of an element;
+# and a click at a place of a picture.
+SLIDER = 'const slider = document.getElementById(arguments[0]); return [slider.value, slider.max]'
+CELLS = 'return Array.from(document.querySelectorAll(arguments[0])).map((row) => Array.from(row.children).map((e) => e.textContent))'
+MIDDLE = """const box = document.querySelectorAll(arguments[0])[arguments[1]].getBoundingClientRect();
+    return [box.left + box.width / 2, box.top + box.height / 2]"""
+CLICK = """document.getElementById(arguments[0]).dispatchEvent(
+    new MouseEvent('click', {clientX: arguments[1], clientY: arguments[2], bubbles: true}))"""
 
 
 def setUpModule():
@@ -19,6 +28,8 @@ def setUpModule():
     if not CHROMIUM or not DRIVER:
         print('test_page_browser: left out, as chromium and chromedriver are not installed', file=sys.stderr)
         raise unittest.SkipTest('chromium and chromedriver are not installed')
+    # Who stops the tests stops the browser too.
+    signal.signal(signal.SIGTERM, signal.default_int_handler)
     FOLDER = tempfile.mkdtemp(prefix='scuttle-browser-')
     BROWSER = Browser(FOLDER)
 
@@ -41,15 +52,18 @@ def texts(selector):
 def rows():
     """The rows of the table: for each the number of its plan, its costs, and its marks."""
     found = BROWSER.run('''return Array.from(document.querySelectorAll('#table tbody tr')).map((row) => [
-        row.querySelector('button').lastChild.textContent, Array.from(row.querySelectorAll('td')).map((cell) => cell.firstChild.textContent), row.className])''')
+        row.querySelector('button').lastChild.textContent, Array.from(row.querySelectorAll('td')).map((cell) => cell.firstChild.textContent),
+        row.className])''')
     return [(int(number), tuple(map(int, costs)), marks.split()) for number, costs, marks in found]
 
 
 def options_under(title):
     """The options of a list, by its title: as many as it says, and each line's words."""
-    found = BROWSER.run('''const box = Array.from(document.querySelectorAll('.options')).find((e) => e.querySelector('h3').textContent.startsWith(arguments[0]));
+    found = BROWSER.run('''const boxes = Array.from(document.querySelectorAll('.options'));
+        const box = boxes.find((e) => e.querySelector('h3').textContent.startsWith(arguments[0]));
         return box ? [box.querySelector('h3').textContent, Array.from(box.querySelectorAll('li')).map((e) => [
-          e.querySelector('b') ? e.querySelector('b').textContent : '', Array.from(e.querySelectorAll('bdi')).map((b) => b.textContent)])] : null''', title)
+          e.querySelector('b') ? e.querySelector('b').textContent : '',
+          Array.from(e.querySelectorAll('bdi')).map((b) => b.textContent)])] : null''', title)
     if found is None:
         return None
     named = [' '.join((head, word)).strip() for head, words in found[1] for word in (words[1:] if head else words)]
@@ -102,9 +116,9 @@ class Sliding(InBrowser):
             self.show(front)
             self.assertEqual(len(self.check_left(front)), len(front))
             for k, to in ((0, 0.6), (1, 0.5), (0, 0.0)):
-                before = BROWSER.run('return document.getElementById(arguments[0]).value', 'slider-%d' % k)
-                BROWSER.drag('#slider-%d' % k, int(before) / int(BROWSER.run('return document.getElementById(arguments[0]).max', 'slider-%d' % k)), to)
-                self.assertNotEqual(BROWSER.run('return document.getElementById(arguments[0]).value', 'slider-%d' % k), before)
+                before, most = [int(word) for word in BROWSER.run(SLIDER, 'slider-%d' % k)]
+                BROWSER.drag('#slider-%d' % k, before / most, to)
+                self.assertNotEqual(int(BROWSER.run(SLIDER, 'slider-%d' % k)[0]), before)
                 left = self.check_left(front)
                 self.assertLess(len(left), len(front))
             BROWSER.click('#reset')
@@ -127,12 +141,12 @@ class Sliding(InBrowser):
     def test_five_thousand(self):
         front = front_of_costs(5000, SENSES[4])
         self.show(front)
-        for to in (0.7, 0.3):
-            BROWSER.keys('#slider-1', '\ue013' * 3)
-            BROWSER.drag('#slider-1', 1.0 if to == 0.7 else 0.7, to)
-            BROWSER.click('#table thead button', 0) if texts('#table th[aria-sort="descending"]') else None
-            BROWSER.run('state.first = 0; drawTable()')
-            self.check_left(front)
+        BROWSER.drag('#slider-1', 1.0, 0.7)
+        BROWSER.keys('#slider-2', '\ue00e' * 3)
+        left = self.check_left(front)
+        self.assertTrue(100 < len(left) < 5000)
+        BROWSER.click('#after')
+        self.assertEqual([number for number, _, _ in rows()], [plan.number for plan in left][100:200])
         self.assertLess(BROWSER.run('return document.querySelectorAll("*").length'), 5000)
 
 
@@ -155,9 +169,8 @@ class Choosing(InBrowser):
         BROWSER.click('#table tbody tr button', 4)
         chosen = front[4]
         self.assertEqual(texts('#plan-title')[0].split(' (')[0], 'Plan 5')
-        found = BROWSER.run('return Array.from(document.querySelectorAll("#table tbody tr")).map((row) => Array.from(row.querySelectorAll("td")).map((e) => e.textContent))')
-        for plan, cells in zip(front, found):
-            for cost, other, sense, cell in zip(plan.vector, chosen.vector, front.labels.senses, cells):
+        for plan, cells in zip(front, BROWSER.run(CELLS, '#table tbody tr')):
+            for cost, other, sense, cell in zip(plan.vector, chosen.vector, front.labels.senses, cells[1:]):
                 by = cost - other
                 better = 'better' if (by < 0) == (sense == 'min') else 'worse'
                 difference = '' if plan is chosen else ' =' if by == 0 else ' %s%d %s' % ('+' if by > 0 else '\u2212', abs(by), better)
@@ -189,7 +202,7 @@ class Choosing(InBrowser):
         BROWSER.click('#table tbody tr button', 1)
         heads = texts('table.grid thead th')
         self.assertEqual(heads, ['Mon', 'Tue', 'Wed', 'Thu', 'Fri'])
-        found = BROWSER.run('return Array.from(document.querySelectorAll("table.grid tbody tr")).map((row) => Array.from(row.children).map((e) => e.textContent))')
+        found = BROWSER.run(CELLS, 'table.grid tbody tr')
         self.assertEqual([row[0] + ' ' + head for row in found for head, cell in zip(heads, row[1:]) if cell == 'taken: ●'], front[1].taken)
 
     def test_by_keys_alone(self):
@@ -197,7 +210,7 @@ class Choosing(InBrowser):
         self.show(front)
         BROWSER.run('document.querySelector("#table tbody button[tabindex=\\"0\\"]").focus()')
         chosen = int(BROWSER.run('return document.activeElement.lastChild.textContent'))
-        active = 'return document.activeElement.closest("tr") ? Number(document.activeElement.lastChild.textContent) : document.activeElement.id'
+        active = 'const at = document.activeElement; return at.closest("tr") ? Number(at.lastChild.textContent) : at.id'
         for key, wanted in (('\ue015', min(30, chosen + 1)), ('\ue013', chosen), ('\ue010', 30), ('\ue011', 1), ('\ue015', 2), ('\ue007', 2)):
             self.press(key)
             self.assertEqual(BROWSER.run(active), wanted)
@@ -209,19 +222,20 @@ class Choosing(InBrowser):
         self.assertEqual(BROWSER.run('return document.activeElement.id'), 'slider-0')
 
     def press(self, key):
-        BROWSER.call('POST', '/actions', {'actions': [{'type': 'key', 'id': 'keys', 'actions': [{'type': 'keyDown', 'value': key}, {'type': 'keyUp', 'value': key}]}]})
+        steps = [{'type': kind, 'value': key} for kind in ('keyDown', 'keyUp')]
+        BROWSER.call('POST', '/actions', {'actions': [{'type': 'key', 'id': 'keys', 'actions': steps}]})
 
     def test_by_a_click_in_the_pictures(self):
         front = example('roster.opb')
         self.show(front)
-        for selector, at in (('#stairs circle.in', 5), ('#stairs circle.in', 0)):
-            place = BROWSER.run('const box = document.querySelectorAll(arguments[0])[arguments[1]].getBoundingClientRect(); return [box.left + box.width / 2, box.top + box.height / 2]', selector, at)
-            BROWSER.run('''document.getElementById('stairs').dispatchEvent(new MouseEvent('click', {clientX: arguments[0], clientY: arguments[1], bubbles: true}))''', *place)
+        for at in (5, 0):
+            BROWSER.run(CLICK, 'stairs', *BROWSER.run(MIDDLE, '#stairs circle.in', at))
             self.assertEqual(texts('#plan-title')[0].split(' (')[0], 'Plan %d' % (at + 1))
-        box = BROWSER.run('const box = document.getElementById("axes").getBoundingClientRect(); return [box.left, box.top, box.width, box.height]')
-        top = front.best(front.labels.objectives[0])
-        BROWSER.run('''document.getElementById('axes').dispatchEvent(new MouseEvent('click', {clientX: arguments[0], clientY: arguments[1], bubbles: true}))''', box[0] + 60, box[1] + 20)
-        self.assertEqual(texts('#plan-title')[0].split(' (')[0], 'Plan %d' % top.number)
+        for k in (1, 0):
+            # The best value of each axis stands above it.
+            BROWSER.run(CLICK, 'axes', *BROWSER.run(MIDDLE, '#axes .end', 2 * k))
+            best = front.best(front.labels.objectives[k])
+            self.assertEqual(texts('#plan-title')[0].split(' (')[0], 'Plan %d' % best.number)
 
     def test_plans_of_the_same_costs(self):
         labels = Labels([], [], ['a', 'b', 'c'])
@@ -233,8 +247,8 @@ class Choosing(InBrowser):
         self.assertIn('3 plans have these costs, and no other, which check-models accepted.', texts('#plan-body .note'))
         BROWSER.click('#pin')
         BROWSER.keys('#which', '3')
-        self.assertEqual((options_under('It takes'), options_under('Only plan 1, 3 of 3 takes'), options_under('The pinned plan 1, 1 of 3 takes instead')),
-                         (['c'], ['c'], ['a']))
+        for title, wanted in (('It takes', 'c'), ('Only plan 1, 3 of 3 takes', 'c'), ('The pinned plan 1, 1 of 3 takes instead', 'a')):
+            self.assertEqual(options_under(title), [wanted])
 
 
 class Showing(InBrowser):
@@ -243,14 +257,15 @@ class Showing(InBrowser):
         self.assertLessEqual(*BROWSER.run('return [document.documentElement.scrollWidth, innerWidth]'))
 
     def test_each_number_of_costs_and_size(self):
-        for width in (1280, 360):
-            for costs in range(9):
-                front = front_of_costs(1 if costs == 0 else 40, SENSES[costs])
-                self.show(front, width=width)
-                self.check_place()
-                self.assertEqual(len(rows()), len(front))
-                self.assertEqual(texts('#axes .name') != [], costs > 0)
-                self.assertEqual(BROWSER.run('return document.getElementById("stairs").checkVisibility()'), costs == 2)
+        for costs in range(9):
+            front = front_of_costs(1 if costs == 0 else 40, SENSES[costs])
+            self.show(front)
+            self.check_place()
+            self.assertEqual(len(rows()), len(front))
+            self.assertEqual(texts('#axes .name') != [], costs > 0)
+            self.assertEqual(BROWSER.run('return document.getElementById("stairs").checkVisibility()'), costs == 2)
+            BROWSER.resize(360, 700)
+            self.check_place()
         for count in (1, 400, 5000):
             self.show(front_of_costs(count, SENSES[8]))
             self.check_place()
@@ -277,7 +292,8 @@ class Showing(InBrowser):
         self.assertFalse(BROWSER.run('return document.getElementById("main").checkVisibility()'))
 
     def test_what_may_not_be_the_front_is_marked_in_every_view(self):
-        for wanted, word in (({'complete': False, 'accepted': None}, 'INCOMPLETE'), ({'accepted': False}, 'NOT ACCEPTED'), ({}, None), ({'accepted': None}, None)):
+        for wanted, word in (({'complete': False, 'accepted': None}, 'INCOMPLETE'), ({'accepted': False}, 'NOT ACCEPTED'), ({}, None),
+                             ({'accepted': None}, None)):
             self.show(front_of_costs(12, SENSES[2], **wanted))
             marks = texts('h2 .mark')
             self.assertEqual(len(marks), len(texts('main section')) if word else 0)
@@ -294,23 +310,24 @@ class Showing(InBrowser):
         self.assertLess(BROWSER.run('return document.querySelectorAll("*").length'), 2000)
         self.assertEqual(int(texts('#shared-body h3')[0].split('(')[1][:-1]), len(front.always()))
         self.assertEqual(int(texts('#shared-body h3')[1].split('(')[1][:-1]), len(front.never()))
-        BROWSER.click('#plan-body .options button')
-        taken = [plan.taken for plan in front if 'Plan %d' % plan.number == texts('#plan-title')[0].split(' (')[0]][0]
-        self.assertEqual(options_under('It takes'), taken)
+        taken = front[int(texts('#plan-title')[0].split(' ')[1]) - 1].taken
+        for shown in (60, 1060, 2060):
+            self.assertEqual(texts('#plan-body .options li'), taken[:shown])
+            self.assertTrue(texts('#plan-body .options .note')[0].startswith('and %d more ' % (len(taken) - shown)))
+            BROWSER.click('#plan-body .options button')
 
     def test_roles_and_labels(self):
         self.show(front_of_costs(12, SENSES[3]))
-        for selector, role in (('#sliders input', 'slider'), ('#table thead th', 'columnheader'), ('#table tbody th', 'rowheader'), ('#table tbody td', 'cell'),
-                               ('section', 'region'), ('#axes', 'image'), ('button:not([hidden])', 'button'), ('#left', 'status'), ('main', 'main')):
+        for selector, role in (('#sliders input', 'slider'), ('#table thead th', 'columnheader'), ('#table tbody th', 'rowheader'),
+                               ('#table tbody td', 'cell'), ('section', 'region'), ('#axes', 'image'), ('button', 'button'), ('#left', 'status'),
+                               ('main', 'main')):
             for element in BROWSER.find(selector)[:3]:
-                key = list(element.values())[0]
-                self.assertIn(BROWSER.call('GET', '/element/%s/computedrole' % key).replace('img', 'image'), (role, 'gridcell' if role == 'cell' else role), selector)
-                if role in ('slider', 'button', 'region', 'image', 'columnheader'):
-                    self.assertNotEqual(BROWSER.call('GET', '/element/%s/computedlabel' % key), '', selector)
-        self.assertTrue(all(text.startswith(('at most ', 'at least ')) for text in BROWSER.run(
-            'return Array.from(document.querySelectorAll("#sliders input")).map((e) => e.getAttribute("aria-valuetext"))')))
-        for _ in range(3):
-            self.assertEqual(BROWSER.run('return document.querySelectorAll("#table tbody button[tabindex=\\"0\\"]").length'), 1)
+                found, label = [BROWSER.call('GET', '/element/%s/computed%s' % (element[ELEMENT], what)) for what in ('role', 'label')]
+                self.assertEqual(found.replace('img', 'image'), role, selector)
+                self.assertTrue(label or role in ('status', 'main', 'cell'), selector)
+        for text in BROWSER.run('return Array.from(document.querySelectorAll("#sliders input")).map((e) => e.getAttribute("aria-valuetext"))'):
+            self.assertRegex(text, '^at (most|least) [0-9]+$')
+        self.assertEqual(BROWSER.run('return document.querySelectorAll("#table tbody button[tabindex=\\"0\\"]").length'), 1)
 
     def test_print(self):
         self.show(front_of_costs(12, SENSES[2], complete=False, accepted=None))

@@ -1,10 +1,11 @@
 /* A plan in words: its costs, its options as a grid or as a list, and what the pinned plan has instead. */
 
-/** How many lines of a list of options stand there before a button shows the others. */
+/** How many lines of a list of options stand there at first, and how many more a button shows: browsers take minutes to lay out 30,000. */
 const LISTED = 60;
+const MORE = 1000;
 
-/** @type {Set<string>} The lists that were opened, by their titles. */
-const opened = new Set();
+/** @type {Map<string, number>} How many lines of a list are shown, by its title, where the button was used. */
+const opened = new Map();
 
 /**
  * Options in lines: those of a row of the grid are one line, any other is its own.
@@ -33,25 +34,26 @@ function linesOfOptions(options) {
 }
 
 /**
- * A titled list of options; a long one is opened by a button.
+ * A titled list of options; a button shows more of a long one.
  * @param {string} title
  * @param {number[]} options
  * @param {function(): void} redraw
  */
 function listOfOptions(title, options, redraw) {
   const lines = linesOfOptions(options);
-  const shown = opened.has(title) ? lines : lines.slice(0, LISTED);
+  const shown = lines.slice(0, opened.get(title) || LISTED);
   const items = shown.map((line) => element('li', {}, ...(line.head ? [element('b', {}, named(line.head)), ' '] : []),
     ...line.words.flatMap((word, at) => (at ? [', ', named(word)] : [named(word)]))));
   const list = options.length ? element('ul', {}, ...items) : element('p', { class: 'none' }, 'nothing');
   const found = element('div', { class: 'options' }, element('h3', {}, title + ' (' + options.length + ')'), list);
   if (lines.length > shown.length) {
-    const button = element('button', { type: 'button' }, 'Show ' + (lines.length - shown.length) + ' more');
+    const rest = lines.length - shown.length;
+    const button = element('button', { type: 'button' }, 'Show ' + Math.min(MORE, rest) + ' more');
     button.addEventListener('click', () => {
-      opened.add(title);
+      opened.set(title, shown.length + MORE);
       redraw();
     });
-    found.append(element('p', {}, button));
+    found.append(element('p', { class: 'note' }, 'and ' + rest + ' more ', button));
   }
   return found;
 }
