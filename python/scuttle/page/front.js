@@ -136,6 +136,11 @@ function warning() {
   return FRONT.accepted === false ? 'NOT ACCEPTED by check' : '';
 }
 
+/** Whether these are proved to be all best compromises, so that no other plan is as good. */
+function isFront() {
+  return FRONT.complete && FRONT.accepted === true && FRONT.listed === ENTRIES.length;
+}
+
 /**
  * A number of things, in words.
  * @param {number} count

@@ -109,8 +109,7 @@ function drawWhich(entry) {
 function drawLeft() {
   const places = left.places;
   const count = places.length + ' of ' + counted(ENTRIES.length, 'compromise') + (places.length === 1 ? ' is left' : ' are left');
-  const isAll = FRONT.complete && FRONT.accepted && FRONT.listed === ENTRIES.length;
-  byId('left').textContent = count + (!places.length && isAll ? ': no plan is within these limits.' : '.');
+  byId('left').textContent = count + (!places.length && isFront() ? ': no plan is within these limits.' : '.');
   byId('shared-body').replaceChildren(...sharedParts(places, drawLeft));
   setDisabled('reset', places.length === ENTRIES.length);
 }
@@ -235,7 +234,7 @@ function drawNotes() {
   byId('axes').toggleAttribute('hidden', !COSTS.length);
   if (COSTS.length === 2) {
     byId('stairs-caption').textContent = 'Each point is a compromise; better is above and to the ' + (COSTS[0].sense === 'min' ? 'left' : 'right')
-      + (FRONT.complete ? ', and no plan is beyond the line of steps.' : ', and a plan may be missing beyond the line of steps.');
+      + (isFront() ? ', and no plan is beyond the line of steps.' : warning() ? ', and a plan may be missing beyond the line of steps.' : '.');
     byId('stairs').toggleAttribute('hidden', false);
     byId('stairs-caption').hidden = false;
   }
