@@ -1,5 +1,6 @@
 """The page as Python makes it: what it knows, what stands in it, and the command."""
 import ast
+import doctest
 import glob
 import html.parser
 import json
@@ -13,7 +14,7 @@ from setting import EXAMPLES, PACKAGE, InFolder
 from page_fronts import SENSES, front_of_costs, strange
 
 from scuttle import Front, Labels, Model, More, Plan
-from scuttle.page import SCRIPTS, page_of
+from scuttle.page import SCRIPTS, data, grid, page_of
 from scuttle.page.data import data_of
 from scuttle.page.grid import grid_of
 
@@ -222,6 +223,13 @@ class Command(InFolder):
         self.assertEqual(self.command('page', *sites + [os.path.join(EXAMPLES, 'sites.log'), 'out.html'])[0], 65)
         self.assertEqual(self.command('page', *sites + ['no/folder/out.html'])[0], 74)
         self.assertEqual(os.listdir('.'), [])
+
+
+class Documents(unittest.TestCase):
+    def test_examples_of_docstrings(self):
+        for module in (grid, data):
+            failed, tried = doctest.testmod(module)
+            self.assertEqual((failed, tried > 0), (0, True))
 
 
 class Sizes(unittest.TestCase):
