@@ -53,8 +53,9 @@ def build_sdist(sdist_directory: str, config_settings: Optional[Dict[str, str]] 
 
 
 def _modules() -> List[str]:
-    """The files of the package, by their places under python/."""
-    return ['scuttle/' + name for name in sorted(os.listdir(os.path.join(HERE, 'scuttle'))) if name.endswith(('.py', '.typed'))]
+    """The files of the package, by their places under python/: modules, and of the page also its parts."""
+    return [folder + '/' + name for folder in ('scuttle', 'scuttle/page') for name in sorted(os.listdir(os.path.join(HERE, folder)))
+            if name.endswith(('.py', '.typed', '.html', '.css', '.js'))]
 
 
 def _bytes_of(*parts: str) -> bytes:

@@ -20,6 +20,7 @@ COMMANDS = {
     'from-mps': 'an instance from models in the MPS format',
     'from-wcnf': 'an instance from weighted clauses',
     'join': 'one list and one log from those of the parts of an instance',
+    'page': 'the front of a list, as a page for browsers in which it is explored',
     'picture': 'the front of a list, as an SVG file',
     'plan': 'the plans of a list in words, as a table or as JSON',
     'recheck': 'a second reading of a proof',

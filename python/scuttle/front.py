@@ -413,6 +413,15 @@ class Front:
         return picture.svg_of(self.title(), [(plan.number, plan.vector) for plan in self.plans],
                               picture.axis_names(self.labels.objectives, self.labels.senses), self.labels.senses)
 
+    def to_html(self, title: str = '') -> str:
+        """The page that `scuttle-page` makes, for any browser: with sliders, a table, and the plans. It needs nothing besides itself.
+
+        >>> Front(True, True, []).to_html('a day').count('<h1><bdi>a day</bdi></h1>')
+        1
+        """
+        from .page import page_of
+        return page_of(self, title)
+
     def _repr_html_(self) -> str:
         """What a notebook shows: the title and a table of the costs."""
         def cells(kind: str, words: Sequence[object]) -> str:
