@@ -115,7 +115,7 @@ if command -v dpkg-deb >/dev/null; then
     expect 'it runs' 0 said '^complete 2$'
     run env -u PYTHONDONTWRITEBYTECODE "$box/usr/bin/scuttle-plan" in.mcnf r.list 1
     expect 'its tools run' 0 said 'best compromises'
-    run test -d "$box/usr/lib/scuttle/tools/__pycache__"
+    run test -d "$box/usr/lib/scuttle/python/scuttle/__pycache__"
     expect 'and Python keeps something of them' 0
     box_dpkg -r scuttle
     expect 'dpkg takes it away' 0
