@@ -5,7 +5,7 @@ ghost use Rattle.linear_front.specs.Told.{IsTold};
 
 use crate::defined::{DefinedOutput, DefinedOutputs, Standing};
 use front_set::CostVec;
-use linear_search::{Limit, LinearSearch, Reply, model_of};
+use linear_search::{Limit, LinearSearch, Reply, Target, model_of};
 use pb_lin::PbProblem;
 use proof_rules::{RecordFault, Recorder};
 use scut_base::{Assignment, Items, Lit, NoMemory};
@@ -29,6 +29,8 @@ pub(crate) enum Told {
 pub(crate) struct Asking<'a> {
     pub(crate) alloc: Global,
     pub(crate) linear: &'a mut LinearSearch,
+    // How much work it may do in all.
+    pub(crate) most: u64,
     pub(crate) defined: DefinedOutputs,
 }
 
@@ -47,13 +49,14 @@ pub(crate) struct Cut {
 }
 
 impl<'a> Asking<'a> {
-    // Whether a model's costs are at most the limits, as far as the relaxation tells. Costs an output for each
-    // objective, and what `LinearSearch::ask` does.
+    // Whether a model's costs are at most the limits, as far as the relaxation tells; of such models it seeks the best by the
+    // target. Costs an output for each objective, and what `LinearSearch::ask` does.
     pub(crate) fn ask<R: Recorder>(
         &mut self,
         rec: &mut R,
         problem: &PbProblem,
         limits: &CostVec,
+        target: Target,
     ) -> Result<Told, RecordFault>
         requires ready { IsReady (R.seen rec.old) }
         requires problem { (R.seen rec.old).problem ≡ problem.now }
@@ -63,7 +66,7 @@ impl<'a> Asking<'a> {
         let Some(question) = self.limits(rec, problem, limits)? else {
             return Ok(Told::Closed);
         };
-        self.answer(rec, problem, limits, &question)
+        self.answer(rec, problem, limits, &question, target)
     }
 
     // What comes of the question whether a model keeps to these limits.
@@ -73,15 +76,110 @@ impl<'a> Asking<'a> {
         problem: &PbProblem,
         limits: &CostVec,
         question: &Limits,
+        target: Target,
     ) -> Result<Told, RecordFault>
         requires ready { IsReady (R.seen rec.old) }
         ensures recorded { IsRecorded (R.seen rec.old) (R.seen rec.new) result }
         ensures told { IfOk result (IsTold problem.now) }
     {
+        let lits = question.lits.as_slice();
         match self
             .linear
-            .ask(rec, question.lits.as_slice(), question.asked.as_slice())?
+            .ask(rec, lits, question.asked.as_slice(), target)?
         {
+            Reply::Closed(_core) => Ok(Told::Closed),
+            Reply::Model(model) => {
+                let told = in_memory(told_of(self.alloc, problem, limits, model.as_slice()))?;
+                Ok(told)
+            }
+            Reply::Unknown => Ok(Told::Unknown),
+        }
+    }
+
+    // Whether the relaxation may be asked once more.
+    pub(crate) fn may_ask(&self) -> bool {
+        self.linear.work() <= self.most
+    }
+
+    // The same; where it tells, as much may be lost on further questions as this one has cost.
+    pub(crate) fn ask_and_earn<R: Recorder>(
+        &mut self,
+        rec: &mut R,
+        problem: &PbProblem,
+        limits: &CostVec,
+        target: Target,
+    ) -> Result<Told, RecordFault>
+        requires ready { IsReady (R.seen rec.old) }
+        requires problem { (R.seen rec.old).problem ≡ problem.now }
+        ensures recorded { IsRecorded (R.seen rec.old) (R.seen rec.new) result }
+        ensures told { IfOk result (IsTold problem.now) }
+    {
+        let before = self.linear.work();
+        let told = self.ask(rec, problem, limits, target)?;
+        if !matches!(told, Told::Unknown) {
+            let spent = self.linear.work().saturating_sub(before);
+            self.linear.earn(spent);
+        }
+        Ok(told)
+    }
+
+    // The same where the last question was about the limits around these: it goes on in that question's tree. Costs an output
+    // for each objective, and what `LinearSearch::ask_further` does.
+    pub(crate) fn ask_below<R: Recorder>(
+        &mut self,
+        rec: &mut R,
+        problem: &PbProblem,
+        limits: &CostVec,
+        around: &CostVec,
+    ) -> Result<Told, RecordFault>
+        requires ready { IsReady (R.seen rec.old) }
+        requires problem { (R.seen rec.old).problem ≡ problem.now }
+        ensures recorded { IsRecorded (R.seen rec.old) (R.seen rec.new) result }
+        ensures told { IfOk result (IsTold problem.now) }
+    {
+        let Some(question) = self.limits(rec, problem, limits)? else {
+            return Ok(Told::Closed);
+        };
+        self.ask_further(rec, problem, limits, around, &question)
+    }
+
+    // The same, where the limits have their outputs. Clauses of the tree name outputs of the limits around, so these are
+    // assumed too, as they follow.
+    fn ask_further<R: Recorder>(
+        &mut self,
+        rec: &mut R,
+        problem: &PbProblem,
+        limits: &CostVec,
+        around: &CostVec,
+        question: &Limits,
+    ) -> Result<Told, RecordFault>
+        requires ready { IsReady (R.seen rec.old) }
+        requires problem { (R.seen rec.old).problem ≡ problem.now }
+        ensures recorded { IsRecorded (R.seen rec.old) (R.seen rec.new) result }
+        ensures told { IfOk result (IsTold problem.now) }
+    {
+        let Some(wider) = self.limits(rec, problem, around)? else {
+            return Ok(Told::Closed);
+        };
+        self.answer_further(rec, problem, limits, question, &wider)
+    }
+
+    // What comes of the question in the tree of the wider one.
+    fn answer_further<R: Recorder>(
+        &mut self,
+        rec: &mut R,
+        problem: &PbProblem,
+        limits: &CostVec,
+        question: &Limits,
+        wider: &Limits,
+    ) -> Result<Told, RecordFault>
+        requires ready { IsReady (R.seen rec.old) }
+        ensures recorded { IsRecorded (R.seen rec.old) (R.seen rec.new) result }
+        ensures told { IfOk result (IsTold problem.now) }
+    {
+        let lits = in_memory(joined(self.alloc, &question.lits, &wider.lits))?;
+        let asked = question.asked.as_slice();
+        match self.linear.ask_further(rec, lits.as_slice(), asked)? {
             Reply::Closed(_core) => Ok(Told::Closed),
             Reply::Model(model) => {
                 let told = in_memory(told_of(self.alloc, problem, limits, model.as_slice()))?;
@@ -226,6 +324,18 @@ fn add_standing(
         lits.push(denial)?;
     }
     rows.push(output.lower)
+}
+
+// The literals of two questions, each once.
+fn joined(alloc: Global, some: &Items<Lit>, others: &Items<Lit>) -> Result<Items<Lit>, NoMemory> {
+    let mut lits = Items::new(alloc);
+    lits.extend_from_slice(some.as_slice())?;
+    for lit in others.as_slice() {
+        if !some.as_slice().contains(lit) {
+            lits.push(*lit)?;
+        }
+    }
+    Ok(lits)
 }
 
 // What a proposed model tells: it is one only where its costs are at most the limits.

@@ -7,6 +7,7 @@
 #![tactic(auto)]
 
 mod asking;
+mod cliques;
 mod defined;
 mod ending;
 mod finding;

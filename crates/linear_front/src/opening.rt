@@ -22,17 +22,21 @@ use std::alloc::Global;
 // Objectives of fewer terms have small totalizers: where no objective has as many, nothing is done.
 const LEAST_TERMS: usize = 10;
 
+// Where there is no objective, nothing is done for fewer variables.
+const LEAST_VARIABLES: u64 = 20;
+
 /// What relaxations with open boxes tell of a problem's front, before a search's first turn: each model that they find
 /// is taken onto the board, until all boxes are closed or a question stays open. Where all are closed and the oracle
 /// answers that nothing is left, the id of a live line `0 >= 1`; else `None`, and the bounds have the outputs that a
-/// search needs to go on from there. Nothing is done where an objective is in other terms than its own, or all
-/// objectives have few terms.
+/// search needs to go on from there. Nothing is done where an objective is in other terms than its own, all objectives
+/// have few terms, or there is none and the problem is small.
 ///
-/// Costs what `LinearSearch::ask` does for each question, and at its end a call of the oracle, or totalizers' outputs.
+/// Questions end where the relaxation has done so much work in all. Costs what `LinearSearch::ask` does for each question, and at its end a call of the oracle, or totalizers' outputs.
 pub fn linear_front<O: Oracle>(
     alloc: Global,
     linear: &mut LinearSearch,
     boxes: &mut OpenBoxes,
+    most: u64,
     oracle: &mut O,
     bounds: &mut Bounds,
     board: &mut Board<'_>,
@@ -58,6 +62,7 @@ pub fn linear_front<O: Oracle>(
     let mut asking = Asking {
         alloc,
         linear,
+        most,
         defined,
     };
     let mut pending = Items::new(alloc);
@@ -68,11 +73,19 @@ pub fn linear_front<O: Oracle>(
     Ok(None)
 }
 
-// Whether the relaxation can be asked, objectives are in their own terms, and some of them isn't short.
+// Whether the relaxation can be asked, objectives are in their own terms, and it is worth it.
 fn may_tell(linear: &LinearSearch, bounds: &Bounds, problem: &PbProblem) -> bool
     ensures { result ≡ true → AreOwnTerms bounds.now }
 {
-    bounds.are_own_terms() && !linear.is_spent() && has_long_objective(problem)
+    bounds.are_own_terms() && !linear.is_spent() && is_worth_it(problem)
+}
+
+// Whether some objective isn't short, or there is none and the problem isn't small.
+fn is_worth_it(problem: &PbProblem) -> bool {
+    if problem.costs().is_empty() {
+        return problem.vars() >= LEAST_VARIABLES;
+    }
+    has_long_objective(problem)
 }
 
 // Whether some objective has so many terms that its totalizer isn't small.

@@ -1,7 +1,7 @@
 -- The shape of a linear program, and of what is answered about it.
 use Rattle.std.specs.Prelude.{◌≡◌, ◌≤◌, ℕ, length}
 use Rattle.linear_program.specs.declared.solving.Answer.{Answer}
-use Rattle.linear_program.specs.declared.solving.Answer.TheVariants.{Infeasible, Optimal, Unknown}
+use Rattle.linear_program.specs.declared.solving.Answer.TheVariants.{Infeasible, Optimal, Above, Unknown}
 use Rattle.linear_program.specs.declared.solving.Solved.{Solved}
 
 -- how many columns and rows there are
@@ -13,6 +13,7 @@ pub record Shape : Type 0 where
 abbrev pub IsShapedFor : Shape → Answer → Type 0
 IsShapedFor shape (Infeasible multipliers) = length multipliers.items ≡ shape.rows
 IsShapedFor shape (Optimal values) = length values.items ≡ shape.columns
+IsShapedFor shape Above = Unit {0}
 IsShapedFor shape Unknown = Unit {0}
 
 -- an answer for this shape, within so many pivots

@@ -1,19 +1,36 @@
-//! Linear programs with bounds on each column and each row, by the dual simplex method over a dense table of
-//! floats.
+//! Linear programs with bounds on each column and each row, by the dual simplex method over sparse rows and columns
+//! of floats.
 //!
 //! Its public contract: `LinearProgram::solve` returns within the given number of pivots, and answers lists of
 //! the right length. Nothing of their numbers is promised: they are rounded, and whoever uses them judges what
 //! he makes of them. The same calls in the same order give the same answers: there is no clock in it, and no
 //! random source. The crate knows no constraint and no proof.
+//!
+//! Sources: the product form of the inverse (Dantzig and Orchard-Hays 1954), dual steepest edge (Forrest and
+//! Goldfarb 1992), bound flipping (Maros 2003), ratios within a tolerance (Harris 1973), and how they go together
+//! (Koberstein 2005).
 #![tactic(auto)]
 
-mod answering;
-mod entering;
+mod basis;
+mod dropping;
+mod etas;
+mod flipping;
+mod limits;
+mod matrix;
+mod numbers;
+mod ordering;
+mod pivot_row;
 mod pivoting;
 mod pricing;
 mod program;
+mod ratios;
+mod rebuilding;
+mod refuting;
+mod simplex;
 mod solving;
-mod table;
+mod variables;
 
-pub use program::{LinearProgram, MOST_ENTRIES, Range, Term};
+pub use basis::Basis;
+pub use limits::{MOST_ENTRIES, MOST_ROWS};
+pub use program::{LinearProgram, Range, Term};
 pub use solving::{Answer, Solved};

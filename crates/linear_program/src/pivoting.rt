@@ -1,194 +1,170 @@
-// Pivots.
-ghost use Rattle.std.specs.Prelude.{◌≡◌};
+// Pivots: values, reduced costs, weights and the inverse after one variable has come in for another.
 
-use crate::LinearProgram;
-use crate::entering::Leaving;
-use crate::pricing::add_costs;
-use crate::program::{Entry, Place};
-use crate::table::{add_multiple, copy_row, number_at, put_number, range_of, sum_of, value_of};
+use crate::limits::{AGREEMENT, LEAST_SQUARE, LEAST_WEIGHT, NO_PIVOT};
+use crate::numbers::{add_multiple, add_number, number_at, sum_of_squares};
+use crate::pricing::Leaving;
+use crate::simplex::{Basic, Simplex};
+use crate::variables::{Standing, Variable, end_of};
 use scut_base::NoMemory;
 
-// A number of at most this size is 0.
-const ZERO: f64 = 1e-13;
+// How the pivot's column and its row agree.
+#[derive(Clone, Copy, Debug)]
+pub(crate) enum Agreement {
+    Good,
+    // The inverse has to be built anew.
+    Bad,
+    // There's no pivot.
+    Zero,
+}
 
-impl LinearProgram {
-    // Moves the values of the columns in the basis with a variable outside of it.
-    pub(crate) fn move_by(&mut self, place: usize, by: f64)
-        ensures { self.new ≡ self.old }
-    {
-        if self.columns == 0 {
-            return;
-        }
-        let rows = self.table.chunks_exact(self.columns);
-        for (basic, row) in self.basic.iter_mut().zip(rows) {
-            if basic.variable < self.columns {
-                basic.value += number_at(row, place) * by;
-                put_number(&mut self.values, basic.variable, basic.value);
-            }
-        }
-    }
+// What all places need of a pivot.
+#[derive(Clone, Copy, Debug)]
+struct Step {
+    place: usize,
+    // The number of the column at this place.
+    pivot: f64,
+    // How far the variable that enters moves.
+    by: f64,
+    // The square of the row of the inverse.
+    square: f64,
+}
 
-    // Puts the variable at this place into the basis for the one that leaves, which then stands at the end of
-    // its range that it was beyond.
-    pub(crate) fn pivot(&mut self, leaving: &Leaving, place: usize) -> Result<(), NoMemory>
-        ensures { self.new ≡ self.old }
-    {
-        let divisor = number_at(self.pivot_row.as_slice(), place);
-        let by = self.missing(leaving) / divisor;
-        self.move_by(place, by);
-        self.divide_row(place, divisor);
-        self.change_costs(place);
-        self.note_row()?;
-        self.eliminate(leaving.row, place);
-        self.exchange(leaving, place, by);
-        self.pivots_since_built = self.pivots_since_built.saturating_add(1);
-        Ok(())
-    }
-
-    // Notes what isn't 0 in the row of the pivot.
-    fn note_row(&mut self) -> Result<(), NoMemory>
-        ensures { self.new ≡ self.old }
-    {
-        self.entries.clear();
-        for (place, number) in self.pivot_row.iter().enumerate() {
-            if *number != 0.0 {
-                self.entries.push(Entry {
-                    place,
-                    number: *number,
-                })?;
-            }
-        }
-        Ok(())
-    }
-
-    // How far the variable that leaves is from the end of its range that it is beyond.
-    fn missing(&self, leaving: &Leaving) -> f64 {
-        let range = range_of(self.ranges.as_slice(), leaving.variable);
-        let end = if leaving.is_below {
-            range.lower
+impl Simplex {
+    // The column of the variable that enters, as the basis tells it.
+    pub(crate) fn take_pivot_column(&mut self, entering: usize) {
+        self.pivot_column.fill(0.0);
+        if entering < self.columns {
+            add_multiple(&mut self.pivot_column, self.matrix.column(entering), 1.0);
         } else {
-            range.upper
-        };
-        end - self.value_now(leaving)
+            add_number(&mut self.pivot_column, entering - self.columns, -1.0);
+        }
+        let touched = self.etas.forward(&mut self.pivot_column);
+        self.count(touched);
     }
 
-    // The value of the variable that leaves: a row's follows from its terms, since flips move columns alone.
-    fn value_now(&self, leaving: &Leaving) -> f64 {
-        if leaving.variable >= self.columns {
-            if let Some(terms) = self.given.get(leaving.variable - self.columns) {
-                return sum_of(terms.as_slice(), self.values.as_slice());
+    // Whether the pivot is the same in its row and in its column.
+    pub(crate) fn agreement(&self, place: usize, entering: usize) -> Agreement {
+        let by_row = self.pivot_row.number(entering);
+        let by_column = number_at(self.pivot_column.as_slice(), place);
+        if (by_row - by_column).abs() > AGREEMENT * (1.0 + by_row.abs()) && self.etas.has_grown() {
+            Agreement::Bad
+        } else if by_column.abs() < NO_PIVOT {
+            Agreement::Zero
+        } else {
+            Agreement::Good
+        }
+    }
+
+    // Puts a variable into the basis for the one that leaves, which then stands at the end that it was beyond.
+    pub(crate) fn pivot(&mut self, leaving: &Leaving, entering: usize) -> Result<(), NoMemory> {
+        // Should memory be refused, the inverse doesn't belong to the basis.
+        self.is_stale = true;
+        self.flip();
+        let pivot = number_at(self.pivot_column.as_slice(), leaving.place);
+        let step = Step {
+            place: leaving.place,
+            pivot,
+            by: (self.value_at(leaving.place) - leaving.end) / pivot,
+            square: sum_of_squares(self.inverse_row.as_slice()).max(LEAST_SQUARE),
+        };
+        self.take_edge_column();
+        self.move_basics(&step);
+        self.change_costs(leaving, entering, pivot);
+        self.exchange(leaving, entering, &step);
+        let touched = self.basics.len().saturating_mul(4);
+        self.count(touched);
+        self.etas.push(self.pivot_column.as_slice(), leaving.place)?;
+        self.is_stale = false;
+        Ok(())
+    }
+
+    // The row of the inverse as the basis tells it.
+    fn take_edge_column(&mut self) {
+        copy_numbers(&mut self.edge_column, self.inverse_row.as_slice());
+        let touched = self.etas.forward(&mut self.edge_column);
+        self.count(touched);
+    }
+
+    // The values of the basis and its weights after the pivot.
+    fn move_basics(&mut self, step: &Step) {
+        let numbers = self.pivot_column.iter().zip(self.edge_column.as_slice());
+        for ((place, basic), (number, edge)) in self.basics.iter_mut().enumerate().zip(numbers) {
+            if *number != 0.0 {
+                basic.value -= *number * step.by;
+                if place != step.place {
+                    if let Some(variable) = self.variables.get_mut(basic.variable) {
+                        reweigh(variable, *number / step.pivot, *edge, step.square);
+                    }
+                }
             }
         }
-        match self.basic.get(leaving.row) {
-            Some(basic) => basic.value,
+    }
+
+    // The reduced costs after the pivot.
+    fn change_costs(&mut self, leaving: &Leaving, entering: usize, pivot: f64) {
+        let dual = self.reduced_cost(entering) / pivot;
+        for at in self.pivot_row.listed() {
+            if let Some(variable) = self.variables.get_mut(*at) {
+                if !variable.is_basic() {
+                    variable.reduced_cost -= dual * self.pivot_row.number(*at);
+                }
+            }
+        }
+        self.put_reduced_cost(leaving.variable, -dual);
+        self.put_reduced_cost(entering, 0.0);
+    }
+
+    fn reduced_cost(&self, variable: usize) -> f64 {
+        match self.variables.get(variable) {
+            Some(variable) => variable.reduced_cost,
             None => 0.0,
         }
     }
 
-    // Solves the row of the pivot for the variable that enters.
-    fn divide_row(&mut self, place: usize, divisor: f64)
-        ensures { self.new ≡ self.old }
-    {
-        for number in self.pivot_row.iter_mut() {
-            *number = -*number / divisor;
-            if number.abs() < ZERO {
-                *number = 0.0;
-            }
-        }
-        put_number(&mut self.pivot_row, place, 1.0 / divisor);
-    }
-
-    // The reduced costs after the pivot.
-    fn change_costs(&mut self, place: usize)
-        ensures { self.new ≡ self.old }
-    {
-        let mut cost = 0.0;
-        if let Some(nonbasic) = self.nonbasic.get_mut(place) {
-            cost = nonbasic.reduced_cost;
-            nonbasic.reduced_cost = 0.0;
-        }
-        add_costs(&mut self.nonbasic, self.pivot_row.as_slice(), cost);
-    }
-
-    // Puts the row of the pivot into all other rows that tell columns.
-    fn eliminate(&mut self, pivot: usize, place: usize)
-        ensures { self.new ≡ self.old }
-    {
-        if self.columns == 0 {
-            return;
-        }
-        let solved = Solved {
-            numbers: self.pivot_row.as_slice(),
-            entries: self.entries.as_slice(),
-        };
-        let rows = self.table.chunks_exact_mut(self.columns);
-        for ((at, basic), row) in self.basic.iter().enumerate().zip(rows) {
-            if at == pivot {
-                copy_row(row, solved.numbers);
-            } else if basic.variable < self.columns {
-                put_into(row, &solved, place);
-            }
+    fn put_reduced_cost(&mut self, variable: usize, cost: f64) {
+        if let Some(place) = self.variables.get_mut(variable) {
+            place.reduced_cost = cost;
         }
     }
 
     // The two variables change places.
-    fn exchange(&mut self, leaving: &Leaving, place: usize, by: f64)
-        ensures { self.new ≡ self.old }
-    {
-        let mut entering = leaving.variable;
+    fn exchange(&mut self, leaving: &Leaving, entering: usize, step: &Step) {
         let mut value = 0.0;
-        if let Some(nonbasic) = self.nonbasic.get_mut(place) {
-            value = value_of(self.ranges.as_slice(), nonbasic) + by;
-            entering = nonbasic.variable;
-            nonbasic.variable = leaving.variable;
-            nonbasic.is_at_upper = !leaving.is_below;
-            let end = value_of(self.ranges.as_slice(), nonbasic);
-            put_number(&mut self.values, leaving.variable, end);
+        if let Some(variable) = self.variables.get_mut(entering) {
+            value = variable.end() + step.by;
+            variable.standing = Standing::Basic(step.place);
+            variable.weight = (step.square / (step.pivot * step.pivot)).max(LEAST_WEIGHT);
         }
-        put_number(&mut self.values, entering, value);
-        if let Some(basic) = self.basic.get_mut(leaving.row) {
-            basic.variable = entering;
-            basic.value = value;
+        if let Some(variable) = self.variables.get_mut(leaving.variable) {
+            variable.standing = end_of(!leaving.is_below);
+            variable.weight = 1.0;
         }
-        self.put_place(leaving.variable, Place::Nonbasic(place));
-        self.put_place(entering, Place::Basic(leaving.row));
+        if let Some(basic) = self.basics.get_mut(step.place) {
+            *basic = Basic {
+                variable: entering,
+                value,
+            };
+        }
     }
 
-    // Notes where a variable stands, if it's a column's.
-    fn put_place(&mut self, variable: usize, place: Place)
-        ensures { self.new ≡ self.old }
-    {
-        if let Some(old) = self.places.get_mut(variable) {
-            *old = place;
+    fn value_at(&self, place: usize) -> f64 {
+        match self.basics.get(place) {
+            Some(basic) => basic.value,
+            None => 0.0,
         }
     }
 }
 
-// The row of a pivot, and what isn't 0 in it.
-#[derive(Clone, Copy)]
-struct Solved<'a> {
-    numbers: &'a [f64],
-    entries: &'a [Entry],
+// The weight after the pivot of a variable whose number in the pivot's column is `part` pivots (Forrest and
+// Goldfarb 1992).
+fn reweigh(variable: &mut Variable, part: f64, edge: f64, square: f64) {
+    let weight = variable.weight - 2.0 * part * edge + part * part * square;
+    let least = LEAST_WEIGHT * (part * part).max(1.0);
+    variable.weight = weight.max(least);
 }
 
-// Puts a solved row in the place of its variable: number by number, or where few of them aren't 0 these alone.
-fn put_into(row: &mut [f64], solved: &Solved<'_>, place: usize) {
-    let factor = number_at(row, place);
-    put_number(row, place, 0.0);
-    if factor.abs() < ZERO {
-        return;
-    }
-    if solved.entries.len() > solved.numbers.len() / 4 {
-        add_multiple(row, solved.numbers, factor);
-    } else {
-        add_entries(row, solved.entries, factor);
-    }
-}
-
-fn add_entries(row: &mut [f64], entries: &[Entry], factor: f64) {
-    for entry in entries {
-        if let Some(number) = row.get_mut(entry.place) {
-            *number += factor * entry.number;
-        }
+fn copy_numbers(numbers: &mut [f64], from: &[f64]) {
+    for (number, other) in numbers.iter_mut().zip(from) {
+        *number = *other;
     }
 }

@@ -1,88 +1,95 @@
-// Reduced costs, and where the variables outside of the basis stand by them.
-ghost use Rattle.std.specs.Prelude.{◌≡◌};
+// Which variable leaves the basis, by dual steepest edge (Forrest and Goldfarb 1992), and its rows.
 
-use crate::LinearProgram;
-use crate::program::Nonbasic;
-use crate::table::number_at;
+use crate::limits::NO_MULTIPLIER;
+use crate::numbers::put_number;
+use crate::simplex::{Basic, Simplex};
+use crate::variables::Variable;
+use scut_base::NoMemory;
 
-// A reduced cost of at most this size has no sign.
-const NO_COST: f64 = 1e-11;
+// A variable of the basis that is outside of its range.
+#[derive(Clone, Copy, Debug)]
+pub(crate) struct Leaving {
+    pub(crate) place: usize,
+    pub(crate) variable: usize,
+    pub(crate) is_below: bool,
+    // How far it is outside, and the end that it goes to.
+    pub(crate) excess: f64,
+    pub(crate) end: f64,
+}
 
-impl LinearProgram {
-    // The reduced costs of the sum of rows by these weights, and each variable at the end that is best by
-    // them. They are perturbed by a sequence of numbers that is always the same, so that no basis comes again.
-    pub(crate) fn price(&mut self, weights: &[f64])
-        ensures { self.new ≡ self.old }
-    {
-        self.reduce(weights);
-        let spread = if weights.iter().all(|weight| *weight == 0.0) {
-            1e-2
-        } else {
-            1e-7
-        };
-        let mut sequence = self.sequence;
-        for nonbasic in self.nonbasic.iter_mut() {
-            sequence = sequence.wrapping_mul(1_664_525).wrapping_add(1_013_904_223);
-            place(
-                nonbasic,
-                spread * (0.5 + f64::from(sequence >> 8) / 16_777_216.0),
-            );
-        }
-        self.sequence = sequence;
+impl Leaving {
+    // 1 where it has to rise, -1 where it has to fall.
+    pub(crate) fn sign(&self) -> f64 {
+        if self.is_below { 1.0 } else { -1.0 }
     }
+}
 
-    // The reduced costs as they are.
-    fn reduce(&mut self, weights: &[f64])
-        ensures { self.new ≡ self.old }
-    {
-        let columns = self.columns;
-        for nonbasic in self.nonbasic.iter_mut() {
-            nonbasic.reduced_cost = weight_of(weights, columns, nonbasic.variable);
-        }
-        for place in 0..self.basic.len() {
-            let variable = self.variable_at(place);
-            let weight = weight_of(weights, columns, variable);
-            if weight != 0.0 {
-                self.take_row(place, variable);
-                add_costs(&mut self.nonbasic, self.pivot_row.as_slice(), weight);
+impl Simplex {
+    // The variable whose excess is the largest along its edge, if one is outside of its range.
+    pub(crate) fn leaving(&mut self) -> Option<Leaving> {
+        let places = self.basics.len();
+        self.count(places);
+        let mut steepest = None;
+        let mut most = 0.0;
+        for (place, basic) in self.basics.iter().enumerate() {
+            if let Some(variable) = self.variables.get(basic.variable) {
+                let excess = excess_of(variable, basic.value);
+                if excess > variable.tolerance {
+                    let slope = excess * excess / variable.weight;
+                    if slope > most {
+                        most = slope;
+                        steepest = Some(leaving_at(place, basic, variable));
+                    }
+                }
             }
         }
+        steepest
     }
 
-    // The variable of the basis at a place.
-    fn variable_at(&self, place: usize) -> usize {
-        match self.basic.get(place) {
-            Some(basic) => basic.variable,
-            None => 0,
+    // The row of the inverse at a place.
+    pub(crate) fn take_inverse_row(&mut self, place: usize) {
+        self.inverse_row.fill(0.0);
+        put_number(&mut self.inverse_row, place, 1.0);
+        let touched = self.etas.backward(&mut self.inverse_row);
+        self.count(touched);
+    }
+
+    // The row of the pivot, by that of the inverse.
+    pub(crate) fn take_pivot_row(&mut self) -> Result<(), NoMemory> {
+        self.pivot_row.clear();
+        let mut touched: usize = 0;
+        for (row, multiplier) in self.inverse_row.iter().enumerate() {
+            if multiplier.abs() > NO_MULTIPLIER {
+                let entries = self.matrix.row(row);
+                self.pivot_row.add_row(entries, *multiplier)?;
+                self.pivot_row
+                    .add(self.columns.saturating_add(row), -*multiplier)?;
+                touched = touched.saturating_add(entries.len());
+            }
         }
+        self.count(touched);
+        Ok(())
     }
 }
 
-// The weight of a row's variable; a column's is 0.
-fn weight_of(weights: &[f64], columns: usize, variable: usize) -> f64 {
-    if variable < columns {
-        return 0.0;
-    }
-    number_at(weights, variable - columns)
+// How far a value is outside of the range; below 0 where it's inside.
+fn excess_of(variable: &Variable, value: f64) -> f64 {
+    let below = variable.range.lower - value;
+    let above = value - variable.range.upper;
+    below.max(above)
 }
 
-// Adds a multiple of a row to the reduced costs.
-pub(crate) fn add_costs(nonbasic: &mut [Nonbasic], row: &[f64], weight: f64) {
-    for (variable, coefficient) in nonbasic.iter_mut().zip(row) {
-        variable.reduced_cost += weight * *coefficient;
-    }
-}
-
-// Puts a variable at the end that its cost tells, and makes the cost greater by so much.
-fn place(nonbasic: &mut Nonbasic, by: f64) {
-    if nonbasic.reduced_cost > NO_COST {
-        nonbasic.is_at_upper = false;
-    } else if nonbasic.reduced_cost < -NO_COST {
-        nonbasic.is_at_upper = true;
-    }
-    if nonbasic.is_at_upper {
-        nonbasic.reduced_cost -= by;
-    } else {
-        nonbasic.reduced_cost += by;
+fn leaving_at(place: usize, basic: &Basic, variable: &Variable) -> Leaving {
+    let is_below = basic.value < variable.range.lower;
+    Leaving {
+        place,
+        variable: basic.variable,
+        is_below,
+        excess: excess_of(variable, basic.value),
+        end: if is_below {
+            variable.range.lower
+        } else {
+            variable.range.upper
+        },
     }
 }

@@ -1,13 +1,12 @@
-// Linear programs.
-ghost use Rattle.std.specs.Prelude.{◌≡◌, ◌+◌, IfOk, OnErr, MatchResult, MatchBool};
+// Linear programs as others see them.
+ghost use Rattle.std.specs.Prelude.{◌≡◌, ◌+◌, IfOk, length, MatchResult, MatchBool};
 ghost use Rattle.linear_program.specs.Shape.{Shape};
 
+use crate::basis::Basis;
+use crate::simplex::Simplex;
 use scut_base::NoMemory;
 use std::alloc::Global;
 use std::marker::Model;
-
-/// How many entries a table has at most.
-pub const MOST_ENTRIES: usize = 4_000_000;
 
 /// A coefficient of a row.
 #[derive(Clone, Copy, Debug)]
@@ -17,40 +16,11 @@ pub struct Term {
     pub coefficient: f64,
 }
 
-/// What a column or a row is to be within.
+/// What a column or a row is to be within: both ends are finite.
 #[derive(Clone, Copy, Debug)]
 pub struct Range {
     pub lower: f64,
     pub upper: f64,
-}
-
-// A variable in the basis with its value. Those from the number of columns on stand for rows.
-#[derive(Clone, Copy, Debug)]
-pub(crate) struct Basic {
-    pub(crate) variable: usize,
-    pub(crate) value: f64,
-}
-
-// A variable that stands at one end of its range.
-#[derive(Clone, Copy, Debug)]
-pub(crate) struct Nonbasic {
-    pub(crate) variable: usize,
-    pub(crate) reduced_cost: f64,
-    pub(crate) is_at_upper: bool,
-}
-
-// Where a column's variable stands: in the basis, by the row of the table that tells it, or outside of it.
-#[derive(Clone, Copy, Debug)]
-pub(crate) enum Place {
-    Basic(usize),
-    Nonbasic(usize),
-}
-
-// A number other than 0 at a place of a row.
-#[derive(Clone, Copy, Debug)]
-pub(crate) struct Entry {
-    pub(crate) place: usize,
-    pub(crate) number: f64,
 }
 
 /// Rows over columns, each within a range, with a basis from which the next question starts. Contracts see
@@ -60,25 +30,7 @@ pub struct LinearProgram {
     pub(crate) alloc: Global,
     pub(crate) columns: usize,
     pub(crate) rows: usize,
-    // The terms of each row as it was given.
-    pub(crate) given: Vec<Vec<Term>>,
-    // What pivots have made of the rows, one after another. Only those that tell columns are kept: what tells a
-    // row follows from its terms.
-    pub(crate) table: Vec<f64>,
-    // Of the columns, then of the rows.
-    pub(crate) ranges: Vec<Range>,
-    // The variable that each row of the table tells, and that of each of its columns.
-    pub(crate) basic: Vec<Basic>,
-    pub(crate) nonbasic: Vec<Nonbasic>,
-    // Where each column stands, and its value.
-    pub(crate) places: Vec<Place>,
-    pub(crate) values: Vec<f64>,
-    // The row of the table that a pivot is in.
-    pub(crate) pivot_row: Vec<f64>,
-    // What isn't 0 in that row, or where variables outside of the basis don't stand at 0.
-    pub(crate) entries: Vec<Entry>,
-    pub(crate) pivots_since_built: u64,
-    pub(crate) sequence: u32,
+    pub(crate) simplex: Simplex,
 }
 
 impl Model for LinearProgram {
@@ -90,7 +42,7 @@ impl Model for LinearProgram {
 }
 
 impl LinearProgram {
-    /// So many columns, each within 0 and 1, and no rows.
+    /// So many columns, each within 0 and 1 and at no cost, and no rows.
     pub fn new(alloc: Global, columns: usize) -> Result<LinearProgram, NoMemory>
         ensures { IfOk result (λ p. p ≡ record { columns = columns; rows = 0 }) }
     {
@@ -98,20 +50,7 @@ impl LinearProgram {
             alloc,
             columns,
             rows: 0,
-            given: Vec::new(alloc),
-            table: Vec::new(alloc),
-            ranges: vec![in alloc; Range {
-                lower: 0.0,
-                upper: 1.0
-            }; columns]?,
-            basic: Vec::new(alloc),
-            nonbasic: Vec::new(alloc),
-            places: Vec::new(alloc),
-            values: vec![in alloc; 0.0; columns]?,
-            pivot_row: vec![in alloc; 0.0; columns]?,
-            entries: Vec::new(alloc),
-            pivots_since_built: 0,
-            sequence: 1,
+            simplex: Simplex::new(alloc, columns)?,
         })
     }
 
@@ -129,22 +68,19 @@ impl LinearProgram {
         self.rows
     }
 
-    /// Adds a row; terms of one column are summed, and those of columns that aren't there are left out. The
-    /// basis begins anew. `false` where the table would have more than `MOST_ENTRIES` entries, and then
-    /// nothing has changed.
+    /// Adds a row; terms of one column are summed, and those of columns that aren't there are left out. The row
+    /// comes into the basis by its own activity, so that the basis stays as good as it was. `false` where there
+    /// would be more than `MOST_ENTRIES` numbers other than 0 or more than `MOST_ROWS` rows, and then nothing
+    /// has changed.
     pub fn add_row(&mut self, terms: &[Term], range: Range) -> Result<bool, NoMemory>
         ensures added { MatchResult result (λ added. MatchBool added
             (self.new ≡ record self.old { rows = self.old.rows + 1 }) (self.new ≡ self.old))
             (λ _. self.new ≡ self.old) }
     {
-        if self.rows >= MOST_ENTRIES || self.columns.saturating_mul(self.rows + 1) > MOST_ENTRIES {
+        if self.rows == usize::MAX || !self.simplex.add_terms(terms, range)? {
             return Ok(false);
         }
-        let row = terms_within(self.alloc, self.columns, terms)?;
-        self.ranges.push(range)?;
-        self.given.push(row)?;
         self.rows += 1;
-        self.pivots_since_built = u64::MAX;
         Ok(true)
     }
 
@@ -153,7 +89,7 @@ impl LinearProgram {
         ensures { self.new ≡ self.old }
     {
         if column < self.columns {
-            put_range(&mut self.ranges, column, range);
+            self.simplex.set_range(column, range);
         }
     }
 
@@ -161,25 +97,72 @@ impl LinearProgram {
     pub fn set_row(&mut self, row: usize, range: Range)
         ensures { self.new ≡ self.old }
     {
-        if let Some(variable) = row.checked_add(self.columns) {
-            put_range(&mut self.ranges, variable, range);
-        }
+        self.simplex
+            .set_range(self.columns.saturating_add(row), range);
     }
-}
 
-fn put_range(ranges: &mut [Range], variable: usize, range: Range) {
-    if let Some(place) = ranges.get_mut(variable) {
-        *place = range;
+    /// Sets the costs of the columns, of which `solve` makes the sum least; those missing are 0. They are
+    /// perturbed a little, always by the same sequence.
+    pub fn set_costs(&mut self, costs: &[f64])
+        ensures { self.new ≡ self.old }
+    {
+        self.simplex.set_costs(costs);
     }
-}
 
-// The terms whose columns are there.
-fn terms_within(alloc: Global, columns: usize, terms: &[Term]) -> Result<Vec<Term>, NoMemory> {
-    let mut row = Vec::new(alloc);
-    for term in terms {
-        if term.column < columns {
-            row.push(*term)?;
-        }
+    /// The sum of the costs as they were given, at the values that the last `solve` left.
+    pub fn sum(&self) -> f64 {
+        self.simplex.sum()
     }
-    Ok(row)
+
+    /// A multiplier for each row: rows by these, and columns by what is left of their costs, bound the sum from
+    /// below. One above 0 is of a row's lower end, one below 0 of its upper end.
+    pub fn duals(&self) -> Result<Vec<f64>, NoMemory>
+        ensures { IfOk result (λ ys. length ys.items ≡ self.now.rows) }
+    {
+        let mut duals = vec![in self.alloc; 0.0; self.rows]?;
+        self.simplex.put_duals(duals.as_mut_slice());
+        Ok(duals)
+    }
+
+    /// The basis, for `restore`.
+    pub fn basis(&self) -> Result<Basis, NoMemory> {
+        self.simplex.basis()
+    }
+
+    /// Makes a basis that `basis` of this very program has answered the present one. Where it's an earlier moment of
+    /// the present list of etas, the list is cut back; else it's built anew, and the basis notes that, so that going
+    /// back to it once more is cheap. Rows that have come since then come into it by their own activities. One of another shape changes nothing; one of another program
+    /// of this shape isn't told apart, and may make answers wrong. `sum` and `duals` speak of the basis after the
+    /// next `solve`.
+    pub fn restore(&mut self, basis: &mut Basis) -> Result<(), NoMemory>
+        ensures { self.new ≡ self.old }
+    {
+        self.simplex.restore(basis)
+    }
+
+    /// Takes those rows from `first` on away that are marked and whose activity is in the basis. Answers the old
+    /// numbers of those that stay, in order.
+    pub fn drop_rows(&mut self, first: usize, is_dropped: &[bool]) -> Result<Vec<usize>, NoMemory>
+        ensures kept { MatchResult result
+            (λ left. self.new ≡ record self.old { rows = length left.items })
+            (λ _. self.new ≡ self.old) }
+    {
+        let staying = self.simplex.staying(first, is_dropped)?;
+        self.simplex.keep_rows(staying.as_slice())?;
+        self.rows = staying.len();
+        Ok(staying)
+    }
+
+    /// Has the inverse built anew at the next `solve`.
+    pub fn rebuild(&mut self) -> Result<(), NoMemory>
+        ensures { self.new ≡ self.old }
+    {
+        self.simplex.is_stale = true;
+        Ok(())
+    }
+
+    /// How many numbers have been touched so far: those of etas and of rows, and passes over places.
+    pub fn work(&self) -> u64 {
+        self.simplex.work
+    }
 }

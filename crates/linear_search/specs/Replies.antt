@@ -8,8 +8,8 @@ use Rattle.sum_outputs.specs.Adding.{IsReached}
 use Rattle.sum_outputs.specs.Totals.{IsKeptClause}
 use Rattle.oracle.specs.Solving.{AreAssumptions, IsCore, Reaches}
 use Rattle.linear_search.specs.Relaxations.{Relaxation}
-use Rattle.linear_search.specs.declared.searching.Found.{Found}
-use Rattle.linear_search.specs.declared.searching.Found.TheVariants.{Nothing}
+use Rattle.linear_search.specs.declared.exploring.Found.{Found}
+use Rattle.linear_search.specs.declared.exploring.Found.TheVariants.{Nothing}
 use Rattle.linear_search.specs.declared.reply.Reply.{Reply}
 use Rattle.linear_search.specs.declared.reply.Reply.TheVariants.{Closed, Model, Unknown}
 

@@ -7,9 +7,11 @@ ghost use Rattle.linear_search.specs.Replies.{IsKeptWhereAnswered, IsReply, IsRe
 
 use crate::Reply;
 use crate::closing::{core_of, may_be_assumed};
+use crate::exploring::Found;
 use crate::nodes::Node;
-use crate::relaxation::{Limit, LinearSearch};
-use crate::searching::Found;
+use crate::question::{Limit, Question};
+use crate::search::LinearSearch;
+use crate::target::Target;
 use crate::writing::write_tree;
 use proof_rules::{RecordFault, Recorder};
 use scut_base::{Items, Lit};
@@ -19,9 +21,29 @@ use sum_outputs::in_memory;
 impl LinearSearch {
     /// Whether the assumptions can be true together, which say that objectives keep to the limits: the search
     /// goes by the limits, and each answer `Closed` is what a live clause says of the assumptions. Objectives
-    /// without a limit aren't named. Lines are added only where a tree closes. It spends at most a quarter of
-    /// the purse, which is lost where the answer is `Unknown`.
+    /// without a limit aren't named. Lines are added only where a tree closes. Of models it seeks the best by
+    /// the target. What it spends is lost where the answer is `Unknown`, but for more than a quarter of the purse.
     pub fn ask<R: Recorder>(
+        &mut self,
+        rec: &mut R,
+        assumed: &[Lit],
+        limits: &[Limit],
+        target: Target,
+    ) -> Result<Reply, RecordFault>
+        requires ready { IsReady (R.seen rec.old) }
+        ensures recorded { IsRecorded (R.seen rec.old) (R.seen rec.new) result }
+        ensures reply { IfOk result (IsReply (R.seen rec.new) assumed.now) }
+        ensures paid { IsPaid self.old self.new }
+        ensures kept { IfOk result (IsKeptWhereAnswered self.old self.new) }
+    {
+        let question = Question { assumed, limits };
+        let found = in_memory(self.search(rec.state(), &question, Some(target)))?;
+        reply_of(self.alloc, rec, found, assumed)
+    }
+
+    /// The same, in the tree of the last question: its open nodes are taken up again. It serves where nothing is allowed
+    /// now that wasn't then, as where a limit is less.
+    pub fn ask_further<R: Recorder>(
         &mut self,
         rec: &mut R,
         assumed: &[Lit],
@@ -33,7 +55,8 @@ impl LinearSearch {
         ensures paid { IsPaid self.old self.new }
         ensures kept { IfOk result (IsKeptWhereAnswered self.old self.new) }
     {
-        let found = in_memory(self.search(rec.state(), assumed, limits))?;
+        let question = Question { assumed, limits };
+        let found = in_memory(self.search(rec.state(), &question, None))?;
         reply_of(self.alloc, rec, found, assumed)
     }
 }

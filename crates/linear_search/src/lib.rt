@@ -8,15 +8,22 @@
 
 mod asking;
 mod closing;
+mod exploring;
+mod limits;
 mod model;
 mod nodes;
+mod question;
 mod relaxation;
 mod reply;
-mod searching;
+mod rounding;
+mod search;
+mod target;
 mod tree;
 mod visiting;
 mod writing;
 
 pub use model::model_of;
-pub use relaxation::{Limit, LinearSearch};
+pub use question::Limit;
 pub use reply::Reply;
+pub use search::LinearSearch;
+pub use target::Target;

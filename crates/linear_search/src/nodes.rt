@@ -1,59 +1,56 @@
-// Nodes of a tree that are closed.
+// Clauses by which nodes of a tree are closed.
 use cutting_planes::PolToken;
 use scut_base::{Items, Lit, NoMemory};
 use std::alloc::Global;
 
-// How the clause of a node is made: by tokens over live lines, or of two nodes before it.
+// How a clause is made: by tokens over live lines, or of two clauses before it.
 #[derive(Debug, Drop)]
 pub(crate) enum Making {
     Leaf(Items<PolToken>),
     Resolvent { first: usize, second: usize },
 }
 
-// A node that is closed, with the literals of its clause.
+// A clause by which a node is closed: its literals rise by their variables.
 #[derive(Debug, Drop)]
 pub(crate) struct Node {
     pub(crate) making: Making,
     pub(crate) lits: Items<Lit>,
 }
 
-// Whether the clause of a node has a literal.
+// Whether a clause has a literal.
 pub(crate) fn has_literal(nodes: &[Node], at: usize, lit: Lit) -> bool {
     match nodes.get(at) {
-        Some(node) => node.lits.as_slice().contains(&lit),
+        Some(node) => node.lits.as_slice().binary_search(&lit).is_ok(),
         None => false,
     }
 }
 
-// The literals of two clauses without those of a variable.
+// The literals of two clauses without those of a variable, each once.
 pub(crate) fn resolvent_literals(
     alloc: Global,
-    nodes: &[Node],
-    first: usize,
-    second: usize,
+    first: &[Lit],
+    second: &[Lit],
     var: u64,
 ) -> Result<Items<Lit>, NoMemory> {
-    let mut lits = Items::new(alloc);
-    if let Some(node) = nodes.get(first) {
-        add_others(&mut lits, node.lits.as_slice(), var)?;
-    }
-    if let Some(node) = nodes.get(second) {
-        add_others(&mut lits, node.lits.as_slice(), var)?;
-    }
-    Ok(lits)
+    let mut lits = Vec::with_capacity(alloc, first.len().saturating_add(second.len()))?;
+    add_others(&mut lits, first, var)?;
+    add_others(&mut lits, second, var)?;
+    lits.sort_unstable();
+    lits.dedup();
+    Ok(Items::from_vec(lits))
 }
 
-// Adds the literals that aren't there and aren't of this variable.
-fn add_others(lits: &mut Items<Lit>, more: &[Lit], var: u64) -> Result<(), NoMemory> {
+// Adds the literals that aren't of this variable.
+fn add_others(lits: &mut Vec<Lit>, more: &[Lit], var: u64) -> Result<(), NoMemory> {
     for lit in more {
-        if lit.var() != var && !lits.as_slice().contains(lit) {
+        if lit.var() != var {
             lits.push(*lit)?;
         }
     }
     Ok(())
 }
 
-// Which nodes the last one stands on.
+// Which clauses the last one stands on.
 pub(crate) fn needed_nodes(alloc: Global, nodes: &[Node]) -> Result<Vec<bool>, NoMemory> {
     let mut needed = vec![in alloc; false; nodes.len()]?;
     let mut at = nodes.len();

@@ -1,177 +1,205 @@
 // The linear relaxation of a problem.
-ghost use Rattle.std.specs.Prelude.{◌≡◌, length, IfOk};
-
-use linear_program::{LinearProgram, MOST_ENTRIES, Range, Term};
+use crate::limits::{LEAST_PASSES, MOST_SIZE_OF_LINE};
+use crate::rounding::Matrix;
+use crate::target::{Aim, Target};
+use linear_program::{LinearProgram, MOST_ENTRIES, MOST_ROWS, Range, Term};
 use pb_lin::{Constraint, CostRow, PbProblem};
+use proof_rules::ProofState;
 use scut_base::{Lit, NoMemory};
 use std::alloc::Global;
-use std::marker::Model;
 use std::num::{nearest_i64_to_f64, nearest_u64_to_f64, nearest_usize_to_f64};
 
-/// A limit of an objective's cost.
+// What a row of the relaxation speaks of.
 #[derive(Clone, Copy, Debug)]
-pub struct Limit {
-    /// The objective, counted from 0.
-    pub objective: usize,
-    /// Its cost is to be at most this.
-    pub most: i64,
-    /// The id of the line "where the output above the limit is false, the sum isn't reached"; 0 where there is none.
-    pub upper_line: u64,
-    /// The id of the line "the objective costs at most what the output's terms do"; 0 where these are its own.
-    pub reform_line: u64,
+pub(crate) enum Row {
+    // The live line of this id: one of the problem's rows, or a line above them.
+    Line(u64),
+    // The objective at this place.
+    Objective(usize),
 }
 
-/// The relaxation of a problem, with what may be spent on it.
+// An objective: its terms over columns, what their sum lacks to the cost, and between what it is.
 #[derive(Debug, Drop)]
-pub struct LinearSearch {
-    pub(crate) alloc: Global,
-    pub(crate) program: LinearProgram,
-    // Whether all rows are there: they had room, and weren't let go of.
-    pub(crate) is_whole: bool,
-    pub(crate) columns: usize,
-    // The problem's constraints are the first rows, and the objectives are the last.
-    pub(crate) constraints: usize,
-    pub(crate) objectives: Vec<Objective>,
-    pub(crate) weights: Vec<f64>,
-    // Of each column, how many rows name it, and what the weights make of its costs.
-    pub(crate) uses: Vec<f64>,
-    pub(crate) costs: Vec<f64>,
-    // By how much a model is to be better than another one: a little less than the least of the weights.
-    pub(crate) step: f64,
-    // What may be lost on questions that stay open: pivots times rows times columns.
-    pub(crate) purse: u64,
-}
-
-impl Model for LinearSearch {
-    ghost use Rattle.linear_search.specs.Relaxations.{Relaxation};
-
-    ghost Value = { Relaxation };
-
-    ghost view = { λ s. record {
-      columns = s.columns;
-      constraints = s.constraints;
-      purse = s.purse;
-    } };
-}
-
-// An objective: what its row of the relaxation lacks to the cost, and between what the row is.
-#[derive(Clone, Copy, Debug)]
 pub(crate) struct Objective {
+    pub(crate) terms: Vec<Term>,
     pub(crate) constant: f64,
     pub(crate) range: Range,
+    // Sums differ by multiples of this.
+    pub(crate) divisor: f64,
+    // The row that holds it to a limit.
+    pub(crate) row: usize,
 }
 
-impl LinearSearch {
-    /// The relaxation of a problem, with a purse of so much work: pivots times rows times columns. Takes 8
-    /// bytes for each row and column, unless these are too many; then it takes none, and all questions stay open.
-    pub fn new(alloc: Global, problem: &PbProblem, purse: u64) -> Result<LinearSearch, NoMemory>
-        ensures { IfOk result (λ s. s ≡ record {
-          columns = problem.now.vars;
-          constraints = length problem.now.rows;
-          purse = purse;
-        }) }
-    {
-        let columns = problem.vars() as usize;
-        let rows = problem.rows().len().saturating_add(problem.costs().len());
-        let is_whole = columns.saturating_mul(rows) <= MOST_ENTRIES;
-        // Of a relaxation that isn't asked nothing is kept.
-        let kept = if is_whole { columns } else { 0 };
-        let mut search = LinearSearch {
+// The relaxation: a column for each variable, and a row for each constraint and each objective.
+#[derive(Debug, Drop)]
+pub(crate) struct Relaxation {
+    pub(crate) alloc: Global,
+    pub(crate) program: LinearProgram,
+    // Whether all rows had room.
+    pub(crate) is_whole: bool,
+    pub(crate) columns: usize,
+    pub(crate) rows: Vec<Row>,
+    // The rows of lines once more, as rounding takes them.
+    pub(crate) matrix: Matrix,
+    pub(crate) objectives: Vec<Objective>,
+    // Of each column, how many rows name it, and what share it has of all costs.
+    pub(crate) uses: Vec<f64>,
+    pub(crate) shares: Vec<f64>,
+    pub(crate) aim: Aim,
+    // The id of the next line to be looked at.
+    next_line: u64,
+    // What was done beside the linear programs, in numbers touched.
+    pub(crate) own_work: u64,
+}
+
+impl Relaxation {
+    // That of a problem. One that is too large to be asked keeps nothing.
+    pub(crate) fn new(alloc: Global, problem: &PbProblem) -> Result<Relaxation, NoMemory> {
+        let is_whole = has_room(problem);
+        let columns = if is_whole { problem.vars() as usize } else { 0 };
+        let mut relaxation = Relaxation {
             alloc,
-            program: LinearProgram::new(alloc, kept)?,
+            program: LinearProgram::new(alloc, columns)?,
             is_whole,
             columns,
-            constraints: problem.rows().len(),
+            rows: Vec::new(alloc),
+            matrix: Matrix::new(alloc, columns)?,
             objectives: Vec::new(alloc),
-            weights: Vec::new(alloc),
-            uses: Vec::new(alloc),
-            costs: Vec::new(alloc),
-            step: f64::INFINITY,
-            purse,
+            uses: vec![in alloc; 1.0; columns]?,
+            shares: vec![in alloc; 1.0; columns]?,
+            aim: Aim::new(alloc),
+            next_line: (problem.rows().len() as u64).saturating_add(1),
+            own_work: 0,
         };
         if is_whole {
-            search.fill(problem)?;
+            relaxation.fill(problem)?;
         }
-        Ok(search)
+        Ok(relaxation)
     }
 
     // Adds the problem's rows and objectives.
-    fn fill(&mut self, problem: &PbProblem) -> Result<(), NoMemory>
-        ensures { self.new ≡ self.old }
-    {
-        self.weights = vec![in self.alloc; 0.0; problem.rows().len()]?;
-        self.uses = vec![in self.alloc; 1.0; self.columns]?;
-        self.costs = vec![in self.alloc; 0.0; self.columns]?;
-        self.add_constraints(problem.rows())?;
-        self.add_objectives(problem.costs())
-    }
-
-    // Lets go of the relaxation, after which no question is answered any more.
-    pub(crate) fn let_go(&mut self) -> Result<(), NoMemory>
-        ensures { self.new ≡ self.old }
-    {
-        self.program = LinearProgram::new(self.alloc, 0)?;
-        self.objectives = Vec::new(self.alloc);
-        self.weights = Vec::new(self.alloc);
-        self.uses = Vec::new(self.alloc);
-        self.costs = Vec::new(self.alloc);
-        self.is_whole = false;
-        Ok(())
-    }
-
-    fn add_constraints(&mut self, rows: &[Constraint]) -> Result<(), NoMemory>
-        ensures { self.new ≡ self.old }
-    {
-        for row in rows {
-            let mut sum = Sum::new(self.alloc);
-            for at in 0..row.len() {
-                let (lit, coefficient) = row.term(at);
-                sum.add(lit, float_of(coefficient))?;
-            }
-            let least = float_of(row.degree()) + sum.least;
-            let range = Range {
-                lower: least,
-                upper: sum.greatest,
-            };
-            self.add_row(&sum, range)?;
-            add_uses(&mut self.uses, sum.terms.as_slice());
+    fn fill(&mut self, problem: &PbProblem) -> Result<(), NoMemory> {
+        let mut line = 0u64;
+        for row in problem.rows() {
+            line = line.saturating_add(1);
+            self.add_line(line, row)?;
+        }
+        for cost in problem.costs() {
+            self.add_objective(cost)?;
         }
         Ok(())
     }
 
-    fn add_objectives(&mut self, costs: &[CostRow]) -> Result<(), NoMemory>
-        ensures { self.new ≡ self.old }
-    {
-        for cost in costs {
-            let mut sum = Sum::new(self.alloc);
-            for term in cost.terms() {
-                sum.add(term.0, nearest_u64_to_f64(term.1))?;
+    // Takes up the live lines above those that it has, if they speak of the problem's variables alone and their coefficients
+    // are small. Costs a look at each line that came since.
+    pub(crate) fn take_up(&mut self, state: &ProofState) -> Result<(), NoMemory> {
+        for id in self.next_line..state.next_id() {
+            if let Some(line) = state.live().get(id) {
+                if is_small_over(line, self.columns as u64) {
+                    self.add_line(id, line)?;
+                }
             }
-            let range = Range {
-                lower: sum.least,
-                upper: sum.greatest,
-            };
-            self.add_row(&sum, range)?;
-            self.objectives.push(Objective {
-                constant: nearest_i64_to_f64(cost.offset()) - sum.least,
-                range,
-            })?;
-            let width = 1.0 + sum.greatest - sum.least;
-            let weight = nearest_usize_to_f64(self.columns) / width;
-            self.weights.push(weight)?;
-            self.step = self.step.min(0.99 * weight);
-            add_costs(&mut self.costs, sum.terms.as_slice(), weight);
+        }
+        self.next_line = self.next_line.max(state.next_id());
+        Ok(())
+    }
+
+    // Adds the row of a line, unless it says nothing.
+    fn add_line(&mut self, id: u64, line: &Constraint) -> Result<(), NoMemory> {
+        if line.degree() == 0 {
+            return Ok(());
+        }
+        let sum = sum_of_line(self.alloc, line)?;
+        let range = Range {
+            lower: float_of(line.degree()) + sum.least,
+            upper: sum.greatest,
+        };
+        add_uses(&mut self.uses, sum.terms.as_slice());
+        self.matrix.add(sum.terms.as_slice(), range)?;
+        self.add_row(Row::Line(id), sum.terms.as_slice(), range)
+    }
+
+    fn add_objective(&mut self, cost: &CostRow) -> Result<(), NoMemory> {
+        let row = self.rows.len();
+        let objective = objective_of(self.alloc, cost, row)?;
+        add_costs(&mut self.shares, &objective);
+        let named = Row::Objective(self.objectives.len());
+        self.add_row(named, objective.terms.as_slice(), objective.range)?;
+        self.objectives.push(objective)?;
+        Ok(())
+    }
+
+    fn add_row(&mut self, row: Row, terms: &[Term], range: Range) -> Result<(), NoMemory> {
+        if self.program.add_row(terms, range)? {
+            self.rows.push(row)?;
+        } else {
+            self.is_whole = false;
         }
         Ok(())
     }
 
-    fn add_row(&mut self, sum: &Sum, range: Range) -> Result<(), NoMemory>
-        ensures { self.new ≡ self.old }
-    {
-        let had_room = self.program.add_row(sum.terms.as_slice(), range)?;
-        self.is_whole = self.is_whole && had_room;
+    // The least work that a question is worth.
+    pub(crate) fn least_stake(&self) -> u64 {
+        self.passes(LEAST_PASSES)
+    }
+
+    // All work that was done, in numbers touched.
+    pub(crate) fn work(&self) -> u64 {
+        self.program.work().saturating_add(self.own_work)
+    }
+
+    // Counts so many passes over rows and columns.
+    pub(crate) fn count_passes(&mut self, count: u64) {
+        self.own_work = self.own_work.saturating_add(self.passes(count));
+    }
+
+    // The work of so many passes over rows and columns.
+    pub(crate) fn passes(&self, count: u64) -> u64 {
+        let size = (self.columns as u64).saturating_add(self.rows.len() as u64);
+        size.saturating_mul(count)
+    }
+
+    // Goes by this target from now on.
+    pub(crate) fn aim_at(&mut self, target: Target) -> Result<(), NoMemory> {
+        self.aim = Aim::of(self.alloc, target, self.columns, self.objectives.as_slice())?;
+        self.program.set_costs(self.aim.costs.as_slice());
         Ok(())
     }
+
+    // Fixes the column of a literal so that it is true.
+    pub(crate) fn fix(&mut self, lit: Lit) {
+        let end = if lit.is_neg() { 0.0 } else { 1.0 };
+        let range = Range {
+            lower: end,
+            upper: end,
+        };
+        self.program.set_column(column_of(lit), range);
+    }
+
+    // Lets the column of a literal be either, and what is between.
+    pub(crate) fn free(&mut self, lit: Lit) {
+        let range = Range {
+            lower: 0.0,
+            upper: 1.0,
+        };
+        self.program.set_column(column_of(lit), range);
+    }
+}
+
+// Whether a problem's columns, its rows and their numbers are few enough.
+fn has_room(problem: &PbProblem) -> bool {
+    let rows = problem.rows().len().saturating_add(problem.costs().len());
+    if rows > MOST_ROWS || problem.vars() > MOST_ENTRIES as u64 {
+        return false;
+    }
+    let mut entries = 0usize;
+    for row in problem.rows() {
+        entries = entries.saturating_add(row.len());
+    }
+    for cost in problem.costs() {
+        entries = entries.saturating_add(cost.terms().len());
+    }
+    entries <= MOST_ENTRIES
 }
 
 // Counts a row for each of its columns.
@@ -183,13 +211,46 @@ fn add_uses(uses: &mut [f64], terms: &[Term]) {
     }
 }
 
-// Adds an objective's terms, times its weight.
-fn add_costs(costs: &mut [f64], terms: &[Term], weight: f64) {
-    for term in terms {
-        if let Some(place) = costs.get_mut(term.column) {
-            *place += weight * term.coefficient;
+// Adds the share that each column has of an objective's costs, as if a column had 1 on the average.
+fn add_costs(shares: &mut [f64], objective: &Objective) {
+    let width = 1.0 + objective.range.upper - objective.range.lower;
+    let weight = nearest_usize_to_f64(shares.len()) / width;
+    for term in objective.terms.iter() {
+        if let Some(place) = shares.get_mut(term.column) {
+            *place += weight * term.coefficient.abs();
         }
     }
+}
+
+// An objective, whose row is this.
+fn objective_of(alloc: Global, cost: &CostRow, row: usize) -> Result<Objective, NoMemory> {
+    let sum = sum_of_costs(alloc, cost.terms())?;
+    let range = Range {
+        lower: sum.least,
+        upper: sum.greatest,
+    };
+    let constant = nearest_i64_to_f64(cost.offset()) - sum.least;
+    let divisor = nearest_u64_to_f64(divisor_of(cost.terms()));
+    Ok(Objective {
+        terms: sum.terms,
+        constant,
+        range,
+        divisor,
+        row,
+    })
+}
+
+// Whether a line's variables are the first ones, and its coefficients are small.
+fn is_small_over(line: &Constraint, columns: u64) -> bool {
+    let mut size = line.degree();
+    for at in 0..line.len() {
+        let (lit, coefficient) = line.term(at);
+        size = size.saturating_add(coefficient);
+        if lit.var() > columns {
+            return false;
+        }
+    }
+    size <= MOST_SIZE_OF_LINE
 }
 
 // A sum over columns, without its constant: between what it is.
@@ -224,6 +285,49 @@ impl Sum {
         })?;
         Ok(())
     }
+}
+
+// The sum of a line's terms.
+fn sum_of_line(alloc: Global, line: &Constraint) -> Result<Sum, NoMemory> {
+    let mut sum = Sum::new(alloc);
+    for at in 0..line.len() {
+        let (lit, coefficient) = line.term(at);
+        sum.add(lit, float_of(coefficient))?;
+    }
+    Ok(sum)
+}
+
+// The sum of an objective's terms.
+fn sum_of_costs(alloc: Global, terms: &[(Lit, u64)]) -> Result<Sum, NoMemory> {
+    let mut sum = Sum::new(alloc);
+    for term in terms {
+        sum.add(term.0, nearest_u64_to_f64(term.1))?;
+    }
+    Ok(sum)
+}
+
+// The greatest common divisor of the weights; 1 where there are none.
+fn divisor_of(terms: &[(Lit, u64)]) -> u64 {
+    let mut divisor = 0;
+    for term in terms {
+        divisor = common_divisor(divisor, term.1);
+    }
+    divisor.max(1)
+}
+
+// The greatest common divisor of two numbers (Euclid): 100 divisions do for 64 bits.
+fn common_divisor(first: u64, second: u64) -> u64 {
+    let mut greater = first;
+    let mut less = second;
+    for _division in 0..100 {
+        if less == 0 {
+            break;
+        }
+        let rest = greater % less;
+        greater = less;
+        less = rest;
+    }
+    greater
 }
 
 // The column of a literal's variable.

@@ -1,91 +1,240 @@
 // One node of the tree.
-ghost use Rattle.std.specs.Prelude.{◌≡◌};
-
-use crate::relaxation::{Limit, LinearSearch};
-use crate::tree::Tree;
+use crate::limits::{MOST_PIVOTS, NO_MULTIPLIER, PASSES_OF_A_VISIT, PASSES_OF_ROUNDING, WHOLE};
+use crate::question::{Limit, Question, limit_of};
+use crate::relaxation::{Relaxation, Row};
+use crate::rounding::{Point, THRESHOLDS};
+use crate::tree::{Kept, RowMultiplier, Tree};
 use linear_lines::{Multiplier, infeasible_leaf};
-use linear_program::{Answer, Range};
+use linear_program::Answer;
 use proof_rules::ProofState;
 use scut_base::{Items, Lit, NoMemory};
+use std::num::nearest_i64_to_f64;
 
-// How many pivots a linear program has at most.
-const MOST_PIVOTS: u64 = 5000;
-// A value is whole within this.
-const WHOLE: f64 = 1e-5;
+impl Relaxation {
+    // Puts the relaxation to a node: its columns are fixed by the path, and no others.
+    fn enter(
+        &mut self,
+        question: &Question<'_>,
+        tree: &mut Tree,
+        at: usize,
+    ) -> Result<(), NoMemory> {
+        for lit in tree.path.iter() {
+            self.free(*lit);
+        }
+        tree.set_path(at)?;
+        for lit in tree.path.iter() {
+            self.fix(*lit);
+        }
+        tree.set_fixed(question.assumed);
+        Ok(())
+    }
 
-// What a node's linear program tells.
-#[derive(Debug, Drop)]
-pub(crate) enum Visit {
-    // This node is closed.
-    Closed(usize),
-    // It is to be split, this literal first.
-    Split(Lit),
-    Unknown,
-}
-
-impl LinearSearch {
-    // Solves the linear program of the path.
+    // Solves the linear program of a node, and closes it, notes its bound and how it can be split, or offers a model.
     pub(crate) fn visit(
         &mut self,
         state: &ProofState,
-        limits: &[Limit],
+        question: &Question<'_>,
         tree: &mut Tree,
-    ) -> Result<Visit, NoMemory>
-        ensures { self.new ≡ self.old }
-    {
-        // Where rounding costs the multipliers, once more from the first basis.
+        at: usize,
+    ) -> Result<(), NoMemory> {
+        self.enter(question, tree, at)?;
+        self.count_passes(PASSES_OF_A_VISIT);
+        tree.visits = tree.visits.saturating_add(1);
+        // Where rounding costs the multipliers, once more from another inverse.
         for _attempt in 0..2 {
-            match self.solved(tree)? {
-                Answer::Optimal { values } => return self.look(tree, values.as_slice()),
-                Answer::Unknown => return Ok(Visit::Unknown),
+            match self
+                .program
+                .solve(tree.stop(self.aim.step), MOST_PIVOTS)?
+                .answer
+            {
+                Answer::Optimal { values } => {
+                    return self.look(question, tree, at, values.as_slice());
+                }
+                Answer::Above => return self.pass_by(tree, at),
+                Answer::Unknown => {}
                 Answer::Infeasible { multipliers } => {
-                    let multipliers = self.lines_of(limits, multipliers.as_slice())?;
-                    let fixed = &tree.fixed;
-                    let lines = multipliers.as_slice();
-                    if let Some(leaf) = infeasible_leaf(self.alloc, state, lines, fixed)? {
-                        let node = tree.add_leaf(leaf)?;
-                        return Ok(Visit::Closed(node));
+                    let multipliers = multipliers_of(self, multipliers.as_slice())?;
+                    if self.close(state, question, tree, at, multipliers.as_slice())? {
+                        return Ok(());
                     }
-                    self.program.rebuild()?;
+                }
+            }
+            self.program.rebuild()?;
+        }
+        self.split_anywhere(tree, at)
+    }
+
+    // Closes a node by multipliers of rows, if they come to whole ones that do.
+    pub(crate) fn close(
+        &mut self,
+        state: &ProofState,
+        question: &Question<'_>,
+        tree: &mut Tree,
+        at: usize,
+        multipliers: &[RowMultiplier],
+    ) -> Result<bool, NoMemory> {
+        let lines = self.lines_of(question, multipliers)?;
+        match infeasible_leaf(self.alloc, state, lines.as_slice(), &tree.fixed)? {
+            Some(leaf) => {
+                tree.close_by_leaf(at, leaf)?;
+                Ok(true)
+            }
+            None => Ok(false),
+        }
+    }
+
+    // Closes a node by what was kept of it, if the limits of now allow that.
+    pub(crate) fn close_by_kept(
+        &mut self,
+        state: &ProofState,
+        question: &Question<'_>,
+        tree: &mut Tree,
+        at: usize,
+    ) -> Result<bool, NoMemory> {
+        self.enter(question, tree, at)?;
+        self.count_passes(PASSES_OF_A_VISIT);
+        let lines = match tree.kept.get(at) {
+            Some(kept) => self.lines_of(question, kept.multipliers.as_slice())?,
+            None => return Ok(false),
+        };
+        match infeasible_leaf(self.alloc, state, lines.as_slice(), &tree.fixed)? {
+            Some(leaf) => {
+                tree.close_by_leaf(at, leaf)?;
+                Ok(true)
+            }
+            None => Ok(false),
+        }
+    }
+
+    // A node whose bound is above the best model's value has nothing that is better.
+    fn pass_by(&self, tree: &mut Tree, at: usize) -> Result<(), NoMemory> {
+        let kept = self.kept_now(false)?;
+        tree.note(at, self.program.sum(), None, kept);
+        Ok(())
+    }
+
+    // Passes a node by that has nothing better than the best model, offers a model, or notes how the node can be split.
+    fn look(
+        &mut self,
+        question: &Question<'_>,
+        tree: &mut Tree,
+        at: usize,
+        values: &[f64],
+    ) -> Result<(), NoMemory> {
+        let bound = self.program.sum();
+        if tree.is_no_better(bound, self.aim.step) {
+            return self.pass_by(tree, at);
+        }
+        let split = self.split(values);
+        if split.is_none() {
+            let lits = self.model(values)?;
+            tree.offer(lits, product(self.aim.main.as_slice(), values));
+        } else if tree.is_time_to_round(at) {
+            self.count_passes(PASSES_OF_ROUNDING);
+            self.round(question, tree, values)?;
+        }
+        let kept = self.kept_now(split.is_some())?;
+        tree.note(at, bound, split, kept);
+        Ok(())
+    }
+
+    // Offers the models that the values round to, if they keep to what is asked.
+    fn round(
+        &self,
+        question: &Question<'_>,
+        tree: &mut Tree,
+        values: &[f64],
+    ) -> Result<(), NoMemory> {
+        for threshold in THRESHOLDS {
+            let costs = self.aim.costs.as_slice();
+            if let Some(point) = self.matrix.rounded(values, costs, threshold)? {
+                if self.keeps(question, &point) {
+                    let lits = self.literals_at(&point)?;
+                    tree.offer(lits, point.cost_by(self.aim.main.as_slice()));
                 }
             }
         }
-        Ok(Visit::Unknown)
+        Ok(())
     }
 
-    // The program's answer; its pivots, and one more, are paid.
-    fn solved(&mut self, tree: &mut Tree) -> Result<Answer, NoMemory>
-        ensures { self.new ≡ self.old }
-    {
-        let budget = tree.pivots_left.min(MOST_PIVOTS);
-        let solved = self.program.solve(self.weights.as_slice(), budget)?;
-        tree.pivots_left = tree
-            .pivots_left
-            .saturating_sub(solved.pivots.saturating_add(1));
-        Ok(solved.answer)
+    // Whether a point keeps to the limits, and makes what is assumed of columns true.
+    fn keeps(&self, question: &Question<'_>, point: &Point) -> bool {
+        let columns = self.columns as u64;
+        let are_true = |lit: &Lit| lit.var() > columns || point.makes_true(*lit);
+        question.assumed.iter().all(are_true)
+            && question
+                .limits
+                .iter()
+                .all(|limit| self.is_within(limit, point))
     }
 
-    // Passes a node by that is no better than the best model, keeps a better one, or splits the node.
-    fn look(&self, tree: &mut Tree, values: &[f64]) -> Result<Visit, NoMemory> {
-        let sum = sum_of(self.costs.as_slice(), values);
-        if !tree.is_no_better(sum, self.step) {
-            if let Some(lit) = self.split(values) {
-                return Ok(Visit::Split(lit));
+    fn is_within(&self, limit: &Limit, point: &Point) -> bool {
+        match self.objectives.get(limit.objective) {
+            Some(objective) => {
+                let cost = point.sum_of(objective.terms.as_slice()) + objective.constant;
+                cost <= nearest_i64_to_f64(limit.most) + 0.5
             }
-            let lits = self.model(values)?;
-            tree.keep(lits, sum);
+            None => false,
         }
-        let node = tree.add_passed()?;
-        Ok(Visit::Closed(node))
+    }
+
+    fn literals_at(&self, point: &Point) -> Result<Items<Lit>, NoMemory> {
+        let mut lits = Items::with_capacity(self.alloc, point.is_one.len())?;
+        for (column, is_one) in point.is_one.iter().enumerate() {
+            if let Some(lit) = literal_of(column, if *is_one { 1.0 } else { 0.0 }) {
+                lits.push(lit)?;
+            }
+        }
+        Ok(lits)
+    }
+
+    // A node of which nothing is known is split by the first variable that is open.
+    fn split_anywhere(&self, tree: &mut Tree, at: usize) -> Result<(), NoMemory> {
+        let mut split = None;
+        for column in 0..self.columns {
+            if let Some(lit) = literal_of(column, 0.0) {
+                if lit.var() <= tree.fixed.len() && tree.fixed.get(lit).is_none() {
+                    split = Some(lit);
+                    break;
+                }
+            }
+        }
+        tree.note(at, f64::NEG_INFINITY, split, Kept::none(self.alloc));
+        Ok(())
+    }
+
+    // What is kept of the node that was solved: its dual values, and the basis where it may be split.
+    fn kept_now(&self, has_basis: bool) -> Result<Kept, NoMemory> {
+        let duals = self.program.duals()?;
+        let mut multipliers = multipliers_of(self, duals.as_slice())?;
+        for (objective, weight) in self.objectives.iter().zip(self.aim.weights.as_slice()) {
+            multipliers.push(RowMultiplier {
+                row: objective.row,
+                value: -*weight,
+            })?;
+        }
+        let mut size = multipliers.len().saturating_mul(2);
+        let mut basis = None;
+        if has_basis {
+            basis = Some(self.program.basis()?);
+            size = size
+                .saturating_add(self.columns)
+                .saturating_add(self.program.rows());
+        }
+        Ok(Kept {
+            multipliers,
+            basis,
+            size,
+        })
     }
 
     // The literal of the value with the greatest score, at its nearer end; none where all are whole.
     fn split(&self, values: &[f64]) -> Option<Lit> {
         let mut best = None;
         let mut most = 0.0;
-        let shares = self.uses.iter().zip(self.costs.as_slice());
-        for ((column, value), (uses, cost)) in values.iter().enumerate().zip(shares) {
-            let score = uncertainty(*value) * *uses * (1.0 + cost.abs());
+        let weights = self.uses.iter().zip(self.shares.as_slice());
+        for ((column, value), (uses, share)) in values.iter().enumerate().zip(weights) {
+            let score = uncertainty(*value) * *uses * *share;
             if score > most {
                 most = score;
                 best = literal_of(column, *value);
@@ -96,7 +245,7 @@ impl LinearSearch {
 
     // The literals of whole values.
     fn model(&self, values: &[f64]) -> Result<Items<Lit>, NoMemory> {
-        let mut lits = Items::new(self.alloc);
+        let mut lits = Items::with_capacity(self.alloc, values.len())?;
         for (column, value) in values.iter().enumerate() {
             if let Some(lit) = literal_of(column, *value) {
                 lits.push(lit)?;
@@ -105,55 +254,51 @@ impl LinearSearch {
         Ok(lits)
     }
 
-    // The lines of the rows with their multipliers: a constraint's own, and those of a limit.
-    fn lines_of(&self, limits: &[Limit], multipliers: &[f64]) -> Result<Vec<Multiplier>, NoMemory> {
-        let mut lines = Vec::new(self.alloc);
-        for (row, value) in multipliers.iter().enumerate() {
-            if row < self.constraints {
-                if *value > 0.0 {
-                    let line = (row as u64).saturating_add(1);
-                    lines.push(Multiplier {
-                        line,
-                        value: *value,
-                    })?;
+    // The lines of rows with their multipliers: a row's own, and those of a limit.
+    fn lines_of(
+        &self,
+        question: &Question<'_>,
+        multipliers: &[RowMultiplier],
+    ) -> Result<Vec<Multiplier>, NoMemory> {
+        let mut lines = Vec::with_capacity(self.alloc, multipliers.len())?;
+        for multiplier in multipliers {
+            match self.rows.get(multiplier.row) {
+                Some(Row::Line(line)) => {
+                    if multiplier.value > 0.0 {
+                        lines.push(Multiplier {
+                            line: *line,
+                            value: multiplier.value,
+                        })?;
+                    }
                 }
-            } else if *value < 0.0 {
-                add_limit(&mut lines, limits, row - self.constraints, -*value)?;
+                Some(Row::Objective(objective)) => {
+                    if multiplier.value < 0.0 {
+                        add_limit(&mut lines, question, *objective, -multiplier.value)?;
+                    }
+                }
+                None => {}
             }
         }
         Ok(lines)
     }
+}
 
-    // Fixes or frees the column of a literal.
-    pub(crate) fn set_literal(&mut self, lit: Lit, is_fixed: bool)
-        ensures { self.new ≡ self.old }
-    {
-        let range = if !is_fixed {
-            Range {
-                lower: 0.0,
-                upper: 1.0,
-            }
-        } else if lit.is_neg() {
-            Range {
-                lower: 0.0,
-                upper: 0.0,
-            }
-        } else {
-            Range {
-                lower: 1.0,
-                upper: 1.0,
-            }
-        };
-        self.program
-            .set_column(crate::relaxation::column_of(lit), range);
+// The multipliers that aren't 0.
+fn multipliers_of(of: &Relaxation, values: &[f64]) -> Result<Vec<RowMultiplier>, NoMemory> {
+    let mut multipliers = Vec::new(of.alloc);
+    for (row, value) in values.iter().enumerate() {
+        if value.abs() > NO_MULTIPLIER {
+            multipliers.push(RowMultiplier { row, value: *value })?;
+        }
     }
+    Ok(multipliers)
 }
 
 // The sum of costs at these values.
-fn sum_of(costs: &[f64], values: &[f64]) -> f64 {
+fn product(costs: &[f64], values: &[f64]) -> f64 {
     let mut sum = 0.0;
     for (cost, value) in costs.iter().zip(values) {
-        sum += *cost * *value;
+        sum += *cost * value.round();
     }
     sum
 }
@@ -170,11 +315,11 @@ fn uncertainty(value: f64) -> f64 {
 // Adds the lines of an objective's limit, which together speak of its own terms.
 fn add_limit(
     lines: &mut Vec<Multiplier>,
-    limits: &[Limit],
+    question: &Question<'_>,
     objective: usize,
     value: f64,
 ) -> Result<(), NoMemory> {
-    let Some(limit) = limit_of(limits, objective) else {
+    let Some(limit) = limit_of(question.limits, objective) else {
         return Ok(());
     };
     for line in [limit.upper_line, limit.reform_line] {
@@ -183,16 +328,6 @@ fn add_limit(
         }
     }
     Ok(())
-}
-
-// The limit of an objective, if it has one.
-fn limit_of(limits: &[Limit], objective: usize) -> Option<Limit> {
-    for limit in limits {
-        if limit.objective == objective {
-            return Some(*limit);
-        }
-    }
-    None
 }
 
 // The literal of a column at the nearer end.

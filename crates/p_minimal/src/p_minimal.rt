@@ -172,7 +172,8 @@ fn ask_over_rows<O: Oracle>(
     ask_oracle(alloc, aim, oracle, bounds)
 }
 
-// Gives the rows that count their totalizers, once, where something was found and relaxations don't tell whether that is all.
+// Gives the rows that count their totalizers, once, where relaxations don't tell: before the first model too, which may be
+// what clauses over bare rows don't find.
 fn add_rows<O: Oracle>(
     alloc: Global,
     relaxed: &mut Option<Relaxed>,
@@ -189,7 +190,7 @@ fn add_rows<O: Oracle>(
     let Some(relaxed) = relaxed else {
         return Ok(());
     };
-    if board.last().is_none() || !relaxed.lacks_rows() {
+    if !relaxed.lacks_rows() {
         return Ok(());
     }
     add_row_totalizers(alloc, oracle, board.problem())?;

@@ -29,14 +29,6 @@ pub record IsPlace (count : ℕ) (turns : List ℕ) (place : ℕ) : Type 0 where
 abbrev pub next_of : {A B C : Type 0} → CycleValue A B C → ℕ
 next_of c = slice_index c.turns c.place
 
--- The search whose turn is next may have begun, since the others are as they were. Its turn is still next.
-pub record BeginsNext {A B C : Type 0} (old new : CycleValue A B C) : Type 0 where
-  pub first : next_of old ≢ 1 → new.first ≡ old.first
-  pub second : next_of old ≢ 2 → new.second ≡ old.second
-  pub third : next_of old ≢ 3 → new.third ≡ old.third
-  pub turns : new.turns ≡ old.turns
-  pub place : new.place ≡ old.place
-
 -- The search whose turn is next has had its turn, since the others are as they were. The next turn is the one after it
 -- in the list, and after the last the first.
 pub record GivesTurn {A B C : Type 0} (old new : CycleValue A B C) : Type 0 where

@@ -5,15 +5,15 @@ ghost use Rattle.linear_search.specs.Replies.{IsReply};
 ghost use Rattle.representative_search.specs.Seeking.{IsRelaxed, IsSought, Leaves, LeavesLog, WhereKnown};
 
 use crate::ending::end_proof;
-use linear_search::{LinearSearch, Reply, model_of};
+use linear_search::{LinearSearch, Reply, Target, model_of};
 use pb_lin::PbProblem;
 use proof_rules::{RecordFault, Recorder};
 use proof_text::FileRecorder;
 use scut_base::{Assignment, Shelf};
 use std::alloc::Global;
 
-// What may be lost on a question that stays open is a quarter of this: pivots times rows times columns.
-const PURSE: u64 = 200_000_000;
+// What may be lost on a question that stays open is a quarter of this, in numbers touched: some tenths of a second.
+const PURSE: u64 = 800_000_000;
 
 // What a relaxation tells.
 #[derive(Debug, Drop)]
@@ -78,5 +78,5 @@ fn ask<R: Recorder>(alloc: Global, problem: &PbProblem, rec: &mut R) -> Result<R
     ensures reply { IfOk result (IsReply (R.seen rec.new) []) }
 {
     let mut search = LinearSearch::new(alloc, problem, PURSE)?;
-    search.ask(rec, &[], &[])
+    search.ask(rec, &[], &[], Target::Sum)
 }

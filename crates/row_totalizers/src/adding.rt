@@ -5,7 +5,7 @@ ghost use Rattle.sum_outputs.specs.Adding.{IsReady, IsRecorded};
 ghost use Rattle.sum_outputs.specs.Totals.{AreWeights};
 ghost use Rattle.totalizer.specs.Totalizing.{HasVariables};
 
-use crate::sizes::{MOST_LINES, may_count, taken_room};
+use crate::sizes::{may_count, room_for, taken_room};
 use cutting_planes::PolToken;
 use linear_lines::add_clause_line;
 use pb_lin::{Constraint, LinFault, PbProblem};
@@ -29,7 +29,7 @@ pub fn add_row_totalizers<R: Recorder>(
 {
     // Tells that the rows' variables are the problem's.
     let _vars = problem.vars();
-    let mut room = MOST_LINES;
+    let mut room = room_for(problem.rows().len());
     for (at, row) in problem.rows().iter().enumerate() {
         add_totalizer(alloc, rec, row, at as u64 + 1, &mut room)?;
     }

@@ -5,8 +5,18 @@ ghost use Rattle.pb_lin.specs.Constraint.{total};
 use pb_lin::Constraint;
 use scut_base::Lit;
 
-/// How many lines all rows' totalizers may take.
-pub(crate) const MOST_LINES: u64 = 40_000;
+// How many lines all rows' totalizers may take, and how many for each row if that is more: a roster of four weeks wants some
+// 70 a row, and takes a second to write them.
+const MOST_LINES: u64 = 40_000;
+
+const MOST_LINES_A_ROW: u64 = 80;
+
+// The room for the totalizers of so many rows, in lines.
+pub(crate) fn room_for(rows: usize) -> u64 {
+    (rows as u64)
+        .saturating_mul(MOST_LINES_A_ROW)
+        .max(MOST_LINES)
+}
 
 // A totalizer of more lines, of more terms, or of a larger sum isn't made.
 const MOST_LINES_OF_ONE: u64 = 4_000;

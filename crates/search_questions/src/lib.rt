@@ -6,6 +6,7 @@
 //! a good state good and log nothing. Which limits are asked about, and in what order, is a search's own.
 #![tactic(auto)]
 
+mod allowance;
 mod below;
 mod question;
 mod relaxations;

@@ -5,6 +5,7 @@ ghost use Rattle.search_base.specs.Good.{GoesOn, IsGood, KeepsBoard};
 ghost use Rattle.search_base.specs.Turns.{IsEndLine, IsInOrder, IsSearchFault};
 ghost use Rattle.search_questions.specs.Telling.{IsGoodWithSome, SeeksOn, Tells, TellsAny, is_closed};
 
+use crate::allowance::{first_allowance, first_purse};
 use crate::{Below, seek_any, seek_below, seek_relaxed};
 use front_set::CostVec;
 use linear_front::linear_front;
@@ -16,8 +17,8 @@ use scut_base::{Items, NoMemory};
 use search_base::{Board, Bounds};
 use std::alloc::Global;
 
-// What may be lost on questions that stay open: pivots times rows times columns, a second or two of work.
-const PURSE: u64 = 200_000_000;
+// What relaxations earn by each clause that the oracle learned: about as much work as that took.
+const WORK_OF_A_CLAUSE: u64 = 200_000;
 
 // Where there are more boxes, they are neither asked nor divided any more.
 const MOST_BOXES: usize = 500;
@@ -34,6 +35,9 @@ pub struct Relaxations {
     boxes: OpenBoxes,
     // Limits to which nothing that is left keeps. None is below another.
     settled: Vec<CostVec>,
+    // How much work they may do in all, and how many learned clauses they have earned by.
+    allowance: u64,
+    learned: u64,
 }
 
 impl Relaxations {
@@ -41,24 +45,26 @@ impl Relaxations {
     pub fn new(alloc: Global, problem: &PbProblem) -> Result<Relaxations, NoMemory> {
         Ok(Relaxations {
             alloc,
-            linear: LinearSearch::new(alloc, problem, PURSE)?,
+            linear: LinearSearch::new(alloc, problem, first_purse(problem))?,
             boxes: OpenBoxes::new(alloc, problem.costs().len())?,
             settled: Vec::new(alloc),
+            allowance: first_allowance(problem),
+            learned: 0,
         })
     }
 
     /// Takes the vectors that this one is below out of the boxes, since they aren't left. Costs what
     /// `OpenBoxes::exclude` does.
     pub fn exclude(&mut self, costs: &CostVec) -> Result<(), NoMemory> {
-        if self.is_spent() || self.boxes.limits().len() > MOST_BOXES {
+        if self.boxes.limits().len() > MOST_BOXES {
             return Ok(());
         }
         self.boxes.exclude(costs)
     }
 
-    /// Whether they tell nothing any more, since too much was lost on questions that stayed open.
+    /// Whether they tell nothing now, since they have done what they may, or too much was lost on questions that stayed open.
     pub fn is_spent(&self) -> bool {
-        self.linear.is_spent()
+        self.linear.is_spent() || self.linear.work() > self.allowance
     }
 
     /// What they tell of the front before a search's first turn: `linear_front`.
@@ -76,8 +82,16 @@ impl Relaxations {
         ensures goes_on { GoesOn (O.seen oracle.old) (O.seen oracle.new) }
         ensures board { KeepsBoard board.old board.new }
     {
-        let linear = &mut self.linear;
-        linear_front(self.alloc, linear, &mut self.boxes, oracle, bounds, board)
+        let (linear, most) = (&mut self.linear, self.allowance);
+        linear_front(
+            self.alloc,
+            linear,
+            &mut self.boxes,
+            most,
+            oracle,
+            bounds,
+            board,
+        )
     }
 
     /// What `seek_below` asks, of one relaxation alone: `seek_relaxed`.
@@ -94,6 +108,10 @@ impl Relaxations {
         ensures tells { IfOk result (λ below. IfSome below (Tells (O.seen oracle.new) limits.now)) }
         ensures seeks { SeeksOn (O.seen oracle.old) (O.seen oracle.new) bounds.old bounds.new result }
     {
+        self.earn(oracle.state().learned());
+        if self.is_spent() {
+            return Ok(None);
+        }
         seek_relaxed(
             self.alloc,
             oracle,
@@ -102,6 +120,15 @@ impl Relaxations {
             problem,
             limits,
         )
+    }
+
+    // Earns by the clauses that were learned since the last time.
+    fn earn(&mut self, learned: u64) {
+        let more = learned.saturating_sub(self.learned);
+        self.learned = self.learned.max(learned);
+        let work = more.saturating_mul(WORK_OF_A_CLAUSE);
+        self.allowance = self.allowance.saturating_add(work);
+        self.linear.earn(work);
     }
 
     /// What `seek_below` asks, of the relaxations first, for each box that the limits meet: what they don't tell, the

@@ -10,7 +10,7 @@ use crate::question::{Question, questioned};
 use crate::seeking::told_by_core;
 use crate::standing::clashing;
 use front_set::CostVec;
-use linear_search::{Limit, LinearSearch, Reply};
+use linear_search::{Limit, LinearSearch, Reply, Target};
 use oracle::{Answer, Oracle, OracleFault};
 use pb_lin::PbProblem;
 use scut_base::{Items, Lit, NoMemory};
@@ -76,7 +76,7 @@ fn ask_relaxed<O: Oracle>(
         return Ok(Some(Below::Above { stands }));
     };
     let asked = linear_limits(alloc, bounds, limits)?;
-    match linear.ask(oracle, lits.as_slice(), asked.as_slice())? {
+    match linear.ask(oracle, lits.as_slice(), asked.as_slice(), Target::Sum)? {
         Reply::Closed(core) => {
             let below = told_by_core(alloc, excesses, core, objectives)?;
             Ok(Some(below))

@@ -1,36 +1,34 @@
--- Step by step the state stays good but for the models that were taken.
-use Rattle.search_base.proofs.Turning.{board_again, board_twice, goes_again, goes_twice}
+-- Lines of cliques were added, and boxes were asked.
+use Rattle.search_base.proofs.ModelLines.{totalizer_goes_on}
+use Rattle.search_base.proofs.Turning.{goes_twice}
+use Rattle.linear_front.proofs.Calls.{fault_after_lines}
 use Rattle.linear_front.proofs.finding.find_all.Goals as goal
 
-pub loop-question-init : goal.loop-question-init
-loop-question-init g c =
+pub ask_all-requires : goal.ask_all-requires
+ask_all-requires g c =
     let R = g.R.Recorder in
+    let call = c.in_ok-prepare.ensures.recorded in
+    let law = c.adding_stays_good_but.ensures in
     record {
-      good = c.requires.good;
-      goes_on = goes_again (R.seen c.args.rec.now);
-      board = board_again c.args.board.now;
+      good = law.same (R.seen c.args.rec.now) (R.seen c.prepare.new.rec) c.args.bounds.now c.args.board.now c.args.pending.now
+          c.requires.good call.continues call.whole;
     }
 
-pub returns-in_err-step-clause-goes_on : goal.returns-in_err-step-clause-goes_on
-returns-in_err-step-clause-goes_on g c =
+pub returns-in_err-prepare-clause-goes_on : goal.returns-in_err-prepare-clause-goes_on
+returns-in_err-prepare-clause-goes_on g c =
     let R = g.R.Recorder in
-    goes_twice (R.seen c.args.rec.now) (R.seen c.loop-question.rec) (R.seen c.step.new.rec)
-    c.loop-question.invariant.goes_on c.in_err-step.ensures.goes_on
+    totalizer_goes_on (R.seen c.args.rec.now) (R.seen c.prepare.new.rec) c.in_err-prepare.ensures.recorded.continues
 
-pub returns-then-not-branch-clause-goes_on : goal.returns-then-not-branch-clause-goes_on
-returns-then-not-branch-clause-goes_on g c =
+pub returns-clause-goes_on : goal.returns-clause-goes_on
+returns-clause-goes_on g c =
     let R = g.R.Recorder in
-    goes_twice (R.seen c.args.rec.now) (R.seen c.loop-question.rec) (R.seen c.step.new.rec)
-    c.loop-question.invariant.goes_on c.in_ok-step.ensures.goes_on
+    let a = R.seen c.args.rec.now in
+    let b = R.seen c.prepare.new.rec in
+    goes_twice a b (R.seen c.ask_all.new.rec) (totalizer_goes_on a b c.in_ok-prepare.ensures.recorded.continues)
+    c.ask_all.ensures.goes_on
 
-pub loop-question-preserved : goal.loop-question-preserved
-loop-question-preserved g c =
+pub returns-clause-fault : goal.returns-clause-fault
+returns-clause-fault g c =
     let R = g.R.Recorder in
-    let was = c.loop-question.invariant in
-    let call = c.in_ok-step.ensures in
-    record {
-      good = call.good;
-      goes_on = goes_twice (R.seen c.args.rec.now) (R.seen c.loop-question.rec) (R.seen c.step.new.rec) was.goes_on
-          call.goes_on;
-      board = board_twice c.args.board.now c.loop-question.board c.step.new.board was.board call.board;
-    }
+    fault_after_lines (R.seen c.args.rec.now) (R.seen c.prepare.new.rec) (R.seen c.ask_all.new.rec) c.ask_all.result
+    c.in_ok-prepare.ensures.recorded.continues c.ask_all.ensures.fault

@@ -1,0 +1,209 @@
+// The search through the tree, the node of least bound first.
+use crate::limits::{MOST_NODES, PASSES_MORE, TIMES_MORE};
+use crate::nodes::Node;
+use crate::question::Question;
+use crate::relaxation::{Relaxation, column_of};
+use crate::tree::Tree;
+use linear_program::Range;
+use proof_rules::ProofState;
+use scut_base::{Items, Lit, NoMemory};
+use std::num::nearest_i64_to_f64;
+
+// What a search has found.
+#[derive(Debug, Drop)]
+pub(crate) enum Found {
+    // The clauses of a tree that closed, the root's last.
+    Closed(Vec<Node>),
+    // A model.
+    Model(Items<Lit>),
+    Nothing,
+}
+
+impl Relaxation {
+    // Searches for the best values within the limits where the assumptions are true, until this much work was done.
+    pub(crate) fn explore_anew(
+        &mut self,
+        state: &ProofState,
+        question: &Question<'_>,
+        tree: &mut Tree,
+        most: u64,
+    ) -> Result<Found, NoMemory> {
+        self.begin(question, tree);
+        tree.begin(state.vars(), self.least_sum(), self.aim.step.max(1e-6))?;
+        self.visit(state, question, tree, 0)?;
+        tree.push_if_open(0)?;
+        self.explore(state, question, tree, most)
+    }
+
+    // Goes on in a tree whose limits are tighter now: nodes that what was kept of them doesn't close are solved once more.
+    pub(crate) fn explore_further(
+        &mut self,
+        state: &ProofState,
+        question: &Question<'_>,
+        tree: &mut Tree,
+        most: u64,
+    ) -> Result<Found, NoMemory> {
+        self.begin(question, tree);
+        tree.reopen(state.vars())?;
+        for at in 0..tree.branches.len() {
+            if self.work() > most {
+                return Ok(Found::Nothing);
+            }
+            if tree.is_open(at) {
+                self.take_up_again(state, question, tree, at)?;
+            }
+        }
+        self.explore(state, question, tree, most)
+    }
+
+    // Closes a node, or puts it among those that can be split.
+    fn take_up_again(
+        &mut self,
+        state: &ProofState,
+        question: &Question<'_>,
+        tree: &mut Tree,
+        at: usize,
+    ) -> Result<(), NoMemory> {
+        if !self.close_by_kept(state, question, tree, at)? {
+            self.restore(tree, at)?;
+            self.visit(state, question, tree, at)?;
+            tree.push_if_open(at)?;
+        }
+        Ok(())
+    }
+
+    // Splits nodes until the root is closed, no node can have a better model, or the work is done.
+    fn explore(
+        &mut self,
+        state: &ProofState,
+        question: &Question<'_>,
+        tree: &mut Tree,
+        most: u64,
+    ) -> Result<Found, NoMemory> {
+        let began = self.work();
+        let mut most = most;
+        let mut has_model = false;
+        for _node in 0..MOST_NODES {
+            if tree.best.is_some() && !has_model {
+                has_model = true;
+                most = most.min(self.enough_after_a_model(began));
+            }
+            if tree.root_clause().is_some() || self.work() > most {
+                break;
+            }
+            let Some(at) = tree.take_next(self.aim.step) else {
+                break;
+            };
+            self.split_node(state, question, tree, at)?;
+        }
+        found_in(tree)
+    }
+
+    // How much work may be done in all where the first model is known now: without a bound where the least cost of one objective
+    // is sought, since the tree closes what is below that.
+    fn enough_after_a_model(&self, began: u64) -> u64 {
+        if self.aim.is_proof_wanted {
+            return u64::MAX;
+        }
+        let now = self.work();
+        let more = now.saturating_sub(began).saturating_mul(TIMES_MORE);
+        now.saturating_add(more)
+            .saturating_add(self.passes(PASSES_MORE))
+    }
+
+    // Splits a node, and visits what is below it.
+    fn split_node(
+        &mut self,
+        state: &ProofState,
+        question: &Question<'_>,
+        tree: &mut Tree,
+        at: usize,
+    ) -> Result<(), NoMemory> {
+        let Some(lit) = tree.branch(at).and_then(|branch| branch.split) else {
+            return Ok(());
+        };
+        let (first, second) = tree.split(at, lit)?;
+        self.restore(tree, at)?;
+        self.visit(state, question, tree, first)?;
+        if !tree.is_closed(at) {
+            self.restore(tree, at)?;
+            self.visit(state, question, tree, second)?;
+        }
+        tree.let_go(at);
+        tree.go_on_below(first, second)
+    }
+
+    // Goes back to the basis that was kept of a node.
+    fn restore(&mut self, tree: &mut Tree, at: usize) -> Result<(), NoMemory> {
+        if let Some(kept) = tree.kept.get_mut(at) {
+            if let Some(basis) = &mut kept.basis {
+                self.program.restore(basis)?;
+            }
+        }
+        Ok(())
+    }
+
+    // Sets the ranges for a question, at the root.
+    fn begin(&mut self, question: &Question<'_>, tree: &mut Tree) {
+        for lit in tree.path.iter() {
+            self.free(*lit);
+        }
+        tree.path.clear();
+        self.assume(question.assumed);
+        for place in 0..self.objectives.len() {
+            self.set_limit(place, question);
+        }
+    }
+
+    // Fixes the columns that are assumed, and frees all others.
+    fn assume(&mut self, assumed: &[Lit]) {
+        for column in 0..self.columns {
+            let range = Range {
+                lower: 0.0,
+                upper: 1.0,
+            };
+            self.program.set_column(column, range);
+        }
+        for lit in assumed {
+            if column_of(*lit) < self.columns {
+                self.fix(*lit);
+            }
+        }
+    }
+
+    // Sets the range of an objective: all its sums, or those within its limit.
+    fn set_limit(&mut self, place: usize, question: &Question<'_>) {
+        let Some(objective) = self.objectives.get(place) else {
+            return;
+        };
+        let mut range = objective.range;
+        if let Some(limit) = crate::question::limit_of(question.limits, place) {
+            let most = nearest_i64_to_f64(limit.most) - objective.constant;
+            range.upper = range.upper.min(most);
+        }
+        self.program.set_row(objective.row, range);
+    }
+
+    // The least that the costs of the columns could sum to.
+    fn least_sum(&self) -> f64 {
+        let mut sum = 0.0;
+        for cost in self.aim.costs.iter() {
+            sum += cost.min(0.0);
+        }
+        sum
+    }
+}
+
+// The best model, or the clauses up to the root's where there is none.
+fn found_in(tree: &mut Tree) -> Result<Found, NoMemory> {
+    if let Some(lits) = tree.take_best() {
+        return Ok(Found::Model(lits));
+    }
+    let Some(root) = tree.root_clause() else {
+        return Ok(Found::Nothing);
+    };
+    let mut nodes = Vec::new(tree.alloc);
+    std::mem::swap(&mut nodes, &mut tree.clauses);
+    nodes.truncate(root.saturating_add(1));
+    Ok(Found::Closed(nodes))
+}

@@ -1,0 +1,52 @@
+// What decides when a search stops, and how much it keeps.
+
+// A linear program has at most so many pivots: one that needs more has lost its way.
+pub(crate) const MOST_PIVOTS: u64 = 20_000;
+
+// So many nodes are visited in one question at most; the work that may be spent ends it long before.
+pub(crate) const MOST_NODES: usize = 10_000_000;
+
+// A tree keeps at most so many numbers of its open nodes: 8 bytes each, a quarter of a GB. Past that a node is solved again
+// from wherever the relaxation stands.
+pub(crate) const MOST_KEPT: usize = 30_000_000;
+
+// A value is whole within this.
+pub(crate) const WHOLE: f64 = 1e-5;
+
+// A multiplier or dual value of at most this size is none.
+pub(crate) const NO_MULTIPLIER: f64 = 1e-11;
+
+// Bounds are told apart by a quarter of what a better model lacks: finer ones only lead away from where the search is, since
+// costs are whole.
+pub(crate) const PARTS_OF_A_STEP: f64 = 4.0;
+
+// Where no model is known a search goes on below a node as long as its bound is within this share of the least open one, or
+// within what a better model lacks: flat bounds tell nothing.
+pub(crate) const PLUNGE: f64 = 0.02;
+
+// The points of nodes that are less deep than this are rounded, and of the others each of so many visits.
+pub(crate) const ROUND_ABOVE: usize = 3;
+
+pub(crate) const ROUND_EACH: u64 = 16;
+
+// Where the least sum is sought, and no proof of it is wanted, the search for a better model than the first may take so many
+// times the work of that, and this many passes over rows and columns.
+pub(crate) const TIMES_MORE: u64 = 3;
+
+pub(crate) const PASSES_MORE: u64 = 2000;
+
+// What the first question spends is so many quarters of the purse, and after questions that were answered up to the other number.
+pub(crate) const FIRST_STAKE: u64 = 4;
+
+pub(crate) const MOST_STAKE: u64 = 16;
+
+// What is done at a node beside its linear program, and what rounding takes, is counted as so many passes over rows and columns.
+pub(crate) const PASSES_OF_A_VISIT: u64 = 20;
+
+pub(crate) const PASSES_OF_ROUNDING: u64 = 60;
+
+// A question isn't begun where the purse allows fewer passes over rows and columns: a few dozen pivots tell little.
+pub(crate) const LEAST_PASSES: u64 = 400;
+
+// Lines of the log above the problem's rows are rows of the relaxation too, if their coefficients sum to no more than this.
+pub(crate) const MOST_SIZE_OF_LINE: u128 = 1 << 20;

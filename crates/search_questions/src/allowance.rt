@@ -1,0 +1,73 @@
+// How much work relaxations may do, in numbers touched: 10^9 take one to four seconds.
+use pb_lin::{CostRow, PbProblem};
+
+// At first, whatever the problem is.
+const FIRST: u64 = 200_000_000;
+
+// For each line of the objectives' totalizers, as far as they can be estimated: what a line takes to make and to judge, so that a
+// search that has to build them takes at most twice the time of one that begins with them.
+const WORK_OF_A_LINE: u64 = 5_000;
+
+// For each row so many passes over rows and columns, and one more for each row: a linear program takes some for each, and where
+// there are many rows clauses take long too.
+const PASSES_A_ROW: u64 = 100;
+
+// Nobody waits for more, where it tells nothing.
+const MOST: u64 = 30_000_000_000;
+
+// Where no objective is there, a question is one of clauses or of counting: the one is as fast otherwise, the other needs little.
+const PART_WITHOUT_OBJECTIVES: u64 = 16;
+
+// What all questions may take together before the first clause is learned.
+pub(crate) fn first_allowance(problem: &PbProblem) -> u64 {
+    let rows = problem.rows().len() as u64;
+    let size = rows.saturating_add(problem.vars());
+    let passes = rows.saturating_mul(rows.saturating_add(PASSES_A_ROW));
+    let work_of_passes = passes.saturating_mul(size);
+    let mut lines = 0u64;
+    for row in problem.costs() {
+        lines = lines.saturating_add(lines_of_totalizer(row));
+    }
+    let work = FIRST
+        .saturating_add(work_of_passes)
+        .saturating_add(lines.saturating_mul(WORK_OF_A_LINE))
+        .min(MOST);
+    if problem.costs().is_empty() {
+        return work / PART_WITHOUT_OBJECTIVES;
+    }
+    work
+}
+
+// What may be lost on questions that stay open.
+pub(crate) fn first_purse(problem: &PbProblem) -> u64 {
+    first_allowance(problem).min(FIRST)
+}
+
+// The pairs of outputs of two children, node by node, as if all weights were alike.
+fn lines_of_totalizer(row: &CostRow) -> u64 {
+    let count = row.terms().len() as u64;
+    if count == 0 {
+        return 0;
+    }
+    let share = (total_of(row) / count).saturating_add(1);
+    let mut lines = 0u64;
+    for level in 0..32u32 {
+        let width = 1u64 << level;
+        if width >= count {
+            break;
+        }
+        let outputs = width.saturating_mul(share).min(1u64 << width.min(32));
+        let nodes = (count / width / 2).saturating_add(1);
+        lines = lines.saturating_add(outputs.saturating_mul(outputs).saturating_mul(nodes));
+    }
+    lines
+}
+
+// The sum of the weights, or 2^64 - 1.
+fn total_of(row: &CostRow) -> u64 {
+    let mut total = 0u64;
+    for term in row.terms() {
+        total = total.saturating_add(term.1);
+    }
+    total
+}
