@@ -7,6 +7,7 @@ import os
 import pkgutil
 import re
 import sys
+import textwrap
 import unittest
 
 from setting import EXAMPLES, ROOT, InFolder
@@ -55,15 +56,16 @@ class Documents(InFolder):
                     self.assertIn(plain(wanted), plain(text))
 
     def test_python_of_the_examples(self):
-        """The Python that the page of the examples shows runs as it stands there."""
-        with open(os.path.join(EXAMPLES, 'README.md'), encoding='utf-8') as file:
-            pieces = re.findall(r'```python\n(.*?)```', file.read(), re.DOTALL)
-        self.assertGreater(len(pieces), 0)
-        for piece in pieces:
-            said = io.StringIO()
-            with contextlib.redirect_stdout(said):
-                exec(piece, {})
-            self.assertIn('best compromises', said.getvalue())
+        """The Python that README and the page of the examples show runs as it stands there."""
+        for page in (os.path.join(ROOT, 'README.md'), os.path.join(EXAMPLES, 'README.md')):
+            with open(page, encoding='utf-8') as file:
+                pieces = re.findall(r'```python\n(.*?)```', file.read(), re.DOTALL)
+            self.assertGreater(len(pieces), 0)
+            for piece in pieces:
+                said = io.StringIO()
+                with self.subTest(page), contextlib.redirect_stdout(said):
+                    exec(textwrap.dedent(piece), {})
+                self.assertIn('best compromises', said.getvalue())
 
     def test_the_kept_model_of_the_nurses(self):
         """It is what their script writes."""
