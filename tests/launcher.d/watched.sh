@@ -3,7 +3,8 @@
 cd "$elsewhere" || exit 1
 rm -f r.log
 run "$stop_at" r.log "$first_model" 2,terminal:INT "$tree/scuttle" --watch solve long.mcnf r.list r.log
-expect 'a line is rewritten on a terminal' 10 said '[0-9] models, best of each cost [0-9]* [0-9]* [0-9]*, [0-9]* learned a second, log [0-9.]* [kM]B'
+# A terminal's width may cut the line's end.
+expect 'a line is rewritten on a terminal' 10 said '[0-9] models, best of each cost [0-9]* [0-9]* [0-9]*, [0-9]* learned a second, log [0-9]'
 cp "$work/said" kept.said
 run sh -c "tr '\\r' '\\n' <kept.said | grep -c ' models'"
 expect 'more than twice' 0 said '^[3-9]\|^[0-9][0-9]'

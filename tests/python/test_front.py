@@ -6,6 +6,7 @@ import json
 import os
 import random
 import unittest
+from unittest import mock
 import xml.etree.ElementTree as xml
 
 from setting import EXAMPLES, InFolder
@@ -30,7 +31,7 @@ def shop():
     return m
 
 
-class Choosing(unittest.TestCase):
+class Choosing(InFolder):
     def setUp(self):
         self.front = shop().solve()
 
@@ -89,7 +90,11 @@ class Choosing(unittest.TestCase):
         self.assertEqual(len(taken), len(more.plans))
         self.assertEqual(taken, {(('x', a), ('x', b)) for a, b in ((0, 2), (0, 3), (2, 3))})
         self.assertEqual(front.choices, [more])
-        none = front.more(0, 9, seconds=0)
+        # A program that doesn't end: the real one may be done before it can be stopped.
+        slow = os.path.abspath(self.write('slow', '#!/bin/sh\nexec sleep 60\n'))
+        os.chmod(slow, 0o700)
+        with mock.patch.dict(os.environ, {'SCUTTLE': slow}):
+            none = front.more(0, 9, seconds=0)
         self.assertEqual((none.all, none.accepted, none.plans), (False, None, [front[0]]))
 
     def test_more_of_a_front_that_is_not_complete(self):

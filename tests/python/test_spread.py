@@ -33,7 +33,9 @@ class Spread(Parts):
     def test_one_call(self):
         self.write('in.opb', SHOPS)
         number, said, warned = self.command('spread', 'in.opb', 'all.list', 'all.log', '--jobs', '2', '--parts', '3')
-        self.assertEqual((number, said.split('\n')[1], warned.count(': solved in ')), (0, 'accepted', 2))
+        self.assertEqual((number, said.split('\n')[1]), (0, 'accepted'))
+        # A part whose models are all known from the quick runs isn't solved.
+        self.assertIn(warned.count(': solved in '), (1, 2))
         self.assertEqual(sorted(os.listdir('.')), ['all.list', 'all.log', 'in.opb'])
         self.is_front('all.list', 'all.log')
 
