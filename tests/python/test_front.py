@@ -33,6 +33,7 @@ def shop():
 
 class Choosing(InFolder):
     def setUp(self):
+        super().setUp()
         self.front = shop().solve()
 
     def test_sequence(self):
