@@ -7,7 +7,7 @@ Early, late and night shifts want so many nurses each day; nobody works two shif
 five days in a row, or has more than nine nights and shifts at weekends; each works three to five shifts a week. An agency fills a gap for
 money, and wishes are met where that goes. These are two costs, and no number says how much one of them is worth in the other.
 
-In FOLDER (nurses, where it is left out) stay model.opb, which is nurses.opb here, model.list and model.log.
+In FOLDER (nurses, if it is left out) stay model.opb, which is nurses.opb here, model.list, model.log, and front.html, a page of the front.
 """
 import os
 import sys
@@ -76,6 +76,8 @@ def main(arguments):
     print(front.title())
     if front.plans:
         print(front.knee())
+    with open(os.path.join(folder, 'front.html'), 'w', encoding='utf-8') as page:
+        page.write(front.to_html('Nurses, four weeks'))
 
 
 if __name__ == '__main__':
