@@ -15,7 +15,7 @@ use Rattle.proof_laws.specs.declared.line.Line.TheVariants.{Pol, Rup, Learn, Def
 use Rattle.proof_laws.proofs.Live.{live_remove}
 use Rattle.proof_laws.proofs.NextFits.{live_insert_at}
 use Rattle.proof_laws.proofs.NextStates.{rows_below}
-use Rattle.proof_rules.specs.RowIndex.{AreEntered, AreInOrder, HaveTouched, IsIndex, RowEntries}
+use Rattle.proof_rules.specs.RowIndex.{AreEntered, HaveTouched, IsIndex, IsRowIndex, RowEntries}
 use Rattle.proof_rules.proofs.RowEntries.{touched_found}
 
 -- no id is taken back, and each line of an old id was there
@@ -79,14 +79,14 @@ touched_on_ok items p s w count n entries (Ok v) fits index long same rising wit
 }
 touched_on_ok items p s w count n entries (Err e) fits index long same rising within all = tt
 
--- an index of the problem's rows
-pub index_of_rows : (p : ProblemValue) (s : StateValue) (count : ℕ) (entries : RowEntries) → IsState s → Fits p s → count ≡ length p.rows → AreInOrder entries →
-    ((k : ℕ) (d : ConstraintValue) → k < length p.rows → AreEntered entries k (literals (get_or p.rows k d).terms)) → IsIndex count entries s
-index_of_rows p s count entries state fits long in_order entered = record {
-  in_order = in_order;
-  given_out = let below = rows_below p s state fits in omega arith;
+-- an index of the problem's rows is one of each state that the problem fits
+pub index_of_rows : (p : ProblemValue) (s : StateValue) (count : ℕ) (entries : RowEntries) → IsState s → Fits p s → IsRowIndex count entries p.rows → IsIndex count entries s
+index_of_rows p s count entries state fits rows = record {
+  in_order = rows.in_order;
+  given_out = let within = rows.within in let below = rows_below p s state fits in omega arith;
   entered = λ k c few is.
+      let within = rows.within in
       let short : k < length p.rows = omega arith in
       let same : get_or p.rows k c ≡ c = (let row = fits.rows k c short in cc) in
-      subst (λ (d : ConstraintValue). AreEntered entries k (literals d.terms)) same (entered k c short);
+      subst (λ (d : ConstraintValue). AreEntered entries k (literals d.terms)) same (rows.entered k c few);
 }

@@ -15,4 +15,5 @@ pub mod Searches
 pub mod Starts
 pub mod TakingUp
 pub mod TouchedRows
+pub mod Untouched
 pub mod Verdicts

@@ -6,6 +6,7 @@ use Rattle.scut_base.specs.Literal.{Literal}
 use Rattle.pb_lin.specs.Constraint.{IsVariable}
 use Rattle.pb_lin.specs.Substitution.{ImageUpTo}
 use Rattle.proof_rules.proofs.Falls.{decided_pushed, difference_pushed, image_upto, magnitude_pushed}
+use Rattle.proof_rules.proofs.Untouched.{term_kept}
 use Rattle.proof_rules.proofs.goals.push_difference.Goals as goal
 
 pub returns-in_ok-push-in-Lit-clause-value : goal.returns-in_ok-push-in-Lit-clause-value
@@ -60,3 +61,6 @@ returns-in_ok-push-in-Lit-clause-small c =
     let one = magnitude_pushed c.args.terms.now.items c.push.new.self.items (pos c.args.term.1) c.args.term.0 c.args.term.1 refl first in
     let two = magnitude_pushed c.push.new.self.items c.push-in-Lit.new.self.items (neg_ℤ (pos c.args.term.1)) c.in-Lit.literal c.args.term.1 (omega (arith, ints)) second in
     omega arith
+
+pub returns-then-not-has_image-clause-value : goal.returns-then-not-has_image-clause-value
+returns-then-not-has_image-clause-value c = λ a. term_kept a c.args.w.now c.args.term.0 c.args.term.1 c.args.terms.now.items (let off = c.has_image.ensures in let no = c.if-not-has_image.true in cc)

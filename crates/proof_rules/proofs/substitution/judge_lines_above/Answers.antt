@@ -8,6 +8,7 @@ use Rattle.proof_rules.specs.Verdict.{above, line_at}
 use Rattle.proof_rules.proofs.FirstFaults.{RestDecides, decides_all, decides_more, decided_end, decided_fault}
 use Rattle.proof_rules.proofs.LiveWalk.{walk_end}
 use Rattle.proof_rules.proofs.RequirementLists.{lines_more}
+use Rattle.proof_rules.proofs.Untouched.{lines_hold, no_images}
 use Rattle.proof_rules.proofs.substitution.judge_lines_above.Goals as goal
 
 pub loop-next-init : goal.loop-next-init
@@ -58,3 +59,8 @@ returns-clause-verdict c =
     let live = ap (λ (t : StateValue). t.live) c.reached.view_is in
     let none = subst (λ (m : LineMap). NoneAbove (get m) c.loop-next.id) live c.in_default.ensures in
     decided_end s g ps all (subst (λ (qs : List Requirement). RestDecides s g ps qs all) (ap (touched_hold w) (walk_end s.live c.loop-next.id none)) c.loop-next.invariant.rest)
+
+pub returns-then-is_empty-clause-verdict : goal.returns-then-is_empty-clause-verdict
+returns-then-is_empty-clause-verdict c =
+    let none = no_images c.images.result.now c.args.line.now.witness.now c.is_empty.result c.images.ensures.value c.is_empty.ensures c.if-is_empty.true in
+    lines_hold c.args.reached.now c.args.line.now.goal.now c.args.line.now.proofs.now c.args.line.now.witness.now (above c.args.first (entries c.args.reached.now.live)) none

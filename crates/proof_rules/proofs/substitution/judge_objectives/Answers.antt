@@ -7,6 +7,7 @@ use Rattle.proof_rules.specs.Verdict.{IsVerdict}
 use Rattle.proof_rules.proofs.FirstFaults.{RestDecides, decides_more, decided_fault, one_verdict}
 use Rattle.proof_rules.proofs.GoalFaults.{goal_verdict}
 use Rattle.proof_rules.proofs.RequirementLists.{objectives_more}
+use Rattle.proof_rules.proofs.Untouched.{no_images, objectives_kept}
 use Rattle.proof_rules.proofs.substitution.judge_objectives.Goals as goal
 
 pub returns-in_err-judge_goal-clause-verdict : goal.returns-in_err-judge_goal-clause-verdict
@@ -46,3 +47,8 @@ loop-at-preserved c =
       rest = decides_more s g ps (q ∷ []) later all rest (one_verdict s g ps q (Ok tt)
           (goal_verdict s g ps q c.in_ok-goal.goal (λ (over : 2 ^ 100 < 0). omega arith) (c.in_ok-goal.ensures.goal (at + 1)) (Ok tt) c.in_ok-judge_goal.ensures.verdict));
     }
+
+pub returns-then-is_empty-clause-verdict : goal.returns-then-is_empty-clause-verdict
+returns-then-is_empty-clause-verdict c =
+    let none = no_images c.images.result.now c.args.line.now.witness.now c.is_empty.result c.images.ensures.value c.is_empty.ensures c.if-is_empty.true in
+    objectives_kept c.args.reached.now c.args.line.now.goal.now c.args.line.now.proofs.now c.args.line.now.witness.now c.args.problem.now.costs none
