@@ -11,7 +11,7 @@ ghost use Rattle.certified_front.specs.Planning.{FollowsPlan};
 ghost use Rattle.certified_front.specs.Stopping.{SearchesFront};
 
 use crate::boosting::front_boosted;
-use crate::preparing::prepare;
+use crate::preparing::{NoAdvice, prepare};
 use crate::searching::front_over;
 use crate::{Found, Plan};
 use instance::Instance;
@@ -93,7 +93,8 @@ pub fn certified_front_by<O: Oracle, S: Search>(
     ensures later { (O.seen oracle.old).faults ≤ (O.seen oracle.new).faults }
     ensures around { KeepsSurroundings (O.seen oracle.old).around (O.seen oracle.new).around }
 {
-    prepare(alloc, oracle, problem, plan)?;
+    let mut adviser = NoAdvice;
+    prepare(alloc, oracle, problem, plan, &mut adviser)?;
     if plan.boost {
         front_boosted(alloc, oracle, problem, inst, search)
     } else {

@@ -3,13 +3,17 @@ ghost use Rattle.std.specs.Prelude.{◌≡◌, [], true, false, IfErr, OnOk};
 ghost use Rattle.proof_rules.specs.Recording.{KeepsRecorder};
 ghost use Rattle.search_base.specs.Laws.{IsPrepared};
 ghost use Rattle.harden.specs.Hardened.{hardened};
-ghost use Rattle.certified_front.specs.Stopping.{IsStop};
+ghost use Rattle.certified_front.specs.Planning.{BeginsHardened};
+ghost use Rattle.certified_front.specs.Stopping.{IsStop, StaysWith};
 
 use harden::harden;
 use oracle::{Oracle, OracleFault};
 use pb_lin::PbProblem;
-use proof_rules::RecordFault;
-use search_base::no_lines_are_prepared;
+use proof_laws::Line;
+use proof_rules::{Judge, ProofState, RecordFault};
+use recording::{Adviser, consult, in_memory};
+use scut_base::{Items, NoMemory};
+use search_base::{advised_stays_prepared, no_lines_are_prepared};
 use std::alloc::Global;
 
 /// What is done before a search.
@@ -21,8 +25,47 @@ pub struct Plan {
     pub boost: bool,
 }
 
-// Adds the lines that the plan asks for to an oracle without lines.
-pub(crate) fn prepare<O: Oracle>(
+// Adds the lines that the plan asks for to an oracle without lines, and then those of the adviser's that are legal.
+pub(crate) fn prepare<O: Oracle, A: Adviser>(
+    alloc: Global,
+    oracle: &mut O,
+    problem: &PbProblem,
+    plan: Plan,
+    adviser: &mut A,
+) -> Result<(), RecordFault>
+    requires problem { (O.seen oracle.old).problem ≡ problem.now }
+    requires begun { (O.seen oracle.old).lines ≡ [] }
+    requires whole { (O.seen oracle.old).broken ≡ false }
+    ensures prepared { OnOk result (IsPrepared (O.seen oracle.new)) }
+    ensures hardened { OnOk result
+        (plan.harden ≡ true → BeginsHardened problem.now (O.seen oracle.new).lines) }
+    ensures stop { IfErr result (IsStop (O.seen oracle.old) (O.seen oracle.new)) }
+    ensures keeps { KeepsRecorder (O.seen oracle.old) (O.seen oracle.new) }
+{
+    harden_by(alloc, oracle, problem, plan)?;
+    take_proposals(alloc, oracle, problem, adviser)
+}
+
+// Takes those lines of the adviser's that are legal after prepared ones.
+fn take_proposals<O: Oracle, A: Adviser>(
+    alloc: Global,
+    oracle: &mut O,
+    problem: &PbProblem,
+    adviser: &mut A,
+) -> Result<(), RecordFault>
+    requires problem { (O.seen oracle.old).problem ≡ problem.now }
+    requires prepared { IsPrepared (O.seen oracle.old) }
+    ensures prepared { OnOk result (IsPrepared (O.seen oracle.new)) }
+    ensures stop { IfErr result (IsStop (O.seen oracle.old) (O.seen oracle.new)) }
+    ensures stays { StaysWith (O.seen oracle.old) (O.seen oracle.new) }
+{
+    advised_stays_prepared();
+    let mut judge = in_memory(Judge::new(alloc, problem))?;
+    consult(&mut judge, oracle, problem, adviser)
+}
+
+// Hardens, where the plan says so.
+fn harden_by<O: Oracle>(
     alloc: Global,
     oracle: &mut O,
     problem: &PbProblem,
@@ -65,5 +108,20 @@ fn harden_first<O: Oracle>(
         Err(OracleFault::Failed) => Err(RecordFault::Failed),
         Err(OracleFault::NoMemory) => Err(RecordFault::NoMemory),
         Err(OracleFault::Full | OracleFault::Spent { .. }) => unreachable!(),
+    }
+}
+
+// Proposes nothing.
+#[derive(Debug, Drop)]
+pub(crate) struct NoAdvice;
+
+impl Adviser for NoAdvice {
+    fn advise(
+        &mut self,
+        _problem: &PbProblem,
+        _state: &ProofState,
+        _taken: usize,
+    ) -> Result<Option<Items<Line>>, NoMemory> {
+        Ok(None)
     }
 }

@@ -16,6 +16,7 @@ pub mod LoggedVectors
 pub mod TurnStates
 pub mod GoodStates
 pub mod Beginning
+pub mod AdvisedLines
 pub mod Turning
 pub mod Cuts
 pub mod Answered

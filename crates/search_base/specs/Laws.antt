@@ -5,6 +5,8 @@ use Rattle.proof_laws.specs.State.{StateValue}
 use Rattle.proof_laws.specs.Replay.{IsReplay}
 use Rattle.proof_laws.specs.declared.line.Line.{Line}
 use Rattle.proof_rules.specs.Recording.{Snapshot, KeepsSurroundings}
+use Rattle.recording.specs.Adding.{Adds}
+use Rattle.recording.specs.Advice.{IsAdvice}
 use Rattle.oracle.specs.Solving.{AddsSearchLines, AreEarned, IsWithin}
 use Rattle.sum_outputs.specs.Adding.{Continues, IsReached, IsReady}
 use Rattle.totalizer.specs.Keeping.{KeepsOwn}
@@ -68,3 +70,7 @@ BeginningIsGood = (a : Snapshot) (bounds : List ObjectiveBound) (board : BoardVa
 abbrev pub NoLinesArePrepared : Type 0
 NoLinesArePrepared = (a : Snapshot) (s : StateValue)
     → IsProblem a.problem → a.lines ≡ [] → a.broken ≡ false → IsReached a s → IsPrepared a
+
+-- lines that are taken of whoever hands them in leave such lines
+abbrev pub AdvisedStaysPrepared : Type 0
+AdvisedStaysPrepared = (a b : Snapshot) → IsPrepared a → Adds IsAdvice a b → b.broken ≡ false → IsPrepared b

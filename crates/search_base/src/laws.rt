@@ -1,6 +1,6 @@
 // Laws of good states.
 ghost use Rattle.search_base.specs.Adding.{AddingStaysGood};
-ghost use Rattle.search_base.specs.Laws.{AskingStaysGood, BeginningIsGood, BoundingStaysGood, LoggedIsReached, NoLinesArePrepared, TurnLinesJoin, TurnLinesKeepOwn};
+ghost use Rattle.search_base.specs.Laws.{AdvisedStaysPrepared, AskingStaysGood, BeginningIsGood, BoundingStaysGood, LoggedIsReached, NoLinesArePrepared, TurnLinesJoin, TurnLinesKeepOwn};
 ghost use Rattle.search_base.specs.Pending.{AddingStaysGoodBut, AskingStaysGoodBut, EndIsGood, GoodButForNone};
 
 use totalizer::{fitting_stays, own_lines_stay, reform_stays};
@@ -18,6 +18,11 @@ pub fn beginning_is_good()
 /// Law: a new proof has such lines.
 pub fn no_lines_are_prepared()
     ensures { NoLinesArePrepared }
+{}
+
+/// Law: lines that are taken of whoever hands them in leave such lines.
+pub fn advised_stays_prepared()
+    ensures { AdvisedStaysPrepared }
 {}
 
 /// Law: an oracle's call keeps a good state good.

@@ -1,8 +1,26 @@
--- No lines are prepared.
-use Rattle.certified_front.proofs.Boards.{begins_prepared}
+-- Hardening, and what an adviser proposes after it.
+use Rattle.std.proofs.Common.{◌≡◌, true, ◌∙◌}
+use Rattle.certified_front.proofs.AdvisedLines.{hardened_then, keeps_then, stops_then}
 use Rattle.certified_front.proofs.preparing.prepare.Goals as goal
 
-pub returns-clause-prepared : goal.returns-clause-prepared
-returns-clause-prepared g c =
-    begins_prepared (g.O.Recorder.seen c.args.oracle.now) c.args.problem.now c.requires.problem c.requires.begun
-    c.no_lines_are_prepared.ensures c.requires.whole c.vars-vars.ensures.problem
+pub take_proposals-requires-clause-problem : goal.take_proposals-requires-clause-problem
+take_proposals-requires-clause-problem g c = c.in_ok-harden_by.ensures.keeps.problem ∙ c.requires.problem
+
+pub returns-clause-hardened : goal.returns-clause-hardened
+returns-clause-hardened g c =
+    let R = g.O.Recorder in
+    hardened_then (c.args.plan.harden ≡ true) c.args.problem.now (R.seen c.harden_by.new.oracle).lines
+    (R.seen c.take_proposals.new.oracle).lines c.take_proposals.result c.in_ok-harden_by.ensures.hardened
+    c.take_proposals.ensures.stays.begins
+
+pub returns-clause-stop : goal.returns-clause-stop
+returns-clause-stop g c =
+    let R = g.O.Recorder in
+    stops_then (R.seen c.args.oracle.now) (R.seen c.harden_by.new.oracle) (R.seen c.take_proposals.new.oracle)
+    c.take_proposals.result c.in_ok-harden_by.ensures.keeps c.take_proposals.ensures.stop
+
+pub returns-clause-keeps : goal.returns-clause-keeps
+returns-clause-keeps g c =
+    let R = g.O.Recorder in
+    keeps_then (R.seen c.args.oracle.now) (R.seen c.harden_by.new.oracle) (R.seen c.take_proposals.new.oracle)
+    c.in_ok-harden_by.ensures.keeps c.take_proposals.ensures.stays
