@@ -5,8 +5,7 @@ ghost use Rattle.cdcl_trail.specs.SearchTrail.{AreLines};
 ghost use Rattle.cdcl_analysis.specs.Minimising.{IsBusy, IsIdle, IsVerdict, effort};
 
 use crate::marks::Marks;
-use clause_prop::{ClauseStore, Step, Trail};
-use pb_lin::Constraint;
+use clause_prop::{ClauseStore, Step, StoredLine, Trail};
 use scut_base::{Items, Lit, NoMemory};
 use std::alloc::Global;
 
@@ -113,7 +112,7 @@ impl Implied {
         marks: &Marks,
         levels: u64,
         visit: Visit,
-        line: &Constraint,
+        line: &StoredLine,
     ) -> (Verdict, Visit)
         requires busy { IsBusy (length trail.now.steps) self.now }
         requires long { length trail.now.steps ≤ length marks.now.on.items }

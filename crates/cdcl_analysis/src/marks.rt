@@ -9,9 +9,8 @@ ghost use Rattle.cdcl_trail.specs.SearchTrail.{AreLines, IsSearchTrail, IsStepAt
 ghost use Rattle.cdcl_analysis.specs.Walking.{AreMarks, AreUnresolved, HasSeen, IsAbove, IsClosing, IsLonger, IsMarkedBefore, IsMarking, IsMore, IsUnmarked, MayWalkBack, WalksBack, is_marked, is_resolved, spare};
 
 use crate::reach::Reach;
-use clause_prop::{ClauseStore, Step, Trail};
+use clause_prop::{ClauseStore, Step, StoredLine, Trail};
 use hint_rup::Hint;
-use pb_lin::Constraint;
 use scut_base::{Items, Lit, NoMemory};
 use std::alloc::Global;
 
@@ -129,7 +128,7 @@ impl Marks {
         trail: &Trail,
         reach: Reach,
         end: u64,
-        line: &Constraint,
+        line: &StoredLine,
     ) -> Result<(), NoMemory>
         requires walk { IsMarking trail.now reach self.old }
         requires upto { UpTo trail.now.vars line.now }

@@ -22,7 +22,7 @@ use cdcl_trail::{
     dropped_line_keeps_search, empty_trail_is_search, learning_keeps_search,
     more_variables_keep_search, propagation_keeps_search, steps_up_to,
 };
-use clause_prop::{ClauseStore, Propagator, Step, Trail};
+use clause_prop::{ClauseStore, Propagator, Step, StoredLine, Trail};
 use hint_rup::Hint;
 use pb_lin::Constraint;
 use scut_base::{Assignment, Items, Lit, NoMemory};
@@ -108,7 +108,7 @@ impl<P: Propagator + Drop> Search<P> {
     }
 
     /// The line of an id.
-    pub fn line(&self, id: u64) -> Option<&Constraint>
+    pub fn line(&self, id: u64) -> Option<&StoredLine>
         ensures { MatchOption result (get self.now.store id ≡ None)
             (λ c. get self.now.store id ≡ Some c.now) }
     {

@@ -6,8 +6,7 @@ ghost use Rattle.clause_prop.specs.Steps.{last_level, partial, with_step};
 ghost use Rattle.cdcl_trail.specs.SearchTrail.{IsOfSteps, decision};
 ghost use Rattle.cdcl_state.specs.Searching.{IsNotForcedBefore};
 
-use clause_prop::{Step, Trail};
-use pb_lin::Constraint;
+use clause_prop::{Step, StoredLine, Trail};
 use scut_base::{Assignment, Lit, NoMemory};
 use std::alloc::Global;
 
@@ -40,7 +39,7 @@ pub(crate) fn push_decision(trail: &mut Trail, lit: Lit)
 
 /// The place of the first step that the line of this id forced, or the number of steps where it forced none. Costs
 /// the line's literals.
-pub(crate) fn first_forced(trail: &Trail, line: &Constraint, id: u64) -> u64
+pub(crate) fn first_forced(trail: &Trail, line: &StoredLine, id: u64) -> u64
     requires { UpTo trail.now.vars line.now }
     ensures within { result ≤ length trail.now.steps }
     ensures others { All (IsNotForcedBefore trail.now result id) (literals line.now.terms) }

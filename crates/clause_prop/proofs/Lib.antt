@@ -4,4 +4,5 @@ pub mod Extensions
 pub mod Forcing
 pub mod Visits
 pub mod Passes
+pub mod StoredLines
 pub mod TruthTable

@@ -8,3 +8,4 @@ pub mod Tables
 pub mod Truths
 pub mod Propagating
 pub mod LineKinds
+pub mod StoredLine

@@ -8,10 +8,12 @@
 
 mod code;
 mod line;
+mod place_table;
 mod plain;
 mod propagator;
 mod step;
 mod store;
+mod stored_line;
 mod trail;
 mod truth;
 
@@ -21,4 +23,5 @@ pub use plain::PlainProp;
 pub use propagator::Propagator;
 pub use step::Step;
 pub use store::ClauseStore;
+pub use stored_line::StoredLine;
 pub use trail::Trail;

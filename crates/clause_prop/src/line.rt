@@ -9,13 +9,12 @@ ghost use Rattle.pb_lin.specs.Propagation.{IsClosedUnder};
 ghost use Rattle.clause_prop.specs.Steps.{last_level, partial, with_step};
 ghost use Rattle.clause_prop.specs.Propagating.{Extends};
 
-use crate::{Step, Trail};
-use pb_lin::Constraint;
+use crate::{Step, StoredLine, Trail};
 use scut_base::Lit;
 
 // The coefficients of the literals that aren't false, minus the degree. Costs one pass over the line; where
 // all coefficients are 1 it only counts literals.
-pub(crate) fn slack_under(line: &Constraint, trail: &Trail) -> i128
+pub(crate) fn slack_under(line: &StoredLine, trail: &Trail) -> i128
     requires { UpTo trail.now.vars line.now }
     ensures { result ≡ slack (partial trail.now) line.now }
 {
@@ -26,7 +25,7 @@ pub(crate) fn slack_under(line: &Constraint, trail: &Trail) -> i128
 // every open literal true whose coefficient exceeds the slack. The line is their reason, and forces nothing
 // more afterwards. Costs two passes over the line; where all coefficients are 1 the second is left out if
 // the slack is above 0.
-pub(crate) fn visit(line: &Constraint, id: u64, trail: &mut Trail) -> bool
+pub(crate) fn visit(line: &StoredLine, id: u64, trail: &mut Trail) -> bool
     requires { UpTo trail.old.vars line.now }
     ensures violated { IsTrue result ↔ slack (partial trail.old) line.now <ℤ pos 0 }
     ensures stays { IsTrue result → trail.new ≡ trail.old }
@@ -44,7 +43,7 @@ pub(crate) fn visit(line: &Constraint, id: u64, trail: &mut Trail) -> bool
 
 // Makes every open literal true whose coefficient exceeds the slack. A literal that is made true was counted
 // in the slack as an open one, so the slack stays, and one serves for the whole line.
-fn force(line: &Constraint, line_slack: u128, id: u64, trail: &mut Trail)
+fn force(line: &StoredLine, line_slack: u128, id: u64, trail: &mut Trail)
     requires within { UpTo trail.old.vars line.now }
     requires slack { slack (partial trail.old) line.now ≡ pos line_slack }
     ensures closed { IsClosedUnder (partial trail.new) line.now }
@@ -63,7 +62,7 @@ fn force(line: &Constraint, line_slack: u128, id: u64, trail: &mut Trail)
 }
 
 // The same, by the coefficients.
-fn force_terms(line: &Constraint, line_slack: u128, id: u64, trail: &mut Trail)
+fn force_terms(line: &StoredLine, line_slack: u128, id: u64, trail: &mut Trail)
     requires within { UpTo trail.old.vars line.now }
     requires slack { slack (partial trail.old) line.now ≡ pos line_slack }
     ensures closed { IsClosedUnder (partial trail.new) line.now }
@@ -79,7 +78,7 @@ fn force_terms(line: &Constraint, line_slack: u128, id: u64, trail: &mut Trail)
 }
 
 // The same where all coefficients are 1 and the slack is 0: every open literal is made true.
-fn force_literals(line: &Constraint, id: u64, trail: &mut Trail)
+fn force_literals(line: &StoredLine, id: u64, trail: &mut Trail)
     requires within { UpTo trail.old.vars line.now }
     requires ones { AreOnes line.now.terms }
     requires slack { slack (partial trail.old) line.now ≡ pos 0 }
@@ -129,7 +128,7 @@ fn is_open(lit: Lit, trail: &Trail) -> bool
 }
 
 /// The sum of the coefficients of the literals that aren't false. Takes no memory, and constant time a literal.
-pub fn possible(line: &Constraint, trail: &Trail) -> u128
+pub fn possible(line: &StoredLine, trail: &Trail) -> u128
     requires { UpTo trail.now.vars line.now }
     ensures value { result ≡ sum_by (possible_value (partial trail.now)) line.now.terms }
     ensures small { result ≤ 2 ^ 100 }

@@ -21,8 +21,7 @@ use crate::watch_lists::{
     Entry, add_entry, copied, cover, cut_ends, drop_entry, falsified, free_place, latest_first,
     put_second, set_entry, short_lits, skip_true, truth,
 };
-use clause_prop::{ClauseStore, Trail, literal_code, push_forced};
-use pb_lin::Constraint;
+use clause_prop::{ClauseStore, StoredLine, Trail, literal_code, push_forced};
 use scut_base::{Lit, NoMemory};
 use std::alloc::Global;
 
@@ -38,7 +37,7 @@ pub enum Visit {
 }
 
 /// Whether a line is watched: a clause of two literals or more.
-pub fn is_watched(line: &Constraint) -> bool
+pub fn is_watched(line: &StoredLine) -> bool
     ensures { result ≡ is_watched line.now }
 {
     line.is_clause() && line.len() >= 2
@@ -416,7 +415,7 @@ impl Watches {
     }
 
     // Takes up the clause of a line.
-    fn take_up(&mut self, line: &Constraint, trail: &Trail, id: u64) -> Result<(), NoMemory>
+    fn take_up(&mut self, line: &StoredLine, trail: &Trail, id: u64) -> Result<(), NoMemory>
         requires ready { IsReady self.old trail.now }
         requires kind { is_watched line.now ≡ true }
         requires vars { UpTo trail.now.vars line.now }

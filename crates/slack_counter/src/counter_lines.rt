@@ -10,8 +10,7 @@ ghost use Rattle.clause_prop.specs.Propagating.{Extends, IsConflict};
 ghost use Rattle.slack_counter.specs.Counting.{AreOfSlots, AreQuiet, AreTold, IsGone, IsOver, IsQuiet, coefficient_at, line_at, list_at, listed, lowered, no_occurrence, possible, raised};
 
 use crate::occurrence_lists::OccurrenceLists;
-use clause_prop::{ClauseStore, Step, Trail, is_forced, literal_code, push_forced};
-use pb_lin::Constraint;
+use clause_prop::{ClauseStore, Step, StoredLine, Trail, is_forced, literal_code, push_forced};
 use scut_base::{Items, NoMemory};
 use std::alloc::Global;
 
@@ -116,7 +115,7 @@ pub fn visit_line(line: &CounterLine, store: &ClauseStore, trail: &mut Trail) ->
 
 // Goes through a stored line; answers its id where it is violated.
 fn visit_stored(
-    stored: &Constraint,
+    stored: &StoredLine,
     line: &CounterLine,
     store: &ClauseStore,
     trail: &mut Trail,
@@ -138,7 +137,7 @@ fn visit_stored(
 }
 
 // Makes every open literal true whose coefficient is above a number that is at least the slack.
-fn force_above(line: &Constraint, slack: u128, id: u64, trail: &mut Trail)
+fn force_above(line: &StoredLine, slack: u128, id: u64, trail: &mut Trail)
     requires within { UpTo trail.old.vars line.now }
     requires over { possible trail.old.vars trail.old.steps line.now.terms
         ≤ slack + line.now.degree }
@@ -181,7 +180,7 @@ pub fn visit_list(
 pub fn list_terms(
     alloc: Global,
     lists: &mut OccurrenceLists,
-    line: &Constraint,
+    line: &StoredLine,
     slot: usize,
 ) -> Result<(), NoMemory>
     requires { (code : ℕ) → AreOfSlots slot (list_at lists.old code) }
@@ -204,7 +203,7 @@ pub fn list_terms(
 }
 
 // The greatest coefficient, or 0 where there is none. Where all are 1 it takes constant time.
-pub fn greatest(line: &Constraint) -> u128
+pub fn greatest(line: &StoredLine) -> u128
     ensures all { All (λ t. t.1 ≤ result) line.now.terms }
     ensures small { result ≤ 2 ^ 100 }
 {

@@ -15,8 +15,7 @@ use crate::counter_lines::{
     CounterLine, Fresh, add, falsified, greatest, list_terms, subtract, visit_line, visit_list,
 };
 use crate::occurrence_lists::OccurrenceLists;
-use clause_prop::{ClauseStore, Trail, possible};
-use pb_lin::Constraint;
+use clause_prop::{ClauseStore, StoredLine, Trail, possible};
 use scut_base::NoMemory;
 use std::alloc::Global;
 use std::collections::HashMap;
@@ -267,7 +266,7 @@ impl Counters {
         &mut self,
         store: &ClauseStore,
         trail: &Trail,
-        line: &Constraint,
+        line: &StoredLine,
         id: u64,
     ) -> Result<(), NoMemory>
         requires in_step { AreCounters self.old (remove store.now id) trail.now }
@@ -292,7 +291,7 @@ impl Counters {
 
     // A slot that isn't in use, with the line's literals listed as its occurrences. After `NoMemory` some may
     // be listed: of a slot that isn't in use they mean nothing.
-    fn new_slot(&mut self, line: &Constraint) -> Result<usize, NoMemory>
+    fn new_slot(&mut self, line: &StoredLine) -> Result<usize, NoMemory>
         requires { (store : LineMap) × (t : TrailValue) × AreCounters self.old store t }
         ensures in_step { (store : LineMap) (t : TrailValue) → AreCounters self.old store t
             → AreCounters self.new store t }
