@@ -5,12 +5,15 @@ ghost use Rattle.search_base.specs.Laws.{IsPrepared};
 ghost use Rattle.harden.specs.Hardened.{hardened};
 ghost use Rattle.certified_front.specs.Stopping.{IsStop};
 
+use alike::Alike;
 use harden::harden;
 use oracle::{Oracle, OracleFault};
 use pb_lin::PbProblem;
-use proof_rules::RecordFault;
+use proof_rules::{Judge, RecordFault};
+use recording::consult;
 use search_base::no_lines_are_prepared;
 use std::alloc::Global;
+use sum_outputs::in_memory;
 
 /// What is done before a search.
 #[derive(Clone, Copy, Debug, PartialEq, Eq)]
@@ -41,9 +44,22 @@ pub(crate) fn prepare<O: Oracle>(
     // Tells that the problem is within its limits.
     let _vars = problem.vars();
     if plan.harden {
-        return harden_first(alloc, oracle, problem);
+        harden_first(alloc, oracle, problem)?;
     }
-    Ok(())
+    order_alike(alloc, oracle, problem)
+}
+
+// Puts in order what is alike.
+fn order_alike<O: Oracle>(
+    alloc: Global,
+    oracle: &mut O,
+    problem: &PbProblem,
+) -> Result<(), RecordFault>
+    requires problem { (O.seen oracle.old).problem ≡ problem.now }
+    requires prepared { IsPrepared (O.seen oracle.old) }
+{
+    let mut judge = in_memory(Judge::new(alloc, problem))?;
+    consult(&mut judge, oracle, problem, &mut Alike::new(alloc))
 }
 
 // Hardens, for which there is room.

@@ -1,5 +1,5 @@
 -- The index from variables to rows, and the rows that it finds for a substitution; nothing of it has to be believed.
-use Rattle.std.specs.Prelude.{◌≡◌, ℕ, ◌+◌, ◌<◌, true, Some, List, length, slice_index_or, All, AllPairs, Contains}
+use Rattle.std.specs.Prelude.{◌≡◌, ℕ, ◌+◌, ◌<◌, ◌≤◌, true, Some, List, length, slice_index_or, All, AllPairs, Contains}
 use Rattle.std.specs.List.Sorted.{IsNonDecreasingBy}
 use Rattle.std.specs.FinMap.{get}
 use Rattle.scut_base.specs.Literal.{Literal}
@@ -24,6 +24,12 @@ pub record IsIndex (count : ℕ) (entries : RowEntries) (s : StateValue) : Type 
   pub in_order : AreInOrder entries
   pub given_out : count < s.next_id
   pub entered : (k : ℕ) (c : ConstraintValue) → k < count → get s.live (k + 1) ≡ Some c → AreEntered entries k (literals c.terms)
+
+-- Of each of the first rows all variables are entered. It is an index of each state that these rows' problem fits.
+pub record IsRowIndex (count : ℕ) (entries : RowEntries) (rows : List ConstraintValue) : Type 0 where
+  pub in_order : AreInOrder entries
+  pub within : count ≤ length rows
+  pub entered : (k : ℕ) (d : ConstraintValue) → k < count → AreEntered entries k (literals (slice_index_or rows k d).terms)
 
 -- the places rise, and the rows that the substitution touches are among theirs
 pub record HaveTouched (w : Images) (rows : List ConstraintValue) (places : List ℕ) : Type 0 where

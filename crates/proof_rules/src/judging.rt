@@ -7,7 +7,7 @@ ghost use Rattle.proof_laws.specs.Laws.{StandsBefore};
 ghost use Rattle.proof_laws.specs.Substituted.{redundance, dominance};
 ghost use Rattle.proof_laws.specs.Refusal.{FirstOf, IsRuleFault, IsRupFault, IsSubstitutionFault, deletion_fault, end_fault, fault_unless, is_clause, is_deletable, range_fault, written};
 ghost use Rattle.proof_laws.specs.declared.why.Why.{Why};
-ghost use Rattle.proof_rules.specs.RowIndex.{HaveTouched, IsIndex};
+ghost use Rattle.proof_rules.specs.RowIndex.{HaveTouched, IsIndex, IsRowIndex};
 ghost use Rattle.proof_rules.specs.Verdict.{ImagesUpTo, IsVerdict, IsValueFault, IsValueMade, common_fault};
 
 use crate::StepFault;
@@ -80,6 +80,8 @@ pub(crate) fn judge_rule(
     ensures verdict { IsVerdict (IsRuleFault problem.now reached.now line.now) result }
     ensures length { length room.new.scratch ≡ length room.old.scratch }
     ensures index { IsIndex room.new.index.count room.new.index.entries reached.now }
+    ensures rows { IsRowIndex room.old.index.count room.old.index.entries problem.now.rows
+        → IsRowIndex room.new.index.count room.new.index.entries problem.now.rows }
 {
     match line {
         Line::Pol { .. } => Ok(()),
@@ -176,6 +178,8 @@ fn judge_red(
         (redundance problem.now reached.now witness.now goal.now)) result }
     ensures length { length room.new.scratch ≡ length room.old.scratch }
     ensures index { IsIndex room.new.index.count room.new.index.entries reached.now }
+    ensures rows { IsRowIndex room.old.index.count room.old.index.entries problem.now.rows
+        → IsRowIndex room.new.index.count room.new.index.entries problem.now.rows }
 {
     let denied = negation_of(alloc, goal)?;
     let touched = touched_rows(alloc, problem, reached, &mut room.index, witness)?;
@@ -208,6 +212,8 @@ fn judge_dom(
         (dominance problem.now witness.now)) result }
     ensures length { length room.new.scratch ≡ length room.old.scratch }
     ensures index { IsIndex room.new.index.count room.new.index.entries reached.now }
+    ensures rows { IsRowIndex room.old.index.count room.old.index.entries problem.now.rows
+        → IsRowIndex room.new.index.count room.new.index.entries problem.now.rows }
 {
     let denied = negation_of(alloc, goal)?;
     let touched = touched_rows(alloc, problem, reached, &mut room.index, witness)?;
@@ -222,7 +228,7 @@ fn judge_dom(
 }
 
 // The places of the problem's rows that the witness may touch, by the index, which is made anew where it
-// has fewer rows.
+// has fewer rows. An empty witness touches none, and asks for no index.
 fn touched_rows(
     alloc: Global,
     problem: &PbProblem,
@@ -234,9 +240,14 @@ fn touched_rows(
     requires index { IsIndex index.old.count index.old.entries reached.now }
     ensures touched { IfOk result (λ v. HaveTouched witness.now problem.now.rows v.items) }
     ensures index { IsIndex index.new.count index.new.entries reached.now }
+    ensures rows { IsRowIndex index.old.count index.old.entries problem.now.rows
+        → IsRowIndex index.new.count index.new.entries problem.now.rows }
 {
     // Tells that it is a state.
     let _vars = reached.vars;
+    if witness.images().is_empty() {
+        return Ok(Vec::new(alloc));
+    }
     let rows = problem.rows();
     if index.count < rows.len() {
         *index = RowIndex::of_rows(alloc, rows)?;

@@ -84,7 +84,8 @@ pub(crate) fn judge_dominance(
     judge_goal(alloc, reached, scratch, line, Goal::Strict, &fallen)
 }
 
-// The live lines with ids above `first` that the witness touches, by rising ids.
+// The live lines with ids above `first` that the witness touches, by rising ids. An empty witness touches
+// none, and none is looked at.
 fn judge_lines_above(
     alloc: Global,
     reached: &Reached,
@@ -101,6 +102,9 @@ fn judge_lines_above(
         (touched_hold line.now.witness.now (above first (entries reached.now.live)))) result }
     ensures length { length scratch.new ≡ length scratch.old }
 {
+    if line.witness.images().is_empty() {
+        return Ok(());
+    }
     let mut id = first;
     while let Some(next) = reached.live.next_above(id) {
         judge_live(alloc, reached, scratch, line, next)?;
@@ -220,7 +224,7 @@ fn judge_after(
     }
 }
 
-// No objective has risen.
+// No objective has risen. An empty witness leaves each as it is, and none is looked at.
 fn judge_objectives(
     alloc: Global,
     problem: &PbProblem,
@@ -238,6 +242,9 @@ fn judge_objectives(
         (none_risen line.now.witness.now 1 problem.now.costs)) result }
     ensures length { length scratch.new ≡ length scratch.old }
 {
+    if line.witness.images().is_empty() {
+        return Ok(());
+    }
     let _limits = problem.vars();
     let rows = problem.costs();
     for (at, row) in rows.iter().enumerate() {

@@ -167,8 +167,8 @@ fn is_legal(
     requires formed { IsWellFormed line.now }
     ensures { IfOk result (λ legal. IsTrue legal ↔ IsLegal problem.now state.now line.now) }
 {
-    let mut judge = Judge::new(alloc)?;
-    match judge.judge(problem, state, line) {
+    let mut judge = Judge::new(alloc, problem)?;
+    match judge.judge(state, line) {
         Ok(()) => Ok(true),
         Err(StepFault::Refused(_)) => Ok(false),
         Err(StepFault::NoMemory) => Err(NoMemory),
