@@ -21,9 +21,6 @@ use sum_outputs::in_memory;
 // So many questions are asked at most.
 const MOST_QUESTIONS: usize = 1_000_000;
 
-// So much of what may be lost on questions that stay open is at hand before other lines than cliques are taken up.
-const PART_BEFORE_LINES: u64 = 8;
-
 // Where there are more boxes, they aren't asked any more.
 const MOST_BOXES: usize = 500;
 
@@ -35,7 +32,8 @@ struct Next {
 }
 
 // Adds the lines of cliques, and asks box by box; answers whether all boxes were closed. Lines that were there before leave out
-// models for others as good: where a little work does, it is done without them, since models are found more easily then.
+// models for others as good. A relaxation that knows of them closes more, and one that doesn't finds a model more easily: where
+// the one doesn't tell, the other is asked.
 pub(crate) fn find_all<R: Recorder>(
     asking: &mut Asking<'_>,
     boxes: &mut OpenBoxes,
@@ -52,33 +50,42 @@ pub(crate) fn find_all<R: Recorder>(
 {
     adding_stays_good_but();
     turn_lines_join();
-    if prepare(asking, rec, board.problem())? {
-        let purse = asking.linear.purse();
-        asking.linear.set_purse(purse / PART_BEFORE_LINES);
-        if ask_all(asking, boxes, rec, bounds, board, pending)? {
-            return Ok(true);
-        }
-        asking.linear.set_purse(purse);
-        in_memory(asking.linear.take_up_held(rec.state()))?;
+    let end = rec.state().next_id();
+    let purse = asking.linear.purse();
+    if has_lines_below(board.problem(), end) {
+        asking.linear.set_purse(purse / 2);
     }
-    ask_all(asking, boxes, rec, bounds, board, pending)
+    prepare(asking, rec, board.problem())?;
+    if ask_all(asking, boxes, rec, bounds, board, pending)? {
+        return Ok(true);
+    }
+    if !has_lines_below(board.problem(), end) {
+        return Ok(false);
+    }
+    asking.linear.set_purse(purse / 2);
+    in_memory(asking.linear.leave_out(board.problem(), end))?;
+    in_memory(asking.linear.take_up(rec.state()))?;
+    let are_closed = ask_all(asking, boxes, rec, bounds, board, pending)?;
+    in_memory(asking.linear.take_up_held(rec.state()))?;
+    Ok(are_closed)
 }
 
-// Adds the lines of cliques, which the relaxation takes up; whether there were lines above the problem's rows before, which it
-// leaves alone.
+// Whether there are lines above the problem's rows below this id.
+fn has_lines_below(problem: &PbProblem, end: u64) -> bool {
+    end > (problem.rows().len() as u64).saturating_add(1)
+}
+
+// Adds the lines of cliques, and lets the relaxation take up what lines there are above the problem's rows.
 fn prepare<R: Recorder>(
     asking: &mut Asking<'_>,
     rec: &mut R,
     problem: &PbProblem,
-) -> Result<bool, RecordFault>
+) -> Result<(), RecordFault>
     requires ready { IsReady (R.seen rec.old) }
     ensures recorded { IsRecorded (R.seen rec.old) (R.seen rec.new) result }
 {
-    let end = rec.state().next_id();
-    asking.linear.hold_back(end);
     add_cliques(asking.alloc, rec, problem)?;
-    in_memory(asking.linear.take_up(rec.state()))?;
-    Ok(end > (problem.rows().len() as u64).saturating_add(1))
+    in_memory(asking.linear.take_up(rec.state()))
 }
 
 // Asks box by box, the last first, takes each model that is found, and answers whether all boxes were closed.

@@ -95,11 +95,15 @@ impl Relaxation {
         Ok(())
     }
 
-    // Leaves alone the lines up to this id that it didn't look at, until they are asked for.
-    pub(crate) fn hold_back(&mut self, end: u64) {
-        self.held_from = self.next_line;
-        self.held_to = end;
-        self.next_line = self.next_line.max(end);
+    // Forgets all lines, and leaves alone those below this id.
+    pub(crate) fn begin_again(&mut self, problem: &PbProblem, end: u64) -> Result<(), NoMemory> {
+        let mut again = Relaxation::new(self.alloc, problem)?;
+        again.own_work = self.work();
+        again.held_from = again.next_line;
+        again.held_to = end;
+        again.next_line = again.next_line.max(end);
+        *self = again;
+        Ok(())
     }
 
     // Takes up those that it left alone, as `take_up` does.

@@ -69,11 +69,12 @@ impl LinearSearch {
         self.relaxation.take_up(state)
     }
 
-    /// Leaves alone the lines below this id that it didn't look at: `take_up` passes them by, and `take_up_held` takes them up.
-    pub fn hold_back(&mut self, end: u64)
+    /// Forgets all lines above the problem's rows, and passes by those below this id from now on: `take_up_held` takes them up.
+    pub fn leave_out(&mut self, problem: &PbProblem, end: u64) -> Result<(), NoMemory>
         ensures { self.new ≡ self.old }
     {
-        self.relaxation.hold_back(end);
+        self.tree = Tree::new(self.alloc)?;
+        self.relaxation.begin_again(problem, end)
     }
 
     /// Takes up the lines that it left alone, as `take_up` does.

@@ -62,7 +62,7 @@ fn push_fall(terms: &mut Vec<(i128, Lit)>, row: &CostRow, w: &Witness) -> Result
 }
 
 // Puts a term there, and what stands for it with the sign changed; answers its coefficient where the
-// substitution makes its literal true.
+// substitution makes its literal true. A term without an image changes nothing, and isn't put there.
 fn push_difference(
     terms: &mut Vec<(i128, Lit)>,
     term: (Lit, u64),
@@ -77,6 +77,9 @@ fn push_difference(
     ensures variables { OnOk result ((n : ℕ) → IsVariable n term.0.var → ImagesUpTo n w.now
         → LiteralsUpTo n terms.old.items → LiteralsUpTo n terms.new.items) }
 {
+    if !w.has_image(term.0.var()) {
+        return Ok(0);
+    }
     let coefficient = term.1 as i128;
     terms.push((coefficient, term.0))?;
     match w.image_of(term.0) {

@@ -4,7 +4,7 @@ ghost use Rattle.scut_base.specs.Literal.{Literal};
 ghost use Rattle.pb_lin.specs.Constraint.{ConstraintValue, literals};
 ghost use Rattle.pb_lin.specs.Place.{IsPlace};
 ghost use Rattle.pb_lin.specs.Substitution.{has_image};
-ghost use Rattle.proof_rules.specs.RowIndex.{AreEntered, AreInOrder};
+ghost use Rattle.proof_rules.specs.RowIndex.{AreInOrder, IsRowIndex};
 
 use pb_lin::{Constraint, Witness};
 use scut_base::{Items, Lit, NoMemory};
@@ -35,9 +35,7 @@ impl RowIndex {
     // The index of these rows. Takes 16 bytes for each of their literals, at once, and sorts them.
     pub(crate) fn of_rows(alloc: Global, rows: &[Constraint]) -> Result<RowIndex, NoMemory>
         ensures count { IfOk result (λ i. i.count ≡ length rows.now) }
-        ensures in_order { IfOk result (λ i. AreInOrder i.entries) }
-        ensures entered { IfOk result (λ i. (k : ℕ) (d : ConstraintValue) → k < length rows.now
-            → AreEntered i.entries k (literals (slice_index_or rows.now k d).terms)) }
+        ensures rows { IfOk result (λ i. IsRowIndex i.count i.entries rows.now) }
     {
         let literals = rows
             .iter()
