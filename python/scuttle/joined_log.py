@@ -16,6 +16,8 @@ HEAD = re.compile(r'scuttle proof version (?:1|2 rows (0|[1-9][0-9]*))')
 # Ids of one piece of a `del` line in version 2.
 PIECE = 1024
 HARDENED = 'a line by --harden: its reason needs the rows of the part to be those of the problem, so solve the part without --harden'
+# The line of a constraint that is taken for itself, against its negation.
+OPEN = '~ +'
 
 
 class Span(NamedTuple):
@@ -74,6 +76,11 @@ class JoinedLog:
     def row_id(self, condition: Condition) -> int:
         """The line that stands for a part's row."""
         return self.defined[condition.test][1] + (not condition.reached)
+
+    def lines_of_tests(self, variables: Set[int]) -> List[int]:
+        """The first line of each test that speaks of some of these variables."""
+        return [self.defined[test][1] for test in self.split.tests()
+                if any(abs(literal) in variables for _, literal in self.split.source.terms(test))]
 
     def denied(self, path: Iterable[Condition]) -> List[int]:
         """The literals that are false where the conditions hold, by rising variables."""
@@ -172,8 +179,7 @@ class PartLog:
         kind = words[0]
         if kind in ('rup', 'learn'):
             at = words.index(':')
-            hints = [word if word in '~!' else self.id_of(word) for word in words[at + 1:]]
-            self._put(' '.join([kind] + self._weakened(words[1:at]) + [':'] + hints), 1)
+            self._put(' '.join([kind] + self._weakened(words[1:at]) + [':'] + self._hints(words[at + 1:])), 1)
         elif kind == 'pol':
             self._put(' '.join(['pol'] + self._tokens(words[1:])), 1)
         elif kind == 'def':
@@ -187,7 +193,9 @@ class PartLog:
             self._put(kind + ' ' + self.out.spell_rising(ids), 0)
         elif kind == 'end':
             return self._moved(self._number(words[1]))
-        elif kind in ('red', 'dom'):
+        elif kind == 'red':
+            self._copy_exchange(words)
+        elif kind == 'dom':
             raise _Hardened
         else:
             raise ValueError(kind)
@@ -207,6 +215,36 @@ class PartLog:
         cut += [(abs(literal), spelled(literal)) for literal in self.denied]
         ids = [self.id_of(word) for word in words[second + 1:]]
         self._put(' '.join(['sol'] + model + [':'] + [word for _, word in sorted(cut)] + [':'] + ids), 1)
+
+    def _copy_exchange(self, words: List[str]) -> None:
+        """A line that puts in order what is alike. What is exchanged costs the same, so that the lines of each test of a cost stay as they are:
+        the joined log shows that too."""
+        sections = [[]]  # type: List[List[str]]
+        for word in words[1:]:
+            if word == ':':
+                sections.append([])
+            else:
+                sections[-1].append(word)
+        goal, witness, proofs = sections[0], sections[1], sections[2:]
+        images = dict(zip(witness[::2], witness[1::2]))
+        if set(images) != set(images.values()):
+            raise _Hardened
+        shown = {}  # type: Dict[int, str]
+        for name, kind, *rest in proofs[:-1]:
+            tokens = self._tokens(rest) if kind == 'pol' else self._hints(rest)
+            number = self._moved(self._number(name))
+            shown[number] = ' '.join([self.out.spell(number), kind] + tokens)
+        for first in self.out.lines_of_tests({int(word.lstrip('x')) for word in images}):
+            for number in (first, first + 1):
+                shown.setdefault(number, '%s pol %s %s' % (self.out.spell(number), self.out.spell(number), OPEN))
+        name, kind, *rest = proofs[-1]
+        if name != 'c' or kind != 'rup':
+            raise _Hardened
+        text = [shown[number] for number in sorted(shown)] + [' '.join(['c', 'rup'] + self._hints(rest))]
+        self._put(' : '.join([' '.join(['red'] + self._weakened(goal)), ' '.join(witness)] + text), 1)
+
+    def _hints(self, words: Iterable[str]) -> List[str]:
+        return [word if word in '~!' else self.id_of(word) for word in words]
 
     def _literals(self, words: Iterable[str]) -> List[str]:
         """Words of which the literals are moved."""
@@ -234,7 +272,7 @@ class PartLog:
         for word, after in zip(words, list(words[1:]) + ['']):
             if 'x' in word:
                 tokens.append(self.words[word])
-            elif word in ('+', '*', 'd', 's', 'w') or after in ('*', 'd'):
+            elif word in ('+', '*', 'd', 's', 'w', '~', '!') or after in ('*', 'd'):
                 tokens.append(word)
             else:
                 tokens.append(self.id_of(word))

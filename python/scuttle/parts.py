@@ -103,8 +103,9 @@ class Source:
             return cls(path, file.read())
 
     def terms(self, test: Test) -> Sequence[Term]:
-        """The sum of a test, with positive coefficients."""
-        return self.costs[test.number - 1].terms if test.kind == 'cost' else [(1, test.number)]
+        """The sum of a test, with positive coefficients. Each variable has another coefficient, so that no two that are fixed are alike in a
+        part: what is alike there is so in the whole problem."""
+        return self.costs[test.number - 1].terms if test.kind == 'cost' else [(test.number, test.number)]
 
     def most(self, test: Test) -> int:
         """What the coefficients of a test's sum sum to."""

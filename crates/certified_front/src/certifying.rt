@@ -11,9 +11,10 @@ ghost use Rattle.certified_front.specs.Planning.{FollowsPlan};
 ghost use Rattle.certified_front.specs.Stopping.{SearchesFront};
 
 use crate::boosting::front_boosted;
-use crate::preparing::{NoAdvice, prepare};
+use crate::preparing::prepare;
 use crate::searching::front_over;
 use crate::{Found, Plan};
+use alike::Alike;
 use instance::Instance;
 use oracle::Oracle;
 use p_minimal::PMinimal;
@@ -93,7 +94,7 @@ pub fn certified_front_by<O: Oracle, S: Search>(
     ensures later { (O.seen oracle.old).faults ≤ (O.seen oracle.new).faults }
     ensures around { KeepsSurroundings (O.seen oracle.old).around (O.seen oracle.new).around }
 {
-    let mut adviser = NoAdvice;
+    let mut adviser = Alike::new(alloc);
     prepare(alloc, oracle, problem, plan, &mut adviser)?;
     if plan.boost {
         front_boosted(alloc, oracle, problem, inst, search)

@@ -9,10 +9,8 @@ ghost use Rattle.certified_front.specs.Stopping.{IsStop, StaysWith};
 use harden::harden;
 use oracle::{Oracle, OracleFault};
 use pb_lin::PbProblem;
-use proof_laws::Line;
-use proof_rules::{Judge, ProofState, RecordFault};
+use proof_rules::{Judge, RecordFault};
 use recording::{Adviser, consult, in_memory};
-use scut_base::{Items, NoMemory};
 use search_base::{advised_stays_prepared, no_lines_are_prepared};
 use std::alloc::Global;
 
@@ -108,20 +106,5 @@ fn harden_first<O: Oracle>(
         Err(OracleFault::Failed) => Err(RecordFault::Failed),
         Err(OracleFault::NoMemory) => Err(RecordFault::NoMemory),
         Err(OracleFault::Full | OracleFault::Spent { .. }) => unreachable!(),
-    }
-}
-
-// Proposes nothing.
-#[derive(Debug, Drop)]
-pub(crate) struct NoAdvice;
-
-impl Adviser for NoAdvice {
-    fn advise(
-        &mut self,
-        _problem: &PbProblem,
-        _state: &ProofState,
-        _taken: usize,
-    ) -> Result<Option<Items<Line>>, NoMemory> {
-        Ok(None)
     }
 }

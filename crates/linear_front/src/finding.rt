@@ -31,7 +31,9 @@ struct Next {
     target: Target,
 }
 
-// Adds the lines of cliques, and asks box by box; answers whether all boxes were closed.
+// Adds the lines of cliques, and asks box by box; answers whether all boxes were closed. Lines that were there before leave out
+// models for others as good. A relaxation that knows of them closes more, and one that doesn't finds a model more easily: where
+// the one doesn't tell, the other is asked.
 pub(crate) fn find_all<R: Recorder>(
     asking: &mut Asking<'_>,
     boxes: &mut OpenBoxes,
@@ -48,8 +50,29 @@ pub(crate) fn find_all<R: Recorder>(
 {
     adding_stays_good_but();
     turn_lines_join();
+    let end = rec.state().next_id();
+    let purse = asking.linear.purse();
+    if has_lines_below(board.problem(), end) {
+        asking.linear.set_purse(purse / 2);
+    }
     prepare(asking, rec, board.problem())?;
-    ask_all(asking, boxes, rec, bounds, board, pending)
+    if ask_all(asking, boxes, rec, bounds, board, pending)? {
+        return Ok(true);
+    }
+    if !has_lines_below(board.problem(), end) {
+        return Ok(false);
+    }
+    asking.linear.set_purse(purse / 2);
+    in_memory(asking.linear.leave_out(board.problem(), end))?;
+    in_memory(asking.linear.take_up(rec.state()))?;
+    let are_closed = ask_all(asking, boxes, rec, bounds, board, pending)?;
+    in_memory(asking.linear.take_up_held(rec.state()))?;
+    Ok(are_closed)
+}
+
+// Whether there are lines above the problem's rows below this id.
+fn has_lines_below(problem: &PbProblem, end: u64) -> bool {
+    end > (problem.rows().len() as u64).saturating_add(1)
 }
 
 // Adds the lines of cliques, and lets the relaxation take up what lines there are above the problem's rows.

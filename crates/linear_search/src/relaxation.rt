@@ -48,6 +48,9 @@ pub(crate) struct Relaxation {
     pub(crate) aim: Aim,
     // The id of the next line to be looked at.
     next_line: u64,
+    // The lines from the one id on and below the other that it left alone.
+    held_from: u64,
+    held_to: u64,
     // What was done beside the linear programs, in numbers touched.
     pub(crate) own_work: u64,
 }
@@ -69,6 +72,8 @@ impl Relaxation {
             shares: vec![in alloc; 1.0; columns]?,
             aim: Aim::new(alloc),
             next_line: (problem.rows().len() as u64).saturating_add(1),
+            held_from: 0,
+            held_to: 0,
             own_work: 0,
         };
         if is_whole {
@@ -82,7 +87,7 @@ impl Relaxation {
         let mut line = 0u64;
         for row in problem.rows() {
             line = line.saturating_add(1);
-            self.add_line(line, row)?;
+            self.add_line(line, row, true)?;
         }
         for cost in problem.costs() {
             self.add_objective(cost)?;
@@ -90,22 +95,46 @@ impl Relaxation {
         Ok(())
     }
 
+    // Forgets all lines, and leaves alone those below this id.
+    pub(crate) fn begin_again(&mut self, problem: &PbProblem, end: u64) -> Result<(), NoMemory> {
+        let mut again = Relaxation::new(self.alloc, problem)?;
+        again.own_work = self.work();
+        again.held_from = again.next_line;
+        again.held_to = end;
+        again.next_line = again.next_line.max(end);
+        *self = again;
+        Ok(())
+    }
+
+    // Takes up those that it left alone, as `take_up` does.
+    pub(crate) fn take_up_held(&mut self, state: &ProofState) -> Result<(), NoMemory> {
+        for id in self.held_from..self.held_to {
+            self.take_up_line(state, id)?;
+        }
+        self.held_to = self.held_from;
+        Ok(())
+    }
+
     // Takes up the live lines above those that it has, if they speak of the problem's variables alone and their coefficients
     // are small. Costs a look at each line that came since.
     pub(crate) fn take_up(&mut self, state: &ProofState) -> Result<(), NoMemory> {
         for id in self.next_line..state.next_id() {
-            if let Some(line) = state.live().get(id) {
-                if is_small_over(line, self.columns as u64) {
-                    self.add_line(id, line)?;
-                }
-            }
+            self.take_up_line(state, id)?;
         }
         self.next_line = self.next_line.max(state.next_id());
         Ok(())
     }
 
-    // Adds the row of a line, unless it says nothing.
-    fn add_line(&mut self, id: u64, line: &Constraint) -> Result<(), NoMemory> {
+    fn take_up_line(&mut self, state: &ProofState, id: u64) -> Result<(), NoMemory> {
+        match state.live().get(id) {
+            Some(line) if is_small_over(line, self.columns as u64) => self.add_line(id, line, false),
+            _ => Ok(()),
+        }
+    }
+
+    // Adds the row of a line, unless it says nothing. Points are rounded to what the problem's own rows ask for: a model that
+    // lines above them leave out, since another one is as good, is a model.
+    fn add_line(&mut self, id: u64, line: &Constraint, is_own: bool) -> Result<(), NoMemory> {
         if line.degree() == 0 {
             return Ok(());
         }
@@ -115,7 +144,9 @@ impl Relaxation {
             upper: sum.greatest,
         };
         add_uses(&mut self.uses, sum.terms.as_slice());
-        self.matrix.add(sum.terms.as_slice(), range)?;
+        if is_own {
+            self.matrix.add(sum.terms.as_slice(), range)?;
+        }
         self.add_row(Row::Line(id), sum.terms.as_slice(), range)
     }
 

@@ -69,6 +69,28 @@ impl LinearSearch {
         self.relaxation.take_up(state)
     }
 
+    /// Forgets all lines above the problem's rows, and passes by those below this id from now on: `take_up_held` takes them up.
+    pub fn leave_out(&mut self, problem: &PbProblem, end: u64) -> Result<(), NoMemory>
+        ensures { self.new ≡ self.old }
+    {
+        self.tree = Tree::new(self.alloc)?;
+        self.relaxation.begin_again(problem, end)
+    }
+
+    /// Takes up the lines that it left alone, as `take_up` does.
+    pub fn take_up_held(&mut self, state: &ProofState) -> Result<(), NoMemory>
+        ensures { self.new ≡ self.old }
+    {
+        self.relaxation.take_up_held(state)
+    }
+
+    /// Changes the purse to this.
+    pub fn set_purse(&mut self, purse: u64)
+        ensures { self.new ≡ record self.old { purse = purse } }
+    {
+        self.purse = purse;
+    }
+
     /// Adds to the purse, which ends at 2^64 - 1.
     pub fn earn(&mut self, work: u64)
         ensures { self.new ≡ record self.old { purse = min (self.old.purse + work) (2 ^ 64 - 1) } }
