@@ -110,6 +110,7 @@ fn add(alloc: Global, stack: &mut ConstraintStack) -> Result<(), PolFault>
 {
     let q = stack.pop().ok_or(PolFault::Stack)?;
     let p = stack.pop().ok_or(PolFault::Stack)?;
+    let (p, q) = (p.into_wide(alloc)?, q.into_wide(alloc)?);
     stack.push(Operand::made(sum(alloc, &p, &q)?))?;
     Ok(())
 }
