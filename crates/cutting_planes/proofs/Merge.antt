@@ -1,13 +1,14 @@
 -- Two lists of terms, merged in one pass.
-use Rattle.std.specs.Prelude.{◌≡◌, ℕ, ◌+◌, ◌⊎◌, ◌-◌, ◌<◌, ◌≤◌, ◌^◌, Bool, List, [], ◌∷◌, ◌++◌, Option, Some, None, option_to_list, All, refl}
+use Rattle.std.specs.Prelude.{◌≡◌, ℕ, ◌+◌, ◌⊎◌, ◌-◌, ◌<◌, ◌≤◌, ◌^◌, Bool, List, [], ◌∷◌, ◌++◌, Option, Some, None, option_to_list, All, refl, take}
 use Rattle.std.specs.List.{slice_get}
-use Rattle.std.proofs.Common.{sym, ◌∙◌, ap, subst, arith, suc, length, append_assoc, drop, drop-cons, inl, inr}
-use Rattle.std.proofs.lemmas.List.{append-nil, drop_all}
+use Rattle.std.proofs.Common.{sym, ◌∙◌, ap, subst, arith, suc, length, get_or, append_assoc, drop, drop-cons, inl, inr}
+use Rattle.std.proofs.lemmas.List.{append-nil, drop_all, drop-drop, get_or-drop, get_or-take, length-drop, length-take-le, take-append-drop}
 use Rattle.std.proofs.lemmas.Option.{slice_get_within, get_or_from_slice_get}
-use Rattle.std.proofs.lemmas.List.Elements.{All-head, All-weaker}
+use Rattle.std.proofs.lemmas.List.Elements.{All-head, All-tail, All-weaker}
 use Rattle.std.proofs.lemmas.List.Sums.{sum_by-append, sum_by_push}
 use Rattle.scut_base.specs.Literal.{Literal}
 use Rattle.pb_lin.specs.Constraint.{ConstraintValue, IsNormal, size, total, term_value, value}
+use Rattle.cutting_planes.specs.Applied.{IsPushedBelow}
 use Rattle.cutting_planes.specs.Rules.{IsSum}
 use Rattle.cutting_planes.proofs.Terms.{Terms, total-cons, value-cons}
 use Rattle.cutting_planes.proofs.Rising.{Above, above_from_normal, normal_from_above, above_next, above_without, above_instead, above_before}
@@ -130,10 +131,6 @@ drop_from ts i t at =
     let more : suc i ≡ i + 1 = omega arith in
     drop-cons ts i t (slice_get_within ts i t at) ∙ ap (λ (u : Literal × ℕ). u ∷ drop (suc i) ts) (get_or_from_slice_get ts i t t at) ∙ ap (λ (k : ℕ). t ∷ drop k ts) more
 
-pub push_more : (ts old new whole : Terms) (i : ℕ) (t : Literal × ℕ) → slice_get ts i ≡ Some t → new ≡ old ++ t ∷ [] → old ++ drop i ts ≡ whole → new ++ drop (i + 1) ts ≡ whole
-push_more ts old new whole i t at pushed is =
-    ap (λ (xs : Terms). xs ++ drop (i + 1) ts) pushed ∙ append_assoc old (t ∷ []) (drop (i + 1) ts) ∙ ap (λ (xs : Terms). old ++ xs) (sym (drop_from ts i t at)) ∙ is
-
 opened : (p q ms : Terms) (i j : ℕ) (s t : Literal × ℕ) (cancelled : ℕ) → IsMerge p q ms (drop i p) (drop j q) cancelled → slice_get p i ≡ Some s → slice_get q j ≡ Some t → IsMerge p q ms (s ∷ drop (i + 1) p) (t ∷ drop (j + 1) q) cancelled
 opened p q ms i j s t cancelled merge at_i at_j =
     subst (λ (xs : Terms). IsMerge p q ms xs (t ∷ drop (j + 1) q) cancelled) (drop_from p i s at_i) (subst (λ (xs : Terms). IsMerge p q ms (drop i p) xs cancelled) (drop_from q j t at_j) merge)
@@ -200,11 +197,44 @@ step_last p q ms half ms' i j cancelled degree merge ended first second fits is 
 
 -- ---- each step leaves fewer terms
 
-pub fewer_left : (n m i j : ℕ) → i < n → (n - (i + 1)) + (m - j) < (n - i) + (m - j)
-fewer_left n m i j within = omega arith
+pub fewer_left : (n m i j end : ℕ) → i < end → end ≤ n → (n - end) + (m - j) < (n - i) + (m - j)
+fewer_left n m i j end past bound = omega arith
 
-pub fewer_right : (n m i j : ℕ) → j < m → (n - i) + (m - (j + 1)) < (n - i) + (m - j)
-fewer_right n m i j within = omega arith
+pub fewer_right : (n m i j end : ℕ) → j < end → end ≤ m → (n - i) + (m - end) < (n - i) + (m - j)
+fewer_right n m i j end past bound = omega arith
 
 pub fewer_both : (n m i j : ℕ) → i < n → j < m → (n - (i + 1)) + (m - (j + 1)) < (n - i) + (m - j)
 fewer_both n m i j left right = omega arith
+
+-- ---- terms of one side that are copied together
+
+merge_block : (p q ms xs ls rs : Terms) (t : Literal × ℕ) (cancelled : ℕ) → IsMerge p q ms (xs ++ ls) (t ∷ rs) cancelled → All (λ x. x.0.var < t.0.var) xs → IsMerge p q (ms ++ xs) ls (t ∷ rs) cancelled
+merge_block p q ms [] ls rs t cancelled merge below = subst (λ (ts : Terms). IsMerge p q ts ls (t ∷ rs) cancelled) (sym (append-nil ms)) merge
+merge_block p q ms (x ∷ xs) ls rs t cancelled merge below =
+    subst (λ (ts : Terms). IsMerge p q ts ls (t ∷ rs) cancelled) (append_assoc ms (x ∷ []) xs)
+    (merge_block p q (ms ++ x ∷ []) xs ls rs t cancelled (merge_left p q ms (xs ++ ls) rs x t cancelled merge (All-head (λ y. y.0.var < t.0.var) x xs below)) (All-tail (λ y. y.0.var < t.0.var) x xs below))
+
+-- the terms from a place on, up to another
+between_below : (ts : Terms) (i n v : ℕ) → i + n ≤ length ts → ((k : ℕ) (d : Literal × ℕ) → i ≤ k → k < i + n → (get_or ts k d).0.var < v) → All (λ x. x.0.var < v) (take n (drop i ts))
+between_below ts i n v bound below k d short =
+    let few : length (take n (drop i ts)) ≡ n = length-take-le n (drop i ts) (let left : length (drop i ts) ≡ length ts - i = length-drop i ts in omega arith) in
+    let same : get_or (take n (drop i ts)) k d ≡ get_or ts (i + k) d = get_or-take n (drop i ts) k d (omega arith) ∙ get_or-drop i ts k d in
+    subst (λ (x : Literal × ℕ). x.0.var < v) (sym same) (below (i + k) d (omega arith) (omega arith))
+
+pub step_block : (p q ms ms' : Terms) (i j end : ℕ) (t : Literal × ℕ) (cancelled : ℕ) → IsMerge p q ms (drop i p) (drop j q) cancelled → slice_get q j ≡ Some t → IsPushedBelow ms ms' p i t.0.var end → IsMerge p q ms' (drop end p) (drop j q) cancelled
+step_block p q ms ms' i j end t cancelled merge at_j block =
+    let n : ℕ = end - i in
+    let past : i < end = block.past in
+    let bound : end ≤ length p = block.bound in
+    let below : All (λ x. x.0.var < t.0.var) (take n (drop i p)) = between_below p i n t.0.var (omega arith) (λ k d from within. block.below k d from (omega arith)) in
+    let split : drop i p ≡ take n (drop i p) ++ drop n (drop i p) = sym (take-append-drop n (drop i p)) in
+    let after : drop n (drop i p) ≡ drop end p = drop-drop n i p ∙ ap (λ (k : ℕ). drop k p) (omega arith) in
+    let whole : drop i p ≡ take n (drop i p) ++ drop end p = split ∙ ap (λ (ts : Terms). take n (drop i p) ++ ts) after in
+    let opened_both : IsMerge p q ms (take n (drop i p) ++ drop end p) (t ∷ drop (j + 1) q) cancelled =
+    subst (λ (xs : Terms). IsMerge p q ms xs (t ∷ drop (j + 1) q) cancelled) whole (subst (λ (xs : Terms). IsMerge p q ms (drop i p) xs cancelled) (drop_from q j t at_j) merge) in
+    let made : IsMerge p q (ms ++ take n (drop i p)) (drop end p) (t ∷ drop (j + 1) q) cancelled = merge_block p q ms (take n (drop i p)) (drop end p) (drop (j + 1) q) t cancelled opened_both below in
+    subst (λ (xs : Terms). IsMerge p q ms' (drop end p) xs cancelled) (sym (drop_from q j t at_j)) (subst (λ (xs : Terms). IsMerge p q xs (drop end p) (t ∷ drop (j + 1) q) cancelled) (sym block.pushed) made)
+
+pub step_block_right : (p q ms ms' : Terms) (i j end : ℕ) (s : Literal × ℕ) (cancelled : ℕ) → IsMerge p q ms (drop i p) (drop j q) cancelled → slice_get p i ≡ Some s → IsPushedBelow ms ms' q j s.0.var end → IsMerge p q ms' (drop i p) (drop end q) cancelled
+step_block_right p q ms ms' i j end s cancelled merge at_i block =
+    merge_turned q p ms' (drop end q) (drop i p) cancelled (step_block q p ms ms' j i end s cancelled (merge_turned p q ms (drop i p) (drop j q) cancelled merge) at_i block)

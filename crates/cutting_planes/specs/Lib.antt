@@ -4,4 +4,5 @@ pub use Rattle.pb_lin.specs.Given
 pub mod Rules
 pub mod Stack
 pub mod Applied
+pub mod Runs
 pub mod Held

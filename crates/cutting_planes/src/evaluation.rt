@@ -6,7 +6,7 @@ ghost use Rattle.cutting_planes.specs.Stack.{Answer, IsPolValue, IsValueOn, Toke
 ghost use Rattle.cutting_planes.specs.declared.token.PolToken.{PolToken};
 
 use crate::stack::ConstraintStack;
-use crate::steps::apply;
+use crate::steps::apply_first;
 use crate::{PolFault, PolToken};
 use pb_lin::{Constraint, Lines};
 use std::alloc::Global;
@@ -14,9 +14,10 @@ use std::alloc::Global;
 /// The constraint that the tokens make on a stack that is empty at first; `negated` and `denied` are the
 /// constraints that those two tokens push. The rules are those of Cook, Coullard and Turán (1987), with
 /// saturation and weakening, as VeriPB's `pol` has them (Gocht and Nordström 2021). Each token costs at
-/// most two passes over the terms that it reads. A constraint that is named is pushed by reference, which
-/// takes no memory for its terms; `Add` makes one new constraint of two, and the other operations change
-/// the topmost in place, once it is copied if it was pushed by reference.
+/// most two passes over the terms that it reads, and as many `Weaken` as follow one another cost two
+/// passes together and a binary search each. A constraint that is named is pushed by reference, which
+/// takes no memory for its terms, and copied once a token works on it; `Add` makes one new constraint of
+/// two, and the other operations change the topmost in place.
 ///
 /// The first token that fails decides: `NoSuchId(id)` where no line has this id, and `NoSuchId(0)` where
 /// `negated` or `denied` isn't given; `Stack` where a token finds too few constraints, which is judged
@@ -34,8 +35,10 @@ pub fn evaluate(
     ensures implied { IfOk result (IsImpliedBy (given_of lines.now negated.entry denied.entry)) }
 {
     let mut stack = ConstraintStack::new(alloc);
-    for token in tokens {
-        apply(alloc, &mut stack, *token, lines, negated, denied)?;
+    let mut at = 0;
+    while at < tokens.len() {
+        let applied = apply_first(alloc, &mut stack, &tokens[at..], lines, negated, denied)?;
+        at += applied;
     }
     stack.into_answer(alloc)
 }

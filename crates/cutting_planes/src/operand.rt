@@ -1,10 +1,9 @@
 // Constraints on the stack, lent or made.
-ghost use Rattle.std.specs.Prelude.{◌≡◌, ◌<◌, Some, IfOk, length, slice_get};
-ghost use Rattle.pb_lin.specs.Constraint.{IsNormal, size};
+ghost use Rattle.std.specs.Prelude.{◌≡◌, IfOk};
 
 use crate::wide::WideConstraint;
 use pb_lin::Constraint;
-use scut_base::{Duplicate, Lit, NoMemory};
+use scut_base::{Duplicate, NoMemory};
 use std::alloc::Global;
 use std::marker::Model;
 
@@ -66,50 +65,6 @@ impl<'a> Operand<'a> {
         match &self.holding {
             Holding::Lent(c) => c.copy(alloc),
             Holding::Made(c) => c.to_constraint(alloc),
-        }
-    }
-
-    // The number of terms.
-    pub(crate) fn len(&self) -> usize
-        ensures value { result ≡ length self.now.terms }
-        ensures normal { IsNormal self.now.terms self.now.degree }
-    {
-        match &self.holding {
-            Holding::Lent(c) => c.len(),
-            Holding::Made(c) => c.terms().len(),
-        }
-    }
-
-    // The term at a place, counted from 0; their variables rise.
-    pub(crate) fn term(&self, at: usize) -> (Lit, u128)
-        requires { at < length self.now.terms }
-        ensures { slice_get self.now.terms at ≡ Some result }
-    {
-        match &self.holding {
-            Holding::Lent(c) => c.term(at),
-            Holding::Made(c) => c.terms()[at],
-        }
-    }
-
-    // The degree.
-    pub(crate) fn degree(&self) -> u128
-        ensures value { result ≡ self.now.degree }
-        ensures normal { IsNormal self.now.terms self.now.degree }
-    {
-        match &self.holding {
-            Holding::Lent(c) => c.degree(),
-            Holding::Made(c) => c.degree(),
-        }
-    }
-
-    // The coefficients and the degree, summed. Costs a pass over the terms.
-    pub(crate) fn size(&self) -> u128
-        ensures value { result ≡ size self.now }
-        ensures normal { IsNormal self.now.terms self.now.degree }
-    {
-        match &self.holding {
-            Holding::Lent(c) => c.size(),
-            Holding::Made(c) => c.size(),
         }
     }
 }

@@ -1,21 +1,63 @@
 // What tokens do to a stack.
-ghost use Rattle.std.specs.Prelude.{option_copied};
+ghost use Rattle.std.specs.Prelude.{ℕ, ◌<◌, ◌≤◌, ◌↔◌, IsTrue, length, option_copied, slice_index_or};
 ghost use Rattle.pb_lin.specs.Given.{Given, given_of};
 ghost use Rattle.cutting_planes.specs.Applied.{IsApplied, IsPushedIfNamed};
+ghost use Rattle.cutting_planes.specs.Runs.{IsBegun, IsRunApplied, IsWeakening};
 
 use crate::operand::Operand;
 use crate::scale::{divided, multiplied, saturated};
 use crate::stack::ConstraintStack;
 use crate::sum::sum;
-use crate::weaken::weakened;
+use crate::weaken::weakened_all;
 use crate::wide::WideConstraint;
 use crate::{PolFault, PolToken};
 use pb_lin::{Constraint, Lines};
 use scut_base::Lit;
 use std::alloc::Global;
 
+// Applies the first token, or as many as weaken at the head, and gives their number.
+pub(crate) fn apply_first<'a>(
+    alloc: Global,
+    stack: &mut ConstraintStack<'a>,
+    tokens: &[PolToken],
+    lines: &'a Lines,
+    negated: Option<&'a Constraint>,
+    denied: Option<&'a Constraint>,
+) -> Result<usize, PolFault>
+    requires { 0 < length tokens.now }
+    ensures { IsBegun (given_of lines.now negated.entry denied.entry)
+        tokens.now stack.old stack.new result }
+{
+    let run = weakening_run(tokens);
+    if run > 0 {
+        weaken(alloc, stack, &tokens[..run])?;
+        return Ok(run);
+    }
+    apply(alloc, stack, tokens[0], lines, negated, denied)?;
+    Ok(1)
+}
+
+// How many tokens at the head weaken.
+fn weakening_run(tokens: &[PolToken]) -> usize
+    ensures bound { result ≤ length tokens.now }
+    ensures weakening { (k : ℕ) (d : PolToken) → k < result
+        → IsWeakening (slice_index_or tokens.now k d) }
+{
+    let mut run = 0;
+    while run < tokens.len() && is_weakening(tokens[run]) {
+        run += 1;
+    }
+    run
+}
+
+fn is_weakening(token: PolToken) -> bool
+    ensures { IsTrue result ↔ IsWeakening token }
+{
+    matches!(token, PolToken::Weaken(_))
+}
+
 // What a token makes of the stack.
-pub(crate) fn apply<'a>(
+fn apply<'a>(
     alloc: Global,
     stack: &mut ConstraintStack<'a>,
     token: PolToken,
@@ -35,7 +77,7 @@ pub(crate) fn apply<'a>(
         PolToken::Mul(factor) => multiply(alloc, stack, factor),
         PolToken::Div(divisor) => divide(alloc, stack, divisor),
         PolToken::Saturate => saturate(alloc, stack),
-        PolToken::Weaken(var) => weaken(alloc, stack, var),
+        PolToken::Weaken(_) => weaken(alloc, stack, &[token]),
     }
 }
 
@@ -68,6 +110,7 @@ fn add(alloc: Global, stack: &mut ConstraintStack) -> Result<(), PolFault>
 {
     let q = stack.pop().ok_or(PolFault::Stack)?;
     let p = stack.pop().ok_or(PolFault::Stack)?;
+    let (p, q) = (p.into_wide(alloc)?, q.into_wide(alloc)?);
     stack.push(Operand::made(sum(alloc, &p, &q)?))?;
     Ok(())
 }
@@ -96,10 +139,11 @@ fn saturate(alloc: Global, stack: &mut ConstraintStack) -> Result<(), PolFault>
     Ok(())
 }
 
-fn weaken(alloc: Global, stack: &mut ConstraintStack, var: u64) -> Result<(), PolFault>
-    ensures { (given : Given) → IsApplied given (PolToken.Weaken var) stack.old stack.new result }
+// Weakens the topmost by each of these tokens.
+fn weaken(alloc: Global, stack: &mut ConstraintStack, run: &[PolToken]) -> Result<(), PolFault>
+    ensures { IsRunApplied run.now stack.old stack.new result }
 {
     let c = stack.pop().ok_or(PolFault::Stack)?;
-    stack.push(Operand::made(weakened(c.into_wide(alloc)?, var)))?;
+    stack.push(Operand::made(weakened_all(c.into_wide(alloc)?, run)))?;
     Ok(())
 }

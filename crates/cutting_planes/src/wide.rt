@@ -1,5 +1,5 @@
 // Constraints as the stack works on them.
-ghost use Rattle.std.specs.Prelude.{◌≡◌, ◌≤◌, ◌^◌, IfOk};
+ghost use Rattle.std.specs.Prelude.{◌≡◌, ◌<◌, ◌≤◌, ◌^◌, Some, IfOk, length, slice_get};
 ghost use Rattle.pb_lin.specs.Constraint.{IsNormal, size};
 ghost use Rattle.cutting_planes.specs.Rules.{literal_axiom};
 
@@ -68,6 +68,22 @@ impl WideConstraint {
         ensures normal { IsNormal self.now.terms self.now.degree }
     {
         self.terms.as_slice()
+    }
+
+    // The number of terms.
+    pub(crate) fn len(&self) -> usize
+        ensures value { result ≡ length self.now.terms }
+        ensures normal { IsNormal self.now.terms self.now.degree }
+    {
+        self.terms().len()
+    }
+
+    // The term at a place, counted from 0; their variables rise.
+    pub(crate) fn term(&self, at: usize) -> (Lit, u128)
+        requires { at < length self.now.terms }
+        ensures { slice_get self.now.terms at ≡ Some result }
+    {
+        self.terms()[at]
     }
 
     // The degree.

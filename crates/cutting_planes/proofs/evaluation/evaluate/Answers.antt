@@ -5,7 +5,7 @@ use Rattle.cutting_planes.proofs.evaluation.evaluate.Goals as goal
 
 pub returns-clause-value : goal.returns-clause-value
 returns-clause-value c =
-    run_end (given_of c.args.lines.now c.args.negated c.args.denied) c.args.tokens.now c.loop-token.stack c.loop-token.token-index c.into_answer.result (omega arith) c.into_answer.ensures c.loop-token.invariant
+    run_end (given_of c.args.lines.now c.args.negated c.args.denied) c.args.tokens.now c.loop-at.stack c.loop-at.at c.into_answer.result (omega arith) c.into_answer.ensures c.loop-at.invariant.continues
 
 pub returns-clause-implied : goal.returns-clause-implied
 returns-clause-implied c = value_implied (given_of c.args.lines.now c.args.negated c.args.denied) c.args.tokens.now c.into_answer.result (returns-clause-value c)

@@ -1,11 +1,13 @@
-use Rattle.std.proofs.Common.{rules, sym, subst, ℤ}
+use Rattle.std.proofs.Common.{[], ◌∷◌, rules, sym, subst, ℤ}
 use Rattle.std.proofs.lemmas.Int.{to_z-of_z}
 use mir.Syntax.{w128}
 use mir.Val.{SFits}
 use Rattle.pb_lin.specs.Given.{Given, given_of}
 use Rattle.cutting_planes.specs.Applied.{IsApplied}
 use Rattle.cutting_planes.specs.declared.token.PolToken.{PolToken}
-use Rattle.cutting_planes.specs.declared.token.PolToken.TheVariants.{Mul, Div}
+use Rattle.cutting_planes.specs.declared.token.PolToken.TheVariants.{Mul, Div, Weaken}
+use Rattle.cutting_planes.specs.Runs.{IsRunApplied}
+use Rattle.cutting_planes.proofs.Runs.{run_of_one}
 use Rattle.cutting_planes.proofs.steps.apply.Goals as goal
 
 pub returns-in-Axiom : goal.returns-in-Axiom
@@ -40,4 +42,6 @@ returns-in-Saturate c =
 pub returns-in-Weaken : goal.returns-in-Weaken
 returns-in-Weaken c =
     let given : Given = given_of c.args.lines.now c.args.negated c.args.denied in
-    subst (λ (t : PolToken). IsApplied given t c.args.stack.now c.weaken.new.stack c.weaken.result) (sym c.in-Weaken.is) (c.weaken.ensures given)
+    let run : IsRunApplied (Weaken c.in-Weaken.field-0 ∷ []) c.args.stack.now c.weaken.new.stack c.weaken.result = subst (λ (t : PolToken). IsRunApplied (t ∷ []) c.args.stack.now c.weaken.new.stack c.weaken.result) c.in-Weaken.is c.weaken.ensures in
+    subst (λ (t : PolToken). IsApplied given t c.args.stack.now c.weaken.new.stack c.weaken.result) (sym c.in-Weaken.is)
+    (run_of_one given c.in-Weaken.field-0 c.args.stack.now c.weaken.new.stack c.weaken.result run)
