@@ -1,15 +1,11 @@
 -- Weighted sums of literals.
-use Rattle.std.specs.Prelude.{◌≡◌, ◌≢◌, ℕ, ◌+◌, ◌/◌, ◌<◌, ◌≤◌, ◌^◌, Bool, true, false, List, length, take, drop, All, AllPairs, Some}
-use Rattle.std.specs.FinMap.{get}
+use Rattle.std.specs.Prelude.{◌≡◌, ◌≢◌, ℕ, ◌+◌, ◌/◌, ◌<◌, ◌≤◌, ◌^◌, Bool, true, false, List, length, take, drop, All, AllPairs}
 use Rattle.std.specs.List.{count_by}
 use Rattle.scut_base.specs.Literal.{Literal}
-use Rattle.pb_lin.specs.Constraint.{ConstraintValue, total, value}
-use Rattle.pb_lin.specs.Problem.{ProblemValue}
-use Rattle.proof_laws.specs.State.{StateValue}
-use Rattle.proof_laws.specs.Refusal.{is_clause}
-use Rattle.proof_laws.specs.Earned.{IsLearnedId}
+use Rattle.pb_lin.specs.Constraint.{total, value}
 use Rattle.proof_laws.specs.declared.line.Line.{Line}
 use Rattle.proof_laws.specs.declared.line.Line.TheVariants.{Def, Pol}
+pub use Rattle.recording.specs.Recorded.{IsKeptClause}
 
 -- positive weights that sum below 2^63, on literals of distinct variables
 pub record AreWeights (terms : List (Literal × ℕ)) : Type 0 where
@@ -47,10 +43,6 @@ abbrev pub second_child : List (Literal × ℕ) → List (Literal × ℕ)
 second_child terms = drop (first_half (length terms)) terms
 
 -- ---- lines
-
--- a live clause that no line has learned
-abbrev pub IsKeptClause : ProblemValue → List Line → StateValue → ℕ → ConstraintValue → Type 0
-IsKeptClause p lines s id c = (get s.live id ≡ Some c) × (is_clause c ≡ true) × (IsLearnedId p lines id → ⊥)
 
 -- The line defines a variable that is true exactly where the sum of the terms is at least n.
 abbrev pub Defines : Line → List (Literal × ℕ) → ℕ → Type 0

@@ -4,7 +4,7 @@ ghost use Rattle.sum_outputs.specs.Adding.{AddsClauses, Always, IsReady};
 ghost use Rattle.sum_outputs.specs.Outputs.{CanImplyNow, Imply, sums};
 
 use crate::SumOutput;
-use crate::recording::record;
+use crate::adding::record;
 use crate::tokens::clause_tokens;
 use proof_laws::Line;
 use proof_rules::{RecordFault, Recorder};

@@ -7,7 +7,7 @@ ghost use Rattle.sum_outputs.specs.Outputs.{IsDefinedBy, IsDefinedNext, IsInOrde
 ghost use Rattle.sum_outputs.specs.Totals.{AreWeights};
 
 use crate::SumOutput;
-use crate::recording::record;
+use crate::adding::record;
 use pb_lin::Constraint;
 use proof_laws::Line;
 use proof_rules::{RecordFault, Recorder};

@@ -13,6 +13,7 @@
 //! `make_output`, in `output`: a definition, and the clauses of `clauses`.
 #![tactic(auto)]
 
+mod adding;
 mod below_root;
 mod clause;
 mod clauses;
@@ -24,12 +25,12 @@ mod leaf;
 mod node;
 mod node_outputs;
 mod output;
-mod recording;
 mod root;
 mod sum_output;
 mod sums;
 mod tokens;
 
+pub use adding::record;
 pub use below_root::extend_all;
 pub use clauses::place_of;
 pub use definition::define;
@@ -37,6 +38,6 @@ pub use inner::Inner;
 pub use laws::{pol_may_be_added, sum_may_be_added};
 pub use leaf::leaf_output;
 pub use node::{Node, push_nodes, total_of};
-pub use recording::{in_memory, record};
+pub use recording::in_memory;
 pub use root::ask;
 pub use sum_output::SumOutput;

@@ -2,7 +2,7 @@
 use Rattle.std.proofs.Common.{ap, ◌∙◌}
 use Rattle.std.proofs.lemmas.Result.{err_from_is_err_and}
 use Rattle.proof_rules.specs.Recording.{Snapshot}
-use Rattle.sum_outputs.proofs.recording.record_lent.Goals as goal
+use Rattle.sum_outputs.proofs.adding.record_lent.Goals as goal
 use Rattle.sum_outputs.proofs.LaterStates.{continues_same, continues_more, recorded_ok, recorded_err, added_fault}
 
 pub returns-in_err-id-clause-recorded : goal.returns-in_err-id-clause-recorded

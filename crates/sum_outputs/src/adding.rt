@@ -1,5 +1,5 @@
 // One line more in a recorder.
-ghost use Rattle.std.specs.Prelude.{◌≡◌, ◌++◌, ◌∷◌, [], Ok, IsOk, IfOk, IfErr, OnOk};
+ghost use Rattle.std.specs.Prelude.{◌≡◌, ◌++◌, ◌∷◌, [], IfOk, OnOk};
 ghost use Rattle.proof_laws.specs.WellFormed.{IsWellFormed};
 ghost use Rattle.proof_rules.specs.Recording.{MayBeAdded, IsNextId};
 ghost use Rattle.sum_outputs.specs.Totals.{IsTotalizerLine};
@@ -7,7 +7,6 @@ ghost use Rattle.sum_outputs.specs.Adding.{IsReady, IsRecorded};
 
 use proof_laws::Line;
 use proof_rules::{RecordFault, Recorder};
-use scut_base::NoMemory;
 
 /// Records a definition or a line by cutting planes, and answers the first id that it makes. The recorder's
 /// refusal is handed on. It owns the line, so that its callers, which leave by `?`, own none.
@@ -41,16 +40,4 @@ fn record_lent<R: Recorder>(rec: &mut R, line: &Line) -> Result<u64, RecordFault
     // And that they still do.
     let _state = rec.state();
     Ok(id)
-}
-
-/// The same want of memory, as a recorder's fault.
-pub fn in_memory<T: Drop>(made: Result<T, NoMemory>) -> Result<T, RecordFault>
-    ensures ok { IfOk result (λ x. made ≡ Ok x) }
-    ensures fault { IfErr result (λ f. f ≡ RecordFault.NoMemory) }
-    ensures answered { IsOk made → IsOk result }
-{
-    match made {
-        Ok(made) => Ok(made),
-        Err(NoMemory) => Err(RecordFault::NoMemory),
-    }
 }
