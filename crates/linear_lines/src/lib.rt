@@ -7,15 +7,15 @@
 //! program.
 #![tactic(auto)]
 
+mod adding;
 mod combining;
 mod factors;
 mod leaf;
 mod making;
-mod recording;
 mod spelling;
 mod weakening;
 
+pub use adding::{ClauseLine, add_clause_line, add_line};
 pub use factors::Multiplier;
 pub use leaf::{Leaf, infeasible_leaf};
 pub use making::resolvent_tokens;
-pub use recording::{ClauseLine, add_clause_line, add_line};

@@ -1,4 +1,4 @@
-use Rattle.linear_lines.proofs.recording.state_made.Goals as goal
+use Rattle.linear_lines.proofs.adding.state_made.Goals as goal
 
 pub record-requires-clause-legal : goal.record-requires-clause-legal
 record-requires-clause-legal g c =

@@ -2,7 +2,7 @@ use Rattle.std.proofs.Common.{Ok, None, refl, ap, ◌∙◌}
 use Rattle.sum_outputs.proofs.LaterStates.{continues_again, recorded_ok}
 use Rattle.linear_lines.specs.Stating.{MakesClause, MakesNoClause}
 use Rattle.linear_lines.proofs.Answering.{made_now, memory_handed, none_now}
-use Rattle.linear_lines.proofs.recording.add_clause_line.Goals as goal
+use Rattle.linear_lines.proofs.adding.add_clause_line.Goals as goal
 
 pub returns-in_err-in_memory-clause-recorded : goal.returns-in_err-in_memory-clause-recorded
 returns-in_err-in_memory-clause-recorded g c =

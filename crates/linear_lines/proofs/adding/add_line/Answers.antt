@@ -3,7 +3,7 @@ use Rattle.sum_outputs.proofs.LaterStates.{continues_again, recorded_ok}
 use Rattle.sum_outputs.specs.Laws.{AreTokensOf}
 use Rattle.linear_lines.specs.Stating.{MakesNone}
 use Rattle.linear_lines.proofs.Answering.{made_now, memory_handed, none_now}
-use Rattle.linear_lines.proofs.recording.add_line.Goals as goal
+use Rattle.linear_lines.proofs.adding.add_line.Goals as goal
 
 pub returns-in_err-in_memory-clause-recorded : goal.returns-in_err-in_memory-clause-recorded
 returns-in_err-in_memory-clause-recorded g c =
