@@ -3,7 +3,7 @@ use Rattle.std.proofs.Common.{◌≡◌, ℕ, Bool, true, false, Some, List, map
 use Rattle.std.specs.Prelude.{Contains, not, Option, Result, Ok, IfOk, IfSome}
 use Rattle.scut_base.specs.declared.memory.NoMemory.{NoMemory}
 use Rattle.oracle.specs.declared.answer.Core.{Core}
-use Rattle.linear_lines.specs.declared.recording.ClauseLine.{ClauseLine}
+use Rattle.linear_lines.specs.declared.adding.ClauseLine.{ClauseLine}
 use Rattle.scut_base.specs.Literal.{Literal}
 use Rattle.scut_base.proofs.Lists.{Contains-from_map, Contains-map}
 use Rattle.pb_lin.specs.Constraint.{ConstraintValue, literals, opposite}
