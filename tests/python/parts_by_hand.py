@@ -6,7 +6,7 @@ from setting import PROGRAM, InFolder
 
 from scuttle.lists import read_list
 from scuttle.parts import Source, Split, Test
-from scuttle.split import named, tree
+from scuttle.split import make_split, named, tree
 
 # Shops and a depot: two costs, of which one is to be large; a coefficient below 0, and one variable twice, with both its literals.
 SHOPS = ('* x1 the shop\n* max 2 joy\nmin: 4 x1 -3 x2 +2 ~x3 +1 x3 +5 x4 ;\nmax: 2 x1 +3 ~x2 +1 x4 -2 x5 ;\n'
@@ -37,6 +37,13 @@ class Parts(InFolder):
         """Slabs of a cost, solved."""
         split = self.unsolved_slabs(text, name, bounds, cost)
         self.solve(split, *words)
+        return split
+
+    def cubes(self, text, variables, name='in.opb'):
+        """The values of these variables, solved."""
+        self.write(name, text)
+        split = make_split(name, 'parts', 2 ** len(variables), by=variables)
+        self.solve(split)
         return split
 
     def is_front(self, listed, logged, name='in.opb'):

@@ -45,6 +45,27 @@ class Joined(Parts):
             self.assertEqual(self.lines('all.log')[0], head)
             self.is_front('all.list', 'all.log')
 
+    def test_parts_in_which_things_are_alike(self):
+        """The lines that put them in order move to others of the same cost, and leave each test of a cost as it is."""
+        items = 'min: 3 x1 +3 x2 +3 x3 +1 x4 ;\nmin: 1 ~x1 +1 ~x2 +1 ~x3 +2 ~x4 ;\nx1 +1 x2 +1 x3 +1 x4 >= 1 ;\n'
+        split = self.slabs(items, bounds=(4, 7))
+        self.solve(split, '--log-version', '2', names=['part-2'])
+        for name in ('part-1', 'part-2', 'part-3'):
+            self.assertEqual([line[:4] for line in self.lines('parts/%s.log' % name)[1:3]], ['red ', 'red '])
+        for version in (1, 2):
+            self.assertIsNone(join(split, 'all.list', 'all.log', version).refused)
+            self.is_front('all.list', 'all.log')
+
+    def test_cubes_that_fix_things_that_are_alike(self):
+        """In a part two of them are fixed alike, and yet not put in order: the rows that fix them differ."""
+        items = 'min: 3 x1 +3 x2 +3 x3 +3 x4 ;\nmin: 2 ~x1 +2 ~x2 +2 ~x3 +2 ~x4 ;\nx1 +1 x2 +1 x3 +1 x4 >= 1 ;\n'
+        split = self.cubes(items, (1, 2))
+        for part, _ in split.parts():
+            self.assertIn('red 1 x3 1 ~x4 >= 1 : x3 x4 x4 x3', self.read('parts/%s.log' % part.name))
+            self.assertNotIn('red 1 x1 1 ~x2 >= 1', self.read('parts/%s.log' % part.name))
+        self.assertIsNone(join(split, 'all.list', 'all.log').refused)
+        self.is_front('all.list', 'all.log')
+
     def test_lines_that_are_seldom(self):
         """A goal of degree 2, factors, literals and weakening in `pol`, and `del` and `reduce` lines of all lengths."""
         split = self.slabs('min: 2 x1 +1 x2 ;\nmin: 3 ~x1 ;\nx1 >= 1 ;\nx1 +1 x2 >= 1 ;\n', bounds=(2,))

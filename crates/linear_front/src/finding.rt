@@ -31,9 +31,7 @@ struct Next {
     target: Target,
 }
 
-// Adds the lines of cliques, and asks box by box; answers whether all boxes were closed. Lines that were there before leave out
-// models for others as good. A relaxation that knows of them closes more, and one that doesn't finds a model more easily: where
-// the one doesn't tell, the other is asked.
+// Adds the lines of cliques, and asks box by box; answers whether all boxes were closed.
 pub(crate) fn find_all<R: Recorder>(
     asking: &mut Asking<'_>,
     boxes: &mut OpenBoxes,
@@ -51,18 +49,77 @@ pub(crate) fn find_all<R: Recorder>(
     adding_stays_good_but();
     turn_lines_join();
     let end = rec.state().next_id();
-    let purse = asking.linear.purse();
-    if has_lines_below(board.problem(), end) {
-        asking.linear.set_purse(purse / 2);
-    }
     prepare(asking, rec, board.problem())?;
+    ask_boxes(asking, boxes, rec, bounds, board, pending, end)
+}
+
+// The same after the lines of cliques; other lines are below this id.
+fn ask_boxes<R: Recorder>(
+    asking: &mut Asking<'_>,
+    boxes: &mut OpenBoxes,
+    rec: &mut R,
+    bounds: &Bounds,
+    board: &mut Board<'_>,
+    pending: &mut Items<Assignment>,
+    end: u64,
+) -> Result<bool, RecordFault>
+    requires good { IsGoodBut (R.seen rec.old) bounds.now board.old pending.old }
+    ensures good { OnOk result (IsGoodBut (R.seen rec.new) bounds.now board.new pending.new) }
+    ensures fault { IfErr result (IsFaultAt (R.seen rec.old) (R.seen rec.new)) }
+    ensures goes_on { GoesOn (R.seen rec.old) (R.seen rec.new) }
+    ensures board { KeepsBoard board.old board.new }
+{
+    if has_lines_below(board.problem(), end) {
+        ask_with_and_without(asking, boxes, rec, bounds, board, pending, end)
+    } else {
+        ask_all(asking, boxes, rec, bounds, board, pending)
+    }
+}
+
+// The same where there are such lines, which leave out models for others as good. A relaxation that knows of them closes more,
+// and one that doesn't finds a model more easily: where the one doesn't tell, the other is asked.
+fn ask_with_and_without<R: Recorder>(
+    asking: &mut Asking<'_>,
+    boxes: &mut OpenBoxes,
+    rec: &mut R,
+    bounds: &Bounds,
+    board: &mut Board<'_>,
+    pending: &mut Items<Assignment>,
+    end: u64,
+) -> Result<bool, RecordFault>
+    requires good { IsGoodBut (R.seen rec.old) bounds.now board.old pending.old }
+    ensures good { OnOk result (IsGoodBut (R.seen rec.new) bounds.now board.new pending.new) }
+    ensures fault { IfErr result (IsFaultAt (R.seen rec.old) (R.seen rec.new)) }
+    ensures goes_on { GoesOn (R.seen rec.old) (R.seen rec.new) }
+    ensures board { KeepsBoard board.old board.new }
+{
+    turn_lines_join();
+    let purse = asking.linear.purse();
+    asking.linear.set_purse(purse / 2);
     if ask_all(asking, boxes, rec, bounds, board, pending)? {
         return Ok(true);
     }
-    if !has_lines_below(board.problem(), end) {
-        return Ok(false);
-    }
     asking.linear.set_purse(purse / 2);
+    ask_without(asking, boxes, rec, bounds, board, pending, end)
+}
+
+// The same by a relaxation that doesn't know of these lines.
+fn ask_without<R: Recorder>(
+    asking: &mut Asking<'_>,
+    boxes: &mut OpenBoxes,
+    rec: &mut R,
+    bounds: &Bounds,
+    board: &mut Board<'_>,
+    pending: &mut Items<Assignment>,
+    end: u64,
+) -> Result<bool, RecordFault>
+    requires good { IsGoodBut (R.seen rec.old) bounds.now board.old pending.old }
+    ensures good { OnOk result (IsGoodBut (R.seen rec.new) bounds.now board.new pending.new) }
+    ensures fault { IfErr result (IsFaultAt (R.seen rec.old) (R.seen rec.new)) }
+    ensures goes_on { GoesOn (R.seen rec.old) (R.seen rec.new) }
+    ensures board { KeepsBoard board.old board.new }
+{
+    turn_lines_join();
     in_memory(asking.linear.leave_out(board.problem(), end))?;
     in_memory(asking.linear.take_up(rec.state()))?;
     let are_closed = ask_all(asking, boxes, rec, bounds, board, pending)?;

@@ -127,7 +127,9 @@ impl Relaxation {
 
     fn take_up_line(&mut self, state: &ProofState, id: u64) -> Result<(), NoMemory> {
         match state.live().get(id) {
-            Some(line) if is_small_over(line, self.columns as u64) => self.add_line(id, line, false),
+            Some(line) if is_small_over(line, self.columns as u64) => self.add_line(
+                id, line, false,
+            ),
             _ => Ok(()),
         }
     }

@@ -4,8 +4,8 @@ use Rattle.search_base.proofs.Turning.{goes_twice}
 use Rattle.linear_front.proofs.Calls.{fault_after_lines}
 use Rattle.linear_front.proofs.finding.find_all.Goals as goal
 
-pub ask_all-requires : goal.ask_all-requires
-ask_all-requires g c =
+pub ask_boxes-requires : goal.ask_boxes-requires
+ask_boxes-requires g c =
     let R = g.R.Recorder in
     let call = c.in_ok-prepare.ensures.recorded in
     let law = c.adding_stays_good_but.ensures in
@@ -24,11 +24,11 @@ returns-clause-goes_on g c =
     let R = g.R.Recorder in
     let a = R.seen c.args.rec.now in
     let b = R.seen c.prepare.new.rec in
-    goes_twice a b (R.seen c.ask_all.new.rec) (totalizer_goes_on a b c.in_ok-prepare.ensures.recorded.continues)
-    c.ask_all.ensures.goes_on
+    goes_twice a b (R.seen c.ask_boxes.new.rec) (totalizer_goes_on a b c.in_ok-prepare.ensures.recorded.continues)
+    c.ask_boxes.ensures.goes_on
 
 pub returns-clause-fault : goal.returns-clause-fault
 returns-clause-fault g c =
     let R = g.R.Recorder in
-    fault_after_lines (R.seen c.args.rec.now) (R.seen c.prepare.new.rec) (R.seen c.ask_all.new.rec) c.ask_all.result
-    c.in_ok-prepare.ensures.recorded.continues c.ask_all.ensures.fault
+    fault_after_lines (R.seen c.args.rec.now) (R.seen c.prepare.new.rec) (R.seen c.ask_boxes.new.rec) c.ask_boxes.result
+    c.in_ok-prepare.ensures.recorded.continues c.ask_boxes.ensures.fault
