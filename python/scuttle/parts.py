@@ -95,6 +95,9 @@ class Source:
         self.statements = as_statements(with_clauses_normal(self.instance) if is_clauses(path) else self.instance)
         self.rows, self.variables = count_rows(self.statements), self.statements.variables
         self.costs = [cost_row(objective) for objective in self.statements.objectives]
+        # No row of one variable has a larger coefficient.
+        self.unlike = max((sum(abs(weight) for weight, _ in row.terms) for row in self.statements.rows
+                           if len({abs(literal) for _, literal in row.terms}) == 1), default=0)
 
     @classmethod
     def of_file(cls, path: str) -> 'Source':
@@ -103,9 +106,9 @@ class Source:
             return cls(path, file.read())
 
     def terms(self, test: Test) -> Sequence[Term]:
-        """The sum of a test, with positive coefficients. Each variable has another coefficient, so that no two that are fixed are alike in a
-        part: what is alike there is so in the whole problem."""
-        return self.costs[test.number - 1].terms if test.kind == 'cost' else [(test.number, test.number)]
+        """The sum of a test, with positive coefficients. Each variable has another coefficient, and none that a row of one variable has, so
+        that no two that are fixed are alike in a part: what is alike there is so in the whole problem."""
+        return self.costs[test.number - 1].terms if test.kind == 'cost' else [(self.unlike + test.number, test.number)]
 
     def most(self, test: Test) -> int:
         """What the coefficients of a test's sum sum to."""
