@@ -42,6 +42,8 @@ class JoinedLog:
         self.line, self.next_id, self.variables = 1, source.rows + 1, source.variables
         self.spans = []  # type: List[Span]
         self.defined = {}  # type: Dict[Test, Tuple[int, int]]
+        # What is shown of the conditions so far: ids with their clauses.
+        self.clauses = []  # type: List[Tuple[int, List[int]]]
         self.put('scuttle proof version %s' % ('1' if version == 1 else '2 rows %d' % source.rows), 0)
         for test in split.tests():
             self._define(test, source)
@@ -77,10 +79,19 @@ class JoinedLog:
         """The line that stands for a part's row."""
         return self.defined[condition.test][1] + (not condition.reached)
 
-    def lines_of_tests(self, variables: Set[int]) -> List[int]:
-        """The first line of each test that speaks of some of these variables."""
-        return [self.defined[test][1] for test in self.split.tests()
-                if any(abs(literal) in variables for _, literal in self.split.source.terms(test))]
+    def moved_by(self, images: Dict[str, str]) -> 'Tuple[Dict[int, str], List[int], List[int]]':
+        """What an exchange moves of the split: the variable of each test of a moved variable, with what it becomes, so that nothing is left of
+        the two lines of that test; the lines of each test of a cost that it touches, which stay as they are; and the clauses in which such
+        variables stand."""
+        moved, lines = {}, []  # type: Dict[int, str], List[int]
+        for test in self.split.tests():
+            touched = [literal for _, literal in self.split.source.terms(test) if 'x%d' % abs(literal) in images]
+            variable, first = self.defined[test]
+            if touched and test.kind == 'variable':
+                moved[variable] = images['x%d' % test.number]
+            elif touched:
+                lines += [first, first + 1]
+        return moved, lines, [number for number, clause in self.clauses if any(abs(literal) in moved for literal in clause)]
 
     def denied(self, path: Iterable[Condition]) -> List[int]:
         """The literals that are false where the conditions hold, by rising variables."""
@@ -91,6 +102,11 @@ class JoinedLog:
         """The clause that not all of the conditions hold: its id."""
         words = ['1 ' + spelled(literal) for literal in self.denied(path)]
         self.put(' '.join(['rup'] + words + ['>= 1 :'] + [self.spell(hint) for hint in hints]), 1)
+        return self._shown(path)
+
+    def _shown(self, path: Iterable[Condition]) -> int:
+        """The id of the last line, whose clause says that the conditions don't hold."""
+        self.clauses.append((self.next_id - 1, self.denied(path)))
         return self.next_id - 1
 
     def add_node(self, node: Node, path: Tuple[Condition, ...] = ()) -> int:
@@ -110,7 +126,7 @@ class JoinedLog:
         reached = {c.test.number: self.spell(self.row_id(c)) for c in path if c.reached and c.test.kind == 'cost'}
         ids = [reached.get(k, '0') for k in range(1, len(self.split.source.costs) + 1)]
         self.put(' '.join(['sol'] + words + [':'] + [spelled(literal) for literal in self.denied(path)] + [':'] + ids), 1)
-        return self.next_id - 1
+        return self._shown(path)
 
     def _add_part(self, name: str, path: Tuple[Condition, ...]) -> int:
         part = PartLog(self, self.split.path(name, '.log'), path)
@@ -217,8 +233,9 @@ class PartLog:
         self._put(' '.join(['sol'] + model + [':'] + [word for _, word in sorted(cut)] + [':'] + ids), 1)
 
     def _copy_exchange(self, words: List[str]) -> None:
-        """A line that puts in order what is alike. What is exchanged costs the same, so that the lines of each test of a cost stay as they are:
-        the joined log shows that too."""
+        """A line that puts in order what is alike. What is exchanged costs the same, so that the lines of each test of a cost stay as they are.
+        If another part fixes a variable that is exchanged, its test is of the other variable then. A clause about that test holds by
+        what this part and that one differ in."""
         sections = [[]]  # type: List[List[str]]
         for word in words[1:]:
             if word == ':':
@@ -234,9 +251,12 @@ class PartLog:
             tokens = self._tokens(rest) if kind == 'pol' else self._hints(rest)
             number = self._moved(self._number(name))
             shown[number] = ' '.join([self.out.spell(number), kind] + tokens)
-        for first in self.out.lines_of_tests({int(word.lstrip('x')) for word in images}):
-            for number in (first, first + 1):
-                shown.setdefault(number, '%s pol %s %s' % (self.out.spell(number), self.out.spell(number), OPEN))
+        moved, lines, clauses = self.out.moved_by(images)
+        for number in lines:
+            shown.setdefault(number, '%s pol %s %s' % (self.out.spell(number), self.out.spell(number), OPEN))
+        for number in clauses:
+            shown[number] = '%s rup ! ~' % self.out.spell(number)
+        witness = witness + [word for variable in sorted(moved) for word in ('x%d' % variable, moved[variable])]
         name, kind, *rest = proofs[-1]
         if name != 'c' or kind != 'rup':
             raise _Hardened
