@@ -2,7 +2,7 @@ use Rattle.std.proofs.Common.{◌∙◌, sym, subst}
 use Rattle.proof_text.specs.Recorders.{MemoryLog}
 use Rattle.oracle.specs.Solving.{AreEarned}
 use Rattle.search_tests.proofs.Beginnings.{nothing_earned}
-use Rattle.search_tests.proofs.solved.solve.Goals as goal
+use Rattle.search_tests.proofs.solver.answers_so.Goals as goal
 
 pub solve-answer-requires-clause-earned : goal.solve-answer-requires-clause-earned
 solve-answer-requires-clause-earned g c =

@@ -2,8 +2,8 @@ use Rattle.std.proofs.Common.{subst}
 use Rattle.std.proofs.lemmas.Int.{to_z-of_z}
 use Rattle.pb_lin.specs.NormalForm.{IsNormalForm}
 use Rattle.pb_lin.proofs.Variables.{normal_form_upto}
-use Rattle.search_tests.specs.declared.chain.TheConstants.{VARS}
-use Rattle.search_tests.proofs.chain.line.Goals as goal
+use Rattle.search_tests.specs.declared.lines.TheConstants.{VARS}
+use Rattle.search_tests.proofs.lines.line.Goals as goal
 
 pub returns : goal.returns
 returns c =

@@ -1,5 +1,5 @@
 use Rattle.search_tests.specs.Asked.{IsAskable}
-use Rattle.search_tests.proofs.totals.answers.Given as goal
+use Rattle.search_tests.proofs.totals.answers_so.Given as goal
 
 abbrev pub invariant-loop-k : goal.invariant-loop-k
 invariant-loop-k g l =
