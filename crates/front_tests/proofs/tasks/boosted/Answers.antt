@@ -1,6 +1,6 @@
 -- A proof without lines may be boosted.
 use Rattle.front_tests.proofs.Beginnings.{begins_prepared}
-use Rattle.front_tests.proofs.prepared.offsets.Goals as goal
+use Rattle.front_tests.proofs.tasks.boosted.Goals as goal
 
 pub boost_all-requires-clause-prepared : goal.boost_all-requires-clause-prepared
 boost_all-requires-clause-prepared g c =

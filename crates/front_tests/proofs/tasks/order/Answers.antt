@@ -5,10 +5,10 @@ use Rattle.proof_laws.specs.State.{StateValue}
 use Rattle.sum_outputs.specs.Adding.{IsReached}
 use Rattle.sum_outputs.proofs.LaterStates.{replay_vars}
 use Rattle.front_tests.proofs.Beginnings.{begins_prepared}
-use Rattle.front_tests.proofs.order.order_by.Goals as goal
+use Rattle.front_tests.proofs.tasks.order.Goals as goal
 
-pub run_turns-ended-requires-clause-good : goal.run_turns-ended-requires-clause-good
-run_turns-ended-requires-clause-good g c =
+pub order_of-requires-clause-good : goal.order_of-requires-clause-good
+order_of-requires-clause-good g c =
     let R = g.O.Recorder in
     let a = R.seen c.args.oracle.now in
     let same = c.requires.problem in
