@@ -3,6 +3,6 @@
 #![tactic(auto)]
 
 #[cfg(test)]
-mod order;
+mod noting;
 #[cfg(test)]
-mod prepared;
+mod tasks;

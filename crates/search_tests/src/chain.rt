@@ -1,32 +1,20 @@
 // Long chains of lines, each of which makes the next variable true where its own is: what it costs to go along them,
 // and to go along their last part again.
-ghost use Rattle.std.specs.Prelude.{◌≡◌, ◌<◌, All, IfOk};
-ghost use Rattle.pb_lin.specs.Constraint.{IsVariable, UpTo};
+ghost use Rattle.std.specs.Prelude.{◌≡◌, ◌<◌};
+ghost use Rattle.search_tests.specs.declared.lines.TheConstants.{VARS};
 
 use crate::fixture::Fixture;
-use pb_lin::{Constraint, LinFault};
+use crate::lines::{VARS, put};
+use pb_lin::LinFault;
 use scut_base::{Lit, NoMemory};
 use std::alloc::Global;
 use std::test::Fail;
 use watch_prop::WatchProp;
 
-// The number of variables.
-const VARS: u64 = 200_001;
-
 // How many blocks an interrupted chain has, and how many variables each.
 const BLOCKS: u64 = 4000;
 
 const BLOCK: u64 = 50;
-
-// That a sum is at least a degree.
-fn line(alloc: Global, terms: &[(i128, Lit)], degree: i128) -> Result<Constraint, LinFault>
-    requires { All (λ t. IsVariable VARS t.1.var) terms.now }
-    ensures { IfOk result (UpTo VARS) }
-{
-    let line = Constraint::normal(alloc, terms, degree)?;
-    let _normal = line.len();
-    Ok(line)
-}
 
 // Which lines a chain has: with coefficients of 1 they are clauses, which are watched, and with others they are
 // counted. There is none from the last variable of a block to the next one.
@@ -57,21 +45,23 @@ fn store_link(
         (chain.coefficient, Lit::new(var, true)),
         (chain.coefficient, Lit::new(var + 1, false)),
     ];
-    let link = line(alloc, &terms, chain.coefficient)?;
-    fixture.put(id, &link)?;
-    Ok(())
+    put(alloc, fixture, id, &terms, chain.coefficient)
 }
 
 // Stores the lines, those of the first half of the variables in falling order.
-fn store_chain(alloc: Global, chain: Chain) -> Result<Fixture<WatchProp>, LinFault>
-    ensures { IfOk result (λ fixture. fixture ≡ VARS) }
+fn store_chain(
+    alloc: Global,
+    fixture: &mut Fixture<WatchProp>,
+    chain: Chain,
+) -> Result<(), LinFault>
+    requires { fixture.old ≡ VARS }
+    ensures { fixture.new ≡ VARS }
 {
-    let mut fixture = Fixture::new(alloc, VARS, WatchProp::new(alloc))?;
     for id in 1..VARS {
         let var = if id > VARS / 2 { id } else { VARS / 2 + 1 - id };
-        store_link(alloc, &mut fixture, chain, id, var)?;
+        store_link(alloc, fixture, chain, id, var)?;
     }
-    Ok(fixture)
+    Ok(())
 }
 
 // Whether a propagation finds no conflict, and leaves so many steps.
@@ -82,17 +72,16 @@ fn goes_to(fixture: &mut Fixture<WatchProp>, steps: u64) -> Result<bool, NoMemor
     Ok(conflict.is_none() && fixture.trail().len() == steps)
 }
 
-// Whether a propagation goes along the whole of a chain.
-fn goes_along(alloc: Global, coefficient: i128) -> Result<bool, LinFault> {
-    let first = line(alloc, &[(1, Lit::new(1, false))], 1)?;
-    let block = VARS;
-    let mut fixture = store_chain(alloc, Chain { coefficient, block })?;
-    fixture.put(VARS, &first)?;
-    Ok(goes_to(&mut fixture, VARS)?)
+// Whether a propagation goes along a whole chain, whose first variable a line makes true.
+fn goes_along(alloc: Global, fixture: &mut Fixture<WatchProp>) -> Result<bool, LinFault>
+    requires { fixture.old ≡ VARS }
+{
+    put(alloc, fixture, VARS, &[(1, Lit::new(1, false))], 1)?;
+    Ok(goes_to(fixture, VARS)?)
 }
 
-// Whether it goes along each block, and many times along the last one.
-fn goes_along_again(fixture: &mut Fixture<WatchProp>) -> Result<bool, NoMemory>
+// Whether it goes along each block where its first variable is decided, and many times along the last one.
+fn goes_along_again(fixture: &mut Fixture<WatchProp>) -> Result<bool, LinFault>
     requires { fixture.old ≡ VARS }
 {
     for block in 0..BLOCKS + 10_000 {
@@ -105,26 +94,52 @@ fn goes_along_again(fixture: &mut Fixture<WatchProp>) -> Result<bool, NoMemory>
     Ok(true)
 }
 
-// For clauses, and for lines that are counted.
-const COEFFICIENTS: [i128; 2] = [1, 2];
-
-// It takes half a second, and would take minutes if a step more made those before it be looked at again.
-#[test]
-fn a_step_is_looked_at_once(rt: HostRuntime) -> Result<(), Fail> {
-    for coefficient in COEFFICIENTS {
-        assert!(rt; goes_along(rt.alloc(), coefficient)?, "{coefficient}");
+// Stores a chain; whether it is gone along.
+fn is_stored_and_gone_along(
+    alloc: Global,
+    fixture: &mut Fixture<WatchProp>,
+    chain: Chain,
+) -> Result<bool, LinFault>
+    requires { fixture.old ≡ VARS }
+{
+    store_chain(alloc, fixture, chain)?;
+    if chain.block == VARS {
+        goes_along(alloc, fixture)
+    } else {
+        goes_along_again(fixture)
     }
-    Ok(())
 }
 
-// Decides the first variable of each block, and that of the last block many times again. It takes half a second, and
-// would take minutes if a cut made the steps of lower levels be looked at again.
+// Whether a chain of one block, or of many, is gone along.
+fn is_gone_along(alloc: Global, chain: Chain) -> Result<bool, LinFault> {
+    let mut fixture = Fixture::new(alloc, VARS, WatchProp::new(alloc))?;
+    is_stored_and_gone_along(alloc, &mut fixture, chain)
+}
+
+// Whether chains with this coefficient are gone along.
+fn are_gone_along(alloc: Global, coefficient: i128) -> Result<bool, LinFault> {
+    let (whole, blocks) = (VARS, BLOCK);
+    Ok(
+        is_gone_along(
+            alloc,
+            Chain {
+                coefficient,
+                block: whole,
+            },
+        )? && is_gone_along(
+            alloc,
+            Chain {
+                coefficient,
+                block: blocks,
+            },
+        )?,
+    )
+}
+
+// For clauses, and for lines that are counted. It takes two seconds, and would take minutes if a step more made those
+// before it be looked at again, or a cut those of lower levels.
 #[test]
-fn steps_of_levels_that_stay_are_not_looked_at_again(rt: HostRuntime) -> Result<(), Fail> {
-    let block = BLOCK;
-    for coefficient in COEFFICIENTS {
-        let mut fixture = store_chain(rt.alloc(), Chain { coefficient, block })?;
-        assert!(rt; goes_along_again(&mut fixture)?, "{coefficient}");
-    }
+fn a_step_is_looked_at_once(rt: HostRuntime) -> Result<(), Fail> {
+    assert!(rt; are_gone_along(rt.alloc(), 1)? && are_gone_along(rt.alloc(), 2)?);
     Ok(())
 }

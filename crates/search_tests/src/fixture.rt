@@ -59,37 +59,22 @@ impl<P: Propagator + Drop> Fixture<P> {
         add_line(&mut self.store, &self.trail, &mut self.prop, id, line)
     }
 
-    // Drops the line of an id.
-    pub fn drop_id(&mut self, id: u64)
-        ensures { self.new ≡ self.old }
-    {
-        drop_line(&mut self.store, &mut self.prop, id);
-    }
-
-    // Puts a step at the end; whether its variable was open.
-    pub fn push(&mut self, step: Step) -> bool
-        requires { step.lit.var ≤ self.old }
-        ensures { self.new ≡ self.old }
-    {
-        if self.trail.value(step.lit).is_some() {
-            return false;
-        }
-        P::longer_trail_keeps_step();
-        self.trail.push(step);
-        true
-    }
-
     // Makes a literal true, at a level of its own; whether it was open.
     pub fn decide(&mut self, lit: Lit) -> bool
         requires { lit.var ≤ self.old }
         ensures { self.new ≡ self.old }
     {
+        if self.trail.value(lit).is_some() {
+            return false;
+        }
+        P::longer_trail_keeps_step();
         let level = self.trail.level().saturating_add(1);
-        self.push(Step {
+        self.trail.push(Step {
             lit,
             level,
             reason: 0,
-        })
+        });
+        true
     }
 
     // Leaves the first steps.
@@ -99,17 +84,6 @@ impl<P: Propagator + Drop> Fixture<P> {
         let keep = keep.min(self.trail.len());
         self.prop.shrinking(&self.store, &self.trail, keep);
         self.trail.cut(keep);
-    }
-
-    // Gives the trail these steps.
-    pub fn follow(&mut self, leader: &Trail)
-        requires { leader.now.vars ≤ self.old }
-        ensures { self.new ≡ self.old }
-    {
-        self.cut(0);
-        for place in 0..leader.len() {
-            self.push(leader.step_at(place));
-        }
     }
 
     // Extends the trail by what lines force; the id of one that is violated.

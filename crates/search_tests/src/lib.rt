@@ -1,6 +1,6 @@
-//! Tests of the crates of a search: that propagators, solvers and totalizers succeed where there is memory, what they
-//! answer on small problems that are worked out by hand, that two propagators force the same, and what no clause says,
-//! how long they take. It has nothing but tests.
+//! Tests of the crates of a search: what no clause says of them. Propagators, solvers and totalizers succeed where there
+//! is memory; long chains of lines take a time that only a propagator that watches can keep; and small problems that are
+//! worked out by hand have these answers, these cores and so many outputs. It has nothing but tests.
 #![tactic(auto)]
 
 #[cfg(test)]
@@ -10,17 +10,9 @@ mod chain;
 #[cfg(test)]
 mod fixture;
 #[cfg(test)]
-mod numbers;
-#[cfg(test)]
-mod pigeons;
+mod lines;
 #[cfg(test)]
 mod problems;
-#[cfg(test)]
-mod random;
-#[cfg(test)]
-mod replay;
-#[cfg(test)]
-mod solved;
 #[cfg(test)]
 mod solver;
 #[cfg(test)]

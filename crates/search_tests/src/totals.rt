@@ -2,14 +2,11 @@
 ghost use Rattle.std.specs.Prelude.{◌≡◌, [], false, IfOk, OnOk};
 ghost use Rattle.search_tests.specs.Asked.{IsAskable};
 
-use crate::numbers::Numbers;
 use crate::problems::problem;
 use pb_lin::PbProblem;
-use proof_laws::Line;
 use proof_rules::{ProofState, RecordFault, Recorder};
 use proof_text::MemRecorder;
 use std::alloc::Global;
-use std::fmt::Write;
 use std::test::Fail;
 use totalizer::{Bound, Totalizer};
 
@@ -37,123 +34,168 @@ fn ask<R: Recorder>(rec: &mut R, sum: &mut Totalizer, k: i64) -> Result<Bound, R
     sum.output(rec, k)
 }
 
-// How many of the lines define a variable.
-fn definitions(lines: &[Line]) -> usize {
-    lines
-        .iter()
-        .filter(|line| matches!(line, Line::Def { .. }))
-        .count()
+// What stands for "the sum is at least k": the line of this id alone, nothing, or a literal, with a line of this degree;
+// or that the recorder failed.
+#[derive(Clone, Copy)]
+enum Expected {
+    Always(u64),
+    Never,
+    At(u128),
+    Failed,
 }
 
-// The degree of a live line; 0 where there is none of this id.
-fn degree(state: &ProofState, id: u64) -> u128 {
+// Whether the line of an id is live and has this degree.
+fn has_degree(state: &ProofState, id: u64, degree: u128) -> bool {
     match state.live().get(id) {
-        Some(line) => line.degree(),
-        None => 0,
+        Some(line) => line.degree() == degree,
+        None => false,
     }
 }
 
-// What stands for "the sum is at least k", for each of these numbers, in words: for a literal the degree of its line.
-// The recorder's fault ends the text.
-fn answers<R: Recorder>(
-    alloc: Global,
-    rec: &mut R,
-    sum: &mut Totalizer,
-    numbers: &[i64],
-) -> Result<String, Fail>
+// Whether an answer is the one that is expected.
+fn is_as(state: &ProofState, answer: Result<Bound, RecordFault>, expected: Expected) -> bool {
+    match (answer, expected) {
+        (Ok(Bound::Always { lower_line }), Expected::Always(id)) => lower_line == id,
+        (Ok(Bound::Never), Expected::Never) => true,
+        (Ok(Bound::At { lower_line, .. }), Expected::At(degree)) => {
+            has_degree(state, lower_line, degree)
+        }
+        (Err(RecordFault::Failed), Expected::Failed) => true,
+        _ => false,
+    }
+}
+
+// Whether a sum is answered so for each of these numbers, until the recorder fails.
+fn answers_so<R: Recorder>(rec: &mut R, sum: &mut Totalizer, asked: &[(i64, Expected)]) -> bool
     requires { IsAskable (R.seen rec.old) sum.old }
 {
-    let mut text = String::new(alloc);
-    for k in numbers {
-        match ask(rec, sum, *k) {
-            Ok(Bound::Always { lower_line }) => write!(text, "always {lower_line};")?,
-            Ok(Bound::Never) => write!(text, "never;")?,
-            Ok(Bound::At { lower_line, .. }) => {
-                write!(text, "{};", degree(rec.state(), lower_line))?;
-            }
-            Err(fault) => {
-                write!(text, "{fault:?}")?;
-                return Ok(text);
-            }
+    for (k, expected) in asked {
+        let answer = ask(rec, sum, *k);
+        if !is_as(rec.state(), answer, *expected) {
+            return false;
+        }
+        if answer.is_err() {
+            return true;
         }
     }
-    Ok(text)
+    true
 }
 
-// The answers of a totalizer of a problem's first objective.
-fn first_answers<R: Recorder>(
+// Whether the sum of a problem's first objective is answered so, and so many variables are defined then.
+fn first_answers_so<R: Recorder>(
     alloc: Global,
     rec: &mut R,
     problem: &PbProblem,
-    numbers: &[i64],
-) -> Result<String, Fail>
+    asked: &[(i64, Expected)],
+    defined: u64,
+) -> Result<bool, Fail>
     requires problem { (R.seen rec.old).problem ≡ problem.now }
     requires begun { (R.seen rec.old).lines ≡ [] }
     requires whole { (R.seen rec.old).broken ≡ false }
 {
     let mut sum = first_sum(alloc, rec, problem)?;
-    answers(alloc, rec, &mut sum, numbers)
+    Ok(
+        answers_so(rec, &mut sum, asked)
+            && rec.state().vars().checked_sub(problem.vars()) == Some(defined),
+    )
 }
 
-// The answers of a totalizer of a text's first objective, and how many variables it has defined then. The call of
-// this number of its recorder fails; none has the number 0.
-fn totalized(
+// The same over a recorder whose call of this number fails; none has the number 0.
+fn is_recorded(
+    alloc: Global,
+    problem: &PbProblem,
+    failing: u64,
+    asked: &[(i64, Expected)],
+    defined: u64,
+) -> Result<bool, Fail> {
+    let mut recorder = MemRecorder::new(alloc, problem, failing)?;
+    first_answers_so(alloc, &mut recorder, problem, asked, defined)
+}
+
+// The same for the first objective of a text.
+fn is_answered(
     alloc: Global,
     text: &str,
     failing: u64,
-    numbers: &[i64],
-) -> Result<(String, usize), Fail> {
+    asked: &[(i64, Expected)],
+    defined: u64,
+) -> Result<bool, Fail> {
     let problem = problem(alloc, text)?;
-    let mut recorder = MemRecorder::new(alloc, &problem, failing)?;
-    let answers = first_answers(alloc, &mut recorder, &problem, numbers)?;
-    Ok((answers, definitions(recorder.lines())))
+    is_recorded(alloc, &problem, failing, asked, defined)
 }
+
+const TWO: &str = "min: 3 x1 2 x2 ;";
 
 // Eight literals of weight 1 have seven inner nodes.
 const EIGHT: &str = "min: 1 x1 1 x2 1 x3 1 x4 1 x5 1 x6 1 x7 1 x8 ;";
 
-// An objective, the number of the failing call, the numbers that are asked for, the answers, and how many
+// 50 literals with random weights from 1 to 100.
+const LONG: &str = "min: 75 x1 54 x2 97 x3 71 x4 35 x5 96 x6 31 x7 3 x8 90 x9 47 x10
+    24 x11 3 x12 53 x13 1 x14 35 x15 13 x16 91 x17 96 x18 33 x19 66 x20
+    28 x21 58 x22 27 x23 11 x24 70 x25 29 x26 5 x27 73 x28 22 x29 69 x30
+    8 x31 39 x32 9 x33 26 x34 95 x35 83 x36 87 x37 59 x38 17 x39 90 x40
+    56 x41 73 x42 11 x43 81 x44 62 x45 35 x46 9 x47 2 x48 64 x49 95 x50 ;";
+
+// A tenth of their sum, which some of them have too.
+const TENTH: (i64, Expected) = (240, Expected::At(240));
+
+// The least that each literal of weight 1 gives, and the failure of the first call.
+const ONE: (i64, Expected) = (1, Expected::At(1));
+
+const FAILED: (i64, Expected) = (1, Expected::Failed);
+
+// An objective, the number of the failing call, the numbers that are asked for with their answers, and how many
 // variables are defined then: one for each answer at the root, and one for each sum up to it of the inner nodes below.
-static CASES: [(&str, u64, [i64; 3], &str, usize); 6] = [
-    ("min: 3 x1 2 x2 ;", 0, [0, 1, 2], "always 0;2;2;", 1),
-    ("min: 3 x1 2 x2 ;", 0, [3, 4, 5], "3;5;5;", 2),
-    ("min: 3 x1 2 x2 ;", 0, [5, 6, 7], "5;never;never;", 1),
-    (EIGHT, 0, [1, 1, 1], "1;1;1;", 7),
-    (EIGHT, 0, [1, 2, 2], "1;2;2;", 14),
-    (EIGHT, 1, [1, 2, 3], "Failed", 0),
+// That of the long sum is a measure, which was taken from a run: it shows where a change makes more outputs, or fewer.
+static CASES: [(&str, u64, [(i64, Expected); 3], u64); 7] = [
+    (
+        TWO,
+        0,
+        [
+            (0, Expected::Always(0)),
+            (1, Expected::At(2)),
+            (2, Expected::At(2)),
+        ],
+        1,
+    ),
+    (
+        TWO,
+        0,
+        [
+            (3, Expected::At(3)),
+            (4, Expected::At(5)),
+            (5, Expected::At(5)),
+        ],
+        2,
+    ),
+    (
+        TWO,
+        0,
+        [
+            (5, Expected::At(5)),
+            (6, Expected::Never),
+            (7, Expected::Never),
+        ],
+        1,
+    ),
+    (EIGHT, 0, [ONE, ONE, ONE], 7),
+    (
+        EIGHT,
+        0,
+        [ONE, (2, Expected::At(2)), (2, Expected::At(2))],
+        14,
+    ),
+    (EIGHT, 1, [FAILED, FAILED, FAILED], 0),
+    (LONG, 0, [TENTH, TENTH, TENTH], 1921),
 ];
 
 #[test]
 fn a_sum_is_answered_by_the_least_attainable_one(rt: HostRuntime) -> Result<(), Fail> {
-    for (text, failing, numbers, expected, count) in &CASES {
-        let (answers, defined) = totalized(rt.alloc(), *text, *failing, numbers)?;
+    for (text, failing, asked, defined) in &CASES {
         assert!(rt;
-            answers.as_str() == *expected && defined == *count,
-            "{text} {numbers:?}"
+            is_answered(rt.alloc(), *text, *failing, asked, *defined)?,
+            "{text} {defined}"
         );
     }
-    Ok(())
-}
-
-// An objective of 50 literals with weights from 1 to 100, and a tenth of their sum.
-fn long_objective(alloc: Global) -> Result<(String, i64), Fail> {
-    let mut numbers = Numbers::new(1);
-    let mut text = format!(in alloc; "min:")?;
-    let mut sum = 0i64;
-    for var in 1..51 {
-        let weight = numbers.below(100) + 1;
-        write!(text, " {weight} x{var}")?;
-        sum = sum.saturating_add(weight as i64);
-    }
-    write!(text, " ;")?;
-    Ok((text, sum / 10))
-}
-
-#[test]
-fn a_tenth_of_a_long_sum_needs_few_outputs(rt: HostRuntime) -> Result<(), Fail> {
-    let (text, tenth) = long_objective(rt.alloc())?;
-    let (_, defined) = totalized(rt.alloc(), text.as_str(), 0, &[tenth])?;
-    // A measure, which was taken from a run: it shows where a change makes more outputs, or fewer.
-    assert_eq!(rt; defined, 1921);
     Ok(())
 }
