@@ -176,7 +176,9 @@ def tell(plan):
 front = projects(60).solve(on_plan=tell, folder='kept')
 print('left', front.complete, front.accepted, len(front) > 0, flush=True)
 ''' % (PACKAGE, os.path.dirname(os.path.abspath(__file__))))
-        process = subprocess.Popen([sys.executable, 'run.py'], stdout=subprocess.PIPE, start_new_session=True)
+        # Where the tests run behind `&`, SIGINT is ignored, and what they start would ignore it too.
+        process = subprocess.Popen([sys.executable, 'run.py'], stdout=subprocess.PIPE, start_new_session=True,
+                                   preexec_fn=lambda: signal.signal(signal.SIGINT, signal.default_int_handler))
         self.assertEqual(process.stdout.readline(), b'one\n')
         os.killpg(process.pid, signal.SIGINT)
         said = process.communicate(timeout=60)[0]
