@@ -25,7 +25,8 @@ crate=$work/clone/crates/propagation
 cp -r "$here/propagation" "$crate"
 find "$crate" -name '*.txt' -exec sh -c 'mv "$1" "${1%.txt}"' _ {} ';'
 cp "$tests/src/fixture.rt" "$crate/src/"
-cp -r "$tests"/proofs/{Lib.antt,StoredLines.antt,fixture} "$crate/proofs/"
+cp -r "$tests"/proofs/{StoredLines.antt,fixture} "$crate/proofs/"
+echo 'pub mod StoredLines' >"$crate/proofs/Lib.antt"
 find "$crate/proofs" -name '*.antt' -exec sed -i 's/Rattle\.search_tests\./Rattle.propagation./' {} +
 (cd "$crate" && rt run -- chain 2 1) >"$work/built" 2>&1 || {
     tail -20 "$work/built" >&2
