@@ -20,7 +20,8 @@ use std::alloc::Global;
 #[derive(Drop)]
 pub struct EngineSearch {
     alloc: Global,
-    engine: Engine,
+    // None until it is asked. In a box, so that whoever owns a search doesn't own all of its parts.
+    engine: Option<Box<Engine>>,
     // The first id that isn't taken up, and how many clauses were learned when the engine was made: those may be deleted
     // when more are learned.
     next: u64,
@@ -34,7 +35,7 @@ impl EngineSearch {
     pub fn new(alloc: Global) -> EngineSearch {
         EngineSearch {
             alloc,
-            engine: Engine::new(alloc),
+            engine: None,
             next: 1,
             learned: 0,
             ticks: MOST_TICKS,
@@ -57,37 +58,67 @@ impl EngineSearch {
         ensures answer { IfOk result (λ found. IfSome found
             (IsAnswer problem.now (R.seen rec.new).lines assumptions.now)) }
     {
-        match in_memory(self.search(rec.state(), problem, assumptions))? {
-            Outcome::Model => in_memory(self.model(rec, problem, assumptions)),
-            Outcome::Closed => self.close(rec, problem, assumptions),
+        let Some(mut engine) = in_memory(self.engine_for(rec.state()))? else {
+            return Ok(None);
+        };
+        let told = self.ask_engine(&mut engine, rec, problem, assumptions);
+        self.engine = Some(engine);
+        told
+    }
+
+    // The same of this engine.
+    fn ask_engine<R: Recorder>(
+        &mut self,
+        engine: &mut Engine,
+        rec: &mut R,
+        problem: &PbProblem,
+        assumptions: &[Lit],
+    ) -> Result<Option<Answer>, RecordFault>
+        requires ready { IsReady (R.seen rec.old) }
+        requires problem { (R.seen rec.old).problem ≡ problem.now }
+        ensures added { IsAdded IsDerived (R.seen rec.old) (R.seen rec.new) result }
+        ensures answer { IfOk result (λ found. IfSome found
+            (IsAnswer problem.now (R.seen rec.new).lines assumptions.now)) }
+    {
+        match in_memory(self.search(engine, rec.state(), problem, assumptions))? {
+            Outcome::Model => in_memory(self.model(engine, rec, problem, assumptions)),
+            Outcome::Closed => self.close(engine, rec, problem, assumptions),
             Outcome::Unknown => Ok(None),
+        }
+    }
+
+    // The engine that knows what was taken up, or a new one; none where nothing may be asked any more.
+    fn engine_for(&mut self, state: &ProofState) -> Result<Option<Box<Engine>>, NoMemory> {
+        if self.ticks == 0 {
+            return Ok(None);
+        }
+        match self.engine.take() {
+            Some(engine) if state.learned() == self.learned => Ok(Some(engine)),
+            _ => {
+                self.next = 1;
+                self.learned = state.learned();
+                Ok(Some(Box::new(self.alloc, Engine::new(self.alloc))?))
+            }
         }
     }
 
     // Takes up what is new, and searches.
     fn search(
         &mut self,
+        engine: &mut Engine,
         state: &ProofState,
         problem: &PbProblem,
         assumptions: &[Lit],
     ) -> Result<Outcome, NoMemory> {
-        if self.ticks == 0 {
-            return Ok(Outcome::Unknown);
-        }
-        if state.learned() != self.learned {
-            self.engine = Engine::new(self.alloc);
-            self.next = 1;
-            self.learned = state.learned();
-        }
-        if !take_up(self.alloc, &mut self.engine, problem, state, self.next)? {
+        if !take_up(self.alloc, engine, problem, state, self.next)? {
             self.give_up();
             return Ok(Outcome::Unknown);
         }
         self.next = state.next_id();
-        let before = self.engine.ticks();
-        let outcome = self.engine.solve(assumptions, self.ticks)?;
+        let before = engine.ticks();
+        let outcome = engine.solve(assumptions, self.ticks)?;
         if let Outcome::Unknown = outcome {
-            let taken = self.engine.ticks().saturating_sub(before);
+            let taken = engine.ticks().saturating_sub(before);
             self.ticks = self.ticks.saturating_sub(taken);
         }
         Ok(outcome)
@@ -95,13 +126,13 @@ impl EngineSearch {
 
     // Asks nothing any more: there is something that the engine can't take up, or what it answers doesn't hold.
     fn give_up(&mut self) {
-        self.engine = Engine::new(self.alloc);
         self.ticks = 0;
     }
 
     // The engine's model, if all holds in it.
     fn model<R: Recorder>(
         &mut self,
+        engine: &Engine,
         rec: &R,
         problem: &PbProblem,
         assumptions: &[Lit],
@@ -112,7 +143,7 @@ impl EngineSearch {
     {
         // Tells that the problem is within its limits.
         let _vars = problem.vars();
-        match model_of(self.alloc, &self.engine, problem, rec.state(), assumptions)? {
+        match model_of(self.alloc, engine, problem, rec.state(), assumptions)? {
             Some(model) => Ok(Some(Answer::Sat(model))),
             None => {
                 self.give_up();
@@ -124,6 +155,7 @@ impl EngineSearch {
     // Writes what the engine's answer stands on, and names its core.
     fn close<R: Recorder>(
         &mut self,
+        engine: &mut Engine,
         rec: &mut R,
         problem: &PbProblem,
         assumptions: &[Lit],
@@ -137,11 +169,11 @@ impl EngineSearch {
         // Tells that the problem is within its limits.
         let _vars = problem.vars();
         let mut judge = in_memory(Judge::new(self.alloc, problem))?;
-        if !write_needed(self.alloc, &mut judge, rec, &mut self.engine)? {
+        if !write_needed(self.alloc, &mut judge, rec, engine)? {
             self.give_up();
             return Ok(None);
         }
-        let core = core_at(self.alloc, rec, self.engine.core_line(), assumptions);
+        let core = core_at(self.alloc, rec, engine.core_line(), assumptions);
         match in_memory(core)? {
             Some(core) => Ok(Some(Answer::Unsat(core))),
             None => Ok(None),
