@@ -8,6 +8,7 @@ ghost use Rattle.bioptsat.specs.Aims.{MovesAim, Serves, first_is_least, own_numb
 ghost use Rattle.bioptsat.specs.Asking.{IsOneLess, TellsOfAim, TellsWithin};
 
 use crate::aim::Aim;
+use engine_search::EngineSearch;
 use front_set::CostVec;
 use oracle::{Oracle, OracleFault};
 use pb_lin::PbProblem;
@@ -23,6 +24,7 @@ use std::marker::Model;
 pub struct BiOpt {
     alloc: Global,
     aim: Aim,
+    engine: EngineSearch,
     relaxations: Option<Relaxations>,
 }
 
@@ -42,6 +44,7 @@ impl BiOpt {
         BiOpt {
             alloc,
             aim: Aim::Anything,
+            engine: EngineSearch::new(alloc),
             relaxations: None,
         }
     }
@@ -54,6 +57,7 @@ impl BiOpt {
         Ok(BiOpt {
             alloc,
             aim: Aim::Anything,
+            engine: EngineSearch::new(alloc),
             relaxations: Some(Relaxations::new(alloc, problem)?),
         })
     }
@@ -155,7 +159,10 @@ impl BiOpt {
     {
         match &mut self.relaxations {
             Some(relaxations) => relaxations.seek_below(oracle, bounds, board.problem(), limits),
-            None => seek_below(self.alloc, oracle, bounds, limits),
+            None => {
+                let engine = &mut self.engine;
+                seek_below(self.alloc, engine, oracle, bounds, board.problem(), limits)
+            }
         }
     }
 
@@ -174,7 +181,7 @@ impl BiOpt {
     {
         match &mut self.relaxations {
             Some(relaxations) => relaxations.seek_any(oracle, bounds, board.problem()),
-            None => seek_any(oracle, bounds),
+            None => seek_any(&mut self.engine, oracle, bounds, board.problem()),
         }
     }
 }

@@ -1,6 +1,6 @@
 // The solver as an oracle: it answers under assumptions, or with a core of them (Eén and Sörensson 2003).
 ghost use Rattle.std.specs.Prelude.{◌≡◌, true, false, IfOk};
-ghost use Rattle.oracle.specs.Solving.{AreAssumptions, IsCoreClause, IsOrderly, IsWithin};
+ghost use Rattle.oracle.specs.Solving.{AreAssumptions, IsCoreClause, IsOrderly, IsWithin, lesser};
 ghost use Rattle.cdcl_core.specs.Work.{Answers, Ends, ImpliesOnly, IsDone, Reached, StepsFrom};
 
 use crate::Solver;
@@ -16,6 +16,24 @@ impl<R: Recorder + Drop, P: Propagator + Drop> Oracle for Solver<R, P> {
         let result = self.answer(assumptions);
         self.broken = !is_orderly(&result);
         result
+    }
+
+    fn solve_limited(&mut self, assumptions: &[Lit], most: u64) -> Result<Answer, OracleFault> {
+        let limit = self.limit;
+        self.limit = Some(lesser(limit, most));
+        let result = self.solve(assumptions);
+        self.limit = limit;
+        result
+    }
+}
+
+// The lesser of the two limits.
+fn lesser(limit: Option<u64>, most: u64) -> u64
+    ensures { result ≡ lesser limit most }
+{
+    match limit {
+        Some(limit) if limit < most => limit,
+        _ => most,
     }
 }
 

@@ -1,27 +1,11 @@
--- Literals that may be assumed, and those that are.
-use Rattle.std.proofs.Common.{◌≡◌, ◌≢◌, ℕ, ◌+◌, ◌<◌, ◌≤◌, Bool, true, ◌||◌, List, [], ◌∷◌, ◌++◌, length, get_or, take, arith, ap, sym, ◌∙◌, subst, ⊎_elim}
-use Rattle.std.specs.List.{All, AllPairs, Contains, list_any}
-use Rattle.std.proofs.lemmas.Bool.{cases_Bool}
-use Rattle.std.proofs.lemmas.List.{take_more}
+-- Literals that may be assumed.
+use Rattle.std.proofs.Common.{◌≢◌, ℕ, ◌<◌, ◌≤◌, List, [], ◌∷◌, ◌++◌, arith}
+use Rattle.std.specs.List.{All, AllPairs}
 use Rattle.std.proofs.lemmas.List.Elements.{All-push}
 use Rattle.std.proofs.lemmas.List.Quantifiers.{all_pairs_push}
-use Rattle.scut_base.specs.Literal.{Literal, is_same}
-use Rattle.scut_base.proofs.Lists.{Contains-cons, Contains-head}
+use Rattle.scut_base.specs.Literal.{Literal}
 use Rattle.pb_lin.specs.Constraint.{IsVariable}
-use Rattle.pb_lin.proofs.Covers.{is_same-true}
 use Rattle.oracle.specs.Solving.{AreAssumptions}
-
--- a literal that is found among others is one of them
-pub found : (lits : List Literal) (l : Literal) → list_any (λ m. is_same m l) lits ≡ true → Contains lits l
-found [] l is = cc
-found (m ∷ lits) l is = ⊎_elim
-    (λ (same : is_same m l ≡ true). subst (λ (x : Literal). Contains (m ∷ lits) x) (is_same-true m l same) (Contains-head m lits))
-    (λ other. Contains-cons m l lits (found lits l (sym (ap (λ (b : Bool). b || list_any (λ n. is_same n l) lits) other) ∙ is)))
-    (cases_Bool (is_same m l))
-
--- one element more
-pub longer : (lits : List Literal) (i : ℕ) (x : Literal) → i < length lits → x ≡ get_or lits i x → take (i + 1) lits ≡ take i lits ++ x ∷ []
-longer lits i x short is = take_more lits i x short ∙ ap (λ (y : Literal). take i lits ++ y ∷ []) (sym is)
 
 -- the variables rise so far, up to this one
 pub record AreRising (vars last : ℕ) (lits : List Literal) : Type 0 where

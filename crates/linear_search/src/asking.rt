@@ -6,13 +6,14 @@ ghost use Rattle.linear_search.specs.Relaxations.{IsPaid};
 ghost use Rattle.linear_search.specs.Replies.{IsKeptWhereAnswered, IsReply, IsReplyTo};
 
 use crate::Reply;
-use crate::closing::{core_of, may_be_assumed};
+use crate::closing::may_be_assumed;
 use crate::exploring::Found;
 use crate::nodes::Node;
 use crate::question::{Limit, Question};
 use crate::search::LinearSearch;
 use crate::target::Target;
 use crate::writing::write_tree;
+use oracle::core_of;
 use proof_rules::{RecordFault, Recorder};
 use scut_base::{Items, Lit};
 use std::alloc::Global;
@@ -105,7 +106,7 @@ fn close<R: Recorder>(
     let Some(line) = write_tree(alloc, rec, nodes)? else {
         return Ok(Reply::Unknown);
     };
-    match in_memory(core_of(alloc, &line, assumed))? {
+    match in_memory(core_of(alloc, line.id, line.clause.literals(), assumed))? {
         Some(core) => Ok(Reply::Closed(core)),
         None => Ok(Reply::Unknown),
     }

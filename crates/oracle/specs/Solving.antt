@@ -1,7 +1,8 @@
 -- What an oracle answers, and what it may add to a proof.
-use Rattle.std.specs.Prelude.{◌≡◌, ◌≢◌, ◌↔◌, ℕ, ◌≤◌, ◌^◌, Bool, true, false, List, ◌∷◌, ◌++◌, length, All, AllPairs, Contains, Option, None, Some, Result, Ok, Err}
+use Rattle.std.specs.Prelude.{◌≡◌, ◌≢◌, ◌↔◌, ℕ, ◌≤◌, ◌^◌, if◌then◌else◌, nat_lt, Bool, true, false, List, ◌∷◌, ◌++◌, length, All, AllPairs, Contains, Option, None, Some, Result, Ok, Err, IfOk, IfErr, OnOk}
 use Rattle.std.specs.FinMap.{get}
 use Rattle.std.specs.List.{count_by}
+use Rattle.scut_base.specs.Faults.{Rose}
 use Rattle.scut_base.specs.Literal.{Literal}
 use Rattle.scut_base.specs.Assignment.{lit_true}
 use Rattle.pb_lin.specs.Constraint.{ConstraintValue, Holds, IsVariable, literals, opposite}
@@ -12,7 +13,8 @@ use Rattle.proof_laws.specs.Refusal.{is_clause}
 use Rattle.proof_laws.specs.Replay.{IsReplay}
 use Rattle.proof_laws.specs.Earned.{IsEarned, HasMore, IsLearnedId}
 use Rattle.proof_laws.specs.declared.line.Line.{Line}
-use Rattle.proof_laws.specs.declared.line.Line.TheVariants.{Rup, Learn, Reduce}
+use Rattle.proof_laws.specs.declared.line.Line.TheVariants.{Pol, Rup, Learn, Reduce}
+use Rattle.proof_rules.specs.Recording.{Snapshot, KeepsRecorder}
 use Rattle.proof_rules.specs.declared.recorder.RecordFault.{RecordFault}
 use Rattle.proof_rules.specs.declared.recorder.RecordFault.TheVariants.{Failed as RecordingFailed, Full as RecordFull, NoMemory as RecordNoMemory}
 use Rattle.oracle.specs.declared.answer.Answer.{Answer}
@@ -122,3 +124,37 @@ abbrev pub IsOrderly : Result Answer OracleFault → Type 0
 IsOrderly (Ok answer) = Unit {0}
 IsOrderly (Err (Spent learned)) = Unit {0}
 IsOrderly (Err fault) = ⊥
+
+-- ---- a call that may learn less
+
+-- the lesser of an oracle's limit and this one
+abbrev pub lesser : Option ℕ → ℕ → ℕ
+lesser None most = most
+lesser (Some limit) most = if nat_lt limit most then limit else most
+
+-- the oracle may be asked, and no more clauses are learned than this
+pub record MayBeAsked (a : Snapshot) (most : ℕ) (lits : List Literal) : Type 0 where
+  pub whole : a.broken ≡ false
+  pub unended : Reaches a.problem a.lines (λ s. s.ended ≡ false)
+  pub assumptions : Reaches a.problem a.lines (λ s. AreAssumptions s.vars lits)
+  pub earned : AreEarned a.problem a.lines
+  pub within : IsWithin (Some most) a.problem a.lines
+
+-- It is answered, and no more clauses are learned than this.
+pub record AnswersWithin (a b : Snapshot) (most : ℕ) (assumptions : List Literal) (result : Result Answer OracleFault) : Type 0 where
+  pub answer : IfOk result (IsAnswer a.problem b.lines assumptions)
+  pub fault : IfErr result (λ f. HasFault f (Some most) a.problem b.lines (Rose a.faults b.faults) b.broken)
+  pub whole : OnOk result (b.broken ≡ false)
+  pub lines : AddsSearchLines a.problem a.lines b.lines
+  pub implied : ImpliesCoreAlone a.lines b.lines result
+  pub earned : IsOrderly result → AreEarned a.problem b.lines
+  pub within : IsWithin (Some most) a.problem b.lines
+  pub keeps : KeepsRecorder a b
+
+-- ---- lines that follow from others
+
+-- a derived or an implied constraint
+abbrev pub IsDerived : Line → Type 0
+IsDerived (Pol tokens) = Unit {0}
+IsDerived (Rup goal hints) = Unit {0}
+IsDerived line = ⊥

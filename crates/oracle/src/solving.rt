@@ -3,7 +3,7 @@ ghost use Rattle.std.specs.Prelude.{◌≡◌, false, IfOk, IfErr, OnOk};
 ghost use Rattle.scut_base.specs.Faults.{Rose};
 ghost use Rattle.proof_rules.specs.Recording.{KeepsRecorder};
 ghost use Rattle.oracle.specs.Solving.{AddsSearchLines, AreAssumptions, ImpliesCoreAlone, AreEarned, HasFault, IsAnswer};
-ghost use Rattle.oracle.specs.Solving.{IsOrderly, IsWithin, Reaches};
+ghost use Rattle.oracle.specs.Solving.{AnswersWithin, IsOrderly, IsWithin, MayBeAsked, Reaches, lesser};
 
 use crate::{Answer, OracleFault};
 use proof_rules::Recorder;
@@ -41,4 +41,11 @@ pub trait Oracle: Recorder {
         ensures within { IsWithin (Self.seen self.old).limit (Self.seen self.old).problem
             (Self.seen self.new).lines }
         ensures keeps { KeepsRecorder (Self.seen self.old) (Self.seen self.new) };
+
+    /// The same where no more than `most` clauses may be learned from the first line on, if that is less than the oracle's
+    /// limit: `Spent` where so many are learned and one more would be. Then it may be asked again, by `solve` too.
+    fn solve_limited(&mut self, assumptions: &[Lit], most: u64) -> Result<Answer, OracleFault>
+        requires { MayBeAsked (Self.seen self.old) (lesser (Self.seen self.old).limit most) assumptions.now }
+        ensures { AnswersWithin (Self.seen self.old) (Self.seen self.new)
+            (lesser (Self.seen self.old).limit most) assumptions.now result };
 }

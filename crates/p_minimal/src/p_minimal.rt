@@ -6,6 +6,7 @@ ghost use Rattle.search_questions.specs.Telling.{IsGoodWithSome, SeeksOn};
 ghost use Rattle.p_minimal.specs.Aiming.{Aims, Serves, TellsOfAim, own_number};
 
 use crate::relaxed::Relaxed;
+use engine_search::EngineSearch;
 use front_set::CostVec;
 use oracle::{Oracle, OracleFault};
 use pb_lin::PbProblem;
@@ -22,6 +23,7 @@ use std::marker::Model;
 pub struct PMinimal {
     alloc: Global,
     aim: Option<CostVec>,
+    engine: EngineSearch,
     relaxed: Option<Relaxed>,
 }
 
@@ -41,6 +43,7 @@ impl PMinimal {
         PMinimal {
             alloc,
             aim: None,
+            engine: EngineSearch::new(alloc),
             relaxed: None,
         }
     }
@@ -53,6 +56,7 @@ impl PMinimal {
         Ok(PMinimal {
             alloc,
             aim: None,
+            engine: EngineSearch::new(alloc),
             relaxed: Some(Relaxed::new(alloc, problem)?),
         })
     }
@@ -115,8 +119,10 @@ impl Search for PMinimal {
         ensures goes_on { GoesOn (O.seen oracle.old) (O.seen oracle.new) }
         ensures board { KeepsBoard board.old board.new }
     {
-        let relaxed = &mut self.relaxed;
-        match seek(self.alloc, &self.aim, relaxed, oracle, bounds, board)? {
+        let (engine, relaxed) = (&mut self.engine, &mut self.relaxed);
+        match seek(
+            self.alloc, &self.aim, engine, relaxed, oracle, bounds, board,
+        )? {
             Below::Model(model) => {
                 board.take(oracle, bounds, &model)?;
                 self.aim = next_aim(self.alloc, &mut self.relaxed, board)?;
@@ -136,6 +142,7 @@ impl Search for PMinimal {
 fn seek<O: Oracle>(
     alloc: Global,
     aim: &Option<CostVec>,
+    engine: &mut EngineSearch,
     relaxed: &mut Option<Relaxed>,
     oracle: &mut O,
     bounds: &mut Bounds,
@@ -149,14 +156,15 @@ fn seek<O: Oracle>(
 {
     match relaxations_tell(alloc, aim, relaxed, oracle, bounds, board)? {
         Some(below) => Ok(below),
-        None => ask_over_rows(alloc, aim, relaxed, oracle, bounds, board),
+        None => ask_over_rows(alloc, aim, engine, relaxed, oracle, bounds, board),
     }
 }
 
-// The same of the oracle alone, over totalizers of the rows that count.
+// The same of the oracle and the engine alone, over totalizers of the rows that count.
 fn ask_over_rows<O: Oracle>(
     alloc: Global,
     aim: &Option<CostVec>,
+    engine: &mut EngineSearch,
     relaxed: &mut Option<Relaxed>,
     oracle: &mut O,
     bounds: &mut Bounds,
@@ -169,7 +177,7 @@ fn ask_over_rows<O: Oracle>(
     ensures seeks { SeeksOn (O.seen oracle.old) (O.seen oracle.new) bounds.old bounds.new result }
 {
     add_rows(alloc, relaxed, oracle, bounds, board)?;
-    ask_oracle(alloc, aim, oracle, bounds)
+    ask_oracle(alloc, aim, engine, oracle, bounds, board.problem())
 }
 
 // Gives the rows that count their totalizers, once, where relaxations don't tell: before the first model too, which may be
@@ -197,21 +205,24 @@ fn add_rows<O: Oracle>(
     Ok(())
 }
 
-// The same of the oracle alone.
+// The same of the oracle and the engine alone.
 fn ask_oracle<O: Oracle>(
     alloc: Global,
     aim: &Option<CostVec>,
+    engine: &mut EngineSearch,
     oracle: &mut O,
     bounds: &mut Bounds,
+    problem: &PbProblem,
 ) -> Result<Below, OracleFault>
     requires good { IsGoodWithSome (O.seen oracle.old) bounds.old }
+    requires problem { (O.seen oracle.old).problem ≡ problem.now }
     requires serves { Serves aim.now (O.seen oracle.old).problem }
     ensures tells { IfOk result (TellsOfAim (O.seen oracle.new) aim.now) }
     ensures seeks { SeeksOn (O.seen oracle.old) (O.seen oracle.new) bounds.old bounds.new result }
 {
     match aim {
-        Some(aim) => seek_below(alloc, oracle, bounds, aim),
-        None => seek_any(oracle, bounds),
+        Some(aim) => seek_below(alloc, engine, oracle, bounds, problem, aim),
+        None => seek_any(engine, oracle, bounds, problem),
     }
 }
 

@@ -15,7 +15,7 @@ use Rattle.search_base.specs.Logged.{logged, logged_by}
 use Rattle.search_base.specs.Laws.{AdvisedStaysPrepared}
 use Rattle.search_base.proofs.LoggedVectors.{none_logged}
 
-silent : (p : ProblemValue) (line : Line) → IsAdvice line → logged_by p line ≡ []
+pub silent : (p : ProblemValue) (line : Line) → IsAdvice line → logged_by p line ≡ []
 silent p (Pol tokens) is = refl
 silent p (Rup goal hints) is = refl
 silent p (Def var sum) is = refl
@@ -23,7 +23,7 @@ silent p (Red goal w proofs) is = refl
 silent p line is = absurd is
 
 -- no more is learned
-as_many : (a b : Snapshot) (s t : StateValue) (limit : Option ℕ) → IsReached a s → IsReached b t → t.learned ≡ s.learned →
+pub as_many : (a b : Snapshot) (s t : StateValue) (limit : Option ℕ) → IsReached a s → IsReached b t → t.learned ≡ s.learned →
     IsWithin limit a.problem a.lines → IsWithin limit b.problem b.lines
 as_many a b s t None reached is same within = tt
 as_many a b s t (Some most) reached is same within = λ u other.

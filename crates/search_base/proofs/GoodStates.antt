@@ -53,7 +53,7 @@ left_later stays p old new s P keeps before none is t after x rows hold covered 
     is s before x rows (kept_back stays p old new s t x keeps before after hold)
     (subst (λ (vs : List (List ℤ)). (u : List ℤ) × Contains vs u × IsBelow u (problem_costs p x)) none covered)
 
-new_after : OwnLinesStay → (a b : Snapshot) (s : StateValue) → b.problem ≡ a.problem →
+pub new_after : OwnLinesStay → (a b : Snapshot) (s : StateValue) → b.problem ≡ a.problem →
     KeepsOwn a.problem a.lines b.lines → IsReached a s → LogsNone a.problem a.lines b.lines → AllIsNew a → AllIsNew b
 new_after stays a b s problem keeps reached none is =
     subst (λ (p : ProblemValue). LeftAfter p b.lines NoneIsLeft) (sym problem)

@@ -38,4 +38,5 @@ pub mod Taking
 pub mod PendingModels
 pub mod SettledStates
 pub mod AddedLines
+pub mod DerivedLines
 pub mod GoodBut

@@ -4,7 +4,8 @@ use Rattle.pb_lin.specs.Problem.{ProblemValue}
 use Rattle.proof_laws.specs.declared.line.Line.{Line}
 use Rattle.proof_laws.specs.declared.line.Line.TheVariants.{Pol, Rup, Learn, Def, Sol, Reduce}
 use Rattle.proof_rules.specs.Recording.{Snapshot}
-use Rattle.oracle.specs.Solving.{AddsSearchLines, IsSearchLine}
+use Rattle.recording.specs.Adding.{Adds}
+use Rattle.oracle.specs.Solving.{AddsSearchLines, IsDerived, IsSearchLine}
 use Rattle.sum_outputs.specs.Totals.{IsTotalizerLine}
 use Rattle.sum_outputs.specs.Adding.{Continues}
 use Rattle.totalizer.specs.Keeping.{DeletesLearned}
@@ -25,6 +26,11 @@ totalizer_kind : (p : ProblemValue) (before : List Line) (line : Line) → IsTot
 totalizer_kind p before (Def var sum) is = tt
 totalizer_kind p before (Pol tokens) is = tt
 totalizer_kind p before line is = absurd is
+
+derived_kind : (p : ProblemValue) (before : List Line) (line : Line) → IsDerived line → IsTurnLine p before line
+derived_kind p before (Pol tokens) is = tt
+derived_kind p before (Rup goal hints) is = tt
+derived_kind p before line is = absurd is
 
 turn_deletes : (p : ProblemValue) (before : List Line) (line : Line) → IsTurnLine p before line →
     DeletesLearned p before line
@@ -60,6 +66,14 @@ totalizer_lines a b on = record {
       (at_place IsTotalizerLine on.more first after line e on.kinds);
 }
 
+pub derived_lines : (a b : Snapshot) → Adds IsDerived a b → AddsTurnLines a.problem a.lines b.lines
+derived_lines a b on = record {
+  more = on.more;
+  is = on.lines;
+  kinds = λ first line after e. derived_kind a.problem (a.lines ++ first) line
+      (at_place IsDerived on.more first after line e on.kinds);
+}
+
 module _ (p : ProblemValue) (a b c : List Line) (one : AddsTurnLines p a b) (other : AddsTurnLines p b c) where
   kind_at : (first : List Line) (line : Line) (after : List Line) → one.more ++ other.more ≡ first ++ (line ∷ after) →
       IsTurnLine p (a ++ first) line
@@ -81,7 +95,13 @@ module _ (p : ProblemValue) (a b c : List Line) (one : AddsTurnLines p a b) (oth
 -- ---- the laws
 
 pub join_law : TurnLinesJoin
-join_law = record { none = no_line; search = search_lines; totalizer = totalizer_lines; both = both_lines }
+join_law = record {
+  none = no_line;
+  search = search_lines;
+  totalizer = totalizer_lines;
+  derived = derived_lines;
+  both = both_lines;
+}
 
 pub own_law : TurnLinesKeepOwn
 own_law p old new adds = record {

@@ -7,7 +7,7 @@ use Rattle.proof_laws.specs.declared.line.Line.{Line}
 use Rattle.proof_rules.specs.Recording.{Snapshot, KeepsSurroundings}
 use Rattle.recording.specs.Adding.{Adds}
 use Rattle.recording.specs.Advice.{IsAdvice}
-use Rattle.oracle.specs.Solving.{AddsSearchLines, AreEarned, IsWithin}
+use Rattle.oracle.specs.Solving.{AddsSearchLines, AreEarned, IsDerived, IsWithin}
 use Rattle.sum_outputs.specs.Adding.{Continues, IsReached, IsReady}
 use Rattle.totalizer.specs.Keeping.{KeepsOwn}
 use Rattle.search_base.specs.Logged.{AddsTurnLines, LogsNone, logged}
@@ -42,11 +42,12 @@ BoundingStaysGood = (a b : Snapshot) (old new : List ObjectiveBound) (board : Bo
     → IsGood a old board → Continues a b → b.broken ≡ false → FitBounds b new
     → IsGood b new board × LogsNone a.problem a.lines b.lines
 
--- the lines of an oracle and those of a totalizer are lines of turns, and so are both after each other
+-- the lines of an oracle, those of a totalizer and derived ones are lines of turns, and so are both after each other
 pub record TurnLinesJoin : Type 0 where
   pub none : (p : ProblemValue) (lines : List Line) → AddsTurnLines p lines lines
   pub search : (p : ProblemValue) (old new : List Line) → AddsSearchLines p old new → AddsTurnLines p old new
   pub totalizer : (a b : Snapshot) → Continues a b → AddsTurnLines a.problem a.lines b.lines
+  pub derived : (a b : Snapshot) → Adds IsDerived a b → AddsTurnLines a.problem a.lines b.lines
   pub both : (p : ProblemValue) (first second third : List Line) → AddsTurnLines p first second →
       AddsTurnLines p second third → AddsTurnLines p first third
 

@@ -1,5 +1,5 @@
 // Laws of good states.
-ghost use Rattle.search_base.specs.Adding.{AddingStaysGood};
+ghost use Rattle.search_base.specs.Adding.{AddingStaysGood, DerivingStaysGood};
 ghost use Rattle.search_base.specs.Laws.{AdvisedStaysPrepared, AskingStaysGood, BeginningIsGood, BoundingStaysGood, LoggedIsReached, NoLinesArePrepared, TurnLinesJoin, TurnLinesKeepOwn};
 ghost use Rattle.search_base.specs.Pending.{AddingStaysGoodBut, AskingStaysGoodBut, EndIsGood, GoodButForNone};
 
@@ -50,7 +50,16 @@ pub fn adding_stays_good()
     reform_stays();
 }
 
-/// Law: the lines of oracles and totalizers are lines of turns, and may follow each other.
+/// Law: derived and implied constraints keep a good state good.
+pub fn deriving_stays_good()
+    ensures { DerivingStaysGood }
+{
+    own_lines_stay();
+    fitting_stays();
+    reform_stays();
+}
+
+/// Law: the lines of oracles and totalizers and derived ones are lines of turns, and may follow each other.
 pub fn turn_lines_join()
     ensures { TurnLinesJoin }
 {}

@@ -29,8 +29,9 @@ pub use bounds::Bounds;
 pub use costs::costs_at;
 pub use laws::{
     adding_stays_good, adding_stays_good_but, advised_stays_prepared, asking_stays_good,
-    asking_stays_good_but, beginning_is_good, bounding_stays_good, end_is_good, good_but_for_none,
-    logged_is_reached, no_lines_are_prepared, turn_lines_join, turn_lines_keep_own,
+    asking_stays_good_but, beginning_is_good, bounding_stays_good, deriving_stays_good,
+    end_is_good, good_but_for_none, logged_is_reached, no_lines_are_prepared, turn_lines_join,
+    turn_lines_keep_own,
 };
 pub use objective_bound::{ObjectiveBound, ObjectiveLine};
 pub use reforms::own_reforms;

@@ -1,6 +1,6 @@
 -- Calls one after another keep a good state good.
 use Rattle.std.proofs.Common.{◌≡◌, ◌∙◌, ℕ, false, Option, Result, Ok, Err, List, [], ◌∷◌, ap, arith, refl, sym, subst}
-use Rattle.std.specs.Prelude.{IfErr, IsErrAnd}
+use Rattle.std.specs.Prelude.{IfErr, IsErrAnd, OnOk}
 use Rattle.std.proofs.lemmas.Result.{err_from_is_err_and}
 use Rattle.std.specs.List.{All, AllZip}
 use Rattle.std.proofs.lemmas.List.Elements.{All-nil, All-cons}
@@ -13,10 +13,13 @@ use Rattle.proof_laws.proofs.Replays.{replay_once}
 use Rattle.proof_rules.specs.Recording.{Snapshot, KeepsRecorder}
 use Rattle.proof_rules.specs.declared.recorder.RecordFault.{RecordFault}
 use Rattle.proof_rules.specs.declared.recorder.RecordFault.TheVariants.{Failed as RecordingFailed, Full as RecordFull, NoMemory as RecordNoMemory}
-use Rattle.oracle.specs.Solving.{AddsSearchLines, AreEarned, HasFault, IsOrderly, IsSpent, IsWithin, Reaches, fault_of_recording}
+use Rattle.recording.specs.Adding.{Adds}
+use Rattle.oracle.specs.Solving.{AddsSearchLines, AreEarned, HasFault, IsDerived, IsOrderly, IsSpent, IsWithin, Reaches, fault_of_recording}
+use Rattle.oracle.specs.declared.answer.Answer.{Answer}
 use Rattle.oracle.specs.declared.fault.OracleFault.{OracleFault}
 use Rattle.oracle.specs.declared.fault.OracleFault.TheVariants.{Spent, Failed, Full, NoMemory}
 use Rattle.sum_outputs.specs.Adding.{Continues, IsFaultAt, IsReady}
+use Rattle.search_base.specs.Adding.{DerivingStaysGood}
 use Rattle.search_base.specs.CostBounds.{FitBounds}
 use Rattle.search_base.specs.Good.{GoesOn}
 use Rattle.search_base.specs.Laws.{AskingStaysGood, BoundingStaysGood, TurnLinesJoin}
@@ -107,6 +110,16 @@ pub seeks_ok : {T : Type 0} (a b : Snapshot) (old new : List ObjectiveBound) (x 
     → GoesOn a b → SeeksOn {T = T} a b old new (Ok x)
 seeks_ok a b old new x good on = record { good = λ order. good; fault = tt; goes_on = on }
 
+-- what is told after a call; nothing but memory was wanting since
+pub seeks_told : {T : Type 0} (a b : Snapshot) (old new : List ObjectiveBound) (r : Result T OracleFault)
+    → StaysGood a b old new → GoesOn a b → IfErr r (λ f. f ≡ NoMemory) → SeeksOn a b old new r
+seeks_told a b old new (Ok x) good on fault = seeks_ok a b old new x good on
+seeks_told a b old new (Err f) good on fault = record {
+  good = λ order. good;
+  fault = subst (λ (g : OracleFault). IsSearchFault a b g) (sym fault) tt;
+  goes_on = on;
+}
+
 -- nothing was asked
 pub seeks_nothing : {T : Type 0} (a : Snapshot) (asked : List ObjectiveBound) (x : T)
     → SeeksOn {T = T} a a asked asked (Ok x)
@@ -180,6 +193,32 @@ seeks_refused {T} law join a b asked keeps lines within r f is earned why =
       fault = refused a b keeps f why;
       goes_on = oracle_goes_on join a b keeps lines;
     })
+
+-- the oracle was asked
+pub seeks_asked : (law : AskingStaysGood) (join : TurnLinesJoin) (a b : Snapshot) (asked : List ObjectiveBound)
+    (keeps : KeepsRecorder a b) (lines : AddsSearchLines a.problem a.lines b.lines)
+    (within : IsWithin a.limit a.problem b.lines) (r : Result Answer OracleFault) → OnOk r (b.broken ≡ false)
+    → (IsOrderly r → AreEarned a.problem b.lines)
+    → IfErr r (λ f. HasFault f a.limit a.problem b.lines (Rose a.faults b.faults) b.broken) → SeeksOn a b asked asked r
+seeks_asked law join a b asked keeps lines within (Ok x) whole earned fault =
+    seeks_ok a b asked asked x (oracle_stays_good law a b asked keeps lines within whole (earned tt))
+    (oracle_goes_on join a b keeps lines)
+seeks_asked law join a b asked keeps lines within (Err f) whole earned fault = record {
+  good = spent law a b asked keeps lines within Answer f earned fault;
+  fault = refused a b keeps f fault;
+  goes_on = oracle_goes_on join a b keeps lines;
+}
+
+-- the engine was asked
+pub seeks_derived : {T : Type 0} → DerivingStaysGood → TurnLinesJoin → (a b : Snapshot) (asked : List ObjectiveBound) (x : T)
+    → Adds IsDerived a b → b.broken ≡ false → SeeksOn {T = T} a b asked asked (Ok x)
+seeks_derived law join a b asked x on whole = seeks_ok a b asked asked x (λ front good. law a b asked front good on whole) (record {
+  problem = on.problem;
+  limit = on.limit;
+  later = on.later;
+  around = on.around;
+  lines = join.derived a b on;
+})
 
 -- the oracle was asked and answered; nothing but memory was wanting since
 pub seeks_answered : {T : Type 0} (law : AskingStaysGood) (join : TurnLinesJoin) (a b : Snapshot)

@@ -6,6 +6,8 @@ pub mod Cores
 pub mod Calls
 pub mod Telling
 pub mod Told
-pub mod Limits
+pub mod LimitNumbers
 pub mod Remaining
 mod Proposals
+pub mod Limited
+pub mod LimitedCalls

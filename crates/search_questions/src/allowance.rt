@@ -1,22 +1,6 @@
-// How much work relaxations may do, in numbers touched: 10^9 take one to four seconds.
+// How much work relaxations may do, in numbers touched.
+use crate::limits::{FIRST, MOST, PART_WITHOUT_OBJECTIVES, PASSES_A_ROW, WORK_OF_A_LINE};
 use pb_lin::{CostRow, PbProblem};
-
-// At first, whatever the problem is.
-const FIRST: u64 = 200_000_000;
-
-// For each line of the objectives' totalizers, as far as they can be estimated: what a line takes to make and to judge, so that a
-// search that has to build them takes at most twice the time of one that begins with them.
-const WORK_OF_A_LINE: u64 = 5_000;
-
-// For each row so many passes over rows and columns, and one more for each row: a linear program takes some for each, and where
-// there are many rows clauses take long too.
-const PASSES_A_ROW: u64 = 100;
-
-// Nobody waits for more, where it tells nothing.
-const MOST: u64 = 30_000_000_000;
-
-// Where no objective is there, a question is one of clauses or of counting: the one is as fast otherwise, the other needs little.
-const PART_WITHOUT_OBJECTIVES: u64 = 16;
 
 // What all questions may take together before the first clause is learned.
 pub(crate) fn first_allowance(problem: &PbProblem) -> u64 {

@@ -8,10 +8,12 @@
 
 mod allowance;
 mod below;
+mod limits;
 mod question;
 mod relaxations;
 mod relaxing;
 mod seeking;
+mod solving;
 mod standing;
 
 pub use below::Below;

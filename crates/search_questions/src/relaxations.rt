@@ -6,7 +6,9 @@ ghost use Rattle.search_base.specs.Turns.{IsEndLine, IsInOrder, IsSearchFault};
 ghost use Rattle.search_questions.specs.Telling.{IsGoodWithSome, SeeksOn, Tells, TellsAny, is_closed};
 
 use crate::allowance::{first_allowance, first_purse};
+use crate::limits::{MOST_BOXES, MOST_PARTS, WORK_OF_A_CLAUSE};
 use crate::{Below, seek_any, seek_below, seek_relaxed};
+use engine_search::EngineSearch;
 use front_set::CostVec;
 use linear_front::linear_front;
 use linear_search::LinearSearch;
@@ -17,21 +19,14 @@ use scut_base::{Items, NoMemory};
 use search_base::{Board, Bounds};
 use std::alloc::Global;
 
-// What relaxations earn by each clause that the oracle learned: about as much work as that took.
-const WORK_OF_A_CLAUSE: u64 = 200_000;
-
-// Where there are more boxes, they are neither asked nor divided any more.
-const MOST_BOXES: usize = 500;
-
-// Where there are more boxes, no parts of them are asked: a fence rises often, and then all of them are asked again.
-const MOST_PARTS: usize = 120;
-
 /// The linear relaxations of a problem, and the boxes in which models may be left. Which boxes are open is only a matter
 /// of time: whatever is told is told by live clauses.
 #[derive(Drop)]
 pub struct Relaxations {
     alloc: Global,
     linear: LinearSearch,
+    // What is asked where they don't tell, beside the oracle.
+    engine: EngineSearch,
     boxes: OpenBoxes,
     // Limits to which nothing that is left keeps. None is below another.
     settled: Vec<CostVec>,
@@ -46,6 +41,7 @@ impl Relaxations {
         Ok(Relaxations {
             alloc,
             linear: LinearSearch::new(alloc, problem, first_purse(problem))?,
+            engine: EngineSearch::new(alloc),
             boxes: OpenBoxes::new(alloc, problem.costs().len())?,
             settled: Vec::new(alloc),
             allowance: first_allowance(problem),
@@ -150,7 +146,10 @@ impl Relaxations {
     {
         match self.seek_in_boxes(oracle, bounds, problem, limits, MOST_PARTS)? {
             Some(below) => Ok(below),
-            None => seek_below(self.alloc, oracle, bounds, limits),
+            None => {
+                let engine = &mut self.engine;
+                seek_below(self.alloc, engine, oracle, bounds, problem, limits)
+            }
         }
     }
 
@@ -171,7 +170,7 @@ impl Relaxations {
     {
         match self.seek_left(oracle, bounds, problem)? {
             Some(below) => Ok(below),
-            None => seek_any(oracle, bounds),
+            None => seek_any(&mut self.engine, oracle, bounds, problem),
         }
     }
 

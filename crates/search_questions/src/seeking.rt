@@ -5,32 +5,36 @@ ghost use Rattle.search_questions.specs.Telling.{IsGoodWithSome, SeeksOn, Tells,
 
 use crate::Below;
 use crate::question::questioned;
+use crate::solving::solve;
 use crate::standing::{clashing, standing};
+use engine_search::EngineSearch;
 use front_set::CostVec;
 use oracle::{Answer, Core, Oracle, OracleFault};
-use search_base::{
-    Bounds, asking_stays_good, bounding_stays_good, turn_lines_join, turn_lines_keep_own,
-};
+use pb_lin::PbProblem;
+use search_base::{Bounds, bounding_stays_good, turn_lines_join, turn_lines_keep_own};
 use std::alloc::Global;
 use totalizer::{Bound, own_lines_stay};
 
-/// Whether a model is left whose costs are at most these limits. Where the bounds alone tell that none is, the
-/// oracle isn't asked. A limit of `i64::MAX` is none. After `Spent` it may be asked again.
+/// Whether a model is left whose costs are at most these limits. Where the bounds alone tell that none is, nobody
+/// is asked; else the oracle is, and from the thousandth learned clause on the engine first. A limit of `i64::MAX` is
+/// none. After `Spent` it may be asked again.
 ///
-/// Costs a bound for each objective, and a call of the oracle.
+/// Costs a bound for each objective, and a call of the engine or of the oracle.
 pub fn seek_below<O: Oracle>(
     alloc: Global,
+    engine: &mut EngineSearch,
     oracle: &mut O,
     bounds: &mut Bounds,
+    problem: &PbProblem,
     limits: &CostVec,
 ) -> Result<Below, OracleFault>
     requires good { IsGoodWithSome (O.seen oracle.old) bounds.old }
+    requires problem { (O.seen oracle.old).problem ≡ problem.now }
     requires count { length limits.now ≡ length (O.seen oracle.old).problem.costs }
     ensures tells { IfOk result (Tells (O.seen oracle.new) limits.now) }
     ensures seeks { SeeksOn (O.seen oracle.old) (O.seen oracle.new) bounds.old bounds.new result }
 {
     own_lines_stay();
-    asking_stays_good();
     bounding_stays_good();
     turn_lines_join();
     turn_lines_keep_own();
@@ -41,7 +45,7 @@ pub fn seek_below<O: Oracle>(
         let stands = clashing(alloc, excesses, question.last, objectives)?;
         return Ok(Below::Above { stands });
     };
-    match oracle.solve(lits.as_slice())? {
+    match solve(engine, oracle, bounds, problem, lits.as_slice())? {
         Answer::Sat(model) => Ok(Below::Model(model)),
         Answer::Unsat(core) => told_by_core(alloc, excesses, core, objectives),
     }
@@ -66,15 +70,19 @@ pub(crate) fn told_by_core(
 }
 
 /// Whether a model is left: it never answers `Above`. After `Spent` it may be asked again. Costs a call of the
-/// oracle.
-pub fn seek_any<O: Oracle>(oracle: &mut O, bounds: &Bounds) -> Result<Below, OracleFault>
+/// engine or of the oracle.
+pub fn seek_any<O: Oracle>(
+    engine: &mut EngineSearch,
+    oracle: &mut O,
+    bounds: &Bounds,
+    problem: &PbProblem,
+) -> Result<Below, OracleFault>
     requires good { IsGoodWithSome (O.seen oracle.old) bounds.now }
+    requires problem { (O.seen oracle.old).problem ≡ problem.now }
     ensures tells { IfOk result (TellsAny (O.seen oracle.new)) }
     ensures seeks { SeeksOn (O.seen oracle.old) (O.seen oracle.new) bounds.now bounds.now result }
 {
-    asking_stays_good();
-    turn_lines_join();
-    match oracle.solve(&[])? {
+    match solve(engine, oracle, bounds, problem, &[])? {
         Answer::Sat(model) => Ok(Below::Model(model)),
         Answer::Unsat(core) => Ok(Below::End { id: core.id }),
     }

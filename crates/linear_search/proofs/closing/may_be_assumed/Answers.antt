@@ -1,7 +1,8 @@
 use Rattle.std.proofs.Common.{ℕ, ◌+◌, take, sym, subst, arith}
 use Rattle.std.proofs.lemmas.List.{take_all}
 use Rattle.oracle.specs.Solving.{AreAssumptions}
-use Rattle.linear_search.proofs.Assuming.{AreRising, assumptions, longer, one_more}
+use Rattle.oracle.proofs.ClauseCores.{longer}
+use Rattle.linear_search.proofs.Assuming.{AreRising, assumptions, one_more}
 use Rattle.linear_search.proofs.closing.may_be_assumed.Goals as goal
 
 pub loop-lit-preserved : goal.loop-lit-preserved

@@ -4,7 +4,7 @@ use mir.Syntax.{w64}
 use Rattle.std.proofs.Common.{rules, ◌≡◌, arith}
 use Rattle.std.proofs.lemmas.Int.{ints, to_z-of_z}
 use Rattle.front_set.proofs.FrontLaws.{IsBelow-refl}
-use Rattle.search_questions.proofs.Limits.{lowered}
+use Rattle.search_questions.proofs.LimitNumbers.{lowered}
 use Rattle.search_questions.proofs.relaxations.lower.Goals as goal
 
 pub returns-then-most-at : goal.returns-then-most-at

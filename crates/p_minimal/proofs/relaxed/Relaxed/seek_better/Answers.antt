@@ -5,7 +5,7 @@ use Rattle.pb_lin.specs.Problem.{ProblemValue}
 use Rattle.search_base.proofs.Turning.{goes_again, goes_twice}
 use Rattle.search_questions.specs.declared.below.Below.{Below}
 use Rattle.search_questions.proofs.Calls.{seeks_after, seeks_handed, seeks_memory, seeks_ok, stays_good_twice}
-use Rattle.search_questions.proofs.Limits.{told_of_greater}
+use Rattle.search_questions.proofs.LimitNumbers.{told_of_greater}
 use Rattle.p_minimal.proofs.relaxed.Relaxed.seek_better.Goals as goal
 
 pub loop-objective-init : goal.loop-objective-init

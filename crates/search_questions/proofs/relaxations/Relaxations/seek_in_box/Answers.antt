@@ -5,7 +5,7 @@ use Rattle.front_set.proofs.FrontLaws.{IsBelow-antisym, length-IsBelow}
 use Rattle.search_base.proofs.Turning.{goes_again}
 use Rattle.search_questions.specs.declared.below.Below.{Below}
 use Rattle.search_questions.specs.Telling.{Tells}
-use Rattle.search_questions.proofs.Limits.{told_of_greater}
+use Rattle.search_questions.proofs.LimitNumbers.{told_of_greater}
 use Rattle.search_questions.proofs.Calls.{seeks_handed, seeks_memory, seeks_nothing}
 use Rattle.search_questions.proofs.relaxations.Relaxations.seek_in_box.Goals as goal
 

@@ -1,6 +1,6 @@
 use Rattle.std.proofs.Common.{refl, subst}
 use Rattle.std.specs.List.{All, Contains}
-use Rattle.linear_search.proofs.closing.core_of.Goals as goal
+use Rattle.oracle.proofs.cores.core_of.Goals as goal
 
 pub returns-then-are_among-clause-among : goal.returns-then-are_among-clause-among
 returns-then-are_among-clause-among c =

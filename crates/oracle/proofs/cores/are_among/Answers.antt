@@ -2,8 +2,8 @@ use Rattle.std.proofs.Common.{take, sym, subst, arith, ◌∙◌}
 use Rattle.std.specs.List.{All, Contains}
 use Rattle.std.proofs.lemmas.List.{take_all}
 use Rattle.std.proofs.lemmas.List.Elements.{All-push}
-use Rattle.linear_search.proofs.Assuming.{found, longer}
-use Rattle.linear_search.proofs.closing.are_among.Goals as goal
+use Rattle.oracle.proofs.ClauseCores.{found, longer}
+use Rattle.oracle.proofs.cores.are_among.Goals as goal
 
 pub loop-lit-preserved : goal.loop-lit-preserved
 loop-lit-preserved c =

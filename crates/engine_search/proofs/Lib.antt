@@ -1,0 +1,4 @@
+pub mod LiveClauses
+pub mod DerivedLines
+pub mod EngineCores
+pub mod ReachedModels
