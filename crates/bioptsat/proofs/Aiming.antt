@@ -163,8 +163,8 @@ aim_has (First v) u = refl
 aim_has (Second v) u = refl
 
 -- the board's last vector is the one that was logged for the model
-module _ (m b : Snapshot) (x : List Bool) (board : BoardValue) (aim now : Aim) (two : length m.problem.costs ≡ 2)
-    (taken : IsTaken m b x) (same : b.problem ≡ m.problem) (is : IsBoard board (logged b.problem b.lines))
+module _ (m b : Snapshot) {front : BoardValue} (x : List Bool) (board : BoardValue) (aim now : Aim)
+    (two : length m.problem.costs ≡ 2) (taken : IsTaken m b front x) (same : b.problem ≡ m.problem) (is : IsBoard board (logged b.problem b.lines))
     (after : now ≡ aim_after aim board.last) where
   is_logged : now ≡ aim_at aim taken.found.costs
   is_logged =

@@ -16,7 +16,7 @@ use Rattle.certified_front.specs.Stopping.{IsStop, SearchesFront, StaysWith}
 use Rattle.certified_front.specs.declared.ending.Ending.{Ending}
 use Rattle.certified_front.specs.declared.ending.Ending.TheVariants.{Complete, Incomplete}
 use Rattle.certified_front.specs.declared.ending.Found.{Found}
-use Rattle.certified_front.proofs.EndLines.{stays_after}
+use Rattle.certified_front.proofs.EndLines.{search_begins, stays_after}
 
 -- ---- boosted lines
 
@@ -28,8 +28,9 @@ boosted_then p lines (Incomplete learned) is = tt
 pub boosted_at_end : BoostedStays → (p : ProblemValue) (a b : Snapshot) (r : Result Found RecordFault) → IsBoosted p a.lines
     → StaysWith a b → IfOk r (λ found. IsBoostedAtEnd p b.lines found.ending)
 boosted_at_end law p a b (Ok found) is stays =
+    let begins = search_begins a.problem a.lines b.lines stays.lines in
     boosted_then p b.lines found.ending
-    (subst (λ (ls : List Line). IsBoosted p ls) (sym stays.begins.1) (law p a.lines stays.begins.0 is))
+    (subst (λ (ls : List Line). IsBoosted p ls) (sym begins.1) (law p a.lines begins.0 is))
 boosted_at_end law p a b (Err fault) is stays = tt
 
 -- ---- a search after turns

@@ -19,10 +19,11 @@ use Rattle.sum_outputs.specs.Adding.{IsReady, IsReached}
 use Rattle.sum_outputs.proofs.LaterStates.{around_twice}
 use Rattle.search_base.specs.Boards.{BoardValue, IsBoard}
 use Rattle.search_base.specs.Good.{GoesOn}
-use Rattle.search_base.specs.Logged.{LogsNone, logged, logged_by}
+use Rattle.search_base.specs.Logged.{AddsTurnLines, LogsNone, logged, logged_by}
 use Rattle.search_base.specs.Turns.{IsEndLine}
 use Rattle.certified_front.specs.Certified.{HasEnded}
-use Rattle.certified_front.specs.Stopping.{EndsBy, StaysWith}
+use Rattle.certified_front.specs.Stopping.{AddsSearch, EndsBy, StaysWith}
+use Rattle.search_base.proofs.TurnLines.{both_lines, no_line}
 
 -- "0 >= 1"
 abbrev contradiction : ConstraintValue
@@ -103,9 +104,43 @@ stays_after a m b turns ended = record {
   limit = ended.limit ∙ turns.limit;
   later = let one = turns.later in let other = ended.later in omega arith;
   around = around_twice a.around m.around b.around turns.around ended.around;
-  begins = (
-    turns.lines.more ++ ended.begins.0,
-    ended.begins.1 ∙ ap (λ (ls : List Line). ls ++ ended.begins.0) turns.lines.is
-        ∙ append_assoc a.lines turns.lines.more ended.begins.0,
-  );
+  lines = record {
+    before = ended.lines.before;
+    turns = both_lines a.problem a.lines m.lines ended.lines.before turns.lines
+        (subst (λ (p : ProblemValue). AddsTurnLines p m.lines ended.lines.before) turns.problem ended.lines.turns);
+    last = ended.lines.last;
+  };
 }
+
+-- turns alone
+pub stays_by_turns : (a b : Snapshot) → GoesOn a b → StaysWith a b
+stays_by_turns a b turns = record {
+  problem = turns.problem;
+  limit = turns.limit;
+  later = turns.later;
+  around = turns.around;
+  lines = record { before = b.lines; turns = turns.lines; last = inl refl };
+}
+
+-- nothing, or the end alone
+pub no_search : (p : ProblemValue) (old new : List Line) → new ≡ old → AddsSearch p old new
+no_search p old new same = record { before = old; turns = no_line p old; last = inl same }
+
+pub end_search : (a : Snapshot) (new : List Line) (line : Line) → EndsBy a line → new ≡ a.lines ++ line ∷ []
+    → AddsSearch a.problem a.lines new
+end_search a new line is added = record {
+  before = a.lines;
+  turns = no_line a.problem a.lines;
+  last = let end = end_line a line is in inr (end.0, added ∙ ap (λ (l : Line). a.lines ++ l ∷ []) end.1);
+}
+
+begins_by : (old before new : List Line) (more : List Line) → before ≡ old ++ more
+    → (new ≡ before) ⊎ ((id : ℕ) × (new ≡ before ++ End id ∷ [])) → (rest : List Line) × (new ≡ old ++ rest)
+begins_by old before new more is (inl same) = (more, same ∙ is)
+begins_by old before new more is (inr end) =
+    (more ++ End end.0 ∷ [], end.1 ∙ ap (λ (ls : List Line). ls ++ End end.0 ∷ []) is ∙ append_assoc old more (End end.0 ∷ []))
+
+-- the new lines begin with the old ones
+pub search_begins : (p : ProblemValue) (old new : List Line) → AddsSearch p old new
+    → (more : List Line) × (new ≡ old ++ more)
+search_begins p old new adds = begins_by old adds.before new adds.turns.more adds.turns.is adds.last

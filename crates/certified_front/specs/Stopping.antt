@@ -1,5 +1,5 @@
 -- How a search for a front comes back, and what it never changes.
-use Rattle.std.specs.Prelude.{◌≡◌, ◌≤◌, ◌^◌, ◌++◌, false, List, length, Result, IfOk, IfErr, OnOk}
+use Rattle.std.specs.Prelude.{◌≡◌, ◌⊎◌, ◌≤◌, ◌^◌, ◌∷◌, ◌++◌, [], ℕ, false, List, length, Result, IfOk, IfErr, OnOk}
 use Rattle.scut_base.specs.Faults.{Rose}
 use Rattle.instance.specs.Shape.{InstanceValue}
 use Rattle.pb_lin.specs.Problem.{ProblemValue}
@@ -8,17 +8,24 @@ use Rattle.proof_laws.specs.declared.line.Line.TheVariants.{End}
 use Rattle.proof_rules.specs.Recording.{Snapshot, KeepsSurroundings}
 use Rattle.proof_rules.specs.declared.recorder.RecordFault.{RecordFault}
 use Rattle.proof_rules.specs.declared.recorder.RecordFault.TheVariants.{Failed, Full, NoMemory}
+use Rattle.search_base.specs.Logged.{AddsTurnLines}
 use Rattle.search_base.specs.Turns.{IsEndLine}
 use Rattle.certified_front.specs.Certified.{CoversLogged, IsEnding}
 use Rattle.certified_front.specs.declared.ending.Found.{Found}
 
--- what no call changes, whatever lines it adds
+-- lines of turns follow the old ones, and then perhaps the line that ends a proof
+pub record AddsSearch (p : ProblemValue) (old new : List Line) : Type 0 where
+  pub before : List Line
+  pub turns : AddsTurnLines p old before
+  pub last : (new ≡ before) ⊎ ((id : ℕ) × (new ≡ before ++ End id ∷ []))
+
+-- what no call changes, and the lines that it may add
 pub record StaysWith (a b : Snapshot) : Type 0 where
   pub problem : b.problem ≡ a.problem
   pub limit : b.limit ≡ a.limit
   pub later : a.faults ≤ b.faults
   pub around : KeepsSurroundings a.around b.around
-  pub begins : (more : List Line) × (b.lines ≡ a.lines ++ more)
+  pub lines : AddsSearch a.problem a.lines b.lines
 
 -- why there is no front
 abbrev pub IsStop : Snapshot → Snapshot → RecordFault → Type 0

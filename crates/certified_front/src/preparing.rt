@@ -1,10 +1,12 @@
 // What is done before a search.
-ghost use Rattle.std.specs.Prelude.{◌≡◌, [], true, false, IfErr, OnOk};
+ghost use Rattle.std.specs.Prelude.{◌≡◌, [], false, IfErr, OnOk};
 ghost use Rattle.proof_rules.specs.Recording.{KeepsRecorder};
+ghost use Rattle.recording.specs.Adding.{Adds};
+ghost use Rattle.recording.specs.Advice.{IsAdvice};
 ghost use Rattle.search_base.specs.Laws.{IsPrepared};
 ghost use Rattle.harden.specs.Hardened.{hardened};
-ghost use Rattle.certified_front.specs.Planning.{BeginsHardened};
-ghost use Rattle.certified_front.specs.Stopping.{IsStop, StaysWith};
+ghost use Rattle.certified_front.specs.Planning.{ArePrepared, hardened_by};
+ghost use Rattle.certified_front.specs.Stopping.{IsStop};
 
 use harden::harden;
 use oracle::{Oracle, OracleFault};
@@ -35,8 +37,7 @@ pub(crate) fn prepare<O: Oracle, A: Adviser>(
     requires begun { (O.seen oracle.old).lines ≡ [] }
     requires whole { (O.seen oracle.old).broken ≡ false }
     ensures prepared { OnOk result (IsPrepared (O.seen oracle.new)) }
-    ensures hardened { OnOk result
-        (plan.harden ≡ true → BeginsHardened problem.now (O.seen oracle.new).lines) }
+    ensures planned { OnOk result (ArePrepared plan problem.now (O.seen oracle.new).lines) }
     ensures stop { IfErr result (IsStop (O.seen oracle.old) (O.seen oracle.new)) }
     ensures keeps { KeepsRecorder (O.seen oracle.old) (O.seen oracle.new) }
 {
@@ -55,7 +56,7 @@ fn take_proposals<O: Oracle, A: Adviser>(
     requires prepared { IsPrepared (O.seen oracle.old) }
     ensures prepared { OnOk result (IsPrepared (O.seen oracle.new)) }
     ensures stop { IfErr result (IsStop (O.seen oracle.old) (O.seen oracle.new)) }
-    ensures stays { StaysWith (O.seen oracle.old) (O.seen oracle.new) }
+    ensures adds { Adds IsAdvice (O.seen oracle.old) (O.seen oracle.new) }
 {
     advised_stays_prepared();
     let mut judge = in_memory(Judge::new(alloc, problem))?;
@@ -73,8 +74,7 @@ fn harden_by<O: Oracle>(
     requires begun { (O.seen oracle.old).lines ≡ [] }
     requires whole { (O.seen oracle.old).broken ≡ false }
     ensures prepared { OnOk result (IsPrepared (O.seen oracle.new)) }
-    ensures hardened { OnOk result
-        (plan.harden ≡ true → (O.seen oracle.new).lines ≡ hardened problem.now) }
+    ensures lines { OnOk result ((O.seen oracle.new).lines ≡ hardened_by plan problem.now) }
     ensures stop { IfErr result (IsStop (O.seen oracle.old) (O.seen oracle.new)) }
     ensures keeps { KeepsRecorder (O.seen oracle.old) (O.seen oracle.new) }
 {

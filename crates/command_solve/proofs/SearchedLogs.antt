@@ -1,15 +1,14 @@
 -- What a search leaves in its log.
-use Rattle.std.proofs.Common.{◌≡◌, ℕ, ◌^◌, Bool, false, List, length, refl, ap}
-use Rattle.std.specs.Prelude.{Option, Result, Ok, Err, IfOk, IfErr, IsErrOf, OnOk}
+use Rattle.std.proofs.Common.{◌≡◌, ℕ, Bool, false, List, refl, subst}
+use Rattle.std.specs.Prelude.{Option, Result, Ok, Err, IfOk, IfErr, OnOk}
 use Rattle.scut_base.specs.Files.{Files, with_file}
-use Rattle.scut_base.specs.Faults.{Faults, NoneFell, Rose}
+use Rattle.scut_base.specs.Faults.{Faults, NoneFell}
 use Rattle.scut_base.specs.World.{World}
 use Rattle.instance.specs.Shape.{InstanceValue}
 use Rattle.pb_lin.specs.Problem.{ProblemValue}
 use Rattle.proof_laws.specs.State.{StateValue}
 use Rattle.proof_laws.specs.declared.line.Line.{Line}
 use Rattle.proof_rules.specs.declared.recorder.RecordFault.{RecordFault}
-use Rattle.proof_rules.specs.declared.recorder.RecordFault.TheVariants.{Failed, Full}
 use Rattle.proof_text.specs.LogFile.{Held, IsLogFile}
 use Rattle.proof_text.specs.LogParts.{IsLogStopped}
 use Rattle.proof_text.specs.Recorders.{IsKept, file_seen, without_file}
@@ -17,6 +16,7 @@ use Rattle.proof_text.specs.declared.version.LogVersion.{LogVersion}
 use Rattle.proof_text.proofs.LogLeft.{kept_here, log_here, others_here, spelled, stopped_here, text, whole}
 use Rattle.certified_front.specs.Certified.{CoversLogged, IsEnding}
 use Rattle.certified_front.specs.Planning.{FollowsPlan}
+use Rattle.certified_front.specs.Stopping.{IsStop}
 use Rattle.certified_front.specs.declared.ending.Found.{Found}
 use Rattle.certified_front.specs.declared.preparing.Plan.{Plan}
 use Rattle.command_solve.specs.Logging.{IsLogged, IsSearched}
@@ -56,8 +56,10 @@ module _ {H : Type 0} (world : H → World) (old : Option Files) (name header : 
       i limit plan r searched.whole searched.planned searched.covers searched.ending
 
   pub stopped_left : (began : Faults) → NoneFell began (world first.shelf.now).faults → IfErr r (λ fault. IsLogStopped fault old (world end).files p name version began (world end).faults)
-  stopped_left began later = by r searched.failed searched.full
+  stopped_left began later = by r searched.stop
     where
-      by : (s : Result Found RecordFault) → (IsErrOf s Failed → Rose (file_seen world first).faults (file_seen world last).faults) → (IsErrOf s Full → length last.lines ≡ 2 ^ 61) → IfErr s (λ fault. IsLogStopped fault old (world end).files p name version began (world end).faults)
-      by (Ok found) failed full = tt
-      by (Err fault) failed full = stopped_here world old name header p version first last end named of_problem of_version begun same log kept searched.problem searched.around began later fault (λ e. failed (ap Err e)) (λ e. full (ap Err e))
+      by : (s : Result Found RecordFault) → IfErr s (IsStop (file_seen world first) (file_seen world last)) → IfErr s (λ fault. IsLogStopped fault old (world end).files p name version began (world end).faults)
+      by (Ok found) stop = tt
+      by (Err fault) stop = stopped_here world old name header p version first last end named of_problem of_version begun same log kept searched.problem searched.around began later fault
+          (λ e. subst (IsStop (file_seen world first) (file_seen world last)) e stop)
+          (λ e. subst (IsStop (file_seen world first) (file_seen world last)) e stop)

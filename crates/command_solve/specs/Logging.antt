@@ -1,18 +1,17 @@
 -- What a search leaves in its log.
-use Rattle.std.specs.Prelude.{◌≡◌, ℕ, ◌^◌, List, length, Option, Result, IfOk, IsErrOf, OnOk, false}
+use Rattle.std.specs.Prelude.{◌≡◌, ℕ, List, Option, Result, IfOk, IfErr, OnOk, false}
 use Rattle.scut_base.specs.Files.{Files, with_file}
-use Rattle.scut_base.specs.Faults.{Rose}
 use Rattle.instance.specs.Shape.{InstanceValue}
 use Rattle.pb_lin.specs.Problem.{ProblemValue}
 use Rattle.proof_laws.specs.declared.line.Line.{Line}
 use Rattle.proof_rules.specs.Recording.{KeepsSurroundings, Snapshot}
 use Rattle.proof_rules.specs.declared.recorder.RecordFault.{RecordFault}
-use Rattle.proof_rules.specs.declared.recorder.RecordFault.TheVariants.{Failed, Full}
 use Rattle.proof_text.specs.Versions.{first_of}
 use Rattle.proof_text.specs.declared.version.LogVersion.{LogVersion}
 use Rattle.proof_text.specs.LogText.{SpellsLog}
 use Rattle.certified_front.specs.Certified.{CoversLogged, IsEnding}
 use Rattle.certified_front.specs.Planning.{FollowsPlan}
+use Rattle.certified_front.specs.Stopping.{IsStop}
 use Rattle.certified_front.specs.declared.ending.Found.{Found}
 use Rattle.certified_front.specs.declared.preparing.Plan.{Plan}
 
@@ -38,7 +37,6 @@ pub record IsSearched (i : InstanceValue) (p : ProblemValue) (limit : Option ℕ
   pub covers : IfOk result (λ found. CoversLogged i p b.lines found.entries.items)
   pub ending : IfOk result (λ found. IsEnding limit p b.lines found.ending)
   pub whole : OnOk result (b.broken ≡ false)
-  pub failed : IsErrOf result Failed → Rose a.faults b.faults
-  pub full : IsErrOf result Full → length b.lines ≡ 2 ^ 61
+  pub stop : IfErr result (IsStop a b)
   pub problem : b.problem ≡ a.problem
   pub around : KeepsSurroundings a.around b.around

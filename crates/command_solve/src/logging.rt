@@ -6,7 +6,7 @@ ghost use Rattle.proof_text.specs.LogParts.{IsLogStopped};
 ghost use Rattle.command_solve.specs.Logging.{IsLogged, IsSearched};
 
 use cdcl_core::{NoRoom, Solver};
-use certified_front::{Found, Plan, certified_front_by};
+use certified_front::{Found, Plan, certified_front};
 use instance::Instance;
 use pb_lin::PbProblem;
 use proof_rules::{RecordFault, Recorder};
@@ -74,6 +74,6 @@ fn search_over<R: Recorder + Drop, S: Search>(
             return (Err(RecordFault::NoMemory), recorder);
         }
     };
-    let found = certified_front_by(alloc, &mut solver, problem, inst, plan, search);
+    let found = certified_front(alloc, &mut solver, problem, inst, plan, search);
     (found, solver.into_recorder())
 }

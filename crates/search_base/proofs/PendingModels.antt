@@ -34,9 +34,10 @@ module _ (a b : Snapshot) (bounds : List ObjectiveBound) (old : BoardValue) (pen
     good_pending own fitting reforms new on put =
         good_but_after a b x cut ids logs own fitting reforms bounds old new pending good on put is_pending
 
-    pub takes_pending : (now : List (List Bool)) → now ≡ pending ++ x ∷ [] → TakesPending a b y pending now
+    pub takes_pending : (now : List (List Bool)) → now ≡ pending ++ x ∷ [] → TakesPending a b old.instance y pending now
     takes_pending now is = record {
       model = x;
+      tight = tight.value;
       logs = logs_by_cut a b x cut ids logs;
       below = tight_below old.instance a.problem y x tight;
       pending = is;

@@ -147,11 +147,11 @@ good_taken bounding own fitting reforms a m b s before asked old new y x answers
 
 -- one vector was logged, and no logged one was below it
 pub is_taken : (a m b : Snapshot) (s : StateValue) (before asked : List ObjectiveBound) (old : BoardValue)
-    (i : InstanceValue) (y x : List Bool) (answers : List Bound) → IsReached a s → IsTakable a y →
-    IsTightened i a.problem y x → IsGood a before old → IsLoggedAfter a m b asked x answers → IsTaken a b y
-is_taken a m b s before asked old i y x answers reached takable tight good log =
+    (y x : List Bool) (answers : List Bound) → IsReached a s → IsTakable a y →
+    IsTightened old.instance a.problem y x → IsGood a before old → IsLoggedAfter a m b asked x answers → IsTaken a b old y
+is_taken a m b s before asked old y x answers reached takable tight good log =
     let p = a.problem in
-    let below : IsBelow (problem_costs p x) (problem_costs p y) = tight_below i p y x tight in
+    let below : IsBelow (problem_costs p x) (problem_costs p y) = tight_below old.instance p y x tight in
     let last : Logs p m.lines b.lines (problem_costs p x) =
     subst (λ (q : ProblemValue). Logs q m.lines b.lines (problem_costs q x)) log.on.problem
     (logs_model m b x answers log.logs) in
@@ -164,5 +164,6 @@ is_taken a m b s before asked old i y x answers reached takable tight good log =
         falls = falls p a.lines b.lines x logs
             (uncovered_below a s y reached takable good.new (problem_costs p x) below);
       };
+      costs = tight.costs;
       below = below;
     }

@@ -1,6 +1,8 @@
 -- Good states but for some models: they were logged by cuts of literals that no clause makes true.
 use Rattle.std.specs.Prelude.{◌≡◌, ℕ, List, [], ◌∷◌, ◌++◌, Bool, false, All, Contains, take}
 use Rattle.scut_base.specs.Literal.{Literal}
+use Rattle.instance.specs.Shape.{InstanceValue}
+use Rattle.instance_normal.specs.Tightened.{tightened}
 use Rattle.pb_lin.specs.Constraint.{Holds}
 use Rattle.pb_lin.specs.Problem.{IsProblemModel, problem_costs}
 use Rattle.front_set.specs.Vector.{IsBelow}
@@ -71,9 +73,10 @@ MayNotLog a x cut rows = MayNotAdd a (Sol (literals_at 1 x) cut rows)
 abbrev pub LogsByCut : (a b : Snapshot) → List Bool → List Literal → List ℕ → Type 0
 LogsByCut a b x cut rows = AddsLine a b (Sol (literals_at 1 x) cut rows)
 
--- one vector is logged, which is below the costs of x; the model that has it is pending
-pub record TakesPending (a b : Snapshot) (x : List Bool) (before now : List (List Bool)) : Type 0 where
+-- the tightened model's costs are logged, which are below those of x; it is pending now
+pub record TakesPending (a b : Snapshot) (i : InstanceValue) (x : List Bool) (before now : List (List Bool)) : Type 0 where
   pub model : List Bool
+  pub tight : model ≡ tightened i (take i.vars x)
   pub logs : Logs a.problem a.lines b.lines (problem_costs a.problem model)
   pub below : IsBelow (problem_costs a.problem model) (problem_costs a.problem x)
   pub pending : now ≡ before ++ model ∷ []

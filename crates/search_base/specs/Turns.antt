@@ -1,8 +1,10 @@
 -- What a turn of a search does, and what a search is.
-use Rattle.std.specs.Prelude.{◌≡◌, ℕ, ◌<◌, ◌^◌, List, [], length, ℤ, Bool, Result, Ok, Err, Some}
+use Rattle.std.specs.Prelude.{◌≡◌, ℕ, ◌<◌, ◌^◌, List, [], length, take, ℤ, Bool, Result, Ok, Err, Some}
 use Rattle.std.specs.FinMap.{get}
 use Rattle.scut_base.specs.Faults.{Rose}
 use Rattle.front_set.specs.Vector.{IsBelow}
+use Rattle.instance.specs.Meaning.{costs_of}
+use Rattle.instance.specs.ParetoFront.{problem_vector}
 use Rattle.pb_lin.specs.Problem.{ProblemValue, problem_costs}
 use Rattle.proof_laws.specs.State.{StateValue, Satisfies}
 use Rattle.proof_laws.specs.Replay.{IsReplay}
@@ -11,6 +13,7 @@ use Rattle.proof_rules.specs.Recording.{Snapshot}
 use Rattle.oracle.specs.Solving.{IsSolution, IsSpent, Reaches}
 use Rattle.oracle.specs.declared.fault.OracleFault.{OracleFault}
 use Rattle.oracle.specs.declared.fault.OracleFault.TheVariants.{Spent, Failed, Full, NoMemory}
+use Rattle.search_base.specs.Boards.{BoardValue}
 use Rattle.search_base.specs.Logged.{LogsNone, Logs}
 use Rattle.search_base.specs.CostBox.{uncovered}
 use Rattle.search_base.specs.declared.turn.Turn.{Turn}
@@ -54,7 +57,9 @@ IsRemaining a v = (s : StateValue) × IsReplay a.problem a.lines s
 abbrev pub IsTakable : Snapshot → List Bool → Type 0
 IsTakable a x = Reaches a.problem a.lines (IsSolution a.problem [] x)
 
--- a model was taken: a vector is logged that no logged one was below, and that is below the model's costs
-pub record IsTaken (a b : Snapshot) (x : List Bool) : Type 0 where
+-- a model was taken: its costs in the board's instance are logged, which no logged vector was below, and which are below
+-- its costs in the problem
+pub record IsTaken (a b : Snapshot) (front : BoardValue) (x : List Bool) : Type 0 where
   pub found : FindsNew a b
+  pub costs : found.costs ≡ problem_vector front.instance (costs_of front.instance (take front.instance.vars x))
   pub below : IsBelow found.costs (problem_costs a.problem x)

@@ -82,7 +82,7 @@ impl<'a> Board<'a> {
         self.last.as_ref()
     }
 
-    /// Takes a model: tightens it, logs it with its costs, and puts it onto the board. After an `Err` the
+    /// Takes a model: tightens it, logs it with its costs in the instance, and puts it onto the board. After an `Err` the
     /// board isn't used again. Costs a walk over the instance, and what the bounds at these costs do.
     pub fn take<R: Recorder>(
         &mut self,
@@ -93,7 +93,7 @@ impl<'a> Board<'a> {
         requires good { IsGood (R.seen rec.old) bounds.old self.old }
         requires model { IsTakable (R.seen rec.old) a.now }
         ensures good { OnOk result (IsGood (R.seen rec.new) bounds.new self.new) }
-        ensures taken { OnOk result (IsTaken (R.seen rec.old) (R.seen rec.new) a.now) }
+        ensures taken { OnOk result (IsTaken (R.seen rec.old) (R.seen rec.new) self.old a.now) }
         ensures fault { IfErr result (IsFaultAt (R.seen rec.old) (R.seen rec.new)) }
         ensures lines { AddsTakenLines (R.seen rec.old).lines (R.seen rec.new).lines }
         ensures goes_on { GoesOn (R.seen rec.old) (R.seen rec.new) }

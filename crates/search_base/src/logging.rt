@@ -80,6 +80,7 @@ pub(crate) fn log_by_cut<R: Recorder>(
         (LogsByCut (R.seen rec.old) (R.seen rec.new) model.now cut rows)
         (MayNotLog (R.seen rec.old) model.now cut rows × (R.seen rec.new ≡ R.seen rec.old))) }
     ensures fault { IfErr result (IsFaultAt (R.seen rec.old) (R.seen rec.new)) }
+    ensures lines { AddsTakenLines (R.seen rec.old).lines (R.seen rec.new).lines }
     ensures goes_on { GoesOn (R.seen rec.old) (R.seen rec.new) }
 {
     // Tells that the lines so far reach a state.

@@ -5,6 +5,7 @@ ghost use Rattle.pb_lin.specs.Problem.{IsProblemModel};
 ghost use Rattle.sum_outputs.specs.Adding.{IsFaultAt};
 ghost use Rattle.search_base.specs.CostBounds.{reforms_of};
 ghost use Rattle.search_base.specs.Good.{GoesOn, IsGood, KeepsBoard};
+ghost use Rattle.search_base.specs.Logged.{AddsTakenLines};
 ghost use Rattle.search_base.specs.Pending.{AreOwnTerms, IsGoodBut, MayNotLog, TakesPending};
 
 use crate::asking::answers_at;
@@ -37,12 +38,14 @@ impl<'a> Board<'a> {
         requires model { IsProblemModel (R.seen rec.old).problem a.now }
         ensures good { OnOk result (IsGoodBut (R.seen rec.new) bounds.now self.new pending.new) }
         ensures taken { IfOk result (λ taken. MatchBool taken
-            (TakesPending (R.seen rec.old) (R.seen rec.new) a.now pending.old pending.new)
+            (TakesPending (R.seen rec.old) (R.seen rec.new) self.old.instance a.now
+            pending.old pending.new)
             (MayNotLog (R.seen rec.old) (tightened self.old.instance
             (take self.old.instance.vars a.now)) cut rows × (R.seen rec.new ≡ R.seen rec.old))) }
         ensures refused { IfOk result (λ taken. taken ≡ false
             → (self.new ≡ self.old) × (pending.new ≡ pending.old)) }
         ensures fault { IfErr result (IsFaultAt (R.seen rec.old) (R.seen rec.new)) }
+        ensures lines { AddsTakenLines (R.seen rec.old).lines (R.seen rec.new).lines }
         ensures goes_on { GoesOn (R.seen rec.old) (R.seen rec.new) }
         ensures board { KeepsBoard self.old self.new }
     {
@@ -77,6 +80,7 @@ impl<'a> Board<'a> {
         ensures good { OnOk result (IsGood (R.seen rec.new) bounds.new self.new) }
         ensures none { OnOk result (pending.new ≡ []) }
         ensures fault { IfErr result (IsFaultAt (R.seen rec.old) (R.seen rec.new)) }
+        ensures lines { AddsTakenLines (R.seen rec.old).lines (R.seen rec.new).lines }
         ensures goes_on { GoesOn (R.seen rec.old) (R.seen rec.new) }
         ensures board { KeepsBoard self.old self.new }
     {
@@ -101,6 +105,7 @@ impl<'a> Board<'a> {
             → IsGoodBut (R.seen rec.new) bounds.new self.new pending) }
         ensures own { OnOk result (reforms_of bounds.new ≡ reforms_of bounds.old) }
         ensures fault { IfErr result (IsFaultAt (R.seen rec.old) (R.seen rec.new)) }
+        ensures lines { AddsTakenLines (R.seen rec.old).lines (R.seen rec.new).lines }
         ensures goes_on { GoesOn (R.seen rec.old) (R.seen rec.new) }
         ensures board { KeepsBoard self.old self.new }
     {

@@ -7,7 +7,8 @@ use crate::{Board, Bounds, Search, Turn};
 use oracle::{Oracle, OracleFault};
 
 /// Begins, and goes on until nothing is left; answers the id of a live line `0 >= 1`. It ends: a turn that takes a
-/// model lowers the number of uncovered vectors of the cost box, and any other the search's own number.
+/// model lowers the number of uncovered vectors of the cost box, and any other the search's own number. After `Spent`
+/// the search may go on.
 pub fn run_search<O: Oracle, S: Search>(
     oracle: &mut O,
     bounds: &mut Bounds,
@@ -18,6 +19,7 @@ pub fn run_search<O: Oracle, S: Search>(
     requires serves { S.serves search.old (O.seen oracle.old).problem }
     ensures end { IfOk result (IsEndLine (O.seen oracle.new).problem (O.seen oracle.new).lines) }
     ensures good { IsInOrder result → IsGood (O.seen oracle.new) bounds.new board.new }
+    ensures serves { IsInOrder result → S.serves search.new (O.seen oracle.new).problem }
     ensures fault { IfErr result (IsSearchFault (O.seen oracle.old) (O.seen oracle.new)) }
     ensures goes_on { GoesOn (O.seen oracle.old) (O.seen oracle.new) }
     ensures board { KeepsBoard board.old board.new }
@@ -39,6 +41,7 @@ fn run_turns<O: Oracle, S: Search>(
     requires serves { S.serves search.old (O.seen oracle.old).problem }
     ensures end { IfOk result (IsEndLine (O.seen oracle.new).problem (O.seen oracle.new).lines) }
     ensures good { IsInOrder result → IsGood (O.seen oracle.new) bounds.new board.new }
+    ensures serves { IsInOrder result → S.serves search.new (O.seen oracle.new).problem }
     ensures fault { IfErr result (IsSearchFault (O.seen oracle.old) (O.seen oracle.new)) }
     ensures goes_on { GoesOn (O.seen oracle.old) (O.seen oracle.new) }
     ensures board { KeepsBoard board.old board.new }

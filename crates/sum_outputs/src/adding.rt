@@ -1,5 +1,5 @@
 // One line more in a recorder.
-ghost use Rattle.std.specs.Prelude.{◌≡◌, ◌++◌, ◌∷◌, [], IfOk, OnOk};
+ghost use Rattle.std.specs.Prelude.{◌≡◌, ◌++◌, ◌∷◌, [], IfOk, OnOk, OnErr};
 ghost use Rattle.proof_laws.specs.WellFormed.{IsWellFormed};
 ghost use Rattle.proof_rules.specs.Recording.{MayBeAdded, IsNextId};
 ghost use Rattle.sum_outputs.specs.Totals.{IsTotalizerLine};
@@ -19,6 +19,7 @@ pub fn record<R: Recorder>(rec: &mut R, line: Line) -> Result<u64, RecordFault>
     requires legal { MayBeAdded (R.seen rec.old).problem (R.seen rec.old).lines line }
     ensures recorded { IsRecorded (R.seen rec.old) (R.seen rec.new) result }
     ensures added { OnOk result ((R.seen rec.new).lines ≡ (R.seen rec.old).lines ++ line ∷ []) }
+    ensures kept { OnErr result ((R.seen rec.new).lines ≡ (R.seen rec.old).lines) }
     ensures id { IfOk result (IsNextId (R.seen rec.old).problem (R.seen rec.old).lines) }
 {
     record_lent(rec, &line)
@@ -32,6 +33,7 @@ fn record_lent<R: Recorder>(rec: &mut R, line: &Line) -> Result<u64, RecordFault
     requires legal { MayBeAdded (R.seen rec.old).problem (R.seen rec.old).lines line.now }
     ensures recorded { IsRecorded (R.seen rec.old) (R.seen rec.new) result }
     ensures added { OnOk result ((R.seen rec.new).lines ≡ (R.seen rec.old).lines ++ line.now ∷ []) }
+    ensures kept { OnErr result ((R.seen rec.new).lines ≡ (R.seen rec.old).lines) }
     ensures id { IfOk result (IsNextId (R.seen rec.old).problem (R.seen rec.old).lines) }
 {
     // Tells that the lines so far reach a state.

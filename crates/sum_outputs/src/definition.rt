@@ -1,5 +1,5 @@
 // A new variable that is true exactly where a sum reaches a number.
-ghost use Rattle.std.specs.Prelude.{◌≡◌, ◌+◌, ◌<◌, ◌≤◌, IfOk, All};
+ghost use Rattle.std.specs.Prelude.{◌≡◌, ◌+◌, ◌<◌, ◌≤◌, IfOk, OnErr, All};
 ghost use Rattle.pb_lin.specs.Constraint.{total};
 ghost use Rattle.proof_laws.specs.State.{StateValue};
 ghost use Rattle.sum_outputs.specs.Adding.{IsReached, IsReady, IsRecorded};
@@ -31,6 +31,7 @@ pub fn define<R: Recorder>(
     requires variables { (s : StateValue) → IsReached (R.seen rec.old) s
         → All (λ t. t.0.var ≤ s.vars) terms.now }
     ensures recorded { IsRecorded (R.seen rec.old) (R.seen rec.new) result }
+    ensures kept { OnErr result ((R.seen rec.new).lines ≡ (R.seen rec.old).lines) }
     ensures sum { IfOk result (λ o. (o.sum ≡ sum) × (o.from ≡ from)) }
     ensures defined { IfOk result (IsDefinedNext (R.seen rec.old) (R.seen rec.new) terms.now) }
 {
@@ -50,6 +51,7 @@ fn define_next<R: Recorder>(
     requires ready { IsReady (R.seen rec.old) }
     requires next { (s : StateValue) → IsReached (R.seen rec.old) s → IsSumOf s constraint var sum }
     ensures recorded { IsRecorded (R.seen rec.old) (R.seen rec.new) result }
+    ensures kept { OnErr result ((R.seen rec.new).lines ≡ (R.seen rec.old).lines) }
     ensures sum { IfOk result (λ o. (o.sum ≡ sum) × (o.from ≡ from)) }
     ensures defined { IfOk result (IsDefinedBy (R.seen rec.old) (R.seen rec.new) constraint) }
 {

@@ -2,7 +2,7 @@
 use Rattle.std.proofs.Common.{◌≡◌, rules, sym, ◌∙◌}
 use Rattle.recording.specs.Advice.{IsAdvice}
 use Rattle.recording.proofs.LaterStates.{adds_again}
-use Rattle.certified_front.proofs.AdvisedLines.{advised_prepared, advised_stays, advised_stop, ready_for}
+use Rattle.certified_front.proofs.AdvisedLines.{advised_prepared, advised_stop, ready_for}
 use Rattle.certified_front.proofs.preparing.take_proposals.Goals as goal
 
 pub consult-requires : goal.consult-requires
@@ -26,11 +26,5 @@ returns-clause-stop g c =
     let R = g.O.Recorder in
     advised_stop (R.seen c.args.oracle.now) (R.seen c.consult.new.rec) c.consult.result c.consult.ensures.fault
 
-pub returns-clause-stays : goal.returns-clause-stays
-returns-clause-stays g c =
-    let R = g.O.Recorder in
-    advised_stays (R.seen c.args.oracle.now) (R.seen c.consult.new.rec) c.consult.ensures.adds
-
-pub returns-in_err-judge-clause-stays : goal.returns-in_err-judge-clause-stays
-returns-in_err-judge-clause-stays g c =
-    advised_stays _ _ (adds_again IsAdvice (g.O.Recorder.seen c.args.oracle.now))
+pub returns-in_err-judge-clause-adds : goal.returns-in_err-judge-clause-adds
+returns-in_err-judge-clause-adds g c = adds_again IsAdvice (g.O.Recorder.seen c.args.oracle.now)

@@ -1,5 +1,6 @@
 use Rattle.std.proofs.Common.{length}
 use Rattle.search_base.specs.Good.{GoesOn, KeepsBoard}
+use Rattle.search_base.specs.Logged.{AddsTakenLines}
 use Rattle.search_base.specs.Pending.{AreOwnTerms, IsGoodBut}
 use Rattle.search_base.proofs.board.Board.settle.Given as goal
 
@@ -10,6 +11,7 @@ invariant-loop-model g l =
       good : IsGoodBut (R.seen l.rec) l.bounds l.self l.pending;
       own : AreOwnTerms l.bounds;
       on : GoesOn (R.seen l.initial.rec) (R.seen l.rec);
+      lines : AddsTakenLines (R.seen l.initial.rec).lines (R.seen l.rec).lines;
       board : KeepsBoard l.initial.self l.self;
     }
 

@@ -9,6 +9,7 @@ use Rattle.search_base.specs.Pending.{IsGoodBut}
 use Rattle.search_base.proofs.ModelLines.{totalizer_goes_on}
 use Rattle.search_base.proofs.SettledStates.{good_settled, last_pending, settled_serve}
 use Rattle.search_base.proofs.Taking.{IsLoggedAfter, WasAsked, in_memory_ok, was_asked}
+use Rattle.search_base.proofs.TakenLines.{taken_twice, totalizer_taken}
 use Rattle.search_base.proofs.Turning.{goes_again, goes_twice}
 use Rattle.search_base.proofs.board.Board.settle_one.Goals as goal
 
@@ -149,3 +150,21 @@ put-requires g c =
     let long : length c.args.model.now ≡ c.args.self.now.problem.vars = is.model.variables in
     let normal = good.board.normal in
     omega (arith, long, normal.vars)
+
+pub returns-in_err-log_model-clause-lines : goal.returns-in_err-log_model-clause-lines
+returns-in_err-log_model-clause-lines g c =
+    let R = g.R.Recorder in
+    let a = R.seen c.args.rec.now in
+    let m = R.seen c.answers_at.new.rec in
+    let b = R.seen c.log_model.new.rec in
+    taken_twice a.lines m.lines b.lines (totalizer_taken a m c.in_ok-answers.ensures.recorded.continues)
+    c.in_err-log_model.ensures.lines
+
+pub returns-clause-lines : goal.returns-clause-lines
+returns-clause-lines g c =
+    let R = g.R.Recorder in
+    let a = R.seen c.args.rec.now in
+    let m = R.seen c.answers_at.new.rec in
+    let b = R.seen c.log_model.new.rec in
+    taken_twice a.lines m.lines b.lines (totalizer_taken a m c.in_ok-answers.ensures.recorded.continues)
+    c.in_ok-log_model.ensures.lines

@@ -244,7 +244,6 @@ returns-clause-taken g c =
     } in
     in_memory_ok c.in_memory-4.result c.put.result c.in_memory-4.ensures.ok
     (λ (put : IsPut c.args.self.now c.put.new.self c.in_ok-costs.costs x).
-    is_taken a m b c.state-state.result.now c.args.bounds.now c.answers_at.new.bounds c.args.self.now
-    c.args.self.now.instance y x c.as_slice-2.result.now c.state-state.ensures.replays c.requires.model tight
+    is_taken a m b c.state-state.result.now c.args.bounds.now c.answers_at.new.bounds c.args.self.now y x c.as_slice-2.result.now c.state-state.ensures.replays c.requires.model tight
     c.requires.good log)
     c.put.ensures.put
