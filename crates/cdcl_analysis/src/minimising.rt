@@ -1,4 +1,4 @@
-// Taking marks off steps that the other marked ones imply.
+// Taking marks off steps that the other marked ones imply (DECISIONS, first-uip).
 ghost use Rattle.std.specs.Prelude.{◌≡◌, ◌≢◌, ℕ, ◌<◌, ◌≤◌, [], true, All, OnOk, length, reverse};
 ghost use Rattle.clause_prop.specs.Steps.{last_level};
 ghost use Rattle.cdcl_trail.specs.SearchTrail.{AreLines, IsSearchTrail};

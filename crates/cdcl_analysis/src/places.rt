@@ -1,4 +1,4 @@
-// The marked steps of a trail, from behind, without those between.
+// The marked steps of a trail, from behind, without those between (DECISIONS, marked-heap).
 ghost use Rattle.std.specs.Prelude.{◌≡◌, ◌+◌, ◌<◌, ◌≤◌, ℕ, List, All, Contains, OnOk, IfSome, IfNone, length, reverse};
 ghost use Rattle.std.specs.Ordering.{nat_cmp};
 ghost use Rattle.std.specs.BinaryHeap.{IsHeap, heap_items};

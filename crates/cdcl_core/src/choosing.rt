@@ -1,5 +1,5 @@
 // Which learned clauses a reduction names: four in five, those that join the most levels first (Audemard and Simon 2009).
-// Where half of them went, searches of planning problems took up to twice as long, as measured.
+// Where half of them went, searches of planning problems took up to twice as long, as measured (DECISIONS, reduction-choice).
 ghost use Rattle.std.specs.Prelude.{◌↔◌, All, IfOk, IsSome, IsTrue, map};
 ghost use Rattle.std.specs.FinMap.{get};
 ghost use Rattle.cdcl_core.specs.Ledgers.{IsPart};

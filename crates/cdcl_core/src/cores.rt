@@ -1,4 +1,4 @@
-// Cores: assumptions that can't all be true, and a line that says so.
+// Cores: assumptions that can't all be true, and a line that says so (DECISIONS, core-clause).
 ghost use Rattle.std.specs.Prelude.{◌≡◌, ◌<◌, ◌≤◌, ◌⊎◌, [], true, Some, All, AllPairs, IfOk, IfSome, IsOkAnd, map};
 ghost use Rattle.std.specs.FinMap.{get};
 ghost use Rattle.pb_lin.specs.Constraint.{opposite};

@@ -1,4 +1,4 @@
-// The learned clauses that a reduction may name, and how many reductions there were.
+// The learned clauses that a reduction may name, and how many reductions there were (DECISIONS, fresh-recorder).
 ghost use Rattle.std.specs.Prelude.{◌≡◌, ◌↔◌, ◌<◌, [], All, IsTrue, IfOk, IfSome, IsSome, OnOk, OnErr, length, map};
 ghost use Rattle.std.specs.FinMap.{get};
 ghost use Rattle.cdcl_core.specs.Ledgers.{IsDue, IsPart, ledger_after, number_after, unknown_number, with_id, with_ids};

@@ -1,4 +1,4 @@
-// The order in which a search decides variables.
+// The order in which a search decides variables (DECISIONS, pinned-choice).
 ghost use Rattle.std.specs.Prelude.{◌≡◌, ℕ, ◌+◌, ◌-◌, ◌/◌, ◌<◌, ◌≤◌, [], max, not, length, slice_set, MatchOption, IfSome, IfNone, OnOk, OnErr};
 ghost use Rattle.clause_prop.specs.Steps.{TrailValue};
 ghost use Rattle.cdcl_order.specs.Order.{AllOpenWait, IsGrown, IsNextChoice, IsTakenChoice, NoneOpen, NoneWaits, OtherOpenWait, OrderValue, SameOrder, SameWait, WaitsToo, after_conflict, bumped, weights};

@@ -1,4 +1,4 @@
-// A line of a search, in little room for clauses.
+// A line of a search, in little room for clauses (DECISIONS, search-lines).
 ghost use Rattle.std.specs.Prelude.{◌≡◌, ◌<◌, ◌↔◌, Some, length, slice_get, IsTrue, IfOk};
 ghost use Rattle.pb_lin.specs.Constraint.{IsNormal, AreOnes, literals};
 ghost use Rattle.clause_prop.specs.StoredLine.{constraint_of};

@@ -1,4 +1,4 @@
-// The watched clauses, one behind another in one list of words.
+// The watched clauses, one behind another in one list of words (DECISIONS, watched-words).
 ghost use Rattle.std.specs.Prelude.{◌≡◌, ◌+◌, ◌<◌, ◌++◌, [], true, false, length, map, take, IfOk, OnOk, OnErr, IsTrue, ◌↔◌, slice_index_or, swap, Contains};
 ghost use Rattle.scut_base.specs.LiteralCode.{code_of};
 ghost use Rattle.clause_watch.specs.Codes.{AreCodes};

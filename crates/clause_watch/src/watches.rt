@@ -1,4 +1,4 @@
-// Clauses of two literals or more, each with two of them in watch.
+// Clauses of two literals or more, each with two of them in watch (DECISIONS, lazy-drop).
 ghost use Rattle.std.specs.Prelude.{◌≡◌, ◌≢◌, ℕ, ◌+◌, ◌<◌, ◌≤◌, ◌↔◌, [], true, false, None, Some, length, IfOk, OnOk, OnErr, IfSome, IfNone, IsTrue, Contains, slice_index_or};
 ghost use Rattle.std.specs.FinMap.{empty, get, remove};
 ghost use Rattle.scut_base.specs.Assignment.{partial_truth};

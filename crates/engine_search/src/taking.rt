@@ -1,4 +1,4 @@
-// What an engine knows of a proof.
+// What an engine knows of a proof (DECISIONS, engine-lines).
 
 use clause_engine::Engine;
 use pb_lin::{Constraint, PbProblem};

@@ -1,4 +1,4 @@
-// Literals of which at most one can be true: cliques over the problem's rows of two literals.
+// Literals of which at most one can be true: cliques over the problem's rows of two literals (DECISIONS, cliques).
 ghost use Rattle.std.specs.Prelude.{◌≡◌};
 ghost use Rattle.sum_outputs.specs.Adding.{IsReady, IsRecorded};
 

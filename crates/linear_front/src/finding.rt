@@ -1,4 +1,4 @@
-// Models found by relaxations, box by box.
+// Models found by relaxations, box by box (DECISIONS, first-sought).
 ghost use Rattle.std.specs.Prelude.{◌≡◌, ◌<◌, length, IfErr, IfSome, OnOk};
 ghost use Rattle.pb_lin.specs.Problem.{IsProblemModel};
 ghost use Rattle.sum_outputs.specs.Adding.{IsFaultAt, IsReady, IsRecorded};

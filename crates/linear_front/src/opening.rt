@@ -1,4 +1,4 @@
-// The front as far as relaxations find it, before a search's first turn.
+// The front as far as relaxations find it, before a search's first turn (DECISIONS, relaxations-alone).
 ghost use Rattle.std.specs.Prelude.{◌≡◌, true, None, Ok, IfOk, IfErr, IfSome, IsOk, OnOk};
 ghost use Rattle.sum_outputs.specs.Adding.{IsFaultAt};
 ghost use Rattle.search_base.specs.Good.{GoesOn, IsGood, KeepsBoard};

@@ -1,4 +1,4 @@
-// Leaves of a search: clauses by which a partial assignment can't be completed.
+// Leaves of a search: clauses by which a partial assignment can't be completed (DECISIONS, tree-lines).
 ghost use Rattle.std.specs.Prelude.{◌≡◌, ◌↔◌, false, Some, All, IfOk, IfSome, IsTrue};
 ghost use Rattle.scut_base.specs.Assignment.{partial_truth};
 ghost use Rattle.linear_lines.specs.Stating.{IsFalseUnder, MakesClause};

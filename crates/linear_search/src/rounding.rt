@@ -1,5 +1,5 @@
 // Models by rounding: the values of a relaxation's point are rounded, rows that break are mended, and costs that needn't be are
-// saved.
+// saved (DECISIONS, rounding).
 use linear_program::{Range, Term};
 use scut_base::{Lit, NoMemory};
 use std::alloc::Global;

@@ -1,4 +1,4 @@
-// A tree of linear programs, searched from the node of least bound on.
+// A tree of linear programs, searched from the node of least bound on (DECISIONS, best-first).
 use crate::limits::{MOST_KEPT, PARTS_OF_A_STEP, PLUNGE, ROUND_ABOVE, ROUND_EACH};
 use crate::nodes::{Making, Node, has_literal, resolvent_literals};
 use linear_lines::Leaf;

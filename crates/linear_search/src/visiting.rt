@@ -1,4 +1,4 @@
-// One node of the tree.
+// One node of the tree (DECISIONS, branching).
 use crate::limits::{MOST_PIVOTS, NO_MULTIPLIER, PASSES_OF_A_VISIT, PASSES_OF_ROUNDING, WHOLE};
 use crate::question::{Limit, Question, limit_of};
 use crate::relaxation::{Relaxation, Row};

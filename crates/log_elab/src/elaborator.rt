@@ -1,4 +1,4 @@
-// Lines with the hints that they need.
+// Lines with the hints that they need (DECISIONS, elaborate-streams).
 ghost use Rattle.std.specs.Prelude.{◌≡◌, false, IfOk, IfErr, OnOk, OnErr};
 ghost use Rattle.proof_laws.specs.State.{start};
 ghost use Rattle.proof_laws.specs.WellFormed.{IsWellFormed};

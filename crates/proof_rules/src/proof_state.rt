@@ -1,4 +1,4 @@
-// States of a proof.
+// States of a proof (DECISIONS, step-owned).
 ghost use Rattle.std.specs.Prelude.{◌≡◌, None, IfOk, IfErr, OnOk, OnErr};
 ghost use Rattle.proof_laws.specs.WellFormed.{IsWellFormed};
 ghost use Rattle.proof_laws.specs.State.{IsState, Fits, start};

@@ -1,4 +1,4 @@
-// The index from variables to rows, by which a substitution finds the rows that it touches.
+// The index from variables to rows, by which a substitution finds the rows that it touches (DECISIONS, witness-index).
 ghost use Rattle.std.specs.Prelude.{◌≡◌, ℕ, ◌+◌, ◌<◌, ◌++◌, [], true, length, map, slice_index_or, All, AllPairs, Contains, IfOk, OnOk};
 ghost use Rattle.scut_base.specs.Literal.{Literal};
 ghost use Rattle.pb_lin.specs.Constraint.{ConstraintValue, literals};

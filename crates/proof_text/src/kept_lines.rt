@@ -1,4 +1,4 @@
-// The lines of a proof in little room, since a recorder keeps all of them to its end.
+// The lines of a proof in little room, since a recorder keeps all of them to its end (DECISIONS, kept-lines).
 ghost use Rattle.std.specs.Prelude.{List, ℕ, ◌≡◌, ◌≢◌, ◌<◌, ◌^◌, ◌++◌, ◌∷◌, [], length, map, pos, IfOk, IfSome, OnOk, OnErr, MatchBool};
 ghost use Rattle.proof_laws.specs.Refusal.{literals_at};
 ghost use Rattle.proof_laws.specs.State.{IsState};

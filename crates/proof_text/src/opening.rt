@@ -1,4 +1,4 @@
-// The first line of a log.
+// The first line of a log (DECISIONS, first-line).
 ghost use Rattle.std.specs.Prelude.{◌≢◌, ◌≤◌, ◌^◌, ◌++◌, [], MatchBool};
 ghost use Rattle.std.specs.Fmt.{decimal};
 ghost use Rattle.scut_base.specs.Files.{IsPrefixOf};

@@ -1,4 +1,4 @@
-// Gathering the models that serve a vector.
+// Gathering the models that serve a vector (DECISIONS, fresh-solver).
 ghost use Rattle.std.specs.Prelude.{◌≡◌, ◌≤◌, ◌<◌, ◌^◌, length, take, All, IfOk};
 ghost use Rattle.instance.specs.ParetoFront.{IsProblemVector, problem_vector};
 ghost use Rattle.instance_normal.specs.NormalForm.{IsNormalFormOf};

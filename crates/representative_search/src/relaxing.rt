@@ -1,4 +1,4 @@
-// What the linear relaxation of a problem tells of its models; the proof goes to a file.
+// What the linear relaxation of a problem tells of its models; the proof goes to a file (DECISIONS, models-first).
 ghost use Rattle.std.specs.Prelude.{◌≡◌, false, [], IfOk};
 ghost use Rattle.sum_outputs.specs.Adding.{IsReady, IsRecorded};
 ghost use Rattle.linear_search.specs.Replies.{IsReply};

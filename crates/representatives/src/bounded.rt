@@ -1,4 +1,4 @@
-// The bounded problem of a vector and of models that are listed.
+// The bounded problem of a vector and of models that are listed (DECISIONS, bounded-problem).
 ghost use Rattle.std.specs.Prelude.{◌≡◌, ◌<◌, ◌≤◌, ◌^◌, ◌++◌, List, length, map, pos, neg_ℤ, unsigned_abs, All, IfOk, OnOk};
 ghost use Rattle.instance.specs.ParetoFront.{IsProblemVector, problem_vector};
 ghost use Rattle.instance_normal.specs.NormalForm.{IsNormalFormOf};

@@ -1,4 +1,4 @@
-// Judging the models of an entry.
+// Judging the models of an entry (DECISIONS, repeated-models).
 ghost use Rattle.std.specs.Prelude.{◌≡◌, ◌↔◌, ◌⊎◌, List, Bool, Contains, IsTrue, MatchBool, MatchOption, All, OnOk, IfOk, IfErr};
 ghost use Rattle.representatives.specs.Judged.{HasWrongCount, IsFaultOf, IsModelFault};
 ghost use Rattle.representatives.specs.ModelFaults.{IsModelsFault};

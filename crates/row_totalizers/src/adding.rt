@@ -1,4 +1,4 @@
-// Totalizers of rows.
+// Totalizers of rows (DECISIONS, row-totalizers).
 ghost use Rattle.std.specs.Prelude.{◌≡◌, IfOk, IfSome};
 ghost use Rattle.pb_lin.specs.Constraint.{IsMerged, UpTo, negation};
 ghost use Rattle.sum_outputs.specs.Adding.{IsReady, IsRecorded};

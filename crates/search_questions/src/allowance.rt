@@ -1,4 +1,4 @@
-// How much work relaxations may do, in numbers touched.
+// How much work relaxations may do, in numbers touched (DECISIONS, purse).
 use crate::limits::{FIRST, MOST, PART_WITHOUT_OBJECTIVES, PASSES_A_ROW, WORK_OF_A_LINE};
 use pb_lin::{CostRow, PbProblem};
 

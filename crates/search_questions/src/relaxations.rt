@@ -1,4 +1,4 @@
-// Linear relaxations, asked box by box before the oracle.
+// Linear relaxations, asked box by box before the oracle (DECISIONS, boxes).
 ghost use Rattle.std.specs.Prelude.{◌≡◌, length, IfErr, IfOk, IfSome};
 ghost use Rattle.front_set.specs.Vector.{IsBelow, is_below};
 ghost use Rattle.search_base.specs.Good.{GoesOn, IsGood, KeepsBoard};

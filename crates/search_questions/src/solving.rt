@@ -1,4 +1,4 @@
-// Whether literals can be true together: of an oracle, and of a clause engine beside it.
+// Whether literals can be true together: of an oracle, and of a clause engine beside it (DECISIONS, engine-first).
 ghost use Rattle.std.specs.Prelude.{◌≡◌, IfOk, IfSome};
 ghost use Rattle.oracle.specs.Solving.{AreAssumptions, IsAnswer, Reaches};
 ghost use Rattle.search_questions.specs.Spending.{has_spent};

@@ -1,4 +1,4 @@
-// Lines that are no clauses: of each the sum of what isn't false is kept.
+// Lines that are no clauses: of each the sum of what isn't false is kept (DECISIONS, counters).
 ghost use Rattle.std.specs.Prelude.{◌≡◌, ℕ, ◌+◌, ◌-◌, ◌<◌, ◌≤◌, [], true, false, Some, None, length, IfOk, OnOk, OnErr, IfSome, IfNone, slice_index_or};
 ghost use Rattle.std.specs.FinMap.{empty, get, insert, remove};
 ghost use Rattle.pb_lin.specs.Constraint.{ConstraintValue, UpTo};

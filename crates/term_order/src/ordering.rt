@@ -1,4 +1,4 @@
-// Objectives with their terms in a better order.
+// Objectives with their terms in a better order (DECISIONS, term-order).
 ghost use Rattle.std.specs.Prelude.{◌≡◌, IfOk};
 ghost use Rattle.std.specs.List.{AllZip};
 ghost use Rattle.proof_rules.specs.Recording.{Snapshot};
