@@ -1,7 +1,6 @@
 -- Lines that an adviser proposed, before a search.
-use Rattle.std.proofs.Common.{◌≡◌, ℕ, true, false, Option, List, ◌++◌, Result, Ok, Err, ap, refl, subst, sym, true≢false, ◌∙◌, arith}
-use Rattle.std.specs.Prelude.{IfErr, IfOk, OnOk}
-use Rattle.instance.specs.Shape.{InstanceValue}
+use Rattle.std.proofs.Common.{◌≡◌, List, ◌++◌, Result, Ok, Err, ap, ◌∙◌, arith}
+use Rattle.std.specs.Prelude.{IfErr, OnOk}
 use Rattle.pb_lin.specs.Problem.{ProblemValue}
 use Rattle.proof_laws.specs.declared.line.Line.{Line}
 use Rattle.proof_rules.specs.Recording.{KeepsRecorder, Snapshot}
@@ -12,11 +11,8 @@ use Rattle.recording.specs.Advice.{IsAdvice}
 use Rattle.recording.specs.Recorded.{IsReady}
 use Rattle.sum_outputs.proofs.LaterStates.{around_twice}
 use Rattle.search_base.specs.Laws.{AdvisedStaysPrepared, IsPrepared}
-use Rattle.certified_front.specs.Certified.{CoversLogged, IsEnding}
-use Rattle.certified_front.specs.Fronts.{CertifiesFront}
-use Rattle.certified_front.specs.Planning.{ArePrepared, FollowsPlan, IsBoostedAtEnd, hardened_by}
-use Rattle.certified_front.specs.Stopping.{IsStop, SearchesFront, StaysWith}
-use Rattle.certified_front.specs.declared.ending.Found.{Found}
+use Rattle.certified_front.specs.Planning.{ArePrepared, hardened_by}
+use Rattle.certified_front.specs.Stopping.{IsStop}
 use Rattle.certified_front.specs.declared.preparing.Plan.{Plan}
 
 -- ---- one call of an adviser
@@ -56,9 +52,6 @@ keeps_then a b c one other = record {
 pub advised_keeps : (a b : Snapshot) → Adds IsAdvice a b → KeepsRecorder a b
 advised_keeps a b adds = record { problem = adds.problem; limit = adds.limit; around = adds.around; later = adds.later }
 
-pub search_keeps : (a b : Snapshot) → StaysWith a b → KeepsRecorder a b
-search_keeps a b stays = record { problem = stays.problem; limit = stays.limit; around = stays.around; later = stays.later }
-
 stop_then : (a b c : Snapshot) (f : RecordFault) → KeepsRecorder a b → IsStop b c f → IsStop a c f
 stop_then a b c Failed keeps is = let x = keeps.later in omega arith
 stop_then a b c Full keeps is = is
@@ -78,58 +71,3 @@ prepared_then plan p a b (Ok x) first adds = record {
   kinds = adds.kinds;
 }
 prepared_then plan p a b (Err f) first adds = tt
-
--- ---- a search from prepared lines
-
--- all but boosting
-pub certified_by : (i : InstanceValue) (plan : Plan) (p : ProblemValue) (a b : Snapshot) (r : Result Found RecordFault)
-    → a.problem ≡ p → ArePrepared plan p a.lines → SearchesFront i p a b r
-    → IfOk r (λ found. plan.boost ≡ true → IsBoostedAtEnd p b.lines found.ending) → CertifiesFront i plan a b r
-certified_by i plan p a b (Ok found) refl first front boosted = record {
-  covers = front.covers;
-  ending = front.ending;
-  planned = record { first = a.lines; prepared = first; searched = front.stays.lines; boosted = boosted };
-  whole = front.whole;
-  stop = tt;
-  keeps = search_keeps a b front.stays;
-}
-certified_by i plan p a b (Err fault) refl first front boosted = record {
-  covers = tt;
-  ending = tt;
-  planned = tt;
-  whole = tt;
-  stop = front.stop;
-  keeps = search_keeps a b front.stays;
-}
-
-pub boosted_by : (plan : Plan) (p : ProblemValue) (b : Snapshot) (r : Result Found RecordFault)
-    → IfOk r (λ found. IsBoostedAtEnd p b.lines found.ending)
-    → IfOk r (λ found. plan.boost ≡ true → IsBoostedAtEnd p b.lines found.ending)
-boosted_by plan p b (Ok found) is = λ asked. is
-boosted_by plan p b (Err fault) is = tt
-
-pub unboosted : (plan : Plan) (p : ProblemValue) (b : Snapshot) (r : Result Found RecordFault) → plan.boost ≡ false
-    → IfOk r (λ found. plan.boost ≡ true → IsBoostedAtEnd p b.lines found.ending)
-unboosted plan p b (Ok found) not_asked = λ asked. absurd (true≢false (sym asked ∙ not_asked))
-unboosted plan p b (Err fault) not_asked = tt
-
--- a front after what was prepared
-pub certified_then : (i : InstanceValue) (plan : Plan) (a m b : Snapshot) (r : Result Found RecordFault) → KeepsRecorder a m
-    → CertifiesFront i plan m b r → CertifiesFront i plan a b r
-certified_then i plan a m b r keeps front = record {
-  covers = subst (λ (p : ProblemValue). IfOk r (λ found. CoversLogged i p b.lines found.entries.items)) keeps.problem
-      front.covers;
-  ending = subst (λ (n : Option ℕ). IfOk r (λ found. IsEnding n a.problem b.lines found.ending)) keeps.limit
-      (subst (λ (p : ProblemValue). IfOk r (λ found. IsEnding m.limit p b.lines found.ending)) keeps.problem front.ending);
-  planned = subst (λ (p : ProblemValue). IfOk r (λ found. FollowsPlan plan p b.lines found.ending)) keeps.problem
-      front.planned;
-  whole = front.whole;
-  stop = stops_then a m b r keeps front.stop;
-  keeps = keeps_then a m b keeps front.keeps;
-}
-
--- no front, for what stopped the preparing
-pub certified_none : (i : InstanceValue) (plan : Plan) (a b : Snapshot) (fault : RecordFault) → IsStop a b fault
-    → KeepsRecorder a b → CertifiesFront i plan a b (Err fault)
-certified_none i plan a b fault stop keeps =
-    record { covers = tt; ending = tt; planned = tt; whole = tt; stop = stop; keeps = keeps }

@@ -1,6 +1,6 @@
 -- A search after boosting, or after a plan.
-use Rattle.std.proofs.Common.{◌≡◌, Option, List, Result, Ok, Err, IfOk, ◌++◌, ℕ, arith, subst, sym}
-use Rattle.std.specs.Prelude.{IfErr}
+use Rattle.std.proofs.Common.{◌≡◌, Option, List, Result, Ok, Err, IfOk, ◌++◌, ℕ, arith, subst, sym, ◌∙◌}
+use Rattle.std.specs.Prelude.{IfErr, IsErrAnd}
 use Rattle.instance.specs.Shape.{InstanceValue}
 use Rattle.pb_lin.specs.Problem.{ProblemValue}
 use Rattle.proof_laws.specs.Earned.{IsBoosted}
@@ -16,7 +16,8 @@ use Rattle.certified_front.specs.Stopping.{IsStop, SearchesFront, StaysWith}
 use Rattle.certified_front.specs.declared.ending.Ending.{Ending}
 use Rattle.certified_front.specs.declared.ending.Ending.TheVariants.{Complete, Incomplete}
 use Rattle.certified_front.specs.declared.ending.Found.{Found}
-use Rattle.certified_front.proofs.EndLines.{search_begins, stays_after}
+use Rattle.search_base.proofs.Turning.{goes_again}
+use Rattle.certified_front.proofs.EndLines.{search_begins, stays_after, stays_by_turns}
 
 -- ---- boosted lines
 
@@ -32,6 +33,20 @@ boosted_at_end law p a b (Ok found) is stays =
     boosted_then p b.lines found.ending
     (subst (λ (ls : List Line). IsBoosted p ls) (sym begins.1) (law p a.lines begins.0 is))
 boosted_at_end law p a b (Err fault) is stays = tt
+
+-- ---- no search
+
+-- memory was wanted before anything was done
+pub no_front : (i : InstanceValue) (p : ProblemValue) (a : Snapshot) (fault : RecordFault) (r : Result Found RecordFault)
+    → fault ≡ NoMemory → IsErrAnd r (λ f. f ≡ fault) → SearchesFront i p a a r
+no_front i p a fault (Ok found) is handed = absurd handed
+no_front i p a fault (Err f) is handed = record {
+  covers = tt;
+  ending = tt;
+  whole = tt;
+  stop = subst (IsStop a a) (sym (handed ∙ is)) tt;
+  stays = stays_by_turns a a (goes_again a);
+}
 
 -- ---- a search after turns
 

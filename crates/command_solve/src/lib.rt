@@ -178,7 +178,7 @@ impl<'a> Solve<'a> {
         self.search_for(alloc, inst, problem, shelf)
     }
 
-    // Makes the search that is asked for.
+    // Makes the search that is asked for, and searches by it.
     fn search_for<H: Shelf>(
         &self,
         alloc: Global,
@@ -193,19 +193,41 @@ impl<'a> Solve<'a> {
         ensures warned { (H.world shelf.new).warned ≡ (H.world shelf.old).warned }
     {
         match self.search {
-            SearchKind::PMinimal => match PMinimal::relaxed(alloc, problem) {
-                Ok(mut search) => self.search_by(alloc, inst, problem, &mut search, shelf),
-                Err(fault) => Status::from(fault),
-            },
-            SearchKind::LowerBounding => match LowerBounding::new(alloc, problem) {
-                Ok(mut search) => self.search_by(alloc, inst, problem, &mut search, shelf),
-                Err(fault) => Status::from(fault),
-            },
-            SearchKind::BiOptSat => match BiOpt::relaxed(alloc, problem) {
-                Ok(mut search) => self.search_by(alloc, inst, problem, &mut search, shelf),
-                Err(fault) => Status::from(fault),
-            },
+            SearchKind::PMinimal => {
+                let made = PMinimal::relaxed(alloc, problem);
+                self.search_made(alloc, inst, problem, made, shelf)
+            }
+            SearchKind::LowerBounding => {
+                let made = LowerBounding::new(alloc, problem);
+                self.search_made(alloc, inst, problem, made, shelf)
+            }
+            SearchKind::BiOptSat => {
+                let made = BiOpt::relaxed(alloc, problem);
+                self.search_made(alloc, inst, problem, made, shelf)
+            }
             SearchKind::Turns => self.search_in_turns(alloc, inst, problem, shelf),
+        }
+    }
+
+    // Searches, if there was memory for the search. It owns a search of any type, whose parts it doesn't see.
+    fn search_made<S: Search + Drop, H: Shelf>(
+        &self,
+        alloc: Global,
+        inst: &Instance,
+        problem: &PbProblem,
+        made: Result<S, NoMemory>,
+        shelf: &mut H,
+    ) -> Status
+        requires problem { IsProblemOf (H.world shelf.old).files (asked self.now) inst.now problem.now }
+        requires limits { IsWithinLimits inst.now }
+        requires serves { IfOk made (λ search. S.serves search problem.now) }
+        ensures answered { Answered (SolveTable (asked self.now)) (solve_calls (asked self.now))
+            result (H.world shelf.old) (H.world shelf.new) }
+        ensures warned { (H.world shelf.new).warned ≡ (H.world shelf.old).warned }
+    {
+        match made {
+            Ok(mut search) => self.search_by(alloc, inst, problem, &mut search, shelf),
+            Err(fault) => Status::from(fault),
         }
     }
 
