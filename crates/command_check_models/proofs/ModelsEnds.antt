@@ -22,7 +22,7 @@ use Rattle.command_base.specs.declared.stops.ListStop.{ListStop}
 use Rattle.command_base.specs.declared.stops.ListStop.TheVariants.{Refused as ListWrong, Large as ListLarge, NoMemory as ListMemory, ShelfFailed as ListFailed}
 use Rattle.command_base.specs.declared.status.Status.TheVariants.{Accepted, ModelsRefused, NoMemory}
 use Rattle.command_base.proofs.Answered.{TakesInput, ended, own_rose, own_rose_at_last, shelf_fault, view_kept}
-use Rattle.command_check_models.specs.Entries.{AreRightFrom, IsInput, IsModelsFault, IsPosed}
+use Rattle.command_check_models.specs.Entries.{AreLogsTakenFrom, AreRightFrom, IsInput, IsModelsFault, IsPosed}
 use Rattle.command_check_models.specs.Judging.{IsJudgingStop, IsModelsText, IsReadingStop, status_of_models}
 use Rattle.command_check_models.specs.Table.{AreRight, CheckModelsTable, IsCutOff, OfModels, check_models_calls}
 use Rattle.command_check_models.specs.Words.{ModelsAsked, log_name, models_name}
@@ -119,7 +119,7 @@ module _ (a : ModelsAsked) where
   -- ---- what is accepted
 
   module _ (before mid after : World) (i : InstanceValue) (entries : List Entry) (p : ProblemValue) (posed : IsPosed before.files a i entries p) (reps : List Reps)
-      (text : IsModelsText before.files a.base reps) (each : AreRightFrom before.files a i p 1 entries reps)
+      (text : IsModelsText before.files a.base reps) (each : AreRightFrom before.files a i p 1 entries reps) (taken : AreLogsTakenFrom before.files a 1 reps)
       (reads : OnlyReads before mid) (files : after.files ≡ mid.files) (later : NoneFell mid.faults after.faults) where
     none_fell : NoneFell before.faults after.faults
     none_fell call name = omega (arith, reads.later call name, later call name)
@@ -130,7 +130,7 @@ module _ (a : ModelsAsked) where
       entries = entries;
       problem = p;
       posed = posed;
-      text = λ told. let f = text told in (f.0, f.1, record { taken = f.2.0; reps = reps; spelled = f.2.1; each = each });
+      text = λ told. let f = text told in (f.0, f.1, record { taken = f.2.0; reps = reps; spelled = f.2.1; each = each; logs_taken = taken });
     }
 
     -- the line couldn't be said whole
