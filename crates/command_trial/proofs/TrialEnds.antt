@@ -29,7 +29,7 @@ use Rattle.command_solve.specs.Words.{SolveAsked}
 use Rattle.command_check.specs.Words.{CheckAsked}
 use Rattle.command_trial.specs.Words.{AreNames, TrialAsked, check_in, check_part, gen_in, gen_part, instance_name, list_name, log_name, solve_in, solve_part}
 use Rattle.command_trial.proofs.OwnCalls.{check_rose, gen_rose, solve_rose}
-use Rattle.command_trial.proofs.ReadBack.{large_file, no_entry_refused, no_line_refused, same_instance, solved, text_there, there_then, told_then}
+use Rattle.command_trial.proofs.ReadBack.{large_file, no_entry_refused, no_line_refused, same_instance, solved, taken, text_there, there_then, told_then}
 
 module _ (a : TrialAsked) where
   -- nothing has changed
@@ -121,6 +121,8 @@ module _ (a : TrialAsked) where
     check_row Accepted was = λ told. record {
       size = size;
       solved = solved a before mid told made size last certified after.files was.files;
+      list_taken = (taken a before mid told made size last certified was.cause).0;
+      log_taken = (taken a before mid told made size last certified was.cause).1;
       said = was.said ∙ ap (λ (t : Option (List ℕ)). followed t (said_of Accepted)) said_two;
     }
     check_row (Refused (LineRefused k why)) was = λ told. no_line_refused a before mid told made size last certified k why was.cause
