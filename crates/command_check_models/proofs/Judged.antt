@@ -71,4 +71,4 @@ module _ (files : Option Files) (a : ModelsAsked) (i : InstanceValue) (p q : Pro
       by (LineWrong line why) wrong = (refl, ((all, serving), λ told. let found = wrong told in (found.0, found.1, (q, bounded, found.2))))
       by LogLarge large = ((all, serving), λ told. let found = large told in (found.0, found.1, (q, bounded, found.2)))
       by LogMemory memory = tt
-      by LogFailed failed = failed
+      by LogFailed failed = (all, failed)

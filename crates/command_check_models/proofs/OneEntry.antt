@@ -84,4 +84,9 @@ module _ (a : ModelsAsked) (i : InstanceValue) (p : ProblemValue) (before mid : 
       )
       by Large large = (as_many, k, after_right (IsLargeLog before.files a i p) large)
       by NoMemory memory = tt
-      by ShelfFailed failed = (k + 1, rose_at_last _ _ _ (reads.later _ (log_name a.base (k + 1))) failed)
+      by ShelfFailed failed = (
+        as_many,
+        k + 1,
+        (take k reps, r, drop (k + 1) reps, around reps k r inside r_is, omega (arith, inside, length-take k reps), failed.0),
+        rose_at_last _ _ _ (reads.later _ (log_name a.base (k + 1))) failed.1,
+      )

@@ -57,6 +57,10 @@ AreRightFrom files a i p n [] [] = Unit {0}
 AreRightFrom files a i p n (e ∷ entries) (r ∷ reps) = IsRightEntry files a i p n e r × AreRightFrom files a i p (n + 1) entries reps
 AreRightFrom files a i p n _ _ = ⊥
 
+-- the models of entry n are to be all
+abbrev pub IsMarkedAll : List Reps → ℕ → Type 0
+IsMarkedAll reps n = (before : List Reps) × (r : Reps) × (after : List Reps) × (reps ≡ before ++ r ∷ after) × (length before + 1 ≡ n) × (r.all ≡ true)
+
 -- The log of entry n is one that is taken, where its models are to be all.
 abbrev pub IsLogTaken : Option Files → ModelsAsked → ℕ → Reps → Type 0
 IsLogTaken files a n r = r.all ≡ true → HasText files (log_name a.base n) (λ log. length log < 2 ^ 62)

@@ -57,7 +57,7 @@ module _ (a : TrialAsked) where
   pub gen_ended : (status : Status) (before after : World) → goes_on status ≡ false → Answered (GenTable (gen_part a)) (gen_calls (gen_part a)) status before after → Answered (TrialTable a) (trial_calls a) status before after
   gen_ended status before after off was = record {
     table = gen_row status (view before) (view after) off was.table;
-    cause = λ failed. gen_rose a before.faults after.faults (was.cause failed);
+    cause = λ failed. gen_rose a before.files before.files before.faults after.faults (was.cause failed);
     later = was.later;
   }
 
@@ -104,7 +104,7 @@ module _ (a : TrialAsked) where
       → Answered (TrialTable a) (trial_calls a) solved before after
   solve_ended made solved before mid after on first off was = record {
     table = solve_row (view before) (view mid) (view after) (made_by made (view before) (view mid) on first.table) solved off was.table;
-    cause = λ failed. own_rose_at_last (trial_calls a) before.faults mid.faults after.faults first.later (solve_rose a mid.faults after.faults (was.cause failed));
+    cause = λ failed. own_rose_at_last (trial_calls a) before.faults mid.faults after.faults first.later (solve_rose a before.files mid.files mid.faults after.faults (was.cause failed));
     later = λ call name. omega (arith, first.later call name, was.later call name);
   }
 
@@ -148,7 +148,7 @@ module _ (a : TrialAsked) where
       let certified = solved_by (view before) (view mid) (view last) generated found on' second.table in
       record {
         table = check_row (view before) (view mid) (view last) (view after) generated certified.0 certified.1 checked third.table;
-        cause = λ failed. own_rose_at_last (trial_calls a) before.faults last.faults after.faults (λ call name. omega (arith, first.later call name, second.later call name)) (check_rose a last.faults after.faults (third.cause failed));
+        cause = λ failed. own_rose_at_last (trial_calls a) before.faults last.faults after.faults (λ call name. omega (arith, first.later call name, second.later call name)) (check_rose a before.files last.files last.faults after.faults (third.cause failed));
         later = λ call name. omega (arith, first.later call name, second.later call name, third.later call name);
       }
 
