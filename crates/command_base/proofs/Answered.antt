@@ -1,6 +1,6 @@
 -- What is answered by a part of a run, as an answer of the whole.
-use Rattle.std.proofs.Common.{◌≡◌, ℕ, suc, zero, ◌≤◌, ◌^◌, List, length, refl, ap₂, subst, arith, ◌∙◌}
-use Rattle.std.specs.Prelude.{Contains, Option}
+use Rattle.std.proofs.Common.{◌≡◌, ℕ, suc, zero, ◌<◌, ◌≤◌, ◌^◌, List, [], ◌∷◌, length, get_or, refl, sym, ap₂, subst, inl, inr, arith, ◌∙◌}
+use Rattle.std.specs.Prelude.{Option}
 use Rattle.scut_base.specs.Files.{Files}
 use Rattle.scut_base.specs.Faults.{Faults, NoneFell, Rose}
 use Rattle.scut_base.specs.World.{World}
@@ -10,7 +10,7 @@ use Rattle.instance.specs.declared.fault.BadKind.{BadKind}
 use Rattle.instance.specs.declared.fault.InstanceLimit.{InstanceLimit}
 use Rattle.instance.specs.declared.fault.InstanceLimit.TheVariants.{Bytes}
 use Rattle.instance.specs.declared.fault.ReadFault.TheVariants.{Bad, Limit}
-use Rattle.command_base.specs.Answering.{Answered, Call, CallRose, CallOf, EachOf, OwnRose, reading}
+use Rattle.command_base.specs.Answering.{Answered, AnyRose, Call, CallRose, CallOf, EachOf, OwnRose, reading}
 use Rattle.command_base.specs.Causes.{IsRefused}
 use Rattle.command_base.specs.InstanceFile.{HasFault}
 use Rattle.command_base.specs.Statuses.{status_of_shelf}
@@ -24,20 +24,46 @@ use Rattle.command_base.specs.declared.stops.InputStop.TheVariants.{Bad as BadTe
 
 -- ---- own calls
 
+-- the call is one of them
+abbrev pub IsOwn : List Call → Call → Type 1
+IsOwn own call = (k : ℕ) × (k < length own) × (get_or own k call ≡ call)
+
 pub rose_at_last : (a b c : ℕ) → a ≤ b → Rose b c → Rose a c
 rose_at_last a b c earlier rose = omega arith
 
--- a call of the list rose
-pub own_rose : (own : List Call) (call : Call) (before now : Faults) → Contains own call → CallRose before now call → OwnRose own before now
-own_rose own call before now there rose = (there.0, call, there.1, there.2, rose)
+rose_within : (a b c d : ℕ) → a ≤ b → c ≤ d → Rose b c → Rose a d
+rose_within a b c d first later rose = omega arith
 
-call_rose_at_last : (call : Call) (before mid now : Faults) → NoneFell before mid → CallRose mid now call → CallRose before now call
-call_rose_at_last (CallOf kind name) before mid now later rose = rose_at_last _ _ _ (later kind name) rose
-call_rose_at_last (EachOf kind names) before mid now later rose = (rose.0, rose_at_last _ _ _ (later kind (names rose.0)) rose.1)
+module _ (files : Option Files) where
+  any_rose : (own : List Call) (call : Call) (before now : Faults) → IsOwn own call → CallRose files before now call → AnyRose files before now own
+  any_rose [] call before now (k, short, is) rose = absurd (omega (arith, short))
+  any_rose (first ∷ own) call before now (zero, short, is) rose = inl (subst (λ (c : Call). CallRose files before now c) (sym is) rose)
+  any_rose (first ∷ own) call before now (suc k, short, is) rose = inr (any_rose own call before now (k, omega (arith, short), is) rose)
+
+  -- what rose between two times rose between an earlier and a later one
+  call_rose_within : (call : Call) (a b c d : Faults) → NoneFell a b → NoneFell c d → CallRose files b c call → CallRose files a d call
+  call_rose_within (CallOf kind name) a b c d first later rose = rose_within _ _ _ _ (first kind name) (later kind name) rose
+  call_rose_within (EachOf kind names numbers) a b c d first later rose = (rose.0, rose.1, rose_within _ _ _ _ (first kind (names rose.0)) (later kind (names rose.0)) rose.2)
+
+  any_rose_within : (own : List Call) (a b c d : Faults) → NoneFell a b → NoneFell c d → AnyRose files b c own → AnyRose files a d own
+  any_rose_within [] a b c d first later rose = rose
+  any_rose_within (call ∷ own) a b c d first later (inl rose) = inl (call_rose_within call a b c d first later rose)
+  any_rose_within (call ∷ own) a b c d first later (inr rose) = inr (any_rose_within own a b c d first later rose)
+
+none_fell : (f : Faults) → NoneFell f f
+none_fell f call name = omega arith
+
+-- a call of the list rose
+pub own_rose : (own : List Call) (call : Call) {files : Option Files} (before now : Faults) → IsOwn own call → CallRose files before now call → OwnRose own files before now
+own_rose own call {files} before now there rose = record { call = any_rose files own call before now there rose }
 
 -- what rose later rose since before
-pub own_rose_at_last : (own : List Call) (before mid now : Faults) → NoneFell before mid → OwnRose own mid now → OwnRose own before now
-own_rose_at_last own before mid now later (k, call, short, is, rose) = (k, call, short, is, call_rose_at_last call before mid now later rose)
+pub own_rose_at_last : (own : List Call) {files : Option Files} (before mid now : Faults) → NoneFell before mid → OwnRose own files mid now → OwnRose own files before now
+own_rose_at_last own {files} before mid now first rose = record { call = any_rose_within files own before mid now now first (none_fell now) rose.call }
+
+-- what rose before has risen now
+pub own_still_rose : (own : List Call) {files : Option Files} (before mid now : Faults) → NoneFell mid now → OwnRose own files before mid → OwnRose own files before now
+own_still_rose own {files} before mid now later rose = record { call = any_rose_within files own before before mid now (none_fell before) later rose.call }
 
 -- ---- a part of a run that reads comes first
 
@@ -58,8 +84,16 @@ reads_then a b c first second = record {
 pub earlier : (Table : Status → View → View → Type 0) (own : List Call) (status : Status) (before mid after : World) → OnlyReads before mid → Answered Table own status mid after → Answered Table own status before after
 earlier Table own status before mid after reads was = record {
   table = subst (λ (v : View). Table status v (view after)) (view_kept before mid reads) was.table;
-  cause = λ failed. own_rose_at_last own before.faults mid.faults after.faults reads.later (was.cause failed);
+  cause = λ failed. own_rose_at_last own before.faults mid.faults after.faults reads.later (subst (λ (files : Option Files). OwnRose own files mid.faults after.faults) reads.files (was.cause failed));
   later = λ call name. omega (arith, reads.later call name, was.later call name);
+}
+
+-- what follows changes nothing but counts of faults
+pub later_too : (Table : Status → View → View → Type 0) (own : List Call) (status : Status) (before mid after : World) → Answered Table own status before mid → after.files ≡ mid.files → after.said ≡ mid.said → NoneFell mid.faults after.faults → Answered Table own status before after
+later_too Table own status before mid after was files said later = record {
+  table = subst (λ (v : View). Table status (view before) v) (sym (view_is (view mid) (view after) files said)) was.table;
+  cause = λ failed. own_still_rose own before.faults mid.faults after.faults later (was.cause failed);
+  later = λ call name. omega (arith, was.later call name, later call name);
 }
 
 -- ---- ends
@@ -70,7 +104,7 @@ ended Table own status before after row other later = record { table = row; caus
 
 -- a fault of the shelf, in one of the command's own calls
 pub shelf_fault : (Table : Status → View → View → Type 0) (own : List Call) (fault : ShelfFault) (before after : World) → Table NoMemory (view before) (view after) → Table ShelfFailed (view before) (view after)
-    → (fault ≡ Failed → OwnRose own before.faults after.faults) → NoneFell before.faults after.faults → Answered Table own (status_of_shelf fault) before after
+    → (fault ≡ Failed → OwnRose own before.files before.faults after.faults) → NoneFell before.faults after.faults → Answered Table own (status_of_shelf fault) before after
 shelf_fault Table own Failed before after memory failed rose later = record { table = failed; cause = λ is. rose refl; later = later }
 shelf_fault Table own ShelfNoMemory before after memory failed rose later = record { table = memory; cause = λ is. absurd cc; later = later }
 
@@ -84,7 +118,7 @@ pub record TakesInput (Table : Status → View → View → Type 0) (format : Fo
   pub memory : after ≡ before → Table NoMemory before after
   pub failed : after ≡ before → Table ShelfFailed before after
 
-pub input_stopped : (Table : Status → View → View → Type 0) (own : List Call) (format : Format) (input : List ℕ) (stop : InputStop) (before after : World) → TakesInput Table format input (view before) (view after) → Contains own (reading input)
+pub input_stopped : (Table : Status → View → View → Type 0) (own : List Call) (format : Format) (input : List ℕ) (stop : InputStop) (before after : World) → TakesInput Table format input (view before) (view after) → IsOwn own (reading input)
     → IsInputStop format input stop before.files before.faults after.faults → OnlyReads before after → Answered Table own (status_of_input stop) before after
 input_stopped Table own format input (BadText line kind) before after rows there stop reads =
     record { table = rows.bad line kind (record { cause = stop; same = view_kept before after reads }); cause = λ is. absurd cc; later = reads.later }

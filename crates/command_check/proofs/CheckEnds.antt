@@ -1,6 +1,6 @@
 -- How each end of the command `check` is answered.
 use Rattle.std.proofs.Common.{◌≡◌, ℕ, ◌<◌, ◌^◌, List, length, true, refl, ◌∙◌, ap, subst, inl, inr, arith}
-use Rattle.std.specs.Prelude.{Contains, Option, ℤ}
+use Rattle.std.specs.Prelude.{Option, ℤ}
 use Rattle.scut_base.specs.Files.{Files, followed, IsPartlyFollowed}
 use Rattle.scut_base.specs.Faults.{NoneFell, SayingFailed}
 use Rattle.scut_base.specs.World.{World}
@@ -26,13 +26,13 @@ use Rattle.command_base.specs.declared.stops.ListStop.TheVariants.{Refused as Li
 use Rattle.command_base.specs.declared.stops.LogStop.{LogStop}
 use Rattle.command_base.specs.declared.stops.LogStop.TheVariants.{Refused as LineWrong, Large as LogLarge, NoMemory as LogMemory, ShelfFailed as LogFailed}
 use Rattle.command_base.specs.declared.status.Status.TheVariants.{Accepted, NoMemory}
-use Rattle.command_base.proofs.Answered.{TakesInput, ended, own_rose, own_rose_at_last, shelf_fault, view_kept}
+use Rattle.command_base.proofs.Answered.{IsOwn, TakesInput, ended, own_rose, own_rose_at_last, shelf_fault, view_kept}
 use Rattle.command_check.specs.Stages.{IsJudgedFor, IsListed, IsRead}
 use Rattle.command_check.specs.Table.{CheckTable, IsCutOff, IsTakenAndAccepted, OfInstance, OfLog, OfRightList, check_calls}
 use Rattle.command_check.specs.Words.{CheckAsked}
 
 module _ (a : CheckAsked) where
-  pub reads_input : Contains (check_calls a) (reading a.input)
+  pub reads_input : IsOwn (check_calls a) (reading a.input)
   reads_input = (0, omega arith, refl)
 
   -- nothing has changed

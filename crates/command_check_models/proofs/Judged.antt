@@ -18,25 +18,17 @@ use Rattle.command_base.specs.Causes.{HasText}
 use Rattle.command_base.specs.Stops.{IsLogStop}
 use Rattle.command_base.specs.declared.stops.LogStop.{LogStop}
 use Rattle.command_base.specs.declared.stops.LogStop.TheVariants.{Refused as LineWrong, Large as LogLarge, NoMemory as LogMemory, ShelfFailed as LogFailed}
-use Rattle.command_check_models.specs.Entries.{AreToBeAll, IsRightEntry}
+use Rattle.command_check_models.specs.Entries.{AreToBeAll, IsLogTaken, IsRightEntry}
 use Rattle.command_check_models.specs.Judging.{IsEntryStop, IsGivenEntry, stop_of}
 use Rattle.command_check_models.specs.Words.{ModelsAsked, log_name}
 
 -- what is judged by a checker of this problem, where nothing may be logged
 module _ (files : Option Files) (name : List ℕ) (p q : ProblemValue) (vs : List (List ℤ)) (same : q ≡ p) (none : vs ≡ []) (r : Result (Unit {0}) LogStop) where
-  pub ended_by : OnOk r (HasText files name (λ bytes. (length bytes < 2 ^ 62) × IsEndedProof q vs bytes)) → OnOk r (HasText files name (IsEndedProof p []))
-  ended_by was = by r was
-    where
-      here : HasText files name (λ bytes. (length bytes < 2 ^ 62) × IsEndedProof q vs bytes) → HasText files name (IsEndedProof p [])
-      here has = λ told. let found = has told in (
-        found.0,
-        found.1,
-        subst (λ (r : ProblemValue). IsEndedProof r [] found.0) same (subst (λ (us : List (List ℤ)). IsEndedProof q us found.0) none found.2.1),
-      )
+  abbrev IsTaken : ProblemValue → List (List ℤ) → Type 0
+  IsTaken o us = OnOk r (HasText files name (λ bytes. (length bytes < 2 ^ 62) × IsEndedProof o us bytes))
 
-      by : (s : Result (Unit {0}) LogStop) → OnOk s (HasText files name (λ bytes. (length bytes < 2 ^ 62) × IsEndedProof q vs bytes)) → OnOk s (HasText files name (IsEndedProof p []))
-      by (Ok done) has = here has
-      by (Err stop) has = tt
+  pub ended_by : IsTaken q vs → IsTaken p []
+  ended_by was = subst (λ (o : ProblemValue). IsTaken o []) same (subst (IsTaken q) none was)
 
   pub stopped_by : (before after : Faults) → IfErr r (λ stop. IsLogStop (λ bytes k why. IsWholeFault q vs bytes k why) (λ bytes k why. IsLogFault q vs bytes k why) name stop files before after)
       → IfErr r (λ stop. IsLogStop (IsWholeFault p []) (IsLogFault p []) name stop files before after)
@@ -60,12 +52,16 @@ module _ (files : Option Files) (a : ModelsAsked) (i : InstanceValue) (p q : Pro
   given_here = record { limits = given.limits; normal = given.normal; vector = given.vector; few = few; long = long_models r.models serving.serve }
 
   -- the log is accepted
-  pub log_taken : EndedLogListsAll → HasText files name (IsEndedProof q []) → IsRightEntry files a i p n e r
-  log_taken law has = record {
-    serving = serving;
-    reps = λ told. (let found = has told in record { serving = serving; whole = λ is m serves. law i p e.costs r.models found.0 given_here (q, bounded, found.2) m serves });
-    log = λ is. subst (λ (file : List ℕ). HasText files file (IsListingLog p (problem_vector i e.costs) r.models)) named (λ told. let found = has told in (found.0, found.1, (q, bounded, found.2)));
-  }
+  module _ (has : HasText files name (λ bytes. (length bytes < 2 ^ 62) × IsEndedProof q [] bytes)) where
+    pub log_accepted : EndedLogListsAll → IsRightEntry files a i p n e r
+    log_accepted law = record {
+      serving = serving;
+      reps = λ told. (let found = has told in record { serving = serving; whole = λ is m serves. law i p e.costs r.models found.0 given_here (q, bounded, found.2.1) m serves });
+      log = λ is. subst (λ (file : List ℕ). HasText files file (IsListingLog p (problem_vector i e.costs) r.models)) named (λ told. let found = has told in (found.0, found.1, (q, bounded, found.2.1)));
+    }
+
+    pub log_taken : IsLogTaken files a n r
+    log_taken is = subst (λ (file : List ℕ). HasText files file (λ log. length log < 2 ^ 62)) named (λ told. let found = has told in (found.0, found.1, found.2.0))
 
   -- it isn't
   pub log_stopped : (before after : Faults) (stop : LogStop) → IsLogStop (IsWholeFault q []) (IsLogFault q []) name stop files before after → IsEntryStop (stop_of n stop) files a i p n e r before after
@@ -75,4 +71,4 @@ module _ (files : Option Files) (a : ModelsAsked) (i : InstanceValue) (p q : Pro
       by (LineWrong line why) wrong = (refl, ((all, serving), λ told. let found = wrong told in (found.0, found.1, (q, bounded, found.2))))
       by LogLarge large = ((all, serving), λ told. let found = large told in (found.0, found.1, (q, bounded, found.2)))
       by LogMemory memory = tt
-      by LogFailed failed = failed
+      by LogFailed failed = (all, failed)

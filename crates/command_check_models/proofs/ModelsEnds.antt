@@ -1,6 +1,6 @@
 -- How each end of the command `check-models` is answered.
 use Rattle.std.proofs.Common.{◌≡◌, ℕ, zero, suc, ◌<◌, ◌≤◌, ◌^◌, List, length, true, refl, ◌∙◌, ap, subst, inl, inr, arith}
-use Rattle.std.specs.Prelude.{Contains, Option}
+use Rattle.std.specs.Prelude.{Option}
 use Rattle.scut_base.specs.Files.{Files, followed, IsPartlyFollowed}
 use Rattle.scut_base.specs.Faults.{NoneFell, SayingFailed}
 use Rattle.scut_base.specs.World.{World}
@@ -21,16 +21,16 @@ use Rattle.command_base.specs.Views.{OnlyReads, View, view}
 use Rattle.command_base.specs.declared.stops.ListStop.{ListStop}
 use Rattle.command_base.specs.declared.stops.ListStop.TheVariants.{Refused as ListWrong, Large as ListLarge, NoMemory as ListMemory, ShelfFailed as ListFailed}
 use Rattle.command_base.specs.declared.status.Status.TheVariants.{Accepted, ModelsRefused, NoMemory}
-use Rattle.command_base.proofs.Answered.{TakesInput, ended, own_rose, own_rose_at_last, shelf_fault, view_kept}
-use Rattle.command_check_models.specs.Entries.{AreRightFrom, IsInput, IsModelsFault, IsPosed}
+use Rattle.command_base.proofs.Answered.{IsOwn, TakesInput, ended, own_rose, own_rose_at_last, shelf_fault, view_kept}
+use Rattle.command_check_models.specs.Entries.{AreLogsTakenFrom, AreRightFrom, IsInput, IsModelsFault, IsPosed}
 use Rattle.command_check_models.specs.Judging.{IsJudgingStop, IsModelsText, IsReadingStop, status_of_models}
-use Rattle.command_check_models.specs.Table.{AreRight, CheckModelsTable, IsCutOff, OfModels, check_models_calls}
+use Rattle.command_check_models.specs.Table.{AreRight, CheckModelsTable, IsCutOff, IsLogRead, OfModels, check_models_calls}
 use Rattle.command_check_models.specs.Words.{ModelsAsked, log_name, models_name}
 use Rattle.command_check_models.specs.declared.stop.ModelsStop.{ModelsStop}
 use Rattle.command_check_models.specs.declared.stop.ModelsStop.TheVariants.{Refused, Large, NoMemory as ModelsMemory, ShelfFailed as ModelsFailed}
 
 module _ (a : ModelsAsked) where
-  pub reads_input : Contains (check_models_calls a) (reading a.input)
+  pub reads_input : IsOwn (check_models_calls a) (reading a.input)
   reads_input = (0, omega arith, refl)
 
   -- nothing has changed
@@ -114,12 +114,19 @@ module _ (a : ModelsAsked) where
           later = reads.later;
         }
         entry_stopped ModelsMemory stop = record { table = unread; cause = λ is. absurd cc; later = reads.later }
-        entry_stopped ModelsFailed stop = record { table = unread; cause = λ is. own_rose (check_models_calls a) (reading_each (log_name a.base)) before.faults after.faults (3, omega arith, refl) stop; later = reads.later }
+        entry_stopped ModelsFailed (as_many, n, marked, rose) = record {
+          table = unread;
+          cause = λ is. own_rose (check_models_calls a) (reading_each (log_name a.base) (IsLogRead a)) before.faults after.faults (3, omega arith, refl) (n, read, rose);
+          later = reads.later;
+        }
+          where
+            read : IsLogRead a before.files n
+            read = record { instance = i; entries = entries; problem = p; posed = posed; text = λ told. let f = text told in (f.0, f.1, record { reps = reps; spelled = f.2.1; as_many = as_many; holds = marked }) }
 
   -- ---- what is accepted
 
   module _ (before mid after : World) (i : InstanceValue) (entries : List Entry) (p : ProblemValue) (posed : IsPosed before.files a i entries p) (reps : List Reps)
-      (text : IsModelsText before.files a.base reps) (each : AreRightFrom before.files a i p 1 entries reps)
+      (text : IsModelsText before.files a.base reps) (each : AreRightFrom before.files a i p 1 entries reps) (taken : AreLogsTakenFrom before.files a 1 reps)
       (reads : OnlyReads before mid) (files : after.files ≡ mid.files) (later : NoneFell mid.faults after.faults) where
     none_fell : NoneFell before.faults after.faults
     none_fell call name = omega (arith, reads.later call name, later call name)
@@ -130,7 +137,7 @@ module _ (a : ModelsAsked) where
       entries = entries;
       problem = p;
       posed = posed;
-      text = λ told. let f = text told in (f.0, f.1, record { taken = f.2.0; reps = reps; spelled = f.2.1; each = each });
+      text = λ told. let f = text told in (f.0, f.1, record { taken = f.2.0; reps = reps; spelled = f.2.1; each = each; logs_taken = taken });
     }
 
     -- the line couldn't be said whole

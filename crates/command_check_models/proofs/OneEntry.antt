@@ -10,12 +10,12 @@ use Rattle.models_text.specs.declared.reps.Reps.{Reps}
 use Rattle.pb_lin.specs.Problem.{ProblemValue}
 use Rattle.command_base.specs.Views.{OnlyReads}
 use Rattle.command_base.proofs.Answered.{rose_at_last}
-use Rattle.command_check_models.specs.Entries.{AfterRight, AreRightFrom, IsEntryWrong, IsLargeLog, IsRightEntry}
+use Rattle.command_check_models.specs.Entries.{AfterRight, AreLogsTakenFrom, AreRightFrom, IsEntryWrong, IsLargeLog, IsLogTaken, IsRightEntry}
 use Rattle.command_check_models.specs.Judging.{IsEntryStop, IsJudgingStop}
 use Rattle.command_check_models.specs.Words.{ModelsAsked, log_name}
 use Rattle.command_check_models.specs.declared.stop.ModelsStop.{ModelsStop}
 use Rattle.command_check_models.specs.declared.stop.ModelsStop.TheVariants.{Refused, Large, NoMemory, ShelfFailed}
-use Rattle.command_check_models.proofs.RightEntries.{right_push}
+use Rattle.command_check_models.proofs.RightEntries.{right_push, taken_push}
 
 module _ {X : Type 0} (xs : List X) (i : ℕ) (x : X) (within : i < length xs) (is : x ≡ get_or xs i x) where
   -- the elements up to this one
@@ -29,7 +29,7 @@ module _ {X : Type 0} (xs : List X) (i : ℕ) (x : X) (within : i < length xs) (
 module _ (a : ModelsAsked) (i : InstanceValue) (p : ProblemValue) (before mid : World) (reads : OnlyReads before mid)
     (entries : List Entry) (reps : List Reps) (as_many : length reps ≡ length entries) (k : ℕ) (within : k < length entries)
     (e : Entry) (e_is : e ≡ get_or entries k e) (r : Reps) (r_is : r ≡ get_or reps k r)
-    (right : AreRightFrom before.files a i p 1 (take k entries) (take k reps)) where
+    (right : AreRightFrom before.files a i p 1 (take k entries) (take k reps)) (taken : AreLogsTakenFrom before.files a 1 (take k reps)) where
   inside : k < length reps
   inside = omega arith
 
@@ -48,6 +48,7 @@ module _ (a : ModelsAsked) (i : InstanceValue) (p : ProblemValue) (before mid : 
     reps_after = drop (k + 1) reps;
     reps_are = around reps k r inside r_is;
     right = right;
+    logs_taken = taken;
     place = count;
     holds = holds;
   }
@@ -62,6 +63,14 @@ module _ (a : ModelsAsked) (i : InstanceValue) (p : ProblemValue) (before mid : 
       (subst (λ (rs : List Reps). AreRightFrom before.files a i p 1 (take k entries ++ e ∷ []) rs) (sym (upto reps k r inside r_is))
       (right_push before.files a i p 1 (take k entries) (take k reps) e r right here))
 
+  -- and its log isn't too large
+  pub taken_more : IsLogTaken mid.files a (k + 1) r → AreLogsTakenFrom before.files a 1 (take (k + 1) reps)
+  taken_more one =
+      let here : IsLogTaken before.files a (1 + length (take k reps)) r =
+      subst (λ (n : ℕ). IsLogTaken before.files a n r) (let is : k + 1 ≡ 1 + length (take k reps) = omega (arith, inside, length-take k reps) in is)
+      (subst (λ (fs : Option Files). IsLogTaken fs a (k + 1) r) reads.files one) in
+      subst (λ (rs : List Reps). AreLogsTakenFrom before.files a 1 rs) (sym (upto reps k r inside r_is)) (taken_push before.files a i p 1 (take k reps) r taken here)
+
   -- or they aren't
   pub judging_stopped : (after : World) (stop : ModelsStop) → IsEntryStop stop mid.files a i p (k + 1) e r mid.faults after.faults → IsJudgingStop stop before.files a i p entries reps before.faults after.faults
   judging_stopped after stop was = by stop (subst (λ (fs : Option Files). IsEntryStop stop fs a i p (k + 1) e r mid.faults after.faults) reads.files was)
@@ -75,4 +84,9 @@ module _ (a : ModelsAsked) (i : InstanceValue) (p : ProblemValue) (before mid : 
       )
       by Large large = (as_many, k, after_right (IsLargeLog before.files a i p) large)
       by NoMemory memory = tt
-      by ShelfFailed failed = (k + 1, rose_at_last _ _ _ (reads.later _ (log_name a.base (k + 1))) failed)
+      by ShelfFailed failed = (
+        as_many,
+        k + 1,
+        (take k reps, r, drop (k + 1) reps, around reps k r inside r_is, omega (arith, inside, length-take k reps), failed.0),
+        rose_at_last _ _ _ (reads.later _ (log_name a.base (k + 1))) failed.1,
+      )

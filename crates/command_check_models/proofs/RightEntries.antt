@@ -6,7 +6,7 @@ use Rattle.front_set.specs.declared.entry.Entry.{Entry}
 use Rattle.instance.specs.Shape.{InstanceValue}
 use Rattle.models_text.specs.declared.reps.Reps.{Reps}
 use Rattle.pb_lin.specs.Problem.{ProblemValue}
-use Rattle.command_check_models.specs.Entries.{AreRightFrom, IsRightEntry}
+use Rattle.command_check_models.specs.Entries.{AreLogsTakenFrom, AreRightFrom, IsLogTaken, IsRightEntry}
 use Rattle.command_check_models.specs.Words.{ModelsAsked}
 
 module _ (files : Option Files) (a : ModelsAsked) (i : InstanceValue) (p : ProblemValue) where
@@ -17,6 +17,12 @@ module _ (files : Option Files) (a : ModelsAsked) (i : InstanceValue) (p : Probl
   right_push n (d ∷ es) [] e r all one = absurd all
   right_push n (d ∷ es) (s ∷ rs) e r all one =
       (all.0, right_push (n + 1) es rs e r all.1 (subst (λ (k : ℕ). IsRightEntry files a i p k e r) (let is : n + length (d ∷ es) ≡ (n + 1) + length es = omega arith in is) one))
+
+  -- one more log that isn't too large
+  pub taken_push : (n : ℕ) (rs : List Reps) (r : Reps) → AreLogsTakenFrom files a n rs → IsLogTaken files a (n + length rs) r → AreLogsTakenFrom files a n (rs ++ r ∷ [])
+  taken_push n [] r all one = (subst (λ (k : ℕ). IsLogTaken files a k r) (let is : n + 0 ≡ n = omega arith in is) one, tt)
+  taken_push n (s ∷ rs) r all one =
+      (all.0, taken_push (n + 1) rs r all.1 (subst (λ (k : ℕ). IsLogTaken files a k r) (let is : n + length (s ∷ rs) ≡ (n + 1) + length rs = omega arith in is) one))
 
   -- as many entries as models
   pub right_count : (n : ℕ) (es : List Entry) (rs : List Reps) → AreRightFrom files a i p n es rs → length es ≡ length rs

@@ -57,6 +57,19 @@ AreRightFrom files a i p n [] [] = Unit {0}
 AreRightFrom files a i p n (e ∷ entries) (r ∷ reps) = IsRightEntry files a i p n e r × AreRightFrom files a i p (n + 1) entries reps
 AreRightFrom files a i p n _ _ = ⊥
 
+-- the models of entry n are to be all
+abbrev pub IsMarkedAll : List Reps → ℕ → Type 0
+IsMarkedAll reps n = (before : List Reps) × (r : Reps) × (after : List Reps) × (reps ≡ before ++ r ∷ after) × (length before + 1 ≡ n) × (r.all ≡ true)
+
+-- The log of entry n is one that is taken, where its models are to be all.
+abbrev pub IsLogTaken : Option Files → ModelsAsked → ℕ → Reps → Type 0
+IsLogTaken files a n r = r.all ≡ true → HasText files (log_name a.base n) (λ log. length log < 2 ^ 62)
+
+-- so it is of each entry, of which the first has this number
+abbrev pub AreLogsTakenFrom : Option Files → ModelsAsked → ℕ → List Reps → Type 0
+AreLogsTakenFrom files a n [] = Unit {0}
+AreLogsTakenFrom files a n (r ∷ reps) = IsLogTaken files a n r × AreLogsTakenFrom files a (n + 1) reps
+
 -- ---- what is wrong first
 
 -- this line of the log of all models is refused, over the bounded problem
@@ -72,7 +85,7 @@ abbrev pub IsEntryWrong : Option Files → ModelsAsked → InstanceValue → Pro
 IsEntryWrong files a i p n e r (Log line why) = AreToBeAll a i e r × HasText files (log_name a.base n) (IsLogWrong p (problem_vector i e.costs) r.models line why)
 IsEntryWrong files a i p n e r why = IsRepsFault i e.costs a.most r why
 
--- The first k entries are right, and P holds of the number of the next, of it and of its models.
+-- The first k entries are right, none of their logs is too large, and P holds of the number of the next, of it and of its models.
 pub record AfterRight (files : Option Files) (a : ModelsAsked) (i : InstanceValue) (p : ProblemValue) (entries : List Entry) (reps : List Reps) (k : ℕ) (P : ℕ → Entry → Reps → Type 0) : Type 0 where
   pub entries_before : List Entry
   pub entry : Entry
@@ -83,6 +96,7 @@ pub record AfterRight (files : Option Files) (a : ModelsAsked) (i : InstanceValu
   pub reps_after : List Reps
   pub reps_are : reps ≡ reps_before ++ models ∷ reps_after
   pub right : AreRightFrom files a i p 1 entries_before reps_before
+  pub logs_taken : AreLogsTakenFrom files a 1 reps_before
   pub place : length entries_before ≡ k
   pub holds : P (k + 1) entry models
 

@@ -1,5 +1,5 @@
 -- How the models of entries are judged one after another; nothing of it has to be believed.
-use Rattle.std.specs.Prelude.{◌≡◌, ◌≢◌, ℕ, zero, suc, ◌<◌, ◌≤◌, ◌^◌, List, length, Option}
+use Rattle.std.specs.Prelude.{◌≡◌, ◌≢◌, ℕ, zero, suc, ◌<◌, ◌≤◌, ◌^◌, true, List, length, Option}
 use Rattle.scut_base.specs.Faults.{Faults, ReadingFailed}
 use Rattle.scut_base.specs.Files.{Files}
 use Rattle.front_set.specs.declared.entry.Entry.{Entry}
@@ -18,7 +18,7 @@ use Rattle.command_base.specs.declared.status.Status.{Status}
 use Rattle.command_base.specs.declared.status.Status.TheVariants.{ModelsRefused, TooLarge, NoMemory as StatusNoMemory, ShelfFailed as StatusFailed}
 use Rattle.command_base.specs.declared.stops.LogStop.{LogStop}
 use Rattle.command_base.specs.declared.stops.LogStop.TheVariants.{Refused as LineWrong, Large as LogLarge, NoMemory as LogMemory, ShelfFailed as LogFailed}
-use Rattle.command_check_models.specs.Entries.{AfterRight, IsEntryWrong, IsLargeLog}
+use Rattle.command_check_models.specs.Entries.{AfterRight, IsEntryWrong, IsLargeLog, IsMarkedAll}
 use Rattle.command_check_models.specs.Words.{ModelsAsked, log_name, models_name}
 use Rattle.command_check_models.specs.declared.stop.ModelsStop.{ModelsStop}
 use Rattle.command_check_models.specs.declared.stop.ModelsStop.TheVariants.{Refused, Large, NoMemory, ShelfFailed}
@@ -70,7 +70,7 @@ abbrev pub IsEntryStop : ModelsStop → Option Files → ModelsAsked → Instanc
 IsEntryStop (Refused k why) files a i p n e r before after = (k ≡ n) × IsEntryWrong files a i p n e r why
 IsEntryStop Large files a i p n e r before after = IsLargeLog files a i p n e r
 IsEntryStop NoMemory files a i p n e r before after = Unit {0}
-IsEntryStop ShelfFailed files a i p n e r before after = ReadingFailed before after (log_name a.base n)
+IsEntryStop ShelfFailed files a i p n e r before after = (r.all ≡ true) × ReadingFailed before after (log_name a.base n)
 
 -- ---- all entries
 
@@ -82,4 +82,4 @@ IsJudgingStop (Refused (suc k) why) files a i p entries reps before after = (len
 IsJudgingStop Large files a i p entries reps before after =
     (length reps ≡ length entries) × (k : ℕ) × AfterRight files a i p entries reps k (IsLargeLog files a i p)
 IsJudgingStop NoMemory files a i p entries reps before after = Unit {0}
-IsJudgingStop ShelfFailed files a i p entries reps before after = (n : ℕ) × ReadingFailed before after (log_name a.base n)
+IsJudgingStop ShelfFailed files a i p entries reps before after = (length reps ≡ length entries) × (n : ℕ) × IsMarkedAll reps n × ReadingFailed before after (log_name a.base n)

@@ -22,12 +22,8 @@ use Rattle.command_base.specs.Messages.{said_of}
 use Rattle.command_base.specs.Views.{View}
 use Rattle.command_base.specs.declared.status.Status.{Status}
 use Rattle.command_base.specs.declared.status.Status.TheVariants.{Accepted, ModelsRefused, Refused, TooLarge, NoMemory, ShelfFailed}
-use Rattle.command_check_models.specs.Entries.{AreRightFrom, HasLargeLog, IsInput, IsModelsFault, IsPosed}
+use Rattle.command_check_models.specs.Entries.{AreLogsTakenFrom, AreRightFrom, HasLargeLog, IsInput, IsMarkedAll, IsModelsFault, IsOfAll, IsPosed}
 use Rattle.command_check_models.specs.Words.{ModelsAsked, log_name, models_name}
-
--- it reads IN, LIST, the text of all models and the logs of all, and says something
-abbrev pub check_models_calls : ModelsAsked → List Call
-check_models_calls a = reading a.input ∷ reading a.list ∷ reading (models_name a.base) ∷ reading_each (log_name a.base) ∷ saying ∷ []
 
 -- ---- the rows that come of reading IN and LIST
 
@@ -55,12 +51,21 @@ pub record OfModels (files : Option Files) (a : ModelsAsked) (P : InstanceValue 
   pub posed : IsPosed files a instance entries problem
   pub text : HasText files (models_name a.base) (P instance problem entries)
 
--- the text is one that is taken, and the models of each entry are right
+-- there are models of as many entries as LIST has, and those of entry n are to be all, so that its log is read
+abbrev pub IsLogRead : ModelsAsked → Option Files → ℕ → Type 0
+IsLogRead a files n = OfModels files a (λ i p entries text. IsOfAll entries text (λ reps. IsMarkedAll reps n))
+
+-- it reads IN, LIST, the text of all models and these logs, and says something
+abbrev pub check_models_calls : ModelsAsked → List Call
+check_models_calls a = reading a.input ∷ reading a.list ∷ reading (models_name a.base) ∷ reading_each (log_name a.base) (IsLogRead a) ∷ saying ∷ []
+
+-- the text is one that is taken, the models of each entry are right, and no log that shows which are all is too large
 pub record AreRight (files : Option Files) (a : ModelsAsked) (i : InstanceValue) (p : ProblemValue) (entries : List Entry) (text : List ℕ) : Type 0 where
   pub taken : length text < 2 ^ 32
   pub reps : List Reps
   pub spelled : text ≡ models_text reps
   pub each : AreRightFrom files a i p 1 entries reps
+  pub logs_taken : AreLogsTakenFrom files a 1 reps
 
 -- Accepted: the models of each entry are representatives of its vector. No file has changed.
 pub record AreAcceptedSaid (before after : View) (a : ModelsAsked) : Type 0 where

@@ -1,11 +1,12 @@
 // Judging the models of entries one after another.
-ghost use Rattle.std.specs.Prelude.{◌≡◌, [], true, IfErr, OnOk};
+ghost use Rattle.std.specs.Prelude.{◌≡◌, ◌<◌, ◌^◌, [], length, true, IfErr, OnOk};
 ghost use Rattle.log_checker.specs.Accepted.{IsEndedProof};
 ghost use Rattle.log_checker.specs.LogFaults.{IsLogFault, IsWholeFault};
 ghost use Rattle.command_base.specs.Causes.{HasText};
 ghost use Rattle.command_base.specs.Stops.{IsLogStop};
 ghost use Rattle.command_base.specs.Views.{OnlyReads};
-ghost use Rattle.command_check_models.specs.Entries.{AreRightFrom, IsPosed, IsRightEntry};
+ghost use Rattle.command_check_models.specs.Entries.{AreLogsTakenFrom, AreRightFrom, IsLogTaken};
+ghost use Rattle.command_check_models.specs.Entries.{IsPosed, IsRightEntry};
 ghost use Rattle.command_check_models.specs.Judging.{IsEntryStop, IsGivenEntry, IsJudgingStop, stop_of};
 ghost use Rattle.representatives.specs.Representatives.{AreServing};
 
@@ -35,6 +36,7 @@ pub(crate) fn judge_entries<H: Shelf>(
     requires { IsPosed (H.world shelf.old).files request.now inst.now entries.now problem.now }
     ensures right { OnOk result (AreRightFrom (H.world shelf.old).files request.now inst.now
         problem.now 1 entries.now reps.now) }
+    ensures taken { OnOk result (AreLogsTakenFrom (H.world shelf.old).files request.now 1 reps.now) }
     ensures stop { IfErr result (λ stop. IsJudgingStop stop (H.world shelf.old).files request.now
         inst.now problem.now entries.now reps.now
         (H.world shelf.old).faults (H.world shelf.new).faults) }
@@ -76,6 +78,7 @@ fn judge_entry<H: Shelf>(
     requires given { IsGivenEntry inst.now problem.now entry.now }
     ensures right { OnOk result (IsRightEntry (H.world shelf.old).files request.now inst.now
         problem.now number entry.now reps.now) }
+    ensures taken { OnOk result (IsLogTaken (H.world shelf.old).files request.now number reps.now) }
     ensures stop { IfErr result (λ stop. IsEntryStop stop (H.world shelf.old).files request.now
         inst.now problem.now number entry.now reps.now
         (H.world shelf.old).faults (H.world shelf.new).faults) }
@@ -110,6 +113,7 @@ fn judge_log<H: Shelf>(
     requires all { reps.now.all ≡ true }
     ensures right { OnOk result (IsRightEntry (H.world shelf.old).files request.now inst.now
         problem.now number entry.now reps.now) }
+    ensures taken { OnOk result (IsLogTaken (H.world shelf.old).files request.now number reps.now) }
     ensures stop { IfErr result (λ stop. IsEntryStop stop (H.world shelf.old).files request.now
         inst.now problem.now number entry.now reps.now
         (H.world shelf.old).faults (H.world shelf.new).faults) }
@@ -135,7 +139,7 @@ fn take_ended<H: Shelf>(
     shelf: &mut H,
 ) -> Result<(), LogStop>
     ensures ended { OnOk result (HasText (H.world shelf.old).files log.now
-        (IsEndedProof problem.now [])) }
+        (λ bytes. (length bytes < 2 ^ 62) × IsEndedProof problem.now [] bytes)) }
     ensures stop { IfErr result (λ stop. IsLogStop (IsWholeFault problem.now [])
         (IsLogFault problem.now []) log.now stop (H.world shelf.old).files
         (H.world shelf.old).faults (H.world shelf.new).faults) }

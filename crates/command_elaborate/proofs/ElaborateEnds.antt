@@ -1,6 +1,6 @@
 -- How each end of the command `elaborate` is answered.
 use Rattle.std.proofs.Common.{◌≡◌, inl, inr, ℕ, List, refl, sym, ◌∙◌, ap, subst, arith}
-use Rattle.std.specs.Prelude.{Contains, Option}
+use Rattle.std.specs.Prelude.{Option}
 use Rattle.scut_base.specs.Files.{Files, followed, IsPartlyFollowed}
 use Rattle.scut_base.specs.Faults.{NoneFell, SayingFailed}
 use Rattle.scut_base.specs.World.{World}
@@ -18,13 +18,13 @@ use Rattle.command_base.specs.Views.{View, view}
 use Rattle.command_base.specs.declared.stops.LogStop.{LogStop}
 use Rattle.command_base.specs.declared.stops.LogStop.TheVariants.{Refused as LineWrong, Large, NoMemory as LogMemory, ShelfFailed as LogFailed}
 use Rattle.command_base.specs.declared.status.Status.TheVariants.{Done, NoMemory, Refused}
-use Rattle.command_base.proofs.Answered.{TakesInput, ended, own_rose, own_rose_at_last, shelf_fault}
+use Rattle.command_base.proofs.Answered.{IsOwn, TakesInput, ended, own_rose, own_rose_at_last, shelf_fault}
 use Rattle.command_elaborate.specs.Writing.{IsNew, IsNewPart, IsNewStop}
 use Rattle.command_elaborate.specs.Table.{ElaborateTable, IsCutAfter, IsElaboratedPartly, IsNewTouched, IsProblemOf, IsRefusedAfter, IsTakenLog, IsWritten, elaborate_calls}
 use Rattle.command_elaborate.specs.Words.{ElaborateAsked}
 
 module _ (a : ElaborateAsked) where
-  pub reads_input : Contains (elaborate_calls a) (reading a.input)
+  pub reads_input : IsOwn (elaborate_calls a) (reading a.input)
   reads_input = (0, omega arith, refl)
 
   pub takes_input : (before after : View) → TakesInput (ElaborateTable a) a.format a.input before after

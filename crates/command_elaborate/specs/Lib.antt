@@ -1,5 +1,6 @@
 pub use Rattle.instance.specs.Shape
 pub use Rattle.instance.specs.Meaning
+pub use Rattle.log_checker.specs.Accepted
 pub use Rattle.proof_text.specs.Versions
 pub use Rattle.proof_text.specs.LogText
 pub use Rattle.log_elab.specs.Loose
@@ -9,6 +10,7 @@ pub use Rattle.command_base.specs.Messages
 pub use Rattle.command_base.specs.Views
 pub use Rattle.command_upgrade.specs.Table as UpgradeTable
 pub mod Words
+pub mod LooselyAccepted
 pub mod Table
 pub mod Elaborating
 pub mod Writing

@@ -14,6 +14,7 @@ ghost use Rattle.command_elaborate.specs.Table.{IsProblemOf, ElaborateTable, ela
 ghost use Rattle.command_elaborate.specs.Words.{elaborate_app, elaborate_asked, elaborate_of_rows};
 
 mod elaborating;
+mod laws;
 mod writing;
 
 use crate::writing::write_new;
@@ -23,6 +24,7 @@ use command_base::{
 };
 use instance::Instance;
 use instance_normal::normalise;
+pub use laws::loosely_accepted_where_elaborated;
 use pb_lin::PbProblem;
 use scut_base::{NoMemory, Shelf};
 use std::alloc::Global;

@@ -1,6 +1,6 @@
 -- How each end of the command `front` is answered.
 use Rattle.std.proofs.Common.{◌≡◌, ℕ, suc, ◌<◌, ◌≤◌, List, [], ◌∷◌, length, true, refl, sym, ◌∙◌, ap, subst, inl, inr, arith}
-use Rattle.std.specs.Prelude.{Contains, Option, Some, Result, Ok, Err, OnOk, OnErr, IsErrOf}
+use Rattle.std.specs.Prelude.{Option, Some, Result, Ok, Err, OnOk, OnErr, IsErrOf}
 use Rattle.std.specs.List.{concat}
 use Rattle.std.proofs.lemmas.List.{append-nil}
 use Rattle.scut_base.specs.Files.{Files, with_file, followed, IsTouched, IsPrefixOf, IsPartlyFollowed}
@@ -22,13 +22,13 @@ use Rattle.command_base.specs.Statuses.{status_of_shelf}
 use Rattle.command_base.specs.Views.{OnlyReads, View, view}
 use Rattle.command_base.specs.declared.status.Status.{Status}
 use Rattle.command_base.specs.declared.status.Status.TheVariants.{Complete, TooLarge, NoMemory, ShelfFailed}
-use Rattle.command_base.proofs.Answered.{TakesInput, ended, own_rose, own_rose_at_last, shelf_fault, view_kept}
+use Rattle.command_base.proofs.Answered.{IsOwn, TakesInput, ended, own_rose, own_rose_at_last, shelf_fault, view_kept}
 use Rattle.command_base.proofs.ListSizes.{size_zero}
 use Rattle.command_front.specs.Table.{FrontTable, IsCutShort, IsFrontOf, IsPrefixOfFront, IsWritten, front_calls}
 use Rattle.command_front.specs.Words.{FrontAsked}
 
 module _ (a : FrontAsked) where
-  pub reads_input : Contains (front_calls a) (reading a.input)
+  pub reads_input : IsOwn (front_calls a) (reading a.input)
   reads_input = (0, omega arith, refl)
 
   -- nothing has changed
@@ -71,7 +71,7 @@ module _ (a : FrontAsked) where
         row : IsCutShort (view before) (view after) a
         row = inl (said, partly touched)
 
-        own : fault ≡ Failed → OwnRose (front_calls a) before.faults after.faults
+        own : fault ≡ Failed → OwnRose (front_calls a) before.files before.faults after.faults
         own failed = elim (rose failed) [
           | inl begins ↦ own_rose (front_calls a) (beginning a.list) before.faults after.faults (1, omega arith, refl) begins
           | inr appends ↦ own_rose (front_calls a) (appending a.list) before.faults after.faults (2, omega arith, refl) appends

@@ -49,7 +49,7 @@ module _ (a : GenAsked) where
         row : IsCutShort (view before) (view after) a
         row = inl (record { files = subst (λ (t : List ℕ). IsTouched before.files after.files a.out (λ bytes. IsPrefixOf bytes t)) is touched; said = said })
 
-        own : fault ≡ Failed → OwnRose (gen_calls a) before.faults after.faults
+        own : fault ≡ Failed → OwnRose (gen_calls a) before.files before.faults after.faults
         own failed = elim (rose failed) [
           | inl begins ↦ own_rose (gen_calls a) (beginning a.out) before.faults after.faults (0, omega arith, refl) begins
           | inr appends ↦ own_rose (gen_calls a) (appending a.out) before.faults after.faults (1, omega arith, refl) appends

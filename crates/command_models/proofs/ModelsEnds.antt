@@ -1,6 +1,6 @@
 -- How each end of the command `models` is answered.
 use Rattle.std.proofs.Common.{◌≡◌, ℕ, ◌<◌, ◌≤◌, ◌^◌, List, length, refl, sym, ◌∙◌, ap, subst, inl, inr, ◌⊎◌, arith}
-use Rattle.std.specs.Prelude.{Contains, Option}
+use Rattle.std.specs.Prelude.{Option}
 use Rattle.scut_base.specs.Files.{Files, followed, IsPartlyFollowed}
 use Rattle.scut_base.specs.Faults.{Faults, NoneFell, SayingFailed, WritingFailed}
 use Rattle.scut_base.specs.World.{World}
@@ -19,14 +19,14 @@ use Rattle.command_base.specs.Views.{OnlyReads, View, view}
 use Rattle.command_base.specs.declared.stops.ListStop.{ListStop}
 use Rattle.command_base.specs.declared.stops.ListStop.TheVariants.{Refused as ListWrong, Large as ListLarge, NoMemory as ListMemory, ShelfFailed as ListFailed}
 use Rattle.command_base.specs.declared.status.Status.TheVariants.{Models, NoMemory}
-use Rattle.command_base.proofs.Answered.{TakesInput, ended, own_rose, own_rose_at_last, shelf_fault, view_kept}
+use Rattle.command_base.proofs.Answered.{IsOwn, TakesInput, ended, own_rose, own_rose_at_last, shelf_fault, view_kept}
 use Rattle.command_check_models.specs.Entries.{IsInput, IsPosed}
 use Rattle.command_check_models.specs.Words.{ModelsAsked, log_name, models_name}
 use Rattle.command_models.specs.Gathering.{IsWritingStop, LogFailed}
-use Rattle.command_models.specs.Table.{AreListedPartly, AreTouched, AreWritten, ModelsTable, OfEntries, models_calls}
+use Rattle.command_models.specs.Table.{AreListedPartly, AreTouched, AreWritten, IsLogWritten, ModelsTable, OfEntries, models_calls}
 
 module _ (a : ModelsAsked) where
-  pub reads_input : Contains (models_calls a) (reading a.input)
+  pub reads_input : IsOwn (models_calls a) (reading a.input)
   reads_input = (0, omega arith, refl)
 
   pub takes_input : (before after : View) → TakesInput (ModelsTable a) a.format a.input before after
@@ -57,15 +57,18 @@ module _ (a : ModelsAsked) where
     pub writing_stopped : (fault : RecordFault) → IsWritingStop fault before.files mid.files a i p entries before.faults mid.faults → Answered (ModelsTable a) (models_calls a) (status_of_recording fault) before mid
     writing_stopped RecordFailed stop = record { table = touched_row stop.touched; cause = λ is. by stop.cause; later = first }
       where
-        by_log : LogFailed a before.faults mid.faults → OwnRose (models_calls a) before.faults mid.faults
-        by_log (n, inl rose) = own_rose (models_calls a) (beginning_each (log_name a.base)) before.faults mid.faults (2, omega arith, refl) (n, rose)
-        by_log (n, inr rose) = own_rose (models_calls a) (appending_each (log_name a.base)) before.faults mid.faults (3, omega arith, refl) (n, rose)
+        written : (n : ℕ) → 0 < n → n ≤ length entries → IsLogWritten a before.files n
+        written n some few = record { instance = i; entries = entries; problem = p; posed = posed; holds = (some, few) }
 
-        by_text : WritingFailed before.faults mid.faults (models_name a.base) → OwnRose (models_calls a) before.faults mid.faults
+        by_log : LogFailed a (length entries) before.faults mid.faults → OwnRose (models_calls a) before.files before.faults mid.faults
+        by_log (n, some, few, inl rose) = own_rose (models_calls a) (beginning_each (log_name a.base) (IsLogWritten a)) before.faults mid.faults (2, omega arith, refl) (n, written n some few, rose)
+        by_log (n, some, few, inr rose) = own_rose (models_calls a) (appending_each (log_name a.base) (IsLogWritten a)) before.faults mid.faults (3, omega arith, refl) (n, written n some few, rose)
+
+        by_text : WritingFailed before.faults mid.faults (models_name a.base) → OwnRose (models_calls a) before.files before.faults mid.faults
         by_text (inl rose) = own_rose (models_calls a) (beginning (models_name a.base)) before.faults mid.faults (4, omega arith, refl) rose
         by_text (inr rose) = own_rose (models_calls a) (appending (models_name a.base)) before.faults mid.faults (5, omega arith, refl) rose
 
-        by : LogFailed a before.faults mid.faults ⊎ WritingFailed before.faults mid.faults (models_name a.base) → OwnRose (models_calls a) before.faults mid.faults
+        by : LogFailed a (length entries) before.faults mid.faults ⊎ WritingFailed before.faults mid.faults (models_name a.base) → OwnRose (models_calls a) before.files before.faults mid.faults
         by (inl failed) = by_log failed
         by (inr failed) = by_text failed
     writing_stopped Full stop = record {

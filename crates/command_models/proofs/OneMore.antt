@@ -50,8 +50,8 @@ module _ (a : ModelsAsked) (i : InstanceValue) (p : ProblemValue) (old mid new :
       full : IsFullSearch mid.files new.files (log_name a.base (k + 1)) p (problem_vector i e.costs) → HasFullLog new.files a i p entries
       full (list, q, bounded, is) = (k + 1, e, numbered, λ told. (is.proof, written_at mid.files new.files (log_name a.base (k + 1)) is.proof is.files told, (list, q, bounded, (is.lines, is.spelled, is.full, is.replay))))
 
-      by : (f : RecordFault) → IsGatherStop f mid.files new.files (log_name a.base (k + 1)) p (problem_vector i e.costs) mid.faults new.faults → IsCause f new.files a i p entries (LogFailed a old.faults new.faults)
-      by Failed failed = (k + 1, rose failed)
+      by : (f : RecordFault) → IsGatherStop f mid.files new.files (log_name a.base (k + 1)) p (problem_vector i e.costs) mid.faults new.faults → IsCause f new.files a i p entries (LogFailed a (length entries) old.faults new.faults)
+      by Failed failed = (k + 1, omega arith, omega (arith, within), rose failed)
       by Full is = full is
       by NoMemory memory = tt
 

@@ -22,7 +22,7 @@ module _ (a : ModelsAsked) (i : InstanceValue) (p : ProblemValue) (entries : Lis
   pub gathering_failed : (fault : RecordFault) → IsGatheringStop fault old.files mid.files a i p entries old.faults mid.faults → IsWritingStop fault old.files mid.files a i p entries old.faults mid.faults
   gathering_failed fault stop = record { cause = by fault stop.cause; touched = no_text a i p entries few old.files mid.files stop.touched }
     where
-      by : (f : RecordFault) → IsCause f mid.files a i p entries (LogFailed a old.faults mid.faults) → IsCause f mid.files a i p entries (LogFailed a old.faults mid.faults ⊎ WritingFailed old.faults mid.faults (models_name a.base))
+      by : (f : RecordFault) → IsCause f mid.files a i p entries (LogFailed a (length entries) old.faults mid.faults) → IsCause f mid.files a i p entries (LogFailed a (length entries) old.faults mid.faults ⊎ WritingFailed old.faults mid.faults (models_name a.base))
       by Failed failed = inl failed
       by Full full = full
       by NoMemory memory = tt

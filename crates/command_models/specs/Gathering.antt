@@ -1,5 +1,5 @@
 -- How the models of entries are gathered one after another, and then written; nothing of it has to be believed.
-use Rattle.std.specs.Prelude.{◌≡◌, ◌⊎◌, ◌↔◌, ℕ, ◌+◌, ◌^◌, true, List, length, Option}
+use Rattle.std.specs.Prelude.{◌≡◌, ◌⊎◌, ◌↔◌, ℕ, ◌+◌, ◌<◌, ◌≤◌, ◌^◌, true, List, length, Option}
 use Rattle.scut_base.specs.Faults.{Faults, Rose, WritingFailed}
 use Rattle.scut_base.specs.Files.{Files, IsTold, IsTouched, content}
 use Rattle.front_set.specs.declared.entry.Entry.{Entry}
@@ -45,9 +45,9 @@ pub record AreGathered (old new : Option Files) (a : ModelsAsked) (i : InstanceV
   pub each : AreRightFrom new a i p 1 entries reps
   pub touched : AreLogsTouched old new a i p entries
 
--- a count of the calls that write a log rose
-abbrev pub LogFailed : ModelsAsked → Faults → Faults → Type 0
-LogFailed a before after = (n : ℕ) × WritingFailed before after (log_name a.base n)
+-- a count of the calls that write the log of one of so many entries rose
+abbrev pub LogFailed : ModelsAsked → ℕ → Faults → Faults → Type 0
+LogFailed a count before after = (n : ℕ) × (0 < n) × (n ≤ count) × WritingFailed before after (log_name a.base n)
 
 -- why the entries' models aren't gathered
 abbrev pub IsCause : RecordFault → Option Files → ModelsAsked → InstanceValue → ProblemValue → List Entry → (Failure : Type 0) → Type 0
@@ -56,10 +56,10 @@ IsCause Full new a i p entries Failure = HasFullLog new a i p entries
 IsCause NoMemory new a i p entries Failure = Unit {0}
 
 pub record IsGatheringStop (fault : RecordFault) (old new : Option Files) (a : ModelsAsked) (i : InstanceValue) (p : ProblemValue) (entries : List Entry) (before after : Faults) : Type 0 where
-  pub cause : IsCause fault new a i p entries (LogFailed a before after)
+  pub cause : IsCause fault new a i p entries (LogFailed a (length entries) before after)
   pub touched : AreLogsTouched old new a i p entries
 
 -- the same of writing their text besides
 pub record IsWritingStop (fault : RecordFault) (old new : Option Files) (a : ModelsAsked) (i : InstanceValue) (p : ProblemValue) (entries : List Entry) (before after : Faults) : Type 0 where
-  pub cause : IsCause fault new a i p entries (LogFailed a before after ⊎ WritingFailed before after (models_name a.base))
+  pub cause : IsCause fault new a i p entries (LogFailed a (length entries) before after ⊎ WritingFailed before after (models_name a.base))
   pub touched : AreTouched old new a i p entries

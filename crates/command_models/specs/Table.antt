@@ -29,12 +29,6 @@ use Rattle.command_check_models.specs.Entries.{AreRightFrom, IsPosed}
 use Rattle.command_check_models.specs.Table.{ListTable}
 use Rattle.command_check_models.specs.Words.{ModelsAsked, log_name, models_name}
 
--- it reads IN and LIST, begins and appends to the logs and the text of all models, and says something
-abbrev pub models_calls : ModelsAsked → List Call
-models_calls a =
-    reading a.input ∷ reading a.list ∷ beginning_each (log_name a.base) ∷ appending_each (log_name a.base)
-    ∷ beginning (models_name a.base) ∷ appending (models_name a.base) ∷ saying ∷ []
-
 -- ---- its files
 
 -- the log of one of so many entries
@@ -64,6 +58,16 @@ pub record OfEntries (files : Option Files) (a : ModelsAsked) (P : InstanceValue
   pub problem : ProblemValue
   pub posed : IsPosed files a instance entries problem
   pub holds : P instance problem entries
+
+-- LIST has an entry n, so that its log is written
+abbrev pub IsLogWritten : ModelsAsked → Option Files → ℕ → Type 0
+IsLogWritten a files n = OfEntries files a (λ i p entries. (0 < n) × (n ≤ length entries))
+
+-- it reads IN and LIST, begins and appends to these logs and the text of all models, and says something
+abbrev pub models_calls : ModelsAsked → List Call
+models_calls a =
+    reading a.input ∷ reading a.list ∷ beginning_each (log_name a.base) (IsLogWritten a) ∷ appending_each (log_name a.base) (IsLogWritten a)
+    ∷ beginning (models_name a.base) ∷ appending (models_name a.base) ∷ saying ∷ []
 
 -- The text of all models was written, and the models of each entry are representatives of its vector, as many as are asked for or all; and
 -- the log of these shows it. Each other log is as before, or a part of one.

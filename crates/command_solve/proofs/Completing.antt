@@ -46,7 +46,7 @@ none_left a i status never = absurd never
 pub solve_completes : (a : SolveAsked) (status : Status) (before after : World) → Answered (SolveTable a) (solve_calls a) status before after → SolveCompletes a status before after
 solve_completes a status before after answered spelled quiet memory = by status answered.table answered.cause memory
   where
-    by : (s : Status) → SolveTable a s (view before) (view after) → (s ≡ ShelfFailed → OwnRose (solve_calls a) before.faults after.faults) → s ≢ NoMemory → IsSolveEnd a spelled.instance s
+    by : (s : Status) → SolveTable a s (view before) (view after) → (s ≡ ShelfFailed → OwnRose (solve_calls a) before.files before.faults after.faults) → s ≢ NoMemory → IsSolveEnd a spelled.instance s
     by (Complete size) was cause other = searched a spelled.instance (Complete size) (same_search a before.files spelled was.instance was.text was.search) tt
     by (Incomplete size learned) was cause other =
         let of_file = was.found.of_file in

@@ -37,7 +37,7 @@ module _ (list text : List ℕ) (size : ℕ) (how : Ending) where
       unsaid : IsListUnsaid list text (view before) (view after)
       unsaid = record { files = touched; said = said }
 
-      own : fault ≡ Failed → OwnRose (list_calls list) before.faults after.faults
+      own : fault ≡ Failed → OwnRose (list_calls list) before.files before.faults after.faults
       own failed = elim (rose failed) [
         | inl begins ↦ own_rose (list_calls list) (beginning list) before.faults after.faults (0, omega arith, refl) begins
         | inr appends ↦ own_rose (list_calls list) (appending list) before.faults after.faults (1, omega arith, refl) appends

@@ -1,6 +1,6 @@
 -- How each end of the command `solve` is answered.
 use Rattle.std.proofs.Common.{◌≡◌, ℕ, suc, ◌+◌, ◌^◌, true, List, [], ◌∷◌, length, refl, sym, ap, subst, ◌∙◌, inl, inr, arith}
-use Rattle.std.specs.Prelude.{All, Contains}
+use Rattle.std.specs.Prelude.{All}
 use Rattle.std.specs.List.{filter}
 use Rattle.std.proofs.lemmas.List.Elements.{All-weaker}
 use Rattle.std.proofs.lemmas.Slice.Zip.{AllZip-long}
@@ -28,7 +28,7 @@ use Rattle.command_base.specs.Statuses.{status_of_recording}
 use Rattle.command_base.specs.Views.{View, view}
 use Rattle.command_base.specs.declared.status.Status.{Status}
 use Rattle.command_base.specs.declared.status.Status.TheVariants.{Done, Complete, Incomplete, Trimmed, Models, LogFull, Accepted, Refused, ModelsRefused, Usage, BadInput, TooLarge, NoMemory, ShelfFailed}
-use Rattle.command_base.proofs.Answered.{TakesInput, ended, own_rose, own_rose_at_last}
+use Rattle.command_base.proofs.Answered.{IsOwn, TakesInput, ended, own_rose, own_rose_at_last}
 use Rattle.command_base.proofs.ListSizes.{size_zero}
 use Rattle.command_solve.specs.Listing.{IsListed, ListTable, is_complete, list_calls, status_of}
 use Rattle.proof_text.specs.LogParts.{IsLogStopped}
@@ -49,7 +49,7 @@ small_costs : (i : InstanceValue) (entries : List Entry) → AreProblemVectors i
 small_costs i entries vectors = All-weaker (λ (e : Entry). IsProblemVector i e.costs) HasCosts (λ e vector. vector.small) entries vectors
 
 module _ (a : SolveAsked) where
-  pub reads_input : Contains (solve_calls a) (reading a.input)
+  pub reads_input : IsOwn (solve_calls a) (reading a.input)
   reads_input = (0, omega arith, refl)
 
   pub takes_input : (before after : View) → TakesInput (SolveTable a) a.format a.input before after
@@ -181,8 +181,6 @@ module _ (a : SolveAsked) where
       pub search_listed : (after : World) (status : Status) → NoneFell before.faults mid.faults → Answered Listing (list_calls a.list) status mid after → Answered (SolveTable a) (solve_calls a) status before after
       search_listed after status later was = record {
         table = row (view after) status was.table;
-        cause = λ failed.
-            let rose = was.cause failed in
-            own_rose_at_last (solve_calls a) before.faults mid.faults after.faults later (suc (suc (suc rose.0)), rose.1, omega (arith, rose.2), rose.3, rose.4);
+        cause = λ failed. own_rose_at_last (solve_calls a) before.faults mid.faults after.faults later (record { call = inr (inr (inr (was.cause failed).call)) });
         later = λ call name. omega (arith, later call name, was.later call name);
       }

@@ -25,7 +25,7 @@ use Rattle.command_base.proofs.Readable.{not_larger, of_text}
 use Rattle.command_gen.specs.Origin.{instance_from, text_from}
 use Rattle.command_gen.specs.Table.{IsGenerated}
 use Rattle.command_solve.specs.Table.{IsCertified}
-use Rattle.command_check.specs.Table.{HasLargeFile, IsLineFault, OfList, OfLog, OfRightList}
+use Rattle.command_check.specs.Table.{HasLargeFile, IsLineFault, IsTakenAndAccepted, OfList, OfLog, OfRightList}
 use Rattle.command_trial.specs.Table.{IsSolved, with_three}
 use Rattle.command_trial.specs.Words.{TrialAsked, check_part, gen_part, instance_name, list_name, log_name, solve_part}
 use Rattle.command_trial.proofs.Names.{input_not_list, input_not_log, log_not_list}
@@ -118,6 +118,11 @@ module _ (a : TrialAsked) (before mid : View) (told : IsTold before.files) (made
     of_log P of =
         let found = of_list (λ i l. HasText last.files (log_name a) (P i l)) of in
         (found.0, of_text last.files (log_name a) proof (P instance listed) log_there found.1)
+
+    -- ---- what is accepted isn't too large
+
+    pub taken : OfLog last.files (check_part a) IsTakenAndAccepted → (length listed < 2 ^ 32) × (length proof < 2 ^ 62)
+    taken of = let found = of_log IsTakenAndAccepted of in (found.0, found.1.taken)
 
     -- ---- nothing of it is refused
 

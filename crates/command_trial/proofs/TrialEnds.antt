@@ -29,7 +29,7 @@ use Rattle.command_solve.specs.Words.{SolveAsked}
 use Rattle.command_check.specs.Words.{CheckAsked}
 use Rattle.command_trial.specs.Words.{AreNames, TrialAsked, check_in, check_part, gen_in, gen_part, instance_name, list_name, log_name, solve_in, solve_part}
 use Rattle.command_trial.proofs.OwnCalls.{check_rose, gen_rose, solve_rose}
-use Rattle.command_trial.proofs.ReadBack.{large_file, no_entry_refused, no_line_refused, same_instance, solved, text_there, there_then, told_then}
+use Rattle.command_trial.proofs.ReadBack.{large_file, no_entry_refused, no_line_refused, same_instance, solved, taken, text_there, there_then, told_then}
 
 module _ (a : TrialAsked) where
   -- nothing has changed
@@ -57,7 +57,7 @@ module _ (a : TrialAsked) where
   pub gen_ended : (status : Status) (before after : World) → goes_on status ≡ false → Answered (GenTable (gen_part a)) (gen_calls (gen_part a)) status before after → Answered (TrialTable a) (trial_calls a) status before after
   gen_ended status before after off was = record {
     table = gen_row status (view before) (view after) off was.table;
-    cause = λ failed. gen_rose a before.faults after.faults (was.cause failed);
+    cause = λ failed. gen_rose a before.files before.files before.faults after.faults (was.cause failed);
     later = was.later;
   }
 
@@ -104,7 +104,7 @@ module _ (a : TrialAsked) where
       → Answered (TrialTable a) (trial_calls a) solved before after
   solve_ended made solved before mid after on first off was = record {
     table = solve_row (view before) (view mid) (view after) (made_by made (view before) (view mid) on first.table) solved off was.table;
-    cause = λ failed. own_rose_at_last (trial_calls a) before.faults mid.faults after.faults first.later (solve_rose a mid.faults after.faults (was.cause failed));
+    cause = λ failed. own_rose_at_last (trial_calls a) before.faults mid.faults after.faults first.later (solve_rose a before.files mid.files mid.faults after.faults (was.cause failed));
     later = λ call name. omega (arith, first.later call name, was.later call name);
   }
 
@@ -121,6 +121,8 @@ module _ (a : TrialAsked) where
     check_row Accepted was = λ told. record {
       size = size;
       solved = solved a before mid told made size last certified after.files was.files;
+      list_taken = (taken a before mid told made size last certified was.cause).0;
+      log_taken = (taken a before mid told made size last certified was.cause).1;
       said = was.said ∙ ap (λ (t : Option (List ℕ)). followed t (said_of Accepted)) said_two;
     }
     check_row (Refused (LineRefused k why)) was = λ told. no_line_refused a before mid told made size last certified k why was.cause
@@ -146,7 +148,7 @@ module _ (a : TrialAsked) where
       let certified = solved_by (view before) (view mid) (view last) generated found on' second.table in
       record {
         table = check_row (view before) (view mid) (view last) (view after) generated certified.0 certified.1 checked third.table;
-        cause = λ failed. own_rose_at_last (trial_calls a) before.faults last.faults after.faults (λ call name. omega (arith, first.later call name, second.later call name)) (check_rose a last.faults after.faults (third.cause failed));
+        cause = λ failed. own_rose_at_last (trial_calls a) before.faults last.faults after.faults (λ call name. omega (arith, first.later call name, second.later call name)) (check_rose a before.files last.files last.faults after.faults (third.cause failed));
         later = λ call name. omega (arith, first.later call name, second.later call name, third.later call name);
       }
 

@@ -1,6 +1,6 @@
 -- The answers of `trial NUMBER VARS OBJECTIVES BASE`, a record for each. BASE stands for its three files, BASE.mcnf,
 -- BASE.list and BASE.log.
-use Rattle.std.specs.Prelude.{◌≡◌, ◌⊎◌, ℕ, zero, ◌≤◌, ◌^◌, Bool, true, false, List, [], ◌∷◌, length, Option}
+use Rattle.std.specs.Prelude.{◌≡◌, ◌⊎◌, ℕ, zero, ◌<◌, ◌≤◌, ◌^◌, Bool, true, false, List, [], ◌∷◌, length, Option}
 use Rattle.scut_base.specs.Files.{Files, with_file, followed, IsTold}
 use Rattle.scut_base.specs.World.{World}
 use Rattle.front_set.specs.declared.entry.Entry.{Entry}
@@ -67,10 +67,12 @@ pub record IsSolved (before after : Option Files) (a : TrialAsked) (size : ℕ) 
 
 -- ---- the answers
 
--- Accepted: the instance was generated, solved, and its list and log were accepted. So what is accepted is its front.
+-- Accepted: the instance was generated, solved, and its list and log, neither of which is too large, were accepted. So what is accepted is its front.
 pub record IsTried (before after : View) (a : TrialAsked) : Type 0 where
   pub size : ℕ
   pub solved : IsSolved before.files after.files a size
+  pub list_taken : length (list_text true solved.entries) < 2 ^ 32
+  pub log_taken : length solved.proof < 2 ^ 62
   pub said : after.said ≡ said_in_turn before.said (Done ∷ Complete size ∷ Accepted ∷ [])
 
 -- TooLarge: the instance was generated and solved, and its list or its log is larger than one that is checked may be.

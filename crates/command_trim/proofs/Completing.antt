@@ -1,7 +1,7 @@
 -- Where the command `trim` completes.
-use Rattle.std.proofs.Common.{◌≡◌, zero, suc, ◌≢◌, refl, arith}
+use Rattle.std.proofs.Common.{◌≡◌, ◌≢◌, refl, inl, inr}
 use Rattle.scut_base.specs.World.{World}
-use Rattle.command_base.specs.Answering.{Answered, OwnRose}
+use Rattle.command_base.specs.Answering.{Answered, AnyRose, OwnRose}
 use Rattle.command_base.specs.declared.status.Status.{Status}
 use Rattle.command_base.specs.Views.{view}
 use Rattle.command_base.specs.declared.status.Status.TheVariants.{Accepted, Refused, Trimmed, NoMemory, ShelfFailed}
@@ -12,15 +12,18 @@ use Rattle.command_trim.specs.Words.{TrimAsked, check_of}
 
 module _ (a : TrimAsked) (before after : World) where
   -- what `check` calls, `trim` calls
-  own_rose_too : OwnRose (check_calls (check_of a)) before.faults after.faults → OwnRose (trim_calls a) before.faults after.faults
-  own_rose_too (zero, call, short, is, rose) = (0, call, omega arith, is, rose)
-  own_rose_too (suc zero, call, short, is, rose) = (1, call, omega arith, is, rose)
-  own_rose_too (suc (suc zero), call, short, is, rose) = (2, call, omega arith, is, rose)
-  own_rose_too (suc (suc (suc zero)), call, short, is, rose) = (5, call, omega arith, is, rose)
-  own_rose_too (suc (suc (suc (suc k))), call, short, is, rose) = absurd (omega (arith, short))
+  own_rose_too : OwnRose (check_calls (check_of a)) before.files before.faults after.faults → OwnRose (trim_calls a) before.files before.faults after.faults
+  own_rose_too rose = record { call = by rose.call }
+    where
+      by : AnyRose before.files before.faults after.faults (check_calls (check_of a)) → AnyRose before.files before.faults after.faults (trim_calls a)
+      by (inl input) = inl input
+      by (inr (inl list)) = inr (inl list)
+      by (inr (inr (inl log))) = inr (inr (inl log))
+      by (inr (inr (inr (inl said)))) = inr (inr (inr (inr (inr (inl said)))))
+      by (inr (inr (inr (inr none)))) = absurd none
 
   -- what `check` would have come to
-  check_end : (status : Status) → Answered (TrimTable a) (trim_calls a) status before after → CheckTable (check_of a) status (view before) (view after) → (are : AreTrimmable a before.files) → ¬ (OwnRose (trim_calls a) before.faults after.faults) → status ≢ NoMemory
+  check_end : (status : Status) → Answered (TrimTable a) (trim_calls a) status before after → CheckTable (check_of a) status (view before) (view after) → (are : AreTrimmable a before.files) → ¬ (OwnRose (trim_calls a) before.files before.faults after.faults) → status ≢ NoMemory
       → status ≢ ShelfFailed → IsCheckEnd (check_of a) before.files are.checkable status
   check_end status was row are quiet other failed =
       check_completes (check_of a) status before after (record { table = row; cause = λ is. absurd (failed is); later = was.later }) are.checkable (λ rose. quiet (own_rose_too rose)) other

@@ -1,6 +1,6 @@
 -- How each end of the command `trim` is answered.
 use Rattle.std.proofs.Common.{◌≡◌, ℕ, ◌<◌, ◌^◌, List, length, true, refl, sym, ◌∙◌, ap, subst, inl, inr, arith}
-use Rattle.std.specs.Prelude.{Contains, Option}
+use Rattle.std.specs.Prelude.{Option}
 use Rattle.scut_base.specs.Files.{Files, followed, with_file, IsPartlyFollowed, IsPrefixOf, IsTouched}
 use Rattle.scut_base.specs.Faults.{NoneFell, SayingFailed, WritingFailed}
 use Rattle.scut_base.specs.World.{World}
@@ -27,7 +27,7 @@ use Rattle.command_base.specs.declared.stops.ListStop.TheVariants.{Refused as Li
 use Rattle.command_base.specs.declared.stops.LogStop.{LogStop}
 use Rattle.command_base.specs.declared.stops.LogStop.TheVariants.{Refused as LineWrong, Large as LogLarge, NoMemory as LogMemory, ShelfFailed as LogFailed}
 use Rattle.command_base.specs.declared.status.Status.TheVariants.{NoMemory, Trimmed}
-use Rattle.command_base.proofs.Answered.{TakesInput, ended, own_rose, own_rose_at_last, shelf_fault, view_kept}
+use Rattle.command_base.proofs.Answered.{IsOwn, TakesInput, ended, own_rose, own_rose_at_last, shelf_fault, view_kept}
 use Rattle.command_check.specs.Stages.{IsJudgedFor, IsListed, IsRead}
 use Rattle.command_check.proofs.CheckEnds.{list_stopped as check_list_stopped, log_stopped as check_log_stopped}
 use Rattle.command_trim.specs.Keeping.{IsProofOf, IsProved, every_by, whole_by}
@@ -37,7 +37,7 @@ use Rattle.command_trim.specs.Words.{TrimAsked, check_of}
 use Rattle.command_trim.proofs.TrimmedTexts.{text_accepted}
 
 module _ (a : TrimAsked) where
-  pub reads_input : Contains (trim_calls a) (reading a.input)
+  pub reads_input : IsOwn (trim_calls a) (reading a.input)
   reads_input = (0, omega arith, refl)
 
   pub takes_input : (before after : View) → TakesInput (TrimTable a) a.format a.input before after
@@ -135,7 +135,7 @@ module _ (a : TrimAsked) where
         row : IsCutOff (view before) (view after) a
         row = inr (inl (record { kept = kept; total = total; text = text; trimmed = new; files = touched; said = quiet }))
 
-        writes : WritingFailed before.faults after.faults a.output → OwnRose (trim_calls a) before.faults after.faults
+        writes : WritingFailed before.faults after.faults a.output → OwnRose (trim_calls a) before.files before.faults after.faults
         writes (inl begins) = own_rose (trim_calls a) (beginning a.output) before.faults after.faults (3, omega arith, refl) begins
         writes (inr appends) = own_rose (trim_calls a) (appending a.output) before.faults after.faults (4, omega arith, refl) appends
 

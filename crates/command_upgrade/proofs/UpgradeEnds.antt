@@ -1,6 +1,6 @@
 -- How each end of the command `upgrade` is answered.
 use Rattle.std.proofs.Common.{◌≡◌, ◌≢◌, inl, inr, ℕ, List, refl, sym, ◌∙◌, ap, subst, arith}
-use Rattle.std.specs.Prelude.{Contains, Option, Some, None, if◌then◌else◌, Bool, true, false}
+use Rattle.std.specs.Prelude.{Option, Some, None, if◌then◌else◌, Bool, true, false}
 use Rattle.std.specs.Str.{bytes_eq}
 use Rattle.std.proofs.lemmas.Slice.Eq.{bytes_eq-Decides}
 use Rattle.std.proofs.lemmas.Option.{none-some}
@@ -27,7 +27,7 @@ use Rattle.command_base.specs.Views.{View, view}
 use Rattle.command_base.specs.declared.stops.LogStop.{LogStop}
 use Rattle.command_base.specs.declared.stops.LogStop.TheVariants.{Refused as LineWrong, Large, NoMemory as LogMemory, ShelfFailed as LogFailed}
 use Rattle.command_base.specs.declared.status.Status.TheVariants.{Done, NoMemory, Refused}
-use Rattle.command_base.proofs.Answered.{TakesInput, ended, own_rose, own_rose_at_last, shelf_fault}
+use Rattle.command_base.proofs.Answered.{IsOwn, TakesInput, ended, own_rose, own_rose_at_last, shelf_fault}
 use Rattle.command_upgrade.specs.Copying.{IsNew, IsNewPart, IsNewStop}
 use Rattle.command_upgrade.specs.Table.{IsLargeAfter, IsLogOf, IsNewTouched, IsProblemOf, IsUpgradedPartly, IsWritten, IsWrongAfter, UpgradeTable, upgrade_calls}
 use Rattle.command_upgrade.specs.Words.{UpgradeAsked}
@@ -48,7 +48,7 @@ last_differ a b c format e same =
     cc
 
 module _ (a : UpgradeAsked) where
-  pub reads_input : Contains (upgrade_calls a) (reading a.input)
+  pub reads_input : IsOwn (upgrade_calls a) (reading a.input)
   reads_input = (0, omega arith, refl)
 
   pub takes_input : (before after : View) → TakesInput (UpgradeTable a) a.format a.input before after

@@ -64,6 +64,16 @@ static FAULTS: [Row; 15] = [
     (CHECK_MODELS, ShelfCall::Say, 1, 74, LIST, FAULT),
 ];
 
+const TRIAL: &str = "trial 7 3 1 t";
+
+// The reads of a trial from one number on up to another, the number with which it ends if one of them fails, and what it has
+// said then. `solve` reads the instance, and then `check` all three files, each with a read more at its end; there is no ninth.
+static TRIAL_READS: [(u64, u64, u8, &str); 3] = [
+    (1, 2, 74, "done\n"),
+    (3, 8, 74, "done\ncomplete 1\n"),
+    (9, 9, 0, "done\ncomplete 1\naccepted\n"),
+];
+
 // A command line, and the call that fails on the shelf that it runs over; a call of number 0 is none.
 #[derive(Clone, Copy, Debug)]
 struct Case<'a> {
@@ -152,6 +162,36 @@ fn each_call_fails(rt: &impl Abort, alloc: Global, row: &Row) -> Result<(), Fail
 fn a_call_that_fails_is_answered(rt: HostRuntime) -> Result<(), Fail> {
     for row in FAULTS.iter() {
         each_call_fails(&rt, rt.alloc(), row)?;
+    }
+    Ok(())
+}
+
+// Runs a trial whose read of this number fails.
+fn trial_ends(
+    rt: &impl Abort,
+    alloc: Global,
+    number: u64,
+    ends: u8,
+    said: &str,
+) -> Result<(), Fail> {
+    let fault = PlannedFault {
+        call: ShelfCall::Read,
+        number,
+        bytes: 0,
+    };
+    let case = Case { line: TRIAL, fault };
+    let mut shelf = MemShelf::cutting(alloc, &[fault])?;
+    let ended = number_of(alloc, TRIAL, &mut shelf)?;
+    expect(rt, &case, &[ended], &[ends])?;
+    expect(rt, &case, shelf.said(), said.as_bytes())
+}
+
+#[test]
+fn a_trial_reads_back(rt: HostRuntime) -> Result<(), Fail> {
+    for (first, last, ends, said) in TRIAL_READS.iter() {
+        for before in first.saturating_sub(1)..*last {
+            trial_ends(&rt, rt.alloc(), before.saturating_add(1), *ends, *said)?;
+        }
     }
     Ok(())
 }
