@@ -9,6 +9,7 @@ use Rattle.front_set.specs.Vector.{IsBelow}
 use Rattle.front_set.proofs.FrontLaws.{IsBelow-trans, length-IsBelow}
 use Rattle.pb_lin.specs.Problem.{ProblemValue, problem_costs}
 use Rattle.proof_rules.specs.Recording.{Snapshot}
+use Rattle.search_base.specs.Boards.{BoardValue}
 use Rattle.search_base.specs.Logged.{Logs, LogsNone}
 use Rattle.search_base.specs.CostBounds.{BoundsRow, FitBounds, IsNextValue}
 use Rattle.search_base.specs.Turns.{IsTaken}
@@ -162,8 +163,8 @@ pub bounds_length : (m : Snapshot) (bounds : List ObjectiveBound) → FitBounds 
     → length bounds ≡ length m.problem.costs
 bounds_length m bounds fits = AllZip-long (BoundsRow m) m.problem.costs bounds fits.rows
 
-pub finds_inside : (a m b : Snapshot) (x : List Bool) (fence : List ℤ) → m.problem ≡ a.problem
-    → LogsNone a.problem a.lines m.lines → IsBelow (problem_costs m.problem x) fence → IsTaken m b x
+pub finds_inside : (a m b : Snapshot) {front : BoardValue} (x : List Bool) (fence : List ℤ) → m.problem ≡ a.problem
+    → LogsNone a.problem a.lines m.lines → IsBelow (problem_costs m.problem x) fence → IsTaken m b front x
     → FindsInside a b fence fence
 finds_inside a m b x fence problem none below taken =
     let costs = taken.found.costs in

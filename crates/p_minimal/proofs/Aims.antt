@@ -45,8 +45,8 @@ pub serves_still : (a b : Snapshot) (aim : Option (List ℤ)) → b.problem ≡ 
 serves_still a b aim same is = subst (Serves aim) (sym same) is
 
 -- the board's last vector is the one that was logged for the model
-module _ (m b : Snapshot) (x : List Bool) (board : BoardValue) (now : Option (List ℤ)) (taken : IsTaken m b x)
-    (same : b.problem ≡ m.problem) (is : IsBoard board (logged b.problem b.lines)) (copied : now ≡ board.last) where
+module _ (m b : Snapshot) {front : BoardValue} (x : List Bool) (board : BoardValue) (now : Option (List ℤ))
+    (taken : IsTaken m b front x) (same : b.problem ≡ m.problem) (is : IsBoard board (logged b.problem b.lines)) (copied : now ≡ board.last) where
   is_logged : now ≡ Some taken.found.costs
   is_logged =
       copied ∙ is.last
