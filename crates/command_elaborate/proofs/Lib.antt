@@ -1,4 +1,3 @@
 pub mod Answering
-pub mod NewLogs
 pub mod ElaborateEnds
 pub mod Completing
