@@ -3,6 +3,9 @@ pub mod Written
 pub mod InstanceFiles
 pub mod InputStops
 pub mod LogFed
+pub mod LogLines
+pub mod RewrittenLines
+pub mod RewrittenLogs
 pub mod ClapWords
 pub mod Answered
 pub mod Readable

@@ -6,7 +6,7 @@ use Rattle.scut_base.specs.Files.{Files, content, IsReadAt}
 use Rattle.scut_base.specs.Faults.{Faults}
 use Rattle.proof_laws.specs.declared.why.Why.{Why}
 use Rattle.command_base.specs.Causes.{HasText}
-use Rattle.command_base.specs.Feeding.{IsFedSoFar, IsFedWhole}
+use Rattle.command_base.specs.Feeding.{IsFedSoFar, IsFedWhole, IsTaken}
 use Rattle.command_base.specs.Stops.{IsLogStop}
 use Rattle.command_base.specs.StopsFrom.{log_of_line}
 use Rattle.command_base.specs.Taking.{IsTooLarge, RefusesNone}
@@ -54,6 +54,11 @@ finished_passes Stands Passes whole files log n fed short passes = λ told. (
   fed.all told,
   (omega (arith, short, fed.so_far.count), passes fed.so_far.fed fed.so_far.stands),
 )
+
+-- what takes the log stands for the whole file
+pub finished_taken : (Stood Stands : List ℕ → Type 0) (whole : List ℕ → ℕ → Why → Type 0) (files : Option Files) (log : List ℕ) (n : ℕ) → IsFedWhole files log Stood whole n
+    → ((bytes : List ℕ) → Stood bytes → Stands bytes) → IsTaken files log Stands
+finished_taken Stood Stands whole files log n fed stands = record { bytes = fed.so_far.fed; stands = stands fed.so_far.fed fed.so_far.stands; all = fed.all }
 
 -- ---- what was fed
 

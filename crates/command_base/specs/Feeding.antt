@@ -17,3 +17,9 @@ pub record IsFedSoFar (files : Option Files) (name : List ℕ) (Stands : List �
 pub record IsFedWhole (files : Option Files) (name : List ℕ) (Stands : List ℕ → Type 0) (whole : List ℕ → ℕ → Why → Type 0) (n : ℕ) : Type 0 where
   pub so_far : IsFedSoFar files name Stands whole n
   pub all : IsWhole files name so_far.fed
+
+-- It stands for bytes that are the whole file.
+pub record IsTaken (files : Option Files) (name : List ℕ) (Stands : List ℕ → Type 0) : Type 0 where
+  pub bytes : List ℕ
+  pub stands : Stands bytes
+  pub all : IsWhole files name bytes

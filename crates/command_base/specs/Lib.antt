@@ -19,6 +19,9 @@ pub mod StopsFrom
 pub mod Taking
 pub mod Judging
 pub mod Feeding
+pub mod LogLines
+pub mod Rewriting
+pub mod RewrittenSoFar
 pub mod WholeFile
 pub mod Statuses
 pub mod Refusals

@@ -4,7 +4,8 @@
 //! (`Command`, `Answered`), and `run_and_warn` runs any command and warns of how it ended, which changes nothing of
 //! that. A stage reads a file and changes none: `read_instance` gives the instance that a file spells, `read_right_list`
 //! the list of right entries, `take_log` hands a log on in pieces to whatever takes its lines; each names the first
-//! fault of its file in a stop of its own, which comes to a `Status`. What is said and warned of each status stands in
+//! fault of its file in a stop of its own, which comes to a `Status`. `rewrite_log` writes a log into another file, each
+//! line as it is answered (`AnswersLine`). What is said and warned of each status stands in
 //! `said_of` and `warning_text`. `read_by` gives what `clap` makes of the words of a command.
 #![tactic(auto)]
 
@@ -16,6 +17,7 @@ mod list_file;
 mod log_file;
 mod messages;
 mod refusals;
+mod rewriting;
 mod status;
 mod stops;
 mod whole_file;
@@ -27,6 +29,7 @@ pub use instance_file::{Format, format_of, format_of_three};
 pub use list_file::read_right_list;
 pub use log_file::{LineFault, MOST_BYTES, TakesLog, has_more, take_log};
 pub use messages::{say_of, warn_of};
+pub use rewriting::{AnswersLine, rewrite_log};
 pub use status::Status;
 pub use stops::{InputStop, ListStop, LogStop};
 pub use whole_file::{PIECE, read_whole, write_lines, zeros};

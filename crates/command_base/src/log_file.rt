@@ -3,7 +3,7 @@ ghost use Rattle.std.specs.Prelude.{◌≡◌, ◌+◌, ◌<◌, ◌≤◌, ◌^
 ghost use Rattle.std.specs.Prelude.{IfOk, IfErr, IsErrOf, MatchBool, OnOk};
 ghost use Rattle.scut_base.specs.Faults.{ReadingFailed};
 ghost use Rattle.command_base.specs.Causes.{HasText};
-ghost use Rattle.command_base.specs.Feeding.{IsFedSoFar, IsFedWhole};
+ghost use Rattle.command_base.specs.Feeding.{IsFedSoFar, IsFedWhole, IsTaken};
 ghost use Rattle.command_base.specs.Stops.{IsLogStop};
 ghost use Rattle.command_base.specs.Views.{OnlyReads};
 
@@ -76,6 +76,9 @@ pub trait TakesLog {
     /// Takes the end of the log; `Refused` with the first line that is wrong with it.
     fn finish(&mut self) -> Result<(), LineFault>
         requires { unfinished self.old }
+        ensures subject { subject self.new ≡ subject self.old }
+        ensures stands { OnOk result ((bytes : List ℕ) → stands self.old bytes
+            → stands self.new bytes) }
         ensures passes { OnOk result ((bytes : List ℕ) → stands self.old bytes
             → passes (subject self.old) bytes) }
         ensures refused { (k : ℕ) (why : Why) → result ≡ Err (LineFault.Refused k why)
@@ -83,7 +86,8 @@ pub trait TakesLog {
 }
 
 /// Hands a log file on to what takes its lines and was fed nothing, and reads no further than its first line that is
-/// refused. Where a log isn't taken, answers that line, or that the file is too large.
+/// refused. What takes it stands for the whole file then. If a log isn't taken, answers that line, or that the file is too
+/// large.
 pub fn take_log<T: TakesLog, H: Shelf>(
     alloc: Global,
     taker: &mut T,
@@ -92,6 +96,8 @@ pub fn take_log<T: TakesLog, H: Shelf>(
 ) -> Result<(), LogStop>
     requires stands { T.stands taker.old [] }
     requires unfinished { T.unfinished taker.old }
+    ensures subject { T.subject taker.new ≡ T.subject taker.old }
+    ensures stands { OnOk result (IsTaken (H.world shelf.old).files log.now (T.stands taker.new)) }
     ensures passes { OnOk result (HasText (H.world shelf.old).files log.now (λ bytes.
         (length bytes < 2 ^ 62) × T.passes (T.subject taker.old) bytes)) }
     ensures stop { IfErr result (λ stop. IsLogStop (T.whole (T.subject taker.old))

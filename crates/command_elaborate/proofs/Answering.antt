@@ -1,40 +1,24 @@
 -- What is answered of the lines of a log.
-use Rattle.std.proofs.Common.{◌≡◌, inl, inr, ℕ, ◌+◌, List, [], ◌∷◌, ◌++◌, length, refl, sym, ◌∙◌, subst, arith}
-use Rattle.std.specs.Prelude.{Option, Some, None, Ok, All}
-use Rattle.std.proofs.lemmas.List.Elements.{All-cons, All-nil}
+use Rattle.std.proofs.Common.{◌≡◌, ℕ, ◌+◌, List, [], ◌∷◌, ◌++◌, length, refl, sym, ap, ◌∙◌, subst, arith}
+use Rattle.std.specs.Prelude.{Option, Some, None, Result, Ok, Err, IfOk, IfErr, OnErr}
 use Rattle.pb_lin.specs.Problem.{ProblemValue}
 use Rattle.proof_laws.specs.State.{StateValue, start}
+use Rattle.proof_laws.specs.Steps.{made}
 use Rattle.proof_laws.specs.WellFormed.{IsWellFormed}
 use Rattle.proof_laws.specs.declared.line.Line.{Line}
+use Rattle.proof_laws.specs.declared.line.Line.TheVariants.{Rup, Learn}
 use Rattle.proof_laws.specs.declared.why.Why.{Why}
 use Rattle.proof_laws.proofs.Replays.{replay_lines}
-use Rattle.proof_lines.specs.declared.spelling.Spelling.TheVariants.{Plain}
-use Rattle.proof_text.specs.LogText.{BeginsWith, IsSyntaxAt, SpellsLog}
-use Rattle.proof_text.specs.Reading.{HasGiven, ReaderValue, StandsFor}
-use Rattle.proof_text.specs.Versions.{AllFit, after_lines}
-use Rattle.proof_text.specs.declared.fault.TextFault.{TextFault}
-use Rattle.proof_text.specs.declared.fault.TextFault.TheVariants.{Syntax as SyntaxAt, NoMemory as TextMemory}
-use Rattle.proof_text.proofs.Logs.{printed_spells}
-use Rattle.log_checker.proofs.Answering.{given, right_upto}
-use Rattle.log_elab.specs.Loose.{IsLooselyRefused}
-use Rattle.log_elab.specs.Reasons.{Elaborates, IsAdded, IsLooseReason}
+use Rattle.log_elab.specs.Loose.{IsElaborated}
+use Rattle.log_elab.specs.Reasons.{Elaborates, Elaboration, IsAdded, IsLooseReason}
 use Rattle.log_elab.specs.declared.fault.ElabFault.{ElabFault}
-use Rattle.log_elab.specs.declared.fault.ElabFault.TheVariants.{Refused}
+use Rattle.log_elab.specs.declared.fault.ElabFault.TheVariants.{Refused, NoMemory}
 use Rattle.log_elab.proofs.Lists.{elaborations_law, goes_on_law}
-use Rattle.command_upgrade.specs.Copying.{stop_of}
-use Rattle.command_upgrade.proofs.Copies.{before_wrong}
-use Rattle.command_elaborate.specs.Elaborating.{AnswersNext, IsElaborating, IsReasonAt, IsRefusedAt}
-use Rattle.command_elaborate.specs.Table.{AreAnswered, elaborated}
-use Rattle.command_elaborate.specs.declared.elaborating.LogElaborator.{LogElaborator}
+use Rattle.command_base.specs.declared.log_file.LineFault.{LineFault}
+use Rattle.command_base.specs.declared.log_file.LineFault.TheVariants.{Refused as RefusedAt}
+use Rattle.command_elaborate.specs.Elaborating.{HasAnswered, Refuses, line_answer}
 
 -- ---- lists of lines
-
--- what is answered is well-formed
-all_formed : (p : ProblemValue) (s : StateValue) (lines news : List Line) (t : StateValue) (refused : Option Why) → Elaborates p s lines news t refused → All IsWellFormed news
-all_formed p s [] [] t refused is = All-nil IsWellFormed
-all_formed p s [] (new ∷ news) t refused is = cc
-all_formed p s (line ∷ lines) [] t refused is = All-nil IsWellFormed
-all_formed p s (line ∷ lines) (new ∷ news) t refused is = All-cons IsWellFormed new news is.1.formed (all_formed p is.0 lines news t refused is.2)
 
 -- as many lines are answered
 one_each : (p : ProblemValue) (s : StateValue) (lines news : List Line) (t : StateValue) (refused : Option Why) → refused ≡ None → Elaborates p s lines news t refused → length lines ≡ length news
@@ -44,71 +28,72 @@ one_each p s (line ∷ lines) [] t refused none is = let both : None ≡ Some is
 one_each p s (line ∷ lines) (new ∷ news) t refused none is = let rest = one_each p is.0 lines news t refused none is.2 in omega (arith, rest)
 
 -- the state counts the lines
-pub counted : (p : ProblemValue) (lines news : List Line) (t : StateValue) → Elaborates p (start p) lines news t None → t.lines ≡ length lines
+counted : (p : ProblemValue) (lines news : List Line) (t : StateValue) → Elaborates p (start p) lines news t None → t.lines ≡ length lines
 counted p lines news t is =
     let all = replay_lines p news t (elaborations_law p lines news t None is).replay in
     let same = one_each p (start p) lines news t None refl is in
     omega (arith, all, same)
 
--- ids stay in digits
-pub plain_after : (lines : List Line) → after_lines Plain lines ≡ Plain
-plain_after [] = refl
-plain_after (line ∷ lines) = plain_after lines
-
-plain_fit : (lines : List Line) → AllFit Plain lines
-plain_fit [] = tt
-plain_fit (line ∷ lines) = (tt, plain_fit lines)
-
--- the text spells the lines that were answered
-pub spells_news : (p : ProblemValue) (lines news : List Line) → AreAnswered p lines news → SpellsLog (elaborated news) news
-spells_news p lines news are = printed_spells Plain news tt (plain_fit news) (all_formed p (start p) lines news are.0 None are.1)
-
-no_push : (lines : List Line) (line : Line) → lines ++ line ∷ [] ≡ [] → ⊥
-no_push [] line e = cc
-no_push (l ∷ lines) line e = cc
-
-begins : (bytes : List ℕ) (lines : List Line) (line : Line) → HasGiven bytes (lines ++ line ∷ []) → (rest : List ℕ) × BeginsWith bytes (lines ++ line ∷ []) rest
-begins bytes lines line (inl none) = absurd (no_push lines line none)
-begins bytes lines line (inr there) = there
+-- hints make no ids
+made_alike : (line new : Line) → IsElaborated line new → made new ≡ made line
+made_alike (Rup goal []) new is = ap made is.1
+made_alike (Learn goal []) new is = ap made is.1
+made_alike line new is = ap made is
 
 -- ---- the next line
 
-pub loose_reason : (p q : ProblemValue) (s : StateValue) (line : Line) (f : ElabFault) (why : Why) → f ≡ Refused why → q ≡ p → IsLooseReason q s line f → IsLooselyRefused p s line why
-loose_reason p q s line f why is same reason =
-    subst (λ (x : ProblemValue). IsLooselyRefused x s line why) same
-    (let h : IsLooseReason q s line (Refused why) = subst (λ (x : ElabFault). IsLooseReason q s line x) is reason in h)
+module _ (e after : Elaboration) (line : Line) (answer : Result Line ElabFault) (taken : Result Line LineFault) (number : ℕ) (is : taken ≡ line_answer number answer) where
+  -- what is so where it is answered
+  ok_where : (P Q : Line → Type 0) → IfOk answer P → ((new : Line) → P new → Q new) → IfOk taken Q
+  ok_where P Q holds then = subst (λ (r : Result Line LineFault). IfOk r Q) (sym is) (by answer holds)
+    where
+      by : (a : Result Line ElabFault) → IfOk a P → IfOk (line_answer number a) Q
+      by (Ok new) h = then new h
+      by (Err (Refused why)) h = tt
+      by (Err NoMemory) h = tt
 
-pub answers_line : (p : ProblemValue) (e : LogElaborator) (bytes : List ℕ) (lines news : List Line) (o : Option Line) (new : Line) → o ≡ Some new → AnswersNext p e bytes lines news (Ok o) → (line : Line) × IsElaborating p e bytes (lines ++ line ∷ []) (news ++ new ∷ [])
-answers_line p e bytes lines news o new is answers = (let h : AnswersNext p e bytes lines news (Ok (Some new)) = subst (λ (x : Option Line). AnswersNext p e bytes lines news (Ok x)) is answers in h)
+  -- what is so where it isn't
+  err_where : (P Q : Type 0) → OnErr answer P → (P → Q) → OnErr taken Q
+  err_where P Q holds then = subst (λ (r : Result Line LineFault). OnErr r Q) (sym is) (by answer holds)
+    where
+      by : (a : Result Line ElabFault) → OnErr a P → OnErr (line_answer number a) Q
+      by (Ok new) h = tt
+      by (Err (Refused why)) h = then h
+      by (Err NoMemory) h = then h
 
-module _ (p : ProblemValue) (e : LogElaborator) (bytes : List ℕ) (lines news : List Line) (was : IsElaborating p e bytes lines news) where
-  -- the next line is the text of none
-  pub text_wrong : (after : ReaderValue) (fault : TextFault) → ((k : ℕ) → fault ≡ SyntaxAt k → IsSyntaxAt bytes k × StandsFor after bytes lines) → ((k : ℕ) → fault ≡ SyntaxAt k → after.wrong ≡ Some k) → IsReasonAt p lines news bytes (stop_of fault)
-  text_wrong after TextMemory wrong is = tt
-  text_wrong after (SyntaxAt k) wrong is =
-      let both = wrong k refl in
-      inl (record {
-        syntax = refl;
-        wrong = both.0;
-        before = before_wrong bytes lines k (given e.reader bytes lines was.read) both.0 (right_upto after bytes lines k both.1 (is k refl));
-        answered = (e.elaborator.state, was.answered);
-      })
+  pub line_formed : IfOk answer (λ new. IsAdded e.problem e.state line new after.state) → IfOk taken IsWellFormed
+  line_formed added = ok_where (λ new. IsAdded e.problem e.state line new after.state) IsWellFormed added (λ new a. a.formed)
 
-  module _ (after : ReaderValue) (line : Line) (stands : StandsFor after bytes (lines ++ line ∷ [])) where
-    pub line_refused : (k : ℕ) (why : Why) → IsLooselyRefused p e.elaborator.state line why → k ≡ e.elaborator.state.lines + 2 → IsRefusedAt p lines news k why bytes
-    line_refused k why refused number =
-        let there = begins bytes lines line (given after bytes (lines ++ line ∷ []) stands) in
-        inr (record {
-          state = e.elaborator.state;
-          answered = was.answered;
-          line = line;
-          refused = refused;
-          rest = there.0;
-          there = there.1;
-          number = let all = counted p lines news e.elaborator.state was.answered in omega (arith, number, all);
-        })
+  pub line_made : IfOk answer (λ new. IsAdded e.problem e.state line new after.state) → IfOk taken (λ new. made new ≡ made line)
+  line_made added = ok_where (λ new. IsAdded e.problem e.state line new after.state) (λ new. made new ≡ made line) added (λ new a. made_alike line new a.elaborated)
 
-    pub line_added : (new : Line) (u : StateValue) → IsAdded e.elaborator.problem e.elaborator.state line new u → Elaborates p (start p) (lines ++ line ∷ []) (news ++ new ∷ []) u None
-    line_added new u added =
-        (goes_on_law p (start p) lines news e.elaborator.state line was.answered).added new u
-        (subst (λ (q : ProblemValue). IsAdded q e.elaborator.state line new u) was.problem added)
+  pub line_added : after.problem ≡ e.problem → IfOk answer (λ new. IsAdded e.problem e.state line new after.state)
+      → IfOk taken (λ new. (lines news : List Line) → HasAnswered e lines news → HasAnswered after (lines ++ line ∷ []) (news ++ new ∷ []))
+  line_added same added = ok_where (λ new. IsAdded e.problem e.state line new after.state) (λ new. (lines news : List Line) → HasAnswered e lines news → HasAnswered after (lines ++ line ∷ []) (news ++ new ∷ [])) added
+      (λ new a lines news was. subst (λ (p : ProblemValue). Elaborates p (start p) (lines ++ line ∷ []) (news ++ new ∷ []) after.state None) (sym same)
+      ((goes_on_law e.problem (start e.problem) lines news e.state line was).added new after.state a))
+
+  pub line_stays : OnErr answer (after ≡ e) → OnErr taken ((lines news : List Line) → HasAnswered e lines news → HasAnswered after lines news)
+  line_stays same = err_where (after ≡ e) ((lines news : List Line) → HasAnswered e lines news → HasAnswered after lines news) same
+      (λ alike lines news was. subst (λ (x : Elaboration). Elaborates x.problem (start x.problem) lines news x.state None) (sym alike) was)
+
+  pub line_refused : IfErr answer (IsLooseReason e.problem e.state line) → OnErr answer (after ≡ e) → (k : ℕ) (why : Why) → taken ≡ Err (RefusedAt k why) → Refuses after line why
+  line_refused reason same k why refused = by answer reason same (sym is ∙ refused)
+    where
+      by : (a : Result Line ElabFault) → IfErr a (IsLooseReason e.problem e.state line) → OnErr a (after ≡ e) → line_answer number a ≡ Err (RefusedAt k why) → Refuses after line why
+      by (Ok new) r s told = absurd cc
+      by (Err (Refused other)) r s told =
+          let named : other ≡ why = cc in
+          subst (λ (x : Elaboration). IsLooseReason x.problem x.state line (Refused why)) (sym s) (subst (λ (w : Why). IsLooseReason e.problem e.state line (Refused w)) named r)
+      by (Err NoMemory) r s told = absurd cc
+
+  pub line_numbered : number ≡ e.state.lines + 2 → (k : ℕ) (why : Why) → taken ≡ Err (RefusedAt k why) → (lines news : List Line) → HasAnswered e lines news → k ≡ length lines + 2
+  line_numbered counts k why refused lines news was = by answer (sym is ∙ refused)
+    where
+      by : (a : Result Line ElabFault) → line_answer number a ≡ Err (RefusedAt k why) → k ≡ length lines + 2
+      by (Ok new) told = absurd cc
+      by (Err (Refused other)) told =
+          let named : number ≡ k = cc in
+          let all = counted e.problem lines news e.state was in
+          omega (arith, named, counts, all)
+      by (Err NoMemory) told = absurd cc

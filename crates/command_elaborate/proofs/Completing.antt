@@ -18,11 +18,11 @@ use Rattle.log_elab.specs.Reasons.{Elaborates}
 use Rattle.log_elab.proofs.Lists.{elaborations_law, goes_on_law}
 use Rattle.command_base.specs.Answering.{Answered}
 use Rattle.command_base.specs.InstanceFile.{IsTextOf}
+use Rattle.command_base.specs.LogLines.{IsFirstWrong, IsLogOf}
 use Rattle.command_base.specs.Views.{view}
 use Rattle.command_base.specs.declared.status.Status.{Status}
 use Rattle.command_base.specs.declared.status.Status.TheVariants.{Done, Refused, TooLarge, NoMemory, ShelfFailed}
 use Rattle.command_base.proofs.Readable.{not_larger, of_text, readable}
-use Rattle.command_upgrade.specs.Table.{IsFirstWrong, IsLogOf}
 use Rattle.command_elaborate.specs.Table.{AreElaborable, ElaborateCompletes, ElaborateTable, IsCutAfter, IsLineRefused, IsLooseProof, IsProblemOf, IsRefusedAfter, IsWritten, elaborate_calls}
 use Rattle.command_elaborate.specs.Words.{ElaborateAsked}
 

@@ -1,5 +1,4 @@
 pub mod LooselyAccepted
 pub mod Answering
-pub mod NewLogs
 pub mod ElaborateEnds
 pub mod Completing

@@ -20,11 +20,11 @@ use Rattle.command_base.specs.Answering.{Call, Completes, appending, beginning, 
 use Rattle.command_base.specs.Causes.{HasText, IsRefused}
 use Rattle.command_base.specs.InputTable.{InputTable}
 use Rattle.command_base.specs.InstanceFile.{IsTextOf}
+use Rattle.command_base.specs.LogLines.{IsLargeAfter, IsLogOf, IsWrongAfter, before_limit}
 use Rattle.command_base.specs.Messages.{said_of}
 use Rattle.command_base.specs.Views.{View}
 use Rattle.command_base.specs.declared.status.Status.{Status}
 use Rattle.command_base.specs.declared.status.Status.TheVariants.{Done, Refused, TooLarge, NoMemory, ShelfFailed}
-use Rattle.command_upgrade.specs.Table.{IsLargeAfter, IsLogOf, IsWrongAfter, before_limit}
 use Rattle.command_elaborate.specs.Words.{ElaborateAsked}
 
 -- it reads IN and LOG, begins NEW and appends to it, and says something

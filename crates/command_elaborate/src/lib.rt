@@ -5,27 +5,29 @@
 //! NEW is begun when IN was accepted, and each line is written as it was answered; the first that is refused ends it.
 #![tactic(auto)]
 
-ghost use Rattle.std.specs.Prelude.{◌≡◌, IfOk, map, string_bytes};
+ghost use Rattle.std.specs.Prelude.{◌≡◌, [], IfOk, map, string_bytes};
 ghost use Rattle.clap.specs.Words.{app_of, found_of, rows_of};
 ghost use Rattle.command_base.specs.Answering.{Answered};
 ghost use Rattle.command_base.specs.Causes.{HasText};
 ghost use Rattle.command_base.specs.InstanceFile.{IsTextOf};
+ghost use Rattle.command_elaborate.specs.Elaborating.{HasAnswered};
 ghost use Rattle.command_elaborate.specs.Table.{IsProblemOf, ElaborateTable, elaborate_calls};
 ghost use Rattle.command_elaborate.specs.Words.{elaborate_app, elaborate_asked, elaborate_of_rows};
 
 mod elaborating;
 mod laws;
-mod writing;
 
-use crate::writing::write_new;
+use crate::elaborating::LogElaborator;
 use clap::ArgMatches;
 use command_base::{
-    Command, Format, Status, file, format_of_three, read_by, read_instance, say_of, value, with_arg,
+    Command, Format, Status, file, format_of_three, read_by, read_instance, rewrite_log, say_of,
+    value, with_arg,
 };
 use instance::Instance;
 use instance_normal::normalise;
 pub use laws::loosely_accepted_where_elaborated;
 use pb_lin::PbProblem;
+use proof_text::Spelling;
 use scut_base::{NoMemory, Shelf};
 use std::alloc::Global;
 use std::marker::Model;
@@ -122,13 +124,13 @@ impl<'a> Elaborate<'a> {
         ensures warned { (H.world shelf.new).warned ≡ (H.world shelf.old).warned }
     {
         match normalise(alloc, inst) {
-            Ok(problem) => self.write(alloc, inst, &problem, shelf),
+            Ok(problem) => self.begin(alloc, inst, &problem, shelf),
             Err(fault) => Status::from(fault),
         }
     }
 
-    // Writes the new log.
-    fn write<H: Shelf>(
+    // Makes what answers the lines.
+    fn begin<H: Shelf>(
         &self,
         alloc: Global,
         inst: &Instance,
@@ -140,7 +142,29 @@ impl<'a> Elaborate<'a> {
             result (H.world shelf.old) (H.world shelf.new) }
         ensures warned { (H.world shelf.new).warned ≡ (H.world shelf.old).warned }
     {
-        match write_new(alloc, self.log, self.output, problem, shelf) {
+        match LogElaborator::new(alloc, problem) {
+            Ok(mut lines) => self.write(alloc, inst, problem, &mut lines, shelf),
+            Err(fault) => Status::from(fault),
+        }
+    }
+
+    // Writes the new log, by an elaborator to which no line was given.
+    fn write<H: Shelf>(
+        &self,
+        alloc: Global,
+        inst: &Instance,
+        problem: &PbProblem,
+        lines: &mut LogElaborator,
+        shelf: &mut H,
+    ) -> Status
+        requires of_file { IsProblemOf (H.world shelf.old).files self.now inst.now problem.now }
+        requires problem { lines.old.elaborator.problem ≡ problem.now }
+        requires fresh { HasAnswered lines.old.elaborator [] [] }
+        ensures answered { Answered (ElaborateTable self.now) (elaborate_calls self.now)
+            result (H.world shelf.old) (H.world shelf.new) }
+        ensures warned { (H.world shelf.new).warned ≡ (H.world shelf.old).warned }
+    {
+        match rewrite_log(alloc, lines, self.log, self.output, Spelling::Plain, shelf) {
             Ok(()) => {}
             Err(stop) => return Status::from(stop),
         }

@@ -1,31 +1,43 @@
 -- What a keeper of a log has after each line, and at the end.
-use Rattle.std.proofs.Common.{◌≡◌, ◌⊎◌, ℕ, ◌+◌, true, List, [], ◌∷◌, ◌++◌, refl, subst, arith}
-use Rattle.std.specs.Prelude.{Some, sum_by}
+use Rattle.std.proofs.Common.{◌≡◌, ◌⊎◌, ℕ, ◌+◌, ◌<◌, ◌^◌, true, List, [], ◌∷◌, ◌++◌, length, refl, sym, ◌∙◌, subst, inl, arith}
+use Rattle.std.specs.Prelude.{OnOk, Option, Some, Result, Ok, Err, sum_by}
 use Rattle.std.proofs.lemmas.List.Sums.{sum_by-cons}
+use Rattle.scut_base.specs.Files.{Files, content}
+use Rattle.scut_base.proofs.Options.{some_is}
 use Rattle.proof_laws.specs.State.{IsState}
 use Rattle.proof_laws.specs.Steps.{made}
 use Rattle.proof_laws.specs.declared.line.Line.{Line}
 use Rattle.proof_laws.specs.declared.why.Why.{Why}
 use Rattle.proof_laws.proofs.Replays.{replay_ids}
-use Rattle.proof_text.specs.LogText.{IsSyntaxAt, IsUnfinishedAt, IsWhole}
+use Rattle.proof_text.specs.LogText.{HoldsNoFurtherLine, IsSyntaxAt, IsUnfinishedAt, IsWhole, SpellsLog}
 use Rattle.proof_text.specs.Reading.{ReaderValue, StandsFor as ReaderStandsFor}
+use Rattle.proof_text.specs.Versions.{lines_text}
 use Rattle.proof_text.specs.declared.fault.TextFault.{TextFault}
 use Rattle.proof_text.specs.declared.fault.TextFault.TheVariants.{Syntax as SyntaxAt, NoMemory as TextMemory}
-use Rattle.proof_text.proofs.Logs.{spelled_whole}
+use Rattle.proof_text.proofs.Logs.{body, lines_whole, spelled_once, spelled_whole}
+use Rattle.log_checker.specs.Accepted.{IsEndedProof}
 use Rattle.log_checker.proofs.Answering.{end_syntax, syntax_refused}
-use Rattle.log_checker.proofs.Faults.{no_whole_fault, whole_fault_more}
+use Rattle.log_checker.proofs.Faults.{no_whole_fault}
 use Rattle.log_trim.specs.Marks.{made_by}
+use Rattle.command_base.specs.Causes.{HasText}
+use Rattle.command_base.specs.Feeding.{IsTaken}
 use Rattle.command_base.specs.Taking.{RefusesNone}
 use Rattle.command_base.specs.Judging.{JudgedBy}
 use Rattle.command_base.specs.declared.log_file.LineFault.{LineFault}
 use Rattle.command_base.specs.declared.log_file.LineFault.TheVariants.{Refused}
-use Rattle.command_trim.specs.Keeping.{AreFew, IsKeeping, IsLogReason, IsProofOf, IsWholeReason, StandsFor, every_by, fault_of, kept_by, whole_by}
+use Rattle.command_trim.specs.Keeping.{AreFew, HoldsProof, IsKeeping, IsLogReason, IsWholeReason, StandsFor, every_by, fault_of, kept_by, whole_by}
 use Rattle.command_trim.specs.declared.keeping.Keeper.{Keeper}
 
 -- what was judged of these bytes refuses none
 pub none_refused : (by : JudgedBy) (k : Keeper) (bytes : List ℕ) → kept_by k ≡ by → StandsFor k bytes → RefusesNone (whole_by by) bytes
 none_refused by k bytes is stands =
     subst (λ (b : JudgedBy). RefusesNone (whole_by b) bytes) is (no_whole_fault k.problem.now k.vectors.now bytes k.lines k.state stands.0.underway.replay stands.0.underway.covered stands.1)
+
+-- so it is of a piece that was kept
+pub passes_fed : (r : Result (Unit {0}) LineFault) (k new : Keeper) (piece : List ℕ) → kept_by new ≡ kept_by k → OnOk r ((bytes : List ℕ) → StandsFor k bytes → StandsFor new (bytes ++ piece))
+    → OnOk r ((bytes : List ℕ) → StandsFor k bytes → RefusesNone (whole_by (kept_by k)) (bytes ++ piece))
+passes_fed (Ok done) k new piece by fed = λ bytes stands. none_refused (kept_by k) new (bytes ++ piece) by (fed bytes stands)
+passes_fed (Err fault) k new piece by fed = tt
 
 -- the reader gives no line, since the next one is wrong
 pub next_reason : (k : Keeper) (new : ReaderValue) (bytes : List ℕ) (fault : TextFault) → IsKeeping k bytes → ((n : ℕ) → fault ≡ SyntaxAt n → IsSyntaxAt bytes n × ReaderStandsFor new bytes k.lines) → ((n : ℕ) → fault ≡ SyntaxAt n → new.wrong ≡ Some n)
@@ -38,19 +50,16 @@ pub end_reason : (k : Keeper) (bytes : List ℕ) (fault : TextFault) → StandsF
 end_reason k bytes (SyntaxAt n) stands wrong = end_syntax k.problem.now k.vectors.now k.reader k.state bytes k.lines n stands.0.underway stands.1 (wrong n refl)
 end_reason k bytes TextMemory stands wrong = tt
 
--- the bytes are a proof of the lines that are kept
-pub proved : (k : Keeper) (bytes : List ℕ) → StandsFor k bytes → IsWhole bytes → k.state.ended ≡ true → IsProofOf (kept_by k) k.lines bytes
-proved k bytes stands whole ended = (
-  record {
-    lines = k.lines;
-    spelled = spelled_whole bytes k.lines stands.1 whole;
-    state = k.state;
-    replay = stands.0.underway.replay;
-    ended = ended;
-    covered = stands.0.underway.covered;
-  },
-  refl,
-)
+-- the bytes are an ended proof
+pub proved : (k : Keeper) (bytes : List ℕ) → StandsFor k bytes → IsWhole bytes → k.state.ended ≡ true → IsEndedProof k.problem.now k.vectors.now bytes
+proved k bytes stands whole ended = record {
+  lines = k.lines;
+  spelled = spelled_whole bytes k.lines stands.1 whole;
+  state = k.state;
+  replay = stands.0.underway.replay;
+  ended = ended;
+  covered = stands.0.underway.covered;
+}
 
 -- ---- how many ids the lines make
 
@@ -63,14 +72,27 @@ few_lines k bytes keeping state =
     let ids = replay_ids k.problem.now k.lines k.state keeping.underway.replay in
     omega (arith, ids, made_sum k.lines, state.next_id, state.lines)
 
--- ---- by whom it was judged
+-- ---- the log file
 
--- what refuses more bytes
-pub refused_further : (by : JudgedBy) (bytes more : List ℕ) (k : ℕ) (why : Why) → whole_by by bytes k why → whole_by by (bytes ++ more) k why
-refused_further by bytes more k why fault = whole_fault_more by.problem by.vectors bytes more k why fault
+whole_text : (bytes : List ℕ) (lines : List Line) → SpellsLog bytes lines → IsWhole bytes
+whole_text bytes lines spelled = record {
+  first = spelled.first;
+  version = spelled.version;
+  after = lines_text spelled.first lines ++ [];
+  is = spelled.is ∙ body spelled.first lines [];
+  whole = lines_whole spelled.first lines [] (inl refl);
+}
 
-pub refused_whole : (old new : JudgedBy) (bytes : List ℕ) (fault : LineFault) → new ≡ old → IsWholeReason new bytes fault → (k : ℕ) (why : Why) → fault ≡ Refused k why → whole_by old bytes k why
-refused_whole old new bytes fault by reason k why is = subst (λ (b : JudgedBy). whole_by b bytes k why) by (let r : IsWholeReason new bytes (Refused k why) = subst (IsWholeReason new bytes) is reason in r)
+-- a log that is an ended proof is one of the lines that are kept
+pub holds_proof : (files : Option Files) (log : List ℕ) (k : Keeper) (by : JudgedBy) → IsTaken files log (StandsFor k) → HasText files log (λ bytes. (length bytes < 2 ^ 62) × IsEndedProof by.problem by.vectors bytes) → HoldsProof files log by k.lines
+holds_proof files log k by taken passes = λ told.
+    let text = passes told in
+    let proof = text.2.1 in
+    let same : text.0 ≡ taken.bytes = some_is taken.bytes text.0 (content files log) (taken.all told) text.1 in
+    let kept : SpellsLog text.0 k.lines = spelled_whole text.0 k.lines (subst (λ (t : List ℕ). HoldsNoFurtherLine t k.lines) (sym same) taken.stands.1) (whole_text text.0 proof.lines proof.spelled) in
+    (text.0, text.1, (text.2.0, (proof, spelled_once text.0 proof.lines k.lines proof.spelled kept)))
 
-pub refused_every : (old new : JudgedBy) (bytes : List ℕ) (fault : LineFault) → new ≡ old → IsLogReason new bytes fault → (k : ℕ) (why : Why) → fault ≡ Refused k why → every_by old bytes k why
-refused_every old new bytes fault by reason k why is = subst (λ (b : JudgedBy). every_by b bytes k why) by (let r : IsLogReason new bytes (Refused k why) = subst (IsLogReason new bytes) is reason in r)
+-- ---- what is refused
+
+pub refused_every : (by : JudgedBy) (bytes : List ℕ) (fault : LineFault) → IsLogReason by bytes fault → (k : ℕ) (why : Why) → fault ≡ Refused k why → every_by by bytes k why
+refused_every by bytes fault reason k why is = (let r : IsLogReason by bytes (Refused k why) = subst (IsLogReason by bytes) is reason in r)

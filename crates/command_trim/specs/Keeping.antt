@@ -84,11 +84,6 @@ KeepsLines k bytes (Err fault) = IsWholeReason (kept_by k) bytes fault
 abbrev pub IsProofOf : JudgedBy → List Line → List ℕ → Type 0
 IsProofOf by lines bytes = (proof : IsEndedProof by.problem by.vectors bytes) × (proof.lines ≡ lines)
 
--- at the end of the bytes: they are a proof of the lines that are kept, or have a fault
-abbrev pub KeepsEnd : Keeper → List ℕ → Result (Unit {0}) LineFault → Type 0
-KeepsEnd k bytes (Ok done) = IsProofOf (kept_by k) k.lines bytes
-KeepsEnd k bytes (Err fault) = IsLogReason (kept_by k) bytes fault
-
 -- ---- the log file
 
 -- the file is one that is taken, and a proof of these lines

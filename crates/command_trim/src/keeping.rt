@@ -1,10 +1,10 @@
 // The lines of a log, judged as they come and kept.
-ghost use Rattle.std.specs.Prelude.{◌≡◌, ◌++◌, ◌<◌, ◌+◌, ℕ, List, [], true, IfOk, Ok};
+ghost use Rattle.std.specs.Prelude.{◌≡◌, ◌<◌, ◌+◌, ℕ, List, [], true, IfOk, Ok};
 ghost use Rattle.log_checker.specs.Judging.{left};
-ghost use Rattle.command_trim.specs.Keeping.{AreFew, IsKeeping, IsSound, KeepsEnd};
+ghost use Rattle.command_trim.specs.Keeping.{AreFew, IsKeeping, IsSound};
 ghost use Rattle.command_trim.specs.Keeping.{KeepsLines, KeepsNext, StandsFor, fault_of, kept_by};
 
-use command_base::LineFault;
+use command_base::{LineFault, TakesLog};
 use front_set::CostVec;
 use log_checker::judge_line;
 use pb_lin::PbProblem;
@@ -43,36 +43,6 @@ impl<'a> Keeper<'a> {
             state,
             lines: Items::new(alloc),
         })
-    }
-
-    // Keeps the lines that the next piece makes whole; `Refused` with the first line of all bytes that is refused.
-    pub(crate) fn feed(&mut self, piece: &[u8]) -> Result<(), LineFault>
-        requires { IsSound self.old }
-        ensures kept { (bytes : List ℕ) → IsKeeping self.old bytes
-            → KeepsLines self.new (bytes ++ piece.now) result }
-        ensures by { kept_by self.new ≡ kept_by self.old }
-    {
-        match self.reader.feed(piece) {
-            Ok(()) => self.keep_lines(),
-            Err(NoMemory) => Err(LineFault::NoMemory),
-        }
-    }
-
-    // Judges the end of the log; `Refused` with the first line that is wrong with it.
-    pub(crate) fn finish(&self) -> Result<(), LineFault>
-        ensures { (bytes : List ℕ) → StandsFor self.now bytes → KeepsEnd self.now bytes result }
-    {
-        match self.reader.finish() {
-            Ok(()) => {}
-            Err(fault) => return Err(fault_of(fault)),
-        }
-        if !self.state.ended() {
-            return Err(LineFault::Refused {
-                line: self.next_number(),
-                why: Why::NoEnd,
-            });
-        }
-        Ok(())
     }
 
     // The lines that are kept.
@@ -129,6 +99,60 @@ impl<'a> Keeper<'a> {
         // Tells that there were at most 2^61 lines.
         let _vars = self.state.vars();
         self.state.lines() + 2
+    }
+}
+
+impl<'a> TakesLog for Keeper<'a> {
+    ghost use Rattle.std.specs.Prelude.{[]};
+    ghost use Rattle.std.proofs.Common.{inl, refl};
+    ghost use Rattle.std.proofs.lemmas.List.Elements.{All-nil};
+    ghost use Rattle.proof_laws.specs.State.{start};
+    ghost use Rattle.proof_lines.specs.declared.spelling.Spelling.TheVariants.{Plain};
+    ghost use Rattle.proof_text.specs.Versions.{header_text};
+    ghost use Rattle.log_checker.proofs.Faults.{no_whole_fault, whole_fault_more};
+    ghost use Rattle.log_checker.specs.Accepted.{IsCovered, IsEndedProof};
+    ghost use Rattle.command_base.specs.Judging.{JudgedBy};
+    ghost use Rattle.command_trim.specs.Keeping.{IsSound, StandsFor, every_by, kept_by, whole_by};
+
+    ghost Subject = { JudgedBy };
+
+    ghost subject = { kept_by };
+
+    ghost whole = { whole_by };
+
+    ghost every = { every_by };
+
+    ghost passes = { λ by bytes. IsEndedProof by.problem by.vectors bytes };
+
+    ghost stands = { StandsFor };
+
+    ghost unfinished = { IsSound };
+
+    ghost none = { λ by. no_whole_fault by.problem by.vectors [] [] (start by.problem) refl
+        (All-nil (IsCovered by.vectors)) (inl (Plain, tt, (header_text Plain, refl))) };
+
+    ghost further = { λ by bytes more k why fault.
+        whole_fault_more by.problem by.vectors bytes more k why fault };
+
+    fn feed(&mut self, piece: &[u8]) -> Result<(), LineFault> {
+        match self.reader.feed(piece) {
+            Ok(()) => self.keep_lines(),
+            Err(NoMemory) => Err(LineFault::NoMemory),
+        }
+    }
+
+    fn finish(&mut self) -> Result<(), LineFault> {
+        match self.reader.finish() {
+            Ok(()) => {}
+            Err(fault) => return Err(fault_of(fault)),
+        }
+        if !self.state.ended() {
+            return Err(LineFault::Refused {
+                line: self.next_number(),
+                why: Why::NoEnd,
+            });
+        }
+        Ok(())
     }
 }
 

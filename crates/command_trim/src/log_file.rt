@@ -1,17 +1,14 @@
 // A log file, read in pieces, judged, and its lines kept.
-ghost use Rattle.std.specs.Prelude.{◌≡◌, ◌+◌, ◌<◌, ◌^◌, ◌-◌, [], vec_len, IfErr, IfOk, OnOk};
+ghost use Rattle.std.specs.Prelude.{IfErr, IfOk};
 ghost use Rattle.instance.specs.ParetoFront.{AreProblemVectors};
-ghost use Rattle.instance_normal.specs.NormalForm.{IsNormalFormOf};
 ghost use Rattle.log_checker.specs.Accepted.{problem_vectors};
-ghost use Rattle.command_base.specs.Feeding.{IsFedSoFar, IsFedWhole};
 ghost use Rattle.command_base.specs.Stops.{IsLogStop};
 ghost use Rattle.command_base.specs.Views.{OnlyReads};
-ghost use Rattle.command_trim.specs.Keeping.{AreFew, HoldsProof, IsSound};
-ghost use Rattle.command_trim.specs.Keeping.{StandsFor, every_by, kept_by, whole_by};
+ghost use Rattle.command_trim.specs.Keeping.{AreFew, HoldsProof, every_by, whole_by};
 
 use crate::keeping::Keeper;
-use command_base::{LogStop, MOST_BYTES, PIECE, has_more, zeros};
-use front_set::Entry;
+use command_base::{LogStop, take_log};
+use front_set::{CostVec, Entry};
 use instance::Instance;
 use log_checker::problem_vectors;
 use pb_lin::PbProblem;
@@ -47,72 +44,34 @@ pub(crate) fn proved_lines<H: Shelf>(
     ensures only_reads { OnlyReads (H.world shelf.old) (H.world shelf.new) }
 {
     let vectors = problem_vectors(alloc, inst, entries)?;
-    let mut keeper = Keeper::new(alloc, problem, vectors.as_slice())?;
-    keep_log(alloc, log, &mut keeper, shelf)?;
-    Ok(keeper.into_lines())
+    kept_lines(alloc, problem, vectors.as_slice(), log, shelf)
 }
 
-// Hands a log file on to a keeper that was fed nothing, and reads no further than the first line that is refused.
-fn keep_log<H: Shelf>(
+// The same over the vectors of the entries. They are lent, since to own them past more ways out takes long to prove.
+fn kept_lines<H: Shelf>(
     alloc: Global,
+    problem: &PbProblem,
+    vectors: &[CostVec],
     log: &str,
-    keeper: &mut Keeper<'_>,
     shelf: &mut H,
-) -> Result<(), LogStop>
-    requires { StandsFor keeper.old [] }
-    ensures proof { OnOk result (HoldsProof (H.world shelf.old).files log.now
-        (kept_by keeper.old) keeper.new.lines) }
-    ensures sound { OnOk result (IsSound keeper.new) }
-    ensures stop { IfErr result (λ stop. IsLogStop (whole_by (kept_by keeper.old))
-        (every_by (kept_by keeper.old)) log.now stop
+) -> Result<Items<Line>, LogStop>
+    ensures proof { IfOk result (HoldsProof (H.world shelf.old).files log.now (record {
+      problem = problem.now;
+      vectors = vectors.now;
+    })) }
+    ensures few { IfOk result (AreFew problem.now) }
+    ensures stop { IfErr result (λ stop. IsLogStop (whole_by (record {
+      problem = problem.now;
+      vectors = vectors.now;
+    }))
+        (every_by (record {
+          problem = problem.now;
+          vectors = vectors.now;
+        })) log.now stop
         (H.world shelf.old).files (H.world shelf.old).faults (H.world shelf.new).faults) }
-    ensures by { kept_by keeper.new ≡ kept_by keeper.old }
     ensures only_reads { OnlyReads (H.world shelf.old) (H.world shelf.new) }
 {
-    let mut buffer = zeros(alloc, PIECE)?;
-    let mut at = 0;
-    while at < MOST_BYTES {
-        let n = keep_piece(log, at, &mut buffer, keeper, shelf)?;
-        if n == 0 {
-            keeper.finish()?;
-            return Ok(());
-        }
-        at += n;
-    }
-    if has_more(log, at, &mut buffer, shelf)? {
-        return Err(LogStop::Large);
-    }
-    keeper.finish()?;
-    Ok(())
-}
-
-// Reads the piece at this place and hands it on; 0 at the file's end.
-fn keep_piece<H: Shelf>(
-    log: &str,
-    at: u64,
-    buffer: &mut Vec<u8>,
-    keeper: &mut Keeper<'_>,
-    shelf: &mut H,
-) -> Result<u64, LogStop>
-    requires fed { IsFedSoFar (H.world shelf.old).files log.now (StandsFor keeper.old)
-        (whole_by (kept_by keeper.old)) at }
-    requires room { at < 2 ^ 62 - 1 }
-    requires buffer { vec_len buffer.old ≡ 65536 }
-    ensures more { IfOk result (λ n. IsFedSoFar (H.world shelf.old).files log.now
-        (StandsFor keeper.new) (whole_by (kept_by keeper.old)) (at + n)) }
-    ensures within { IfOk result (λ n. at + n < 2 ^ 62) }
-    ensures whole { IfOk result (λ n. n ≡ 0 → IsFedWhole (H.world shelf.old).files log.now
-        (StandsFor keeper.new) (whole_by (kept_by keeper.old)) at) }
-    ensures stop { IfErr result (λ stop. IsLogStop (whole_by (kept_by keeper.old))
-        (every_by (kept_by keeper.old)) log.now stop
-        (H.world shelf.old).files (H.world shelf.old).faults (H.world shelf.new).faults) }
-    ensures by { kept_by keeper.new ≡ kept_by keeper.old }
-    ensures buffer { vec_len buffer.new ≡ 65536 }
-    ensures only_reads { OnlyReads (H.world shelf.old) (H.world shelf.new) }
-{
-    let room = (PIECE as u64).min(MOST_BYTES - at) as usize;
-    let piece = &mut buffer.as_mut_slice()[..room];
-    let n = shelf.read_at(log, at, piece)?;
-    keeper.feed(&piece[..n])?;
-    Ok(n as u64)
+    let mut keeper = Keeper::new(alloc, problem, vectors)?;
+    take_log(alloc, &mut keeper, log, shelf)?;
+    Ok(keeper.into_lines())
 }

@@ -11,11 +11,12 @@ use Rattle.proof_text.specs.LogText.{IsSyntaxAt}
 use Rattle.proof_text.proofs.Logs.{never_unfinished, never_wrong}
 use Rattle.log_checker.specs.declared.fault.CheckFault.TheVariants.{Refused as LineRefused}
 use Rattle.command_base.specs.Answering.{Answered}
+use Rattle.command_base.specs.LogLines.{IsFirstWrong, IsLargeAfter, IsLogOf, IsWrongAfter}
 use Rattle.command_base.specs.Views.{view}
 use Rattle.command_base.specs.declared.status.Status.{Status}
 use Rattle.command_base.specs.declared.status.Status.TheVariants.{Done, Refused, TooLarge, NoMemory, ShelfFailed}
 use Rattle.command_base.proofs.Readable.{not_larger, of_text, readable}
-use Rattle.command_upgrade.specs.Table.{AreUpgradable, IsFirstWrong, IsLargeAfter, IsLogOf, IsWritten, IsWrongAfter, UpgradeCompletes, UpgradeTable, upgrade_calls}
+use Rattle.command_upgrade.specs.Table.{AreUpgradable, IsWritten, UpgradeCompletes, UpgradeTable, upgrade_calls}
 use Rattle.command_upgrade.specs.Words.{UpgradeAsked}
 
 -- a log that spells lines goes wrong nowhere

@@ -1,4 +1,2 @@
-pub mod Copies
-pub mod NewLogs
 pub mod UpgradeEnds
 pub mod Completing

@@ -4,7 +4,7 @@ use Rattle.std.specs.Prelude.{Option, Some, None, if◌then◌else◌, Bool, tru
 use Rattle.std.specs.Str.{bytes_eq}
 use Rattle.std.proofs.lemmas.Slice.Eq.{bytes_eq-Decides}
 use Rattle.std.proofs.lemmas.Option.{none-some}
-use Rattle.scut_base.specs.Files.{Files, followed, IsPartlyFollowed}
+use Rattle.scut_base.specs.Files.{Files, followed, with_file, IsPartlyFollowed, IsPrefixOf, IsTouched}
 use Rattle.scut_base.specs.Faults.{NoneFell, SayingFailed}
 use Rattle.scut_base.specs.World.{World}
 use Rattle.scut_base.specs.declared.shelf.ShelfFault.{ShelfFault}
@@ -14,13 +14,16 @@ use Rattle.pb_lin.specs.Problem.{ProblemValue}
 use Rattle.proof_laws.specs.declared.line.Line.{Line}
 use Rattle.proof_laws.specs.declared.why.Why.{Why}
 use Rattle.proof_laws.specs.declared.why.Why.TheVariants.{Syntax}
+use Rattle.proof_text.specs.LogText.{SpellsLog}
 use Rattle.proof_text.specs.Versions.{first_of}
 use Rattle.proof_text.specs.declared.version.LogVersion.TheVariants.{Two}
 use Rattle.log_checker.specs.declared.fault.CheckFault.TheVariants.{Refused as LineRefused}
 use Rattle.command_base.specs.Answering.{Answered, appending, beginning, reading, saying}
 use Rattle.command_base.specs.InstanceFile.{format_of_three}
 use Rattle.command_base.specs.declared.instance_file.Format.{Format}
+use Rattle.command_base.specs.LogLines.{IsLargeAfter, IsLogOf, IsWrongAfter}
 use Rattle.command_base.specs.Messages.{said_of}
+use Rattle.command_base.specs.Rewriting.{IsRewriteStop, IsRewritten, IsRewrittenPart}
 use Rattle.command_base.specs.Statuses.{status_of_shelf}
 use Rattle.command_base.specs.Stops.{status_of_log}
 use Rattle.command_base.specs.Views.{View, view}
@@ -28,8 +31,7 @@ use Rattle.command_base.specs.declared.stops.LogStop.{LogStop}
 use Rattle.command_base.specs.declared.stops.LogStop.TheVariants.{Refused as LineWrong, Large, NoMemory as LogMemory, ShelfFailed as LogFailed}
 use Rattle.command_base.specs.declared.status.Status.TheVariants.{Done, NoMemory, Refused}
 use Rattle.command_base.proofs.Answered.{IsOwn, TakesInput, ended, own_rose, own_rose_at_last, shelf_fault}
-use Rattle.command_upgrade.specs.Copying.{IsNew, IsNewPart, IsNewStop}
-use Rattle.command_upgrade.specs.Table.{IsLargeAfter, IsLogOf, IsNewTouched, IsProblemOf, IsUpgradedPartly, IsWritten, IsWrongAfter, UpgradeTable, upgrade_calls}
+use Rattle.command_upgrade.specs.Table.{IsNewTouched, IsProblemOf, IsUpgradedPartly, IsWritten, UpgradeTable, upgrade_calls, upgraded}
 use Rattle.command_upgrade.specs.Words.{UpgradeAsked}
 
 -- ---- the names
@@ -46,6 +48,10 @@ last_differ a b c format e same =
     let third = by_test (bytes_eq b c) _ format second.1 in
     let yes : bytes_eq b c ≡ true = (bytes_eq-Decides b c).1 same in
     cc
+
+-- each line is answered by itself
+abbrev pub Same : List Line → List Line → Type 0
+Same lines news = news ≡ lines
 
 module _ (a : UpgradeAsked) where
   pub reads_input : IsOwn (upgrade_calls a) (reading a.input)
@@ -65,15 +71,32 @@ module _ (a : UpgradeAsked) where
   no_memory w = ended (UpgradeTable a) (upgrade_calls a) NoMemory w w (inl refl) (λ is. cc) (λ call name. omega arith)
 
   module _ (i : InstanceValue) (p : ProblemValue) (before : World) (of_file : IsProblemOf before.files a i p) where
-    written : (after : Option Files) (P : List Line → List ℕ → Type 0) → IsNew before.files after a.log a.output (first_of Two p) P → IsWritten before.files after a P
-    written after P new = record { instance = i; problem = p; of_file = of_file; lines = new.lines; log = new.text; files = new.files; same = new.spelled }
+    written : (after : Option Files) (P : List Line → List ℕ → Type 0) → IsRewritten Same before.files after a.log a.output (first_of Two p) P → IsWritten before.files after a P
+    written after P new = record {
+      instance = i;
+      problem = p;
+      of_file = of_file;
+      lines = new.lines;
+      log = new.text;
+      files = subst (λ (ls : List Line). after ≡ with_file before.files a.output (upgraded p ls)) new.answered new.files;
+      same = subst (λ (ls : List Line). SpellsLog (upgraded p ls) ls) new.answered new.spelled;
+    }
 
-    touched : (after : World) → IsNewPart before.files after.files a.log a.output (first_of Two p) → after.said ≡ before.said → IsNewTouched (view before) (view after) a
-    touched after part said = record { instance = i; problem = p; of_file = of_file; lines = part.lines; read = part.read; files = part.files; said = said }
+    touched : (after : World) → IsRewrittenPart Same before.files after.files a.log a.output (first_of Two p) → after.said ≡ before.said → IsNewTouched (view before) (view after) a
+    touched after part said = record {
+      instance = i;
+      problem = p;
+      of_file = of_file;
+      lines = part.lines;
+      read = part.read;
+      files = subst (λ (ls : List Line). IsTouched before.files after.files a.output (λ bytes. IsPrefixOf bytes (upgraded p ls))) part.answered part.files;
+      said = said;
+    }
 
     -- the new file wasn't written to its end
-    pub writing_stopped : (stop : LogStop) (after : World) → IsNewStop stop before after a.log a.output (first_of Two p) → after.said ≡ before.said → NoneFell before.faults after.faults → Answered (UpgradeTable a) (upgrade_calls a) (status_of_log stop) before after
-    writing_stopped (LineWrong k why) after stop said later = subst (λ (w : Why). Answered (UpgradeTable a) (upgrade_calls a) (Refused (LineRefused k w)) before after) (sym stop.0)
+    pub writing_stopped : (stop : LogStop) (after : World) → IsRewriteStop Same (λ line why. ⊥) stop before after a.log a.output (first_of Two p) → after.said ≡ before.said → NoneFell before.faults after.faults → Answered (UpgradeTable a) (upgrade_calls a) (status_of_log stop) before after
+    writing_stopped (LineWrong k why) after (inr stop) said later = absurd stop.1
+    writing_stopped (LineWrong k why) after (inl stop) said later = subst (λ (w : Why). Answered (UpgradeTable a) (upgrade_calls a) (Refused (LineRefused k w)) before after) (sym stop.0)
         (ended (UpgradeTable a) (upgrade_calls a) (Refused (LineRefused k Syntax)) before after (record { written = written after.files (λ lines. IsWrongAfter lines k) stop.1; said = said }) (λ is. cc) later)
     writing_stopped Large after stop said later =
         record { table = inr (record { written = written after.files IsLargeAfter stop; said = said }); cause = λ is. absurd cc; later = later }
@@ -91,12 +114,12 @@ module _ (a : UpgradeAsked) where
       later = later;
     }
 
-    module _ (mid after : World) (new : IsNew before.files mid.files a.log a.output (first_of Two p) IsLogOf) (quiet : mid.said ≡ before.said) (later : NoneFell before.faults mid.faults) (files : after.files ≡ mid.files) (last : NoneFell mid.faults after.faults) where
+    module _ (mid after : World) (new : IsRewritten Same before.files mid.files a.log a.output (first_of Two p) IsLogOf) (quiet : mid.said ≡ before.said) (later : NoneFell before.faults mid.faults) (files : after.files ≡ mid.files) (last : NoneFell mid.faults after.faults) where
       none_fell : NoneFell before.faults after.faults
       none_fell call name = omega (arith, later call name, last call name)
 
       all_written : IsWritten before.files after.files a IsLogOf
-      all_written = written after.files IsLogOf (subst (λ (f : Option Files). IsNew before.files f a.log a.output (first_of Two p) IsLogOf) (sym files) new)
+      all_written = written after.files IsLogOf (subst (λ (f : Option Files). IsRewritten Same before.files f a.log a.output (first_of Two p) IsLogOf) (sym files) new)
 
       -- the line couldn't be said whole
       pub saying_stopped : (fault : ShelfFault) → IsPartlyFollowed mid.said after.said (said_of Done) → (fault ≡ Failed → SayingFailed mid.faults after.faults) → Answered (UpgradeTable a) (upgrade_calls a) (status_of_shelf fault) before after

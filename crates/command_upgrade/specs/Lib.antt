@@ -3,8 +3,8 @@ pub use Rattle.instance.specs.Meaning
 pub use Rattle.proof_text.specs.Versions
 pub use Rattle.proof_text.specs.LogText
 pub use Rattle.command_base.specs.Answering
+pub use Rattle.command_base.specs.LogLines
 pub use Rattle.command_base.specs.Messages
 pub use Rattle.command_base.specs.Views
 pub mod Words
 pub mod Table
-pub mod Copying

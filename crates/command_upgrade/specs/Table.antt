@@ -1,5 +1,5 @@
 -- The answers of `upgrade IN LOG NEW`, a record for each.
-use Rattle.std.specs.Prelude.{◌≡◌, ℕ, zero, suc, ◌-◌, ◌<◌, ◌≤◌, ◌^◌, ◌⊎◌, List, [], ◌∷◌, length, take, Option, Some}
+use Rattle.std.specs.Prelude.{◌≡◌, ℕ, zero, ◌≤◌, ◌^◌, ◌⊎◌, List, [], ◌∷◌, length, Option, Some}
 use Rattle.scut_base.specs.Files.{Files, content, followed, with_file, IsPartlyFollowed, IsPrefixOf, IsTouched}
 use Rattle.scut_base.specs.World.{World}
 use Rattle.instance.specs.declared.fault.InstanceLimit.TheVariants.{Bytes}
@@ -8,7 +8,7 @@ use Rattle.instance_normal.specs.NormalForm.{IsNormalFormOf}
 use Rattle.pb_lin.specs.Problem.{ProblemValue}
 use Rattle.proof_laws.specs.declared.line.Line.{Line}
 use Rattle.proof_laws.specs.declared.why.Why.TheVariants.{Syntax}
-use Rattle.proof_text.specs.LogText.{BeginsWith, IsHeaderPart, IsOneLine, IsSyntaxAt, IsUnfinishedAt, SpellsLog}
+use Rattle.proof_text.specs.LogText.{BeginsWith, SpellsLog}
 use Rattle.proof_text.specs.Versions.{first_of, log_text}
 use Rattle.proof_text.specs.declared.version.LogVersion.TheVariants.{Two}
 use Rattle.log_checker.specs.declared.fault.CheckFault.TheVariants.{Refused as LineRefused}
@@ -16,6 +16,7 @@ use Rattle.command_base.specs.Answering.{Call, Completes, appending, beginning, 
 use Rattle.command_base.specs.Causes.{HasText, IsRefused}
 use Rattle.command_base.specs.InputTable.{InputTable}
 use Rattle.command_base.specs.InstanceFile.{IsTextOf}
+use Rattle.command_base.specs.LogLines.{IsLargeAfter, IsLogOf, IsWrongAfter}
 use Rattle.command_base.specs.Messages.{said_of}
 use Rattle.command_base.specs.Views.{View}
 use Rattle.command_base.specs.declared.status.Status.{Status}
@@ -36,44 +37,6 @@ abbrev pub upgraded : ProblemValue → List Line → List ℕ
 upgraded p lines = log_text (first_of Two p) lines
 
 -- ---- what LOG holds
-
--- the bytes of a log before the limit
-abbrev pub before_limit : List ℕ → List ℕ
-before_limit log = take (2 ^ 62 - 1) log
-
--- no line is wrong by bytes that are there
-abbrev pub HasNoWrongLine : List ℕ → Type 0
-HasNoWrongLine bytes = (k : ℕ) → IsSyntaxAt bytes k → ⊥
-
--- Line k is the first that is wrong: by the bytes before the limit, whatever follows; or the log has no more, and ends in its midst.
-abbrev pub IsFirstWrong : List ℕ → ℕ → Type 0
-IsFirstWrong log k = IsSyntaxAt (before_limit log) k ⊎ ((length log < 2 ^ 62) × HasNoWrongLine log × IsUnfinishedAt log k)
-
--- these are the lines before line k; the header is the first
-abbrev pub AreBefore : List ℕ → ℕ → List Line → Type 0
-AreBefore log zero lines = ⊥
-AreBefore log (suc zero) lines = lines ≡ []
-AreBefore log (suc (suc n)) lines = (length lines ≡ n) × ((rest : List ℕ) × BeginsWith log lines rest)
-
--- these are all whole lines of the bytes
-abbrev pub AreAllWhole : List ℕ → List Line → Type 0
-AreAllWhole bytes lines = ((lines ≡ []) × IsHeaderPart bytes) ⊎ ((rest : List ℕ) × BeginsWith bytes lines rest × IsOneLine rest)
-
--- a log that is no larger than it may be spells these lines
-pub record IsLogOf (lines : List Line) (log : List ℕ) : Type 0 where
-  pub taken : length log < 2 ^ 62
-  pub spelled : SpellsLog log lines
-
--- line k of the log is wrong, after these
-pub record IsWrongAfter (lines : List Line) (k : ℕ) (log : List ℕ) : Type 0 where
-  pub wrong : IsFirstWrong log k
-  pub before : AreBefore log k lines
-
--- The log is too large; before the limit no line is wrong, and these are the whole ones.
-pub record IsLargeAfter (lines : List Line) (log : List ℕ) : Type 0 where
-  pub large : 2 ^ 62 ≤ length log
-  pub right : HasNoWrongLine (before_limit log)
-  pub whole : AreAllWhole (before_limit log) lines
 
 -- lines that LOG begins with, or none
 abbrev pub AreRead : Option Files → UpgradeAsked → List Line → Type 0

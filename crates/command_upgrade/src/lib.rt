@@ -13,12 +13,13 @@ ghost use Rattle.command_base.specs.InstanceFile.{IsTextOf};
 ghost use Rattle.command_upgrade.specs.Table.{IsProblemOf, UpgradeTable, upgrade_calls};
 ghost use Rattle.command_upgrade.specs.Words.{upgrade_app, upgrade_asked, upgrade_of_rows};
 
-mod copying;
+mod unchanged;
 
-use crate::copying::write_new;
+use crate::unchanged::Unchanged;
 use clap::ArgMatches;
 use command_base::{
-    Command, Format, Status, file, format_of_three, read_by, read_instance, say_of, value, with_arg,
+    Command, Format, Status, file, format_of_three, read_by, read_instance, rewrite_log, say_of,
+    value, with_arg,
 };
 use instance::Instance;
 use instance_normal::normalise;
@@ -136,7 +137,7 @@ impl<'a> Upgrade<'a> {
         ensures warned { (H.world shelf.new).warned ≡ (H.world shelf.old).warned }
     {
         let first = first_of(LogVersion::Two, problem);
-        match write_new(alloc, self.log, self.output, first, shelf) {
+        match rewrite_log(alloc, &mut Unchanged, self.log, self.output, first, shelf) {
             Ok(()) => {}
             Err(stop) => return Status::from(stop),
         }

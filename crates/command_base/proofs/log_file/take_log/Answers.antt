@@ -1,7 +1,7 @@
 use Rattle.std.proofs.Common.{refl, arith, ap}
 use Rattle.std.specs.Prelude.{Err}
 use Rattle.std.proofs.lemmas.Result.{err_from_is_err_and}
-use Rattle.command_base.proofs.LogFed.{fed_nothing, fed_to_end, finished_stops, finished_passes, too_large}
+use Rattle.command_base.proofs.LogFed.{fed_nothing, fed_to_end, finished_stops, finished_passes, finished_taken, too_large}
 use Rattle.command_base.proofs.log_file.take_log.Goals as goal
 
 pub loop-at-init : goal.loop-at-init
@@ -23,6 +23,13 @@ returns-in_err-finish-clause-stop g c =
     (rw (← i.subject, ← i.only_reads.files) (c.in_ok-n.ensures.whole c.if-n-eq0.true))
     i.within
     (λ k why is. rw (← i.subject, ← c.in_ok-n.ensures.subject) (c.in_err-finish.ensures.refused k why (ap Err is))))
+
+pub returns-then-n-eq0-clause-stands : goal.returns-then-n-eq0-clause-stands
+returns-then-n-eq0-clause-stands g c =
+    let i = c.loop-at.invariant in
+    finished_taken (g.T.TakesLog.stands c.feed_piece.new.taker) (g.T.TakesLog.stands c.finish.new.self) (g.T.TakesLog.whole (g.T.TakesLog.subject c.args.taker.now)) _ _ c.loop-at.at
+    (rw (← i.subject, ← i.only_reads.files) (c.in_ok-n.ensures.whole c.if-n-eq0.true))
+    c.in_ok-finish.ensures.stands
 
 pub returns-then-n-eq0-clause-passes : goal.returns-then-n-eq0-clause-passes
 returns-then-n-eq0-clause-passes g c =
@@ -49,6 +56,14 @@ returns-in_err-finish-2-clause-stop g c =
     (fed_to_end _ _ _ _ _ i.fed (rw (← i.only_reads.files) no_more))
     i.within
     (λ k why is. rw (← i.subject) (c.in_err-finish-2.ensures.refused k why (ap Err is))))
+
+pub returns-clause-stands : goal.returns-clause-stands
+returns-clause-stands g c =
+    let i = c.loop-at.invariant in
+    let no_more = rw c.if-branch.false at c.in_ok-has_more.ensures.more in
+    finished_taken (g.T.TakesLog.stands c.loop-at.taker) (g.T.TakesLog.stands c.finish-2.new.self) (g.T.TakesLog.whole (g.T.TakesLog.subject c.args.taker.now)) _ _ c.loop-at.at
+    (fed_to_end _ _ _ _ _ i.fed (rw (← i.only_reads.files) no_more))
+    c.in_ok-finish-2.ensures.stands
 
 pub returns-clause-passes : goal.returns-clause-passes
 returns-clause-passes g c =
