@@ -31,6 +31,7 @@ impl Relaxation {
         self.begin(question, tree);
         tree.begin(state.vars(), self.least_sum(), self.aim.step.max(1e-6))?;
         self.visit(state, question, tree, 0)?;
+        self.cut_root(state, question, tree, most)?;
         tree.push_if_open(0)?;
         self.explore(state, question, tree, most)
     }
@@ -96,6 +97,7 @@ impl Relaxation {
             };
             self.split_node(state, question, tree, at)?;
         }
+        self.settle_cuts(tree);
         found_in(tree)
     }
 

@@ -8,6 +8,8 @@
 
 mod asking;
 mod closing;
+mod cuts;
+mod cutting;
 mod exploring;
 mod limits;
 mod model;

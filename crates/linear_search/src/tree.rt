@@ -1,6 +1,7 @@
 // A tree of linear programs, searched from the node of least bound on.
 use crate::limits::{MOST_KEPT, PARTS_OF_A_STEP, PLUNGE, ROUND_ABOVE, ROUND_EACH};
 use crate::nodes::{Making, Node, has_literal, resolvent_literals};
+use cutting_planes::PolToken;
 use linear_lines::Leaf;
 use linear_program::Basis;
 use scut_base::{Items, Lit, NoMemory, Partial};
@@ -390,7 +391,17 @@ impl Tree {
         for lit in leaf.clause.literals() {
             lits.push(*lit)?;
         }
-        let clause = self.add_clause(Making::Leaf(leaf.tokens), lits)?;
+        self.close_by(at, leaf.tokens, lits)
+    }
+
+    // Closes a node by the clause of these literals, which the tokens make.
+    pub(crate) fn close_by(
+        &mut self,
+        at: usize,
+        tokens: Items<PolToken>,
+        lits: Items<Lit>,
+    ) -> Result<(), NoMemory> {
+        let clause = self.add_clause(Making::Leaf(tokens), lits)?;
         self.close(at, clause)
     }
 
