@@ -241,5 +241,6 @@ impl Elimination {
 }
 
 fn is_odd_number(number: f64) -> bool {
-    number.rem_euclid(2.0) == 1.0
+    let half = number / 2.0;
+    half.floor() != half
 }

@@ -1,8 +1,8 @@
 // Rounds of cuts at the root of a question's tree.
 use crate::limits::{
-    CUTS_OF_A_ROUND, FEW_VISITS, FIRST_ROUNDS, KEEPING_SHARE, LATER_ROUNDS, LEAST_GAIN,
-    LEAST_SHARE, MOST_CUT_ENTRIES, MOST_FAILED, MOST_IDLE, MOST_PIVOTS, MOST_SIZE_OF_CUTS,
-    MOST_STALLED, PASSES_OF_CUTS, SLACK,
+    CUTS_OF_A_ROUND, FEW_VISITS, FIRST_ROUNDS, LATER_ROUNDS, LEAST_GAIN, LEAST_SHARE,
+    MOST_CUT_ENTRIES, MOST_FAILED, MOST_IDLE, MOST_PIVOTS, MOST_SIZE_OF_CUTS, MOST_STALLED,
+    NODES_BEFORE_CUTS, PASSES_OF_CUTS, SLACK,
 };
 use crate::question::Question;
 use crate::relaxation::{Relaxation, Row, float_of, sum_of_line};
@@ -37,17 +37,42 @@ impl Service {
 }
 
 impl Relaxation {
-    // Cuts off the root's point, again and again, if that may serve, and visits the root once more.
-    pub(crate) fn cut_root(
+    // Seeks cuts at the root of a tree: at once where they have served before, else only where the tree shows by its size that it
+    // may need them, and then it begins anew, with the best model so far. Answers whether the search is to go on.
+    pub(crate) fn begin_with_cuts(
+        &mut self,
+        state: &ProofState,
+        question: &Question<'_>,
+        tree: &mut Tree,
+        most: u64,
+    ) -> Result<bool, NoMemory> {
+        let mut allowance = self.passes(PASSES_OF_CUTS);
+        if self.service.helped == 0 {
+            let began = self.work();
+            if !self.split_nodes(state, question, tree, most, NODES_BEFORE_CUTS)? {
+                return Ok(false);
+            }
+            allowance = allowance.min(self.work().saturating_sub(began));
+            let mut best = None;
+            std::mem::swap(&mut best, &mut tree.best);
+            self.begin_at_root(state, question, tree)?;
+            tree.best = best;
+        }
+        let most = most.min(self.work().saturating_add(allowance));
+        self.cut_root(state, question, tree, most)?;
+        Ok(true)
+    }
+
+    // Cuts off the root's point, again and again until this much work was done, and visits the root once more.
+    fn cut_root(
         &mut self,
         state: &ProofState,
         question: &Question<'_>,
         tree: &mut Tree,
         most: u64,
     ) -> Result<(), NoMemory> {
-        self.service.bounds = None;
         let is_open = tree.branch(0).is_some_and(|root| root.split.is_some());
-        if !is_open || !self.may_cut() || tree.is_closed(0) {
+        if !is_open || tree.is_closed(0) {
             return Ok(());
         }
         let mut separation = self.separation(state)?;
@@ -55,7 +80,6 @@ impl Relaxation {
         let before = self.program.sum();
         let mut basis = self.program.basis()?;
         let first = self.rows.len();
-        let most = most.min(self.work().saturating_add(self.passes(PASSES_OF_CUTS)));
         let after = self.cut_in_rounds(state, tree, &mut separation, most)?;
         self.service.has_begun = true;
         self.service.bounds = Some((before, after));
@@ -85,19 +109,20 @@ impl Relaxation {
     }
 
     // Whether cuts are sought at all.
-    fn may_cut(&self) -> bool {
+    pub(crate) fn may_cut(&self) -> bool {
         self.entries <= MOST_CUT_ENTRIES
             && self.cuts.size <= MOST_SIZE_OF_CUTS
             && self.service.failed < self.service.helped.saturating_add(MOST_FAILED)
     }
 
-    // Whether a bound is so much better that the cuts are worth their rows.
+    // Whether cuts close so much of the gap to the best model that they are worth their rows; where no model is known, of what a
+    // better one would lack.
     fn is_gain(&self, tree: &Tree, before: f64, after: f64) -> bool {
         let gap = match &tree.best {
             Some(best) => best.value - before,
-            None => self.aim.step,
+            None => 0.0,
         };
-        after - before > KEEPING_SHARE * gap.max(self.aim.step)
+        after - before > LEAST_SHARE * gap.max(self.aim.step)
     }
 
     // Finds cuts and solves with them, as long as the bound rises and better models than the best may be left; answers the
@@ -301,13 +326,7 @@ impl Relaxation {
             return;
         };
         self.service.bounds = None;
-        let gap = match &tree.best {
-            Some(best) => best.value - before,
-            None => self.aim.step,
-        };
-        if after - before > LEAST_SHARE * gap.max(0.0)
-            && after > before + self.aim.step * LEAST_SHARE
-        {
+        if self.is_gain(tree, before, after) {
             self.service.helped = self.service.helped.saturating_add(1);
         } else if tree.visits > FEW_VISITS {
             self.service.failed = self.service.failed.saturating_add(1);

@@ -65,7 +65,8 @@ pub(crate) const LATER_ROUNDS: u32 = 4;
 
 pub(crate) const CUTS_OF_A_ROUND: usize = 20;
 
-// The rounds end after this much work, as passes over rows and columns: a small part of what trees take for which cuts are made.
+// The rounds end after this much work, as passes over rows and columns; and before cuts have helped, after as much as the tree took
+// so far, so that they cost no more than it.
 pub(crate) const PASSES_OF_CUTS: u64 = 20_000;
 
 // They end where so many, one after another, raised the bound by less than this part: what comes then is too little.
@@ -78,11 +79,11 @@ pub(crate) const SLACK: f64 = 1e-6;
 
 pub(crate) const MOST_IDLE: u32 = 3;
 
-// Cuts are taken back where they raised the bound by less than this share of the gap: each row costs time at each node.
-pub(crate) const KEEPING_SHARE: f64 = 0.05;
+// Before cuts have helped, they are sought only where so many nodes have been split: smaller trees cost less than cuts do.
+pub(crate) const NODES_BEFORE_CUTS: usize = 25;
 
-// They helped with a question if they closed this share of its gap. They aren't sought any more once they failed in so many more
-// questions than they helped with; a tree of few nodes tells nothing.
+// Cuts help with a question if they close this share of its gap; else they are taken back, since each row costs time at each node.
+// They aren't sought any more once they failed in so many more questions than they helped with; a tree of few nodes tells nothing.
 pub(crate) const LEAST_SHARE: f64 = 0.15;
 
 pub(crate) const MOST_FAILED: u64 = 3;
