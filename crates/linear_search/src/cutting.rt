@@ -9,20 +9,31 @@ use crate::relaxation::{Relaxation, Row, float_of, sum_of_line};
 use crate::tree::Tree;
 use cutting_planes::PolToken;
 use linear_cuts::{Cut, Padding, Separation};
-use linear_program::{Answer, Range};
+use linear_program::{Answer, Basis, Range};
 use proof_rules::ProofState;
 use scut_base::{Items, Lit, NoMemory};
 
+// The rounds of cuts of a question: the bounds before them and with them, and the basis and the rows before them.
+#[derive(Debug, Drop)]
+pub(crate) struct Rounds {
+    before: f64,
+    after: f64,
+    basis: Basis,
+    first: usize,
+}
+
 // How cuts have served so far.
-#[derive(Clone, Copy, Debug)]
+#[derive(Debug, Drop)]
 pub(crate) struct Service {
     // Whether there were rounds before.
-    pub(crate) has_begun: bool,
+    has_begun: bool,
     // How many questions they helped with, and with how many they didn't.
-    pub(crate) helped: u64,
-    pub(crate) failed: u64,
-    // The bounds of the last question before cuts and with them, if there were rounds.
-    pub(crate) bounds: Option<(f64, f64)>,
+    helped: u64,
+    failed: u64,
+    // The rounds of the present question, until it's known whether they helped.
+    open: Option<Rounds>,
+    // Those that are to be taken back before the next question.
+    vain: Option<Rounds>,
 }
 
 impl Service {
@@ -31,7 +42,8 @@ impl Service {
             has_begun: false,
             helped: 0,
             failed: 0,
-            bounds: None,
+            open: None,
+            vain: None,
         }
     }
 }
@@ -78,15 +90,23 @@ impl Relaxation {
         let mut separation = self.separation(state)?;
         let is_changed = self.drop_old(&mut separation)?;
         let before = self.program.sum();
-        let mut basis = self.program.basis()?;
+        let basis = self.program.basis()?;
         let first = self.rows.len();
         let after = self.cut_in_rounds(state, tree, &mut separation, most)?;
         self.service.has_begun = true;
-        self.service.bounds = Some((before, after));
-        let is_gain = self.is_gain(tree, before, after);
-        if !is_gain {
-            self.program.restore(&mut basis)?;
-            self.drop_cuts_from(first)?;
+        let rounds = Rounds {
+            before,
+            after,
+            basis,
+            first,
+        };
+        let is_gain = self.is_gain(tree, &rounds);
+        if is_gain {
+            self.service.open = Some(rounds);
+        } else {
+            self.service.failed = self.service.failed.saturating_add(1);
+            self.service.vain = Some(rounds);
+            self.take_back_cuts()?;
         }
         if is_gain || is_changed {
             tree.let_go(0);
@@ -117,12 +137,12 @@ impl Relaxation {
 
     // Whether cuts close so much of the gap to the best model that they are worth their rows; where no model is known, of what a
     // better one would lack.
-    fn is_gain(&self, tree: &Tree, before: f64, after: f64) -> bool {
+    fn is_gain(&self, tree: &Tree, rounds: &Rounds) -> bool {
         let gap = match &tree.best {
-            Some(best) => best.value - before,
+            Some(best) => best.value - rounds.before,
             None => 0.0,
         };
-        after - before > LEAST_SHARE * gap.max(self.aim.step)
+        rounds.after - rounds.before > LEAST_SHARE * gap.max(self.aim.step)
     }
 
     // Finds cuts and solves with them, as long as the bound rises and better models than the best may be left; answers the
@@ -319,18 +339,30 @@ impl Relaxation {
         Ok(staying)
     }
 
-    // Counts whether the cuts of a question helped, at its end: where they closed little of the gap between the bound and the
-    // best model, they didn't.
+    // Counts whether the cuts of a question helped, at its end.
     pub(crate) fn settle_cuts(&mut self, tree: &Tree) {
-        let Some((before, after)) = self.service.bounds else {
+        let mut open = None;
+        std::mem::swap(&mut open, &mut self.service.open);
+        let Some(rounds) = open else {
             return;
         };
-        self.service.bounds = None;
-        if self.is_gain(tree, before, after) {
+        if self.is_gain(tree, &rounds) {
             self.service.helped = self.service.helped.saturating_add(1);
         } else if tree.visits > FEW_VISITS {
             self.service.failed = self.service.failed.saturating_add(1);
+            self.service.vain = Some(rounds);
         }
+    }
+
+    // Takes back cuts that didn't help: the basis before them has none of them.
+    pub(crate) fn take_back_cuts(&mut self) -> Result<(), NoMemory> {
+        let mut vain = None;
+        std::mem::swap(&mut vain, &mut self.service.vain);
+        if let Some(rounds) = &mut vain {
+            self.program.restore(&mut rounds.basis)?;
+            self.drop_cuts_from(rounds.first)?;
+        }
+        Ok(())
     }
 }
 

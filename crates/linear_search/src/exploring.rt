@@ -28,6 +28,7 @@ impl Relaxation {
         tree: &mut Tree,
         most: u64,
     ) -> Result<Found, NoMemory> {
+        self.take_back_cuts()?;
         self.begin_at_root(state, question, tree)?;
         if self.may_cut() && !self.begin_with_cuts(state, question, tree, most)? {
             return found_in(tree);
