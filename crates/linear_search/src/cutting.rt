@@ -156,7 +156,7 @@ impl Relaxation {
     ) -> Result<f64, NoMemory> {
         let first = self.rows.len();
         let mut bound = self.program.sum();
-        let mut stalled = 0;
+        let mut stalled = 0u32;
         for _round in 0..self.rounds() {
             if self.work() > most || !self.cut_once(state, separation)? {
                 break;
@@ -167,7 +167,11 @@ impl Relaxation {
             let now = self.program.sum();
             self.drop_slack(separation, values.as_slice(), first)?;
             let is_little = now - bound < LEAST_GAIN * (1.0 + bound.abs());
-            stalled = if is_little { stalled + 1 } else { 0 };
+            stalled = if is_little {
+                stalled.saturating_add(1)
+            } else {
+                0
+            };
             bound = bound.max(now);
             if stalled >= MOST_STALLED || tree.is_no_better(bound, self.aim.step) {
                 break;
