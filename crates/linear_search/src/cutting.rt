@@ -50,7 +50,7 @@ impl Service {
 
 impl Relaxation {
     // Seeks cuts at the root of a tree: at once where they have served before, else only where the tree shows by its size that it
-    // may need them, and then it begins anew, with the best model so far. Answers whether the search is to go on.
+    // may need them. With cuts the tree begins anew, but for its best model. Answers whether the search is to go on.
     pub(crate) fn begin_with_cuts(
         &mut self,
         state: &ProofState,
@@ -65,27 +65,23 @@ impl Relaxation {
                 return Ok(false);
             }
             allowance = allowance.min(self.work().saturating_sub(began));
+            self.begin(question, tree);
+        }
+        let most = most.min(self.work().saturating_add(allowance));
+        if self.cut_root(state, tree, most)? {
             let mut best = None;
             std::mem::swap(&mut best, &mut tree.best);
             self.begin_at_root(state, question, tree)?;
             tree.best = best;
         }
-        let most = most.min(self.work().saturating_add(allowance));
-        self.cut_root(state, question, tree, most)?;
         Ok(true)
     }
 
-    // Cuts off the root's point, again and again until this much work was done, and visits the root once more.
-    fn cut_root(
-        &mut self,
-        state: &ProofState,
-        question: &Question<'_>,
-        tree: &mut Tree,
-        most: u64,
-    ) -> Result<(), NoMemory> {
+    // Cuts off the root's point, again and again until this much work was done; answers whether rows have changed.
+    fn cut_root(&mut self, state: &ProofState, tree: &Tree, most: u64) -> Result<bool, NoMemory> {
         let is_open = tree.branch(0).is_some_and(|root| root.split.is_some());
         if !is_open || tree.is_closed(0) {
-            return Ok(());
+            return Ok(false);
         }
         let mut separation = self.separation(state)?;
         let is_changed = self.drop_old(&mut separation)?;
@@ -100,19 +96,14 @@ impl Relaxation {
             basis,
             first,
         };
-        let is_gain = self.is_gain(tree, &rounds);
-        if is_gain {
+        if self.is_gain(tree, &rounds) {
             self.service.open = Some(rounds);
-        } else {
-            self.service.failed = self.service.failed.saturating_add(1);
-            self.service.vain = Some(rounds);
-            self.take_back_cuts()?;
+            return Ok(true);
         }
-        if is_gain || is_changed {
-            tree.let_go(0);
-            self.visit(state, question, tree, 0)?;
-        }
-        Ok(())
+        self.service.failed = self.service.failed.saturating_add(1);
+        self.service.vain = Some(rounds);
+        self.take_back_cuts()?;
+        Ok(is_changed)
     }
 
     // Drops the cuts of earlier questions that have been slack at the roots of some; answers whether there were any.
