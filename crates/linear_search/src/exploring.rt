@@ -173,7 +173,7 @@ impl Relaxation {
     }
 
     // Sets the ranges for a question, at the root.
-    fn begin(&mut self, question: &Question<'_>, tree: &mut Tree) {
+    pub(crate) fn begin(&mut self, question: &Question<'_>, tree: &mut Tree) {
         for lit in tree.path.iter() {
             self.free(*lit);
         }
