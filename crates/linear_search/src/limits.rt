@@ -80,7 +80,7 @@ pub(crate) const SLACK: f64 = 1e-6;
 pub(crate) const MOST_IDLE: u32 = 3;
 
 // Before cuts have helped, they are sought only where so many nodes have been split: smaller trees cost less than cuts do.
-pub(crate) const NODES_BEFORE_CUTS: usize = 25;
+pub(crate) const NODES_BEFORE_CUTS: usize = 40;
 
 // Cuts help with a question if they close this share of its gap; else they are taken back, since each row costs time at each node:
 // a fifth of the gap saves a tenth of the nodes, and takes twice the time at each. They aren't sought any more once they failed in
