@@ -4,6 +4,7 @@ use linear_program::Term;
 /// A row by its place, with a factor from 1 on.
 #[derive(Clone, Copy, Debug)]
 pub struct RowFactor {
+    /// The row, counted from 0 in the order in which rows were added.
     pub row: usize,
     pub factor: u64,
 }
@@ -11,7 +12,9 @@ pub struct RowFactor {
 /// What is added of a column, or of 1 less the column, so that the coefficient becomes a multiple of the divisor.
 #[derive(Clone, Copy, Debug)]
 pub struct Padding {
+    /// The column, counted from 0.
     pub column: usize,
+    /// Whether 1 less the column is added.
     pub is_complemented: bool,
     pub factor: u64,
 }
@@ -19,7 +22,9 @@ pub struct Padding {
 /// Where a cut comes from.
 #[derive(Clone, Copy, Debug, PartialEq, Eq)]
 pub enum Kind {
+    /// From tight rows, whose sum is halved.
     ZeroHalf,
+    /// From a row of the simplex table.
     TableRow,
 }
 
