@@ -79,8 +79,7 @@ impl Relaxation {
 
     // Cuts off the root's point, again and again until this much work was done; answers whether rows have changed.
     fn cut_root(&mut self, state: &ProofState, tree: &Tree, most: u64) -> Result<bool, NoMemory> {
-        let is_open = tree.branch(0).is_some_and(|root| root.split.is_some());
-        if !is_open || tree.is_closed(0) {
+        if !tree.can_be_split(0) {
             return Ok(false);
         }
         let mut separation = self.separation(state)?;

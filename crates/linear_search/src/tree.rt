@@ -299,7 +299,8 @@ impl Tree {
         }
     }
 
-    fn can_be_split(&self, at: usize) -> bool {
+    // Whether a node can be split, or could be before it was.
+    pub(crate) fn can_be_split(&self, at: usize) -> bool {
         match self.branches.get(at) {
             Some(branch) => branch.split.is_some() && branch.closed.is_none(),
             None => false,
