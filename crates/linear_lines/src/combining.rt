@@ -1,8 +1,26 @@
 // Sums of lines by factors.
 use crate::factors::{Factor, Multiplier};
+use crate::pending::FIRST_PENDING;
 use pb_lin::{Constraint, Lines, SIZE_LIMIT};
 use scut_base::{Lit, NoMemory, Partial};
 use std::alloc::Global;
+
+// Live lines, and lines that may be added later, whose ids begin above all of those.
+#[derive(Clone, Copy)]
+pub(crate) struct Sources<'a> {
+    pub(crate) live: &'a Lines,
+    pub(crate) pending: &'a [Constraint],
+}
+
+impl<'a> Sources<'a> {
+    // The line of an id.
+    pub(crate) fn get(&self, id: u64) -> Option<&'a Constraint> {
+        match id.checked_sub(FIRST_PENDING) {
+            Some(place) => self.pending.get(place as usize),
+            None => self.live.get(id),
+        }
+    }
+}
 
 // A sum of lines as `sum of coefficient times variable >= least`: the coefficient of the variable v is at v.
 #[derive(Debug, Drop)]
@@ -19,7 +37,7 @@ impl Combination {
     // The empty sum, to which multiples of these lines may be added.
     pub(crate) fn over(
         alloc: Global,
-        lines: &Lines,
+        lines: &Sources<'_>,
         vars: u64,
         multipliers: &[Multiplier],
     ) -> Result<Combination, NoMemory> {
@@ -38,7 +56,7 @@ impl Combination {
     }
 
     // Makes it the sum of the lines multiplied; `None` where one isn't there, or something is too large.
-    pub(crate) fn set(&mut self, lines: &Lines, factors: &[Factor]) -> Option<()> {
+    pub(crate) fn set(&mut self, lines: &Sources<'_>, factors: &[Factor]) -> Option<()> {
         self.clear();
         for factor in factors {
             self.add(lines.get(factor.line)?, factor.factor)?;

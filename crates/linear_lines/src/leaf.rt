@@ -3,7 +3,7 @@ ghost use Rattle.std.specs.Prelude.{◌≡◌, ◌↔◌, false, Some, All, IfOk
 ghost use Rattle.scut_base.specs.Assignment.{partial_truth};
 ghost use Rattle.linear_lines.specs.Stating.{IsFalseUnder, MakesClause};
 
-use crate::combining::Combination;
+use crate::combining::{Combination, Sources};
 use crate::factors::{DENOMINATORS, Factor, Multiplier, rounded, scale_of};
 use crate::making::clause_of;
 use crate::weakening::leaf_tokens;
@@ -37,7 +37,7 @@ pub fn infeasible_leaf(
     ensures false_there { IfOk result (λ leaf. IfSome leaf
         (λ l. IsFalseUnder fixed.now l.clause)) }
 {
-    let mut sum = Combination::over(alloc, state.live(), state.vars(), multipliers)?;
+    let mut sum = Combination::over(alloc, &live_lines(state), state.vars(), multipliers)?;
     for denominator in DENOMINATORS {
         for is_relative in [false, true] {
             let scale = scale_of(multipliers, denominator, is_relative);
@@ -50,6 +50,14 @@ pub fn infeasible_leaf(
     Ok(None)
 }
 
+// The live lines, and no others.
+fn live_lines(state: &ProofState) -> Sources<'_> {
+    Sources {
+        live: state.live(),
+        pending: &[],
+    }
+}
+
 // The tokens of a sum that can't be reached where the assignment holds, if it is one.
 fn short_sum(
     alloc: Global,
@@ -58,7 +66,7 @@ fn short_sum(
     factors: &[Factor],
     fixed: &Partial,
 ) -> Result<Option<Items<PolToken>>, NoMemory> {
-    if sum.set(state.live(), factors).is_none() {
+    if sum.set(&live_lines(state), factors).is_none() {
         return Ok(None);
     }
     match sum.shortfall(fixed) {

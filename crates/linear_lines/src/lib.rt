@@ -2,7 +2,8 @@
 //!
 //! Its public contract: `infeasible_leaf` answers tokens and the clause that they make of the live lines, whose
 //! literals are false under a partial assignment; `add_clause_line` records tokens where they make a clause, and
-//! nothing where they don't; `add_line` does so where they make any constraint. The multipliers are taken as they
+//! nothing where they don't; `add_line` does so where they make any constraint. `pending_leaf` promises nothing: it serves where
+//! lines that a leaf stands on are to be added only once the leaf is. The multipliers are taken as they
 //! come: nothing of them is believed, since each constraint is what the tokens make. The crate knows no linear
 //! program.
 #![tactic(auto)]
@@ -12,6 +13,7 @@ mod combining;
 mod factors;
 mod leaf;
 mod making;
+mod pending;
 mod spelling;
 mod weakening;
 
@@ -19,3 +21,4 @@ pub use adding::{ClauseLine, add_clause_line, add_line};
 pub use factors::Multiplier;
 pub use leaf::{Leaf, infeasible_leaf};
 pub use making::resolvent_tokens;
+pub use pending::{FIRST_PENDING, PendingLeaf, pending_constraint, pending_leaf};

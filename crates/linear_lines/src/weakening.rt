@@ -2,7 +2,7 @@
 use crate::combining::{Combination, value_of};
 use crate::factors::Factor;
 use cutting_planes::PolToken;
-use scut_base::{Items, NoMemory, Partial};
+use scut_base::{Items, Lit, NoMemory, Partial};
 use std::alloc::Global;
 
 // The tokens `ID f * .. + .. x w .. s g d`, which sum lines by factors, weaken the variables that the sum is
@@ -24,6 +24,25 @@ pub(crate) fn leaf_tokens(
         tokens.push(PolToken::Div(divisor))?;
     }
     Ok(tokens)
+}
+
+// The literals of the clause that these tokens make, in rising order of variables.
+pub(crate) fn leaf_literals(
+    alloc: Global,
+    sum: &Combination,
+    fixed: &Partial,
+    shortfall: i128,
+) -> Result<Items<Lit>, NoMemory> {
+    let needed = needed_terms(alloc, sum, fixed)?;
+    let (lifted, _divisor) = lifted_terms(needed.as_slice(), shortfall);
+    let kept = kept_variables(alloc, needed.as_slice(), lifted)?;
+    let mut lits = Items::with_capacity(alloc, kept.len())?;
+    for var in kept.iter() {
+        if 0 < *var && *var < 1 << 63 {
+            lits.push(Lit::new(*var, sum.coefficient(*var) < 0))?;
+        }
+    }
+    Ok(lits)
 }
 
 // The variables, with the sizes of their coefficients, whose values keep the sum from being more: they rise by

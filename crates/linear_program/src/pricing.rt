@@ -54,6 +54,21 @@ impl Simplex {
         self.count(touched);
     }
 
+    // The row of the inverse at the place of a column; `false` where the column isn't in the basis, or there's no inverse of it.
+    pub(crate) fn take_table_row(&mut self, column: usize) -> bool {
+        let place = match self.variables.get(column) {
+            Some(variable) => variable.place(),
+            None => None,
+        };
+        match place {
+            Some(place) if !self.is_stale => {
+                self.take_inverse_row(place);
+                true
+            }
+            _ => false,
+        }
+    }
+
     // The row of the pivot, by that of the inverse.
     pub(crate) fn take_pivot_row(&mut self) -> Result<(), NoMemory> {
         self.pivot_row.clear();

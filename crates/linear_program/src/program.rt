@@ -1,5 +1,5 @@
 // Linear programs as others see them.
-ghost use Rattle.std.specs.Prelude.{◌≡◌, ◌+◌, IfOk, length, MatchResult, MatchBool};
+ghost use Rattle.std.specs.Prelude.{◌≡◌, ◌+◌, IfOk, IfSome, length, MatchResult, MatchBool};
 ghost use Rattle.linear_program.specs.Shape.{Shape};
 
 use crate::basis::Basis;
@@ -122,6 +122,22 @@ impl LinearProgram {
         let mut duals = vec![in self.alloc; 0.0; self.rows]?;
         self.simplex.put_duals(duals.as_mut_slice());
         Ok(duals)
+    }
+
+    /// A multiplier for each row: rows by these add up to the row of the simplex table by which a column of the basis is
+    /// told, with a coefficient of 1. `None` where the column isn't in the basis, or where the inverse isn't that of the
+    /// basis, as after rows have come or gone.
+    pub fn table_row(&mut self, column: usize) -> Result<Option<Vec<f64>>, NoMemory>
+        ensures same { self.new ≡ self.old }
+        ensures shaped { IfOk result (λ row. IfSome row (λ ys. length ys.items ≡ self.old.rows)) }
+    {
+        if column >= self.columns || !self.simplex.take_table_row(column) {
+            return Ok(None);
+        }
+        let mut multipliers = vec![in self.alloc; 0.0; self.rows]?;
+        self.simplex
+            .put_multipliers(multipliers.as_mut_slice(), -1.0);
+        Ok(Some(multipliers))
     }
 
     /// The basis, for `restore`.

@@ -56,6 +56,14 @@ impl Variable {
         matches!(self.standing, Standing::Basic(_))
     }
 
+    // The place in the basis.
+    pub(crate) fn place(&self) -> Option<usize> {
+        match self.standing {
+            Standing::Basic(place) => Some(place),
+            _ => None,
+        }
+    }
+
     pub(crate) fn is_at_upper(&self) -> bool {
         matches!(self.standing, Standing::AtUpper)
     }

@@ -7,6 +7,7 @@ ghost use Rattle.linear_search.specs.Replies.{IsKeptWhereAnswered, IsReply, IsRe
 
 use crate::Reply;
 use crate::closing::may_be_assumed;
+use crate::cuts::Cuts;
 use crate::exploring::Found;
 use crate::nodes::Node;
 use crate::question::{Limit, Question};
@@ -39,7 +40,7 @@ impl LinearSearch {
     {
         let question = Question { assumed, limits };
         let found = in_memory(self.search(rec.state(), &question, Some(target)))?;
-        reply_of(self.alloc, rec, found, assumed)
+        reply_of(self.alloc, rec, found, assumed, &mut self.relaxation.cuts)
     }
 
     /// The same, in the tree of the last question: its open nodes are taken up again. It serves where nothing is allowed
@@ -58,7 +59,7 @@ impl LinearSearch {
     {
         let question = Question { assumed, limits };
         let found = in_memory(self.search(rec.state(), &question, None))?;
-        reply_of(self.alloc, rec, found, assumed)
+        reply_of(self.alloc, rec, found, assumed, &mut self.relaxation.cuts)
     }
 }
 
@@ -68,6 +69,7 @@ fn reply_of<R: Recorder>(
     rec: &mut R,
     found: Found,
     assumed: &[Lit],
+    cuts: &mut Cuts,
 ) -> Result<Reply, RecordFault>
     requires ready { IsReady (R.seen rec.old) }
     ensures recorded { IsRecorded (R.seen rec.old) (R.seen rec.new) result }
@@ -75,7 +77,7 @@ fn reply_of<R: Recorder>(
     ensures of_found { IfOk result (IsReplyTo found) }
 {
     match found {
-        Found::Closed(nodes) => close(alloc, rec, nodes.as_slice(), assumed),
+        Found::Closed(nodes) => close(alloc, rec, nodes.as_slice(), assumed, cuts),
         Found::Model(lits) => Ok(proposal(rec, lits)),
         Found::Nothing => Ok(Reply::Unknown),
     }
@@ -98,12 +100,13 @@ fn close<R: Recorder>(
     rec: &mut R,
     nodes: &[Node],
     assumed: &[Lit],
+    cuts: &mut Cuts,
 ) -> Result<Reply, RecordFault>
     requires ready { IsReady (R.seen rec.old) }
     ensures recorded { IsRecorded (R.seen rec.old) (R.seen rec.new) result }
     ensures reply { IfOk result (IsReply (R.seen rec.new) assumed.now) }
 {
-    let Some(line) = write_tree(alloc, rec, nodes)? else {
+    let Some(line) = write_tree(alloc, rec, nodes, cuts)? else {
         return Ok(Reply::Unknown);
     };
     match in_memory(core_of(alloc, line.id, line.clause.literals(), assumed))? {

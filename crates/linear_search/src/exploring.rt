@@ -28,11 +28,25 @@ impl Relaxation {
         tree: &mut Tree,
         most: u64,
     ) -> Result<Found, NoMemory> {
+        self.take_back_cuts()?;
+        self.begin_at_root(state, question, tree)?;
+        if self.may_cut() && !self.begin_with_cuts(state, question, tree, most)? {
+            return found_in(tree);
+        }
+        self.explore(state, question, tree, most)
+    }
+
+    // Begins a tree with its root alone, which is visited.
+    pub(crate) fn begin_at_root(
+        &mut self,
+        state: &ProofState,
+        question: &Question<'_>,
+        tree: &mut Tree,
+    ) -> Result<(), NoMemory> {
         self.begin(question, tree);
         tree.begin(state.vars(), self.least_sum(), self.aim.step.max(1e-6))?;
         self.visit(state, question, tree, 0)?;
-        tree.push_if_open(0)?;
-        self.explore(state, question, tree, most)
+        tree.push_if_open(0)
     }
 
     // Goes on in a tree whose limits are tighter now: nodes that what was kept of them doesn't close are solved once more.
@@ -72,7 +86,7 @@ impl Relaxation {
         Ok(())
     }
 
-    // Splits nodes until the root is closed, no node can have a better model, or the work is done.
+    // Searches on in a tree, and answers what it comes to.
     fn explore(
         &mut self,
         state: &ProofState,
@@ -80,23 +94,38 @@ impl Relaxation {
         tree: &mut Tree,
         most: u64,
     ) -> Result<Found, NoMemory> {
+        self.split_nodes(state, question, tree, most, MOST_NODES)?;
+        self.settle_cuts(tree);
+        found_in(tree)
+    }
+
+    // Splits nodes until the root is closed, no node can have a better model, or the work is done; answers whether it's none of
+    // these, but so many nodes were split.
+    pub(crate) fn split_nodes(
+        &mut self,
+        state: &ProofState,
+        question: &Question<'_>,
+        tree: &mut Tree,
+        most: u64,
+        nodes: usize,
+    ) -> Result<bool, NoMemory> {
         let began = self.work();
         let mut most = most;
         let mut has_model = false;
-        for _node in 0..MOST_NODES {
+        for _node in 0..nodes {
             if tree.best.is_some() && !has_model {
                 has_model = true;
                 most = most.min(self.enough_after_a_model(began));
             }
             if tree.root_clause().is_some() || self.work() > most {
-                break;
+                return Ok(false);
             }
             let Some(at) = tree.take_next(self.aim.step) else {
-                break;
+                return Ok(false);
             };
             self.split_node(state, question, tree, at)?;
         }
-        found_in(tree)
+        Ok(true)
     }
 
     // How much work may be done in all where the first model is known now: without a bound where the least cost of one objective
@@ -144,7 +173,7 @@ impl Relaxation {
     }
 
     // Sets the ranges for a question, at the root.
-    fn begin(&mut self, question: &Question<'_>, tree: &mut Tree) {
+    pub(crate) fn begin(&mut self, question: &Question<'_>, tree: &mut Tree) {
         for lit in tree.path.iter() {
             self.free(*lit);
         }

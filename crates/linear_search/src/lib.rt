@@ -1,5 +1,6 @@
 //! Questions whether literals can be true together, answered by a search over linear relaxations (branch and
-//! bound, Land and Doig 1960) whose leaves and inner nodes are lines by cutting planes.
+//! bound, Land and Doig 1960) whose leaves and inner nodes are lines by cutting planes. The root of a tree that
+//! has grown gets cuts (Crowder, Johnson and Padberg 1983).
 //!
 //! Its public contract: `LinearSearch::ask` answers some of the assumptions with a live clause by which they
 //! can't all be true, as an oracle does; or literals that may be a model; or neither. It adds only lines by
@@ -8,6 +9,8 @@
 
 mod asking;
 mod closing;
+mod cuts;
+mod cutting;
 mod exploring;
 mod limits;
 mod model;

@@ -50,3 +50,43 @@ pub(crate) const LEAST_PASSES: u64 = 400;
 
 // Lines of the log above the problem's rows are rows of the relaxation too, if their coefficients sum to no more than this.
 pub(crate) const MOST_SIZE_OF_LINE: u128 = 1 << 20;
+
+// Cuts aren't sought where the rows have more numbers than this: each round passes over all of them several times.
+pub(crate) const MOST_CUT_ENTRIES: usize = 400_000;
+
+// Nor where those that were made have more terms than this together: 24 bytes each.
+pub(crate) const MOST_SIZE_OF_CUTS: usize = 1_000_000;
+
+// So many rounds of so many cuts at most at the root of the first question's tree, where all that cuts can bring is still to be
+// had; and of later ones, which begin with the cuts of those before.
+pub(crate) const FIRST_ROUNDS: u32 = 15;
+
+pub(crate) const LATER_ROUNDS: u32 = 4;
+
+pub(crate) const CUTS_OF_A_ROUND: usize = 20;
+
+// The rounds end after this much work, as passes over rows and columns; and before cuts have helped, after as much as the tree took
+// so far, so that they cost no more than it.
+pub(crate) const PASSES_OF_CUTS: u64 = 20_000;
+
+// They end where so many, one after another, raised the bound by less than this part: what comes then is too little.
+pub(crate) const LEAST_GAIN: f64 = 1e-4;
+
+pub(crate) const MOST_STALLED: u32 = 2;
+
+// A cut that is exceeded by more than this is slack, and one that is slack in so many solves is dropped.
+pub(crate) const SLACK: f64 = 1e-6;
+
+pub(crate) const MOST_IDLE: u32 = 3;
+
+// Before cuts have helped, they are sought only where so many nodes have been split: smaller trees cost less than cuts do.
+pub(crate) const NODES_BEFORE_CUTS: usize = 40;
+
+// Cuts help with a question if they close this share of its gap; else they are taken back, since each row costs time at each node:
+// a fifth of the gap saves a tenth of the nodes, and takes twice the time at each. They aren't sought any more once they failed in
+// so many more questions than they helped with; a tree of few nodes tells nothing.
+pub(crate) const LEAST_SHARE: f64 = 0.25;
+
+pub(crate) const MOST_FAILED: u64 = 3;
+
+pub(crate) const FEW_VISITS: u64 = 4;

@@ -1,4 +1,6 @@
 // The linear relaxation of a problem.
+use crate::cuts::Cuts;
+use crate::cutting::Service;
 use crate::limits::{LEAST_PASSES, MOST_SIZE_OF_LINE};
 use crate::rounding::Matrix;
 use crate::target::{Aim, Target};
@@ -16,6 +18,8 @@ pub(crate) enum Row {
     Line(u64),
     // The objective at this place.
     Objective(usize),
+    // The cut at this place.
+    Cut(usize),
 }
 
 // An objective: its terms over columns, what their sum lacks to the cost, and between what it is.
@@ -42,6 +46,11 @@ pub(crate) struct Relaxation {
     // The rows of lines once more, as rounding takes them.
     pub(crate) matrix: Matrix,
     pub(crate) objectives: Vec<Objective>,
+    // Cuts, of which some are rows, and how they served.
+    pub(crate) cuts: Cuts,
+    pub(crate) service: Service,
+    // How many numbers the rows of lines and objectives have together.
+    pub(crate) entries: usize,
     // Of each column, how many rows name it, and what share it has of all costs.
     pub(crate) uses: Vec<f64>,
     pub(crate) shares: Vec<f64>,
@@ -68,6 +77,9 @@ impl Relaxation {
             rows: Vec::new(alloc),
             matrix: Matrix::new(alloc, columns)?,
             objectives: Vec::new(alloc),
+            cuts: Cuts::new(alloc),
+            service: Service::new(),
+            entries: 0,
             uses: vec![in alloc; 1.0; columns]?,
             shares: vec![in alloc; 1.0; columns]?,
             aim: Aim::new(alloc),
@@ -126,6 +138,9 @@ impl Relaxation {
     }
 
     fn take_up_line(&mut self, state: &ProofState, id: u64) -> Result<(), NoMemory> {
+        if self.cuts.has_written(id) {
+            return Ok(());
+        }
         match state.live().get(id) {
             Some(line) if is_small_over(line, self.columns as u64) => self.add_line(
                 id, line, false,
@@ -164,6 +179,7 @@ impl Relaxation {
 
     fn add_row(&mut self, row: Row, terms: &[Term], range: Range) -> Result<(), NoMemory> {
         if self.program.add_row(terms, range)? {
+            self.entries = self.entries.saturating_add(terms.len());
             self.rows.push(row)?;
         } else {
             self.is_whole = false;
@@ -288,10 +304,10 @@ fn is_small_over(line: &Constraint, columns: u64) -> bool {
 
 // A sum over columns, without its constant: between what it is.
 #[derive(Debug, Drop)]
-struct Sum {
-    terms: Vec<Term>,
-    least: f64,
-    greatest: f64,
+pub(crate) struct Sum {
+    pub(crate) terms: Vec<Term>,
+    pub(crate) least: f64,
+    pub(crate) greatest: f64,
 }
 
 impl Sum {
@@ -321,7 +337,7 @@ impl Sum {
 }
 
 // The sum of a line's terms.
-fn sum_of_line(alloc: Global, line: &Constraint) -> Result<Sum, NoMemory> {
+pub(crate) fn sum_of_line(alloc: Global, line: &Constraint) -> Result<Sum, NoMemory> {
     let mut sum = Sum::new(alloc);
     for at in 0..line.len() {
         let (lit, coefficient) = line.term(at);
@@ -369,7 +385,7 @@ pub(crate) fn column_of(lit: Lit) -> usize {
 }
 
 // The nearest float, and that of 2^64 for more.
-fn float_of(number: u128) -> f64 {
+pub(crate) fn float_of(number: u128) -> f64 {
     match u64::try_from(number) {
         Ok(number) => nearest_u64_to_f64(number),
         Err(_) => nearest_u64_to_f64(u64::MAX),

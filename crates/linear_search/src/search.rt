@@ -19,7 +19,7 @@ use std::marker::Model;
 #[derive(Debug, Drop)]
 pub struct LinearSearch {
     pub(crate) alloc: Global,
-    relaxation: Relaxation,
+    pub(crate) relaxation: Relaxation,
     tree: Tree,
     columns: usize,
     constraints: usize,

@@ -1,6 +1,7 @@
 // A tree of linear programs, searched from the node of least bound on (DECISIONS, best-first).
 use crate::limits::{MOST_KEPT, PARTS_OF_A_STEP, PLUNGE, ROUND_ABOVE, ROUND_EACH};
 use crate::nodes::{Making, Node, has_literal, resolvent_literals};
+use cutting_planes::PolToken;
 use linear_lines::Leaf;
 use linear_program::Basis;
 use scut_base::{Items, Lit, NoMemory, Partial};
@@ -298,7 +299,8 @@ impl Tree {
         }
     }
 
-    fn can_be_split(&self, at: usize) -> bool {
+    // Whether a node can be split, or could be before it was.
+    pub(crate) fn can_be_split(&self, at: usize) -> bool {
         match self.branches.get(at) {
             Some(branch) => branch.split.is_some() && branch.closed.is_none(),
             None => false,
@@ -390,7 +392,17 @@ impl Tree {
         for lit in leaf.clause.literals() {
             lits.push(*lit)?;
         }
-        let clause = self.add_clause(Making::Leaf(leaf.tokens), lits)?;
+        self.close_by(at, leaf.tokens, lits)
+    }
+
+    // Closes a node by the clause of these literals, which the tokens make.
+    pub(crate) fn close_by(
+        &mut self,
+        at: usize,
+        tokens: Items<PolToken>,
+        lits: Items<Lit>,
+    ) -> Result<(), NoMemory> {
+        let clause = self.add_clause(Making::Leaf(tokens), lits)?;
         self.close(at, clause)
     }
 

@@ -4,7 +4,7 @@ use crate::question::{Limit, Question, limit_of};
 use crate::relaxation::{Relaxation, Row};
 use crate::rounding::{Point, THRESHOLDS};
 use crate::tree::{Kept, RowMultiplier, Tree};
-use linear_lines::{Multiplier, infeasible_leaf};
+use linear_lines::{FIRST_PENDING, Multiplier, infeasible_leaf, pending_leaf};
 use linear_program::Answer;
 use proof_rules::ProofState;
 use scut_base::{Items, Lit, NoMemory};
@@ -74,13 +74,31 @@ impl Relaxation {
         multipliers: &[RowMultiplier],
     ) -> Result<bool, NoMemory> {
         let lines = self.lines_of(question, multipliers)?;
-        match infeasible_leaf(self.alloc, state, lines.as_slice(), &tree.fixed)? {
-            Some(leaf) => {
-                tree.close_by_leaf(at, leaf)?;
-                Ok(true)
+        self.close_by_lines(state, tree, at, lines.as_slice())
+    }
+
+    // The same by the multipliers of lines, which may be those of cuts.
+    fn close_by_lines(
+        &self,
+        state: &ProofState,
+        tree: &mut Tree,
+        at: usize,
+        lines: &[Multiplier],
+    ) -> Result<bool, NoMemory> {
+        if lines
+            .iter()
+            .any(|multiplier| multiplier.line >= FIRST_PENDING)
+        {
+            let cuts = self.cuts.constraints.as_slice();
+            if let Some(leaf) = pending_leaf(self.alloc, state, cuts, lines, &tree.fixed)? {
+                tree.close_by(at, leaf.tokens, leaf.lits)?;
+                return Ok(true);
             }
-            None => Ok(false),
+        } else if let Some(leaf) = infeasible_leaf(self.alloc, state, lines, &tree.fixed)? {
+            tree.close_by_leaf(at, leaf)?;
+            return Ok(true);
         }
+        Ok(false)
     }
 
     // Closes a node by what was kept of it, if the limits of now allow that.
@@ -97,13 +115,7 @@ impl Relaxation {
             Some(kept) => self.lines_of(question, kept.multipliers.as_slice())?,
             None => return Ok(false),
         };
-        match infeasible_leaf(self.alloc, state, lines.as_slice(), &tree.fixed)? {
-            Some(leaf) => {
-                tree.close_by_leaf(at, leaf)?;
-                Ok(true)
-            }
-            None => Ok(false),
-        }
+        self.close_by_lines(state, tree, at, lines.as_slice())
     }
 
     // A node whose bound is above the best model's value has nothing that is better.
@@ -263,17 +275,17 @@ impl Relaxation {
         let mut lines = Vec::with_capacity(self.alloc, multipliers.len())?;
         for multiplier in multipliers {
             match self.rows.get(multiplier.row) {
-                Some(Row::Line(line)) => {
-                    if multiplier.value > 0.0 {
-                        lines.push(Multiplier {
-                            line: *line,
-                            value: multiplier.value,
-                        })?;
-                    }
-                }
                 Some(Row::Objective(objective)) => {
                     if multiplier.value < 0.0 {
                         add_limit(&mut lines, question, *objective, -multiplier.value)?;
+                    }
+                }
+                Some(row) => {
+                    if multiplier.value > 0.0 {
+                        lines.push(Multiplier {
+                            line: self.id_of(*row),
+                            value: multiplier.value,
+                        })?;
                     }
                 }
                 None => {}

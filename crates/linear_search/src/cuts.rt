@@ -1,0 +1,143 @@
+// Cuts as lines by cutting planes, which are added only once a clause that is written stands on them.
+use cutting_planes::PolToken;
+use linear_lines::{FIRST_PENDING, pending_constraint};
+use pb_lin::Constraint;
+use proof_rules::ProofState;
+use scut_base::{Items, NoMemory};
+use std::alloc::Global;
+
+// Cuts that lines can be made of. A cut's tokens name live lines, and cuts before it by ids from `FIRST_PENDING` on.
+#[derive(Debug, Drop)]
+pub(crate) struct Cuts {
+    pub(crate) alloc: Global,
+    pub(crate) tokens: Vec<Items<PolToken>>,
+    pub(crate) constraints: Vec<Constraint>,
+    // The id of each cut's line; 0 where it hasn't been added.
+    pub(crate) ids: Vec<u64>,
+    // In how many solves, one after another, each was slack.
+    idle: Vec<u32>,
+    // The ids of the lines that were added, ascending.
+    pub(crate) written: Vec<u64>,
+    // How many terms they have together.
+    pub(crate) size: usize,
+}
+
+impl Cuts {
+    pub(crate) fn new(alloc: Global) -> Cuts {
+        Cuts {
+            alloc,
+            tokens: Vec::new(alloc),
+            constraints: Vec::new(alloc),
+            ids: Vec::new(alloc),
+            idle: Vec::new(alloc),
+            written: Vec::new(alloc),
+            size: 0,
+        }
+    }
+
+    // Keeps the cut of these tokens, if they make a constraint, and answers its place.
+    pub(crate) fn keep(
+        &mut self,
+        state: &ProofState,
+        tokens: Items<PolToken>,
+    ) -> Result<Option<usize>, NoMemory> {
+        let pending = self.constraints.as_slice();
+        let Some(made) = pending_constraint(self.alloc, state, pending, tokens.as_slice())? else {
+            return Ok(None);
+        };
+        let place = self.constraints.len();
+        self.size = self.size.saturating_add(made.len());
+        self.ids.push(0)?;
+        self.idle.push(0)?;
+        self.tokens.push(tokens)?;
+        self.constraints.push(made)?;
+        Ok(Some(place))
+    }
+
+    // The id of a cut: that of its line, or the one by which it is named until then.
+    pub(crate) fn id(&self, place: usize) -> u64 {
+        match self.ids.get(place) {
+            Some(id) if *id > 0 => *id,
+            _ => FIRST_PENDING.saturating_add(place as u64),
+        }
+    }
+
+    // Notes whether a cut is slack now, and answers in how many solves it has been.
+    pub(crate) fn note_slack(&mut self, place: usize, is_slack: bool) -> u32 {
+        match self.idle.get_mut(place) {
+            Some(idle) => {
+                *idle = if is_slack { idle.saturating_add(1) } else { 0 };
+                *idle
+            }
+            None => 0,
+        }
+    }
+
+    // Whether the line of this id is a cut.
+    pub(crate) fn has_written(&self, id: u64) -> bool {
+        self.written.as_slice().binary_search(&id).is_ok()
+    }
+
+    // Notes that a cut's line was added.
+    pub(crate) fn note(&mut self, place: usize, id: u64) -> Result<(), NoMemory> {
+        if let Some(slot) = self.ids.get_mut(place) {
+            *slot = id;
+            self.written.push(id)?;
+        }
+        Ok(())
+    }
+
+    // The tokens with the ids of lines that were added.
+    pub(crate) fn translated(&self, tokens: &[PolToken]) -> Result<Items<PolToken>, NoMemory> {
+        let mut own = Items::with_capacity(self.alloc, tokens.len())?;
+        for token in tokens {
+            own.push(match cut_of(*token) {
+                Some(place) => PolToken::Id(self.id(place)),
+                None => *token,
+            })?;
+        }
+        Ok(own)
+    }
+
+    // The tokens of a cut's line, if it's to be written now; else none, which make no line.
+    pub(crate) fn tokens_to_write(
+        &self,
+        place: usize,
+        is_needed: bool,
+    ) -> Result<Items<PolToken>, NoMemory> {
+        match (self.tokens.get(place), self.ids.get(place)) {
+            (Some(tokens), Some(0)) if is_needed => self.translated(tokens.as_slice()),
+            _ => Ok(Items::new(self.alloc)),
+        }
+    }
+
+    // Marks the cuts that tokens name.
+    pub(crate) fn mark(&self, needed: &mut [bool], tokens: &[PolToken]) {
+        for token in tokens {
+            if let Some(place) = cut_of(*token) {
+                if let Some(slot) = needed.get_mut(place) {
+                    *slot = true;
+                }
+            }
+        }
+    }
+
+    // Marks those that the marked ones stand on too: these come before them.
+    pub(crate) fn mark_below(&self, needed: &mut [bool]) {
+        for place in (0..self.tokens.len()).rev() {
+            if needed.get(place) == Some(&true) {
+                if let Some(tokens) = self.tokens.get(place) {
+                    self.mark(needed, tokens.as_slice());
+                }
+            }
+        }
+    }
+}
+
+// The cut that a token names.
+fn cut_of(token: PolToken) -> Option<usize> {
+    match token {
+        PolToken::Id(id) => id.checked_sub(FIRST_PENDING).map(|place| place as usize),
+        _ => None,
+    }
+}

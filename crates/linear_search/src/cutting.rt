@@ -1,0 +1,384 @@
+// Rounds of cuts at the root of a question's tree.
+use crate::limits::{
+    CUTS_OF_A_ROUND, FEW_VISITS, FIRST_ROUNDS, LATER_ROUNDS, LEAST_GAIN, LEAST_SHARE,
+    MOST_CUT_ENTRIES, MOST_FAILED, MOST_IDLE, MOST_PIVOTS, MOST_SIZE_OF_CUTS, MOST_STALLED,
+    NODES_BEFORE_CUTS, PASSES_OF_CUTS, SLACK,
+};
+use crate::question::Question;
+use crate::relaxation::{Relaxation, Row, float_of, sum_of_line};
+use crate::tree::Tree;
+use cutting_planes::PolToken;
+use linear_cuts::{Cut, Padding, Separation};
+use linear_program::{Answer, Basis, Range};
+use proof_rules::ProofState;
+use scut_base::{Items, Lit, NoMemory};
+
+// The rounds of cuts of a question: the bounds before them and with them, and the basis and the rows before them.
+#[derive(Debug, Drop)]
+pub(crate) struct Rounds {
+    before: f64,
+    after: f64,
+    basis: Basis,
+    first: usize,
+}
+
+// How cuts have served so far.
+#[derive(Debug, Drop)]
+pub(crate) struct Service {
+    // Whether there were rounds before.
+    has_begun: bool,
+    // How many questions they helped with, and with how many they didn't.
+    helped: u64,
+    failed: u64,
+    // The rounds of the present question, until it's known whether they helped.
+    open: Option<Rounds>,
+    // Those that are to be taken back before the next question.
+    vain: Option<Rounds>,
+}
+
+impl Service {
+    pub(crate) fn new() -> Service {
+        Service {
+            has_begun: false,
+            helped: 0,
+            failed: 0,
+            open: None,
+            vain: None,
+        }
+    }
+}
+
+impl Relaxation {
+    // Seeks cuts at the root of a tree: at once where they have served before, else only where the tree shows by its size that it
+    // may need them. With cuts the tree begins anew, but for its best model. Answers whether the search is to go on.
+    pub(crate) fn begin_with_cuts(
+        &mut self,
+        state: &ProofState,
+        question: &Question<'_>,
+        tree: &mut Tree,
+        most: u64,
+    ) -> Result<bool, NoMemory> {
+        let mut allowance = self.passes(PASSES_OF_CUTS);
+        if self.service.helped == 0 {
+            let began = self.work();
+            if !self.split_nodes(state, question, tree, most, NODES_BEFORE_CUTS)? {
+                return Ok(false);
+            }
+            allowance = allowance.min(self.work().saturating_sub(began));
+            self.begin(question, tree);
+        }
+        let most = most.min(self.work().saturating_add(allowance));
+        if self.cut_root(state, tree, most)? {
+            let mut best = None;
+            std::mem::swap(&mut best, &mut tree.best);
+            self.begin_at_root(state, question, tree)?;
+            tree.best = best;
+        }
+        Ok(true)
+    }
+
+    // Cuts off the root's point, again and again until this much work was done; answers whether rows have changed.
+    fn cut_root(&mut self, state: &ProofState, tree: &Tree, most: u64) -> Result<bool, NoMemory> {
+        if !tree.can_be_split(0) {
+            return Ok(false);
+        }
+        let mut separation = self.separation(state)?;
+        let is_changed = self.drop_old(&mut separation)?;
+        let before = self.program.sum();
+        let basis = self.program.basis()?;
+        let first = self.rows.len();
+        let after = self.cut_in_rounds(state, tree, &mut separation, most)?;
+        self.service.has_begun = true;
+        let rounds = Rounds {
+            before,
+            after,
+            basis,
+            first,
+        };
+        if self.is_gain(tree, &rounds) {
+            self.service.open = Some(rounds);
+            return Ok(true);
+        }
+        self.service.failed = self.service.failed.saturating_add(1);
+        self.service.vain = Some(rounds);
+        self.take_back_cuts()?;
+        Ok(is_changed)
+    }
+
+    // Drops the cuts of earlier questions that have been slack at the roots of some; answers whether there were any.
+    fn drop_old(&mut self, separation: &mut Separation) -> Result<bool, NoMemory> {
+        let rows = self.rows.len();
+        if let Some(values) = self.point_now()? {
+            self.drop_slack(separation, values.as_slice(), 0)?;
+        }
+        if self.rows.len() < rows {
+            self.point_now()?;
+            return Ok(true);
+        }
+        Ok(false)
+    }
+
+    // Whether cuts are sought at all.
+    pub(crate) fn may_cut(&self) -> bool {
+        self.entries <= MOST_CUT_ENTRIES
+            && self.cuts.size <= MOST_SIZE_OF_CUTS
+            && self.service.failed < self.service.helped.saturating_add(MOST_FAILED)
+    }
+
+    // Whether cuts close so much of the gap to the best model that they are worth their rows; where no model is known, of what a
+    // better one would lack.
+    fn is_gain(&self, tree: &Tree, rounds: &Rounds) -> bool {
+        let gap = match &tree.best {
+            Some(best) => best.value - rounds.before,
+            None => 0.0,
+        };
+        rounds.after - rounds.before > LEAST_SHARE * gap.max(self.aim.step)
+    }
+
+    // Finds cuts and solves with them, as long as the bound rises and better models than the best may be left; answers the
+    // bound.
+    fn cut_in_rounds(
+        &mut self,
+        state: &ProofState,
+        tree: &Tree,
+        separation: &mut Separation,
+        most: u64,
+    ) -> Result<f64, NoMemory> {
+        let first = self.rows.len();
+        let mut bound = self.program.sum();
+        let mut stalled = 0u32;
+        for _round in 0..self.rounds() {
+            if self.work() > most || !self.cut_once(state, separation)? {
+                break;
+            }
+            let Some(values) = self.point_now()? else {
+                return Ok(f64::INFINITY);
+            };
+            let now = self.program.sum();
+            self.drop_slack(separation, values.as_slice(), first)?;
+            let is_little = now - bound < LEAST_GAIN * (1.0 + bound.abs());
+            stalled = if is_little {
+                stalled.saturating_add(1)
+            } else {
+                0
+            };
+            bound = bound.max(now);
+            if stalled >= MOST_STALLED || tree.is_no_better(bound, self.aim.step) {
+                break;
+            }
+        }
+        Ok(bound)
+    }
+
+    fn rounds(&self) -> u32 {
+        if self.service.has_begun {
+            LATER_ROUNDS
+        } else {
+            FIRST_ROUNDS
+        }
+    }
+
+    // Adds the cuts of the present point; answers whether there are any.
+    fn cut_once(
+        &mut self,
+        state: &ProofState,
+        separation: &mut Separation,
+    ) -> Result<bool, NoMemory> {
+        let Some(values) = self.point_now()? else {
+            return Ok(false);
+        };
+        let before = separation.work();
+        separation.go_to(values.as_slice());
+        separation.find_zero_half()?;
+        for column in separation.columns_to_ask()?.iter() {
+            if let Some(multipliers) = self.program.table_row(*column)? {
+                separation.divide_table_row(multipliers.as_slice())?;
+            }
+        }
+        let mut has_any = false;
+        for cut in separation.take_chosen(CUTS_OF_A_ROUND)?.iter() {
+            has_any |= self.add_cut(state, separation, cut)?;
+        }
+        let work = separation.work().saturating_sub(before);
+        self.own_work = self.own_work.saturating_add(work);
+        Ok(has_any)
+    }
+
+    // The point of least cost with the rows of now; none where there's none.
+    fn point_now(&mut self) -> Result<Option<Vec<f64>>, NoMemory> {
+        let solved = self.program.solve(f64::INFINITY, MOST_PIVOTS)?;
+        match solved.answer {
+            Answer::Optimal { values } => Ok(Some(values)),
+            _ => Ok(None),
+        }
+    }
+
+    // The rows of lines, for cuts; in the place of an objective's a row without terms.
+    fn separation(&self, state: &ProofState) -> Result<Separation, NoMemory> {
+        let mut separation = Separation::new(self.alloc, self.columns)?;
+        for row in self.rows.iter() {
+            let line = match row {
+                Row::Line(id) => state.live().get(*id),
+                Row::Cut(place) => self.cuts.constraints.get(*place),
+                Row::Objective(_) => None,
+            };
+            match line {
+                Some(line) => {
+                    let sum = sum_of_line(self.alloc, line)?;
+                    let least = float_of(line.degree()) + sum.least;
+                    separation.add_row(sum.terms, least)?;
+                }
+                None => separation.add_row(Vec::new(self.alloc), 0.0)?,
+            }
+        }
+        Ok(separation)
+    }
+
+    // Adds the row of a cut, if it makes a line.
+    fn add_cut(
+        &mut self,
+        state: &ProofState,
+        separation: &mut Separation,
+        cut: &Cut,
+    ) -> Result<bool, NoMemory> {
+        let tokens = self.tokens_of(cut)?;
+        let Some(place) = self.cuts.keep(state, tokens)? else {
+            return Ok(false);
+        };
+        let Some(made) = self.cuts.constraints.get(place) else {
+            return Ok(false);
+        };
+        let sum = sum_of_line(self.alloc, made)?;
+        let range = Range {
+            lower: float_of(made.degree()) + sum.least,
+            upper: sum.greatest,
+        };
+        if !self.program.add_row(sum.terms.as_slice(), range)? {
+            return Ok(false);
+        }
+        self.rows.push(Row::Cut(place))?;
+        separation.add_row(sum.terms, range.lower)?;
+        Ok(true)
+    }
+
+    // The tokens `ID y * .. + LIT m * + .. d` of a cut.
+    fn tokens_of(&self, cut: &Cut) -> Result<Items<PolToken>, NoMemory> {
+        let mut tokens = Items::new(self.alloc);
+        for factor in cut.factors.iter() {
+            let id = self.rows.get(factor.row).map(|row| self.id_of(*row));
+            add_summand(&mut tokens, PolToken::Id(id.unwrap_or(0)), factor.factor)?;
+        }
+        for padding in cut.paddings.iter() {
+            if let Some(lit) = literal_of(padding) {
+                add_summand(&mut tokens, PolToken::Axiom(lit), padding.factor)?;
+            }
+        }
+        tokens.push(PolToken::Div(i128::from(cut.divisor)))?;
+        Ok(tokens)
+    }
+
+    // The id of a row's line; 0 where it has none.
+    pub(crate) fn id_of(&self, row: Row) -> u64 {
+        match row {
+            Row::Line(id) => id,
+            Row::Cut(place) => self.cuts.id(place),
+            Row::Objective(_) => 0,
+        }
+    }
+
+    // Notes which cuts are slack at the point of these values, and drops those from a row on that have been for some solves.
+    fn drop_slack(
+        &mut self,
+        separation: &mut Separation,
+        values: &[f64],
+        first: usize,
+    ) -> Result<(), NoMemory> {
+        separation.go_to(values);
+        let mut is_dropped = Vec::with_capacity(self.alloc, self.rows.len())?;
+        for (row, named) in self.rows.iter().enumerate() {
+            let is_idle = match named {
+                Row::Cut(place) if row >= first => {
+                    let is_slack = separation.slack(row).unwrap_or(0.0) > SLACK;
+                    self.cuts.note_slack(*place, is_slack) >= MOST_IDLE
+                }
+                _ => false,
+            };
+            is_dropped.push(is_idle)?;
+        }
+        let staying = self.drop_rows(is_dropped.as_slice())?;
+        separation.keep_rows(staying.as_slice());
+        Ok(())
+    }
+
+    // Drops the cuts from a row on.
+    fn drop_cuts_from(&mut self, first: usize) -> Result<(), NoMemory> {
+        let mut is_dropped = Vec::with_capacity(self.alloc, self.rows.len())?;
+        for (row, named) in self.rows.iter().enumerate() {
+            is_dropped.push(row >= first && matches!(named, Row::Cut(_)))?;
+        }
+        self.drop_rows(is_dropped.as_slice())?;
+        Ok(())
+    }
+
+    // Drops rows that are marked, if the program can, and answers which stay.
+    fn drop_rows(&mut self, is_dropped: &[bool]) -> Result<Vec<usize>, NoMemory> {
+        let staying = self.program.drop_rows(0, is_dropped)?;
+        let mut rows = Vec::with_capacity(self.alloc, staying.len())?;
+        for row in staying.iter() {
+            if let Some(named) = self.rows.get(*row) {
+                rows.push(*named)?;
+            }
+        }
+        self.rows = rows;
+        Ok(staying)
+    }
+
+    // Counts whether the cuts of a question helped, at its end.
+    pub(crate) fn settle_cuts(&mut self, tree: &Tree) {
+        let mut open = None;
+        std::mem::swap(&mut open, &mut self.service.open);
+        let Some(rounds) = open else {
+            return;
+        };
+        if self.is_gain(tree, &rounds) {
+            self.service.helped = self.service.helped.saturating_add(1);
+        } else if tree.visits > FEW_VISITS {
+            self.service.failed = self.service.failed.saturating_add(1);
+            self.service.vain = Some(rounds);
+        }
+    }
+
+    // Takes back cuts that didn't help: the basis before them has none of them.
+    pub(crate) fn take_back_cuts(&mut self) -> Result<(), NoMemory> {
+        let mut vain = None;
+        std::mem::swap(&mut vain, &mut self.service.vain);
+        if let Some(rounds) = &mut vain {
+            self.program.restore(&mut rounds.basis)?;
+            self.drop_cuts_from(rounds.first)?;
+        }
+        Ok(())
+    }
+}
+
+// Adds a token times a factor to the sum so far.
+fn add_summand(tokens: &mut Items<PolToken>, token: PolToken, factor: u64) -> Result<(), NoMemory> {
+    let is_first = tokens.is_empty();
+    tokens.push(token)?;
+    if factor > 1 {
+        tokens.push(PolToken::Mul(i128::from(factor)))?;
+    }
+    if !is_first {
+        tokens.push(PolToken::Add)?;
+    }
+    Ok(())
+}
+
+// The literal of which a padding is.
+fn literal_of(padding: &Padding) -> Option<Lit> {
+    let var = (padding.column as u64).checked_add(1)?;
+    if var < 1 << 63 {
+        Some(Lit::new(var, padding.is_complemented))
+    } else {
+        None
+    }
+}
