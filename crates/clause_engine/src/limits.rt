@@ -44,6 +44,20 @@ pub(crate) const KEPT_GLUE: u32 = 2;
 pub(crate) const MIDDLE_GLUE: u32 = 6;
 // Of the clauses that may go, this part stays.
 pub(crate) const KEPT_PART: usize = 4;
+// Rounds of elimination begin before the first conflict; so many conflicts lie between them.
+pub(crate) const ELIMINATE_EVERY: u64 = 1000;
+// Elimination may take so many ticks,
+pub(crate) const FREE_TICKS: u64 = 200_000;
+// and this part of all.
+pub(crate) const ELIMINATION_PART: u64 = 10;
+// One round after the other allows so many clauses more for a variable that goes.
+pub(crate) const GROWTHS: [usize; 3] = [0, 8, 16];
+// A variable stays that is in more clauses,
+pub(crate) const MOST_OCCURRENCES: usize = 60;
+// in more pairs of clauses, of which one has the opposite of what the other has,
+pub(crate) const MOST_PAIRS: u64 = 400;
+// or that has a resolvent of more literals.
+pub(crate) const MOST_RESOLVENT: usize = 30;
 // The pool is collected where it has at least so many words,
 pub(crate) const LEAST_COLLECTED: usize = 4 << 20;
 // and has grown to so many times what was left last time.
