@@ -30,6 +30,8 @@ struct Kept {
 pub(crate) struct Aside {
     // Of each variable.
     roles: Vec<Role>,
+    // From this one on variables that become known are frozen.
+    first_expected: u64,
     // The literals of the clauses, one clause after the other, and of each the eliminated one first.
     literals: Vec<Literal>,
     clauses: Vec<Kept>,
@@ -39,6 +41,7 @@ impl Aside {
     pub(crate) fn new(alloc: Global) -> Aside {
         Aside {
             roles: Vec::new(alloc),
+            first_expected: u64::MAX,
             literals: Vec::new(alloc),
             clauses: Vec::new(alloc),
         }
@@ -46,10 +49,20 @@ impl Aside {
 
     // Makes the variables up to this number known.
     pub(crate) fn grow(&mut self, vars: u32) -> Result<(), NoMemory> {
-        for _var in self.roles.len()..(vars as usize).saturating_add(1) {
-            self.roles.push(Role::Inner)?;
+        for var in self.roles.len()..(vars as usize).saturating_add(1) {
+            let is_expected = var as u64 >= self.first_expected;
+            self.roles.push(if is_expected {
+                Role::Frozen
+            } else {
+                Role::Inner
+            })?;
         }
         Ok(())
+    }
+
+    // Variables from this one on that become known later are frozen.
+    pub(crate) fn expect_from(&mut self, first: u64) {
+        self.first_expected = first;
     }
 
     pub(crate) fn role(&self, var: u32) -> Role {
@@ -113,7 +126,12 @@ impl Aside {
     }
 
     // Keeps a clause aside: its literal that is eliminated, its literals' codes, and its record.
-    pub(crate) fn keep(&mut self, own: Literal, codes: &[u32], record: u32) -> Result<(), NoMemory> {
+    pub(crate) fn keep(
+        &mut self,
+        own: Literal,
+        codes: &[u32],
+        record: u32,
+    ) -> Result<(), NoMemory> {
         self.literals.push(own)?;
         for code in codes {
             if *code != own.code() {

@@ -4,9 +4,7 @@
 use crate::arena::Standing;
 use crate::aside::Role;
 use crate::engine::Engine;
-use crate::limits::{
-    MOST_OCCURRENCES,
-};
+use crate::limits::MOST_PAIRS;
 use crate::literals::Literal;
 use crate::occurrences::Occurrences;
 use crate::records::Hint;
@@ -109,9 +107,12 @@ impl Engine {
         self.aside.set_role(var, Role::Tried);
         self.take_live(round.occurrences.list(lit), &mut round.positive)?;
         self.take_live(round.occurrences.list(lit.not()), &mut round.negative)?;
+        round.occurrences.set(lit, round.positive.as_slice())?;
+        round.occurrences.set(lit.not(), round.negative.as_slice())?;
+        let pairs = round.positive.len().saturating_mul(round.negative.len());
         let count = round.positive.len().saturating_add(round.negative.len());
         let most = count.saturating_add(round.growth);
-        if count <= MOST_OCCURRENCES && self.resolve_all(round, var, most)? {
+        if pairs <= MOST_PAIRS && self.resolve_all(round, var, most)? {
             self.eliminate_variable(round, lit)?;
         }
         Ok(())
@@ -130,12 +131,7 @@ impl Engine {
     }
 
     // Finds the resolvents; `false` where they are more than these, or one is too long.
-    fn resolve_all(
-        &mut self,
-        round: &mut Round,
-        var: u32,
-        most: usize,
-    ) -> Result<bool, NoMemory> {
+    fn resolve_all(&mut self, round: &mut Round, var: u32, most: usize) -> Result<bool, NoMemory> {
         round.resolvents.clear();
         for at in 0..round.positive.len() {
             let first = round.positive.get(at).copied().unwrap_or(0);
@@ -159,10 +155,9 @@ impl Engine {
     ) -> Result<bool, NoMemory> {
         for second in round.negative.iter() {
             self.ticks = self.ticks.wrapping_add(1);
-            let fits =
-                round
-                    .resolvents
-                    .resolve(&self.arena, &self.trail, var, first, *second)?;
+            let fits = round
+                .resolvents
+                .resolve(&self.arena, &self.trail, var, first, *second)?;
             if !fits || round.resolvents.len() > most {
                 return Ok(false);
             }
@@ -259,10 +254,7 @@ impl Engine {
     fn drop_eliminated(&mut self) {
         for at in self.learned.iter() {
             let codes = self.arena.codes(*at);
-            if codes
-                .iter()
-                .any(|code| self.aside.is_eliminated(Literal::of_code(*code).var()))
-            {
+            if codes.iter().any(|code| self.aside.is_eliminated(Literal::of_code(*code).var())) {
                 let mut standing = self.arena.standing(*at);
                 standing.is_dropped = true;
                 self.arena.set_standing(*at, standing);

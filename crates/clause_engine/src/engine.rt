@@ -153,13 +153,18 @@ impl Engine {
         self.take_row(id, terms, degree)
     }
 
-    /// Clauses or questions to come may name this variable. One that they name without this call has to be brought back
-    /// where it was eliminated, which costs a pass over all variables and clauses that were.
+    /// Clauses or questions to come may name this variable, which is known: it is not to be eliminated. One that they
+    /// name without this call comes back where it was eliminated, with all others.
     pub fn expect(&mut self, var: u64) -> Result<(), NoMemory> {
         if var >= MOST_VARIABLES {
             return Ok(());
         }
         self.freeze(&[Literal::new(var as u32, false)])
+    }
+
+    /// The same of the variables from this one on that become known after this call.
+    pub fn expect_from(&mut self, first: u64) {
+        self.aside.expect_from(first);
     }
 
     /// Whether the assumptions can be true with all that was taken up. `Unknown` where about so many ticks were spent:

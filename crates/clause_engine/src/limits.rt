@@ -52,10 +52,8 @@ pub(crate) const FREE_TICKS: u64 = 200_000;
 pub(crate) const ELIMINATION_PART: u64 = 10;
 // One round after the other allows so many clauses more for a variable that goes.
 pub(crate) const GROWTHS: [usize; 3] = [0, 8, 16];
-// A variable stays that is in more clauses,
-pub(crate) const MOST_OCCURRENCES: usize = 60;
-// in more pairs of clauses, of which one has the opposite of what the other has,
-pub(crate) const MOST_PAIRS: u64 = 400;
+// A variable stays that is in more pairs of a clause with it and one with its negation,
+pub(crate) const MOST_PAIRS: usize = 400;
 // or that has a resolvent of more literals.
 pub(crate) const MOST_RESOLVENT: usize = 30;
 // The pool is collected where it has at least so many words,

@@ -1,6 +1,5 @@
 // In which clauses literals stand, and the variables that may be eliminated, the cheapest first.
 
-use crate::limits::MOST_PAIRS;
 use crate::literals::Literal;
 use scut_base::NoMemory;
 use std::alloc::Global;
@@ -39,6 +38,15 @@ impl Occurrences {
         Ok(())
     }
 
+    // The clauses in which a literal stands are these alone.
+    pub(crate) fn set(&mut self, lit: Literal, places: &[u32]) -> Result<(), NoMemory> {
+        if let Some(list) = self.lists.get_mut(lit.index()) {
+            list.clear();
+            list.extend_from_slice(places)?;
+        }
+        Ok(())
+    }
+
     // The places of clauses in which a literal stands, also of some that were dropped.
     pub(crate) fn list(&self, lit: Literal) -> &[u32] {
         match self.lists.get(lit.index()) {
@@ -47,14 +55,14 @@ impl Occurrences {
         }
     }
 
-    // A variable is to be tried, if it isn't in too many pairs of clauses.
+    // A variable is to be tried.
     pub(crate) fn put(&mut self, var: u32) -> Result<(), NoMemory> {
         let lit = Literal::new(var, false);
         let first = self.list(lit).len() as u64;
         let second = self.list(lit.not()).len() as u64;
         let pairs = first.saturating_mul(second);
         match self.is_queued.get_mut(var as usize) {
-            Some(is_queued) if !*is_queued && pairs <= MOST_PAIRS => *is_queued = true,
+            Some(is_queued) if !*is_queued => *is_queued = true,
             _ => return Ok(()),
         }
         self.queue.push((u64::MAX.saturating_sub(pairs), var))?;
