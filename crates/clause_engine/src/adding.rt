@@ -38,10 +38,6 @@ impl Engine {
             return Ok(true);
         }
         if self.aside.has_eliminated(literals.as_slice()) {
-            // What the engine derived says nothing new.
-            if id <= self.last_noted {
-                return Ok(true);
-            }
             self.freeze(literals.as_slice())?;
         }
         let record = self.records.add_line(id as u32)?;

@@ -66,8 +66,6 @@ pub struct Engine {
     pub(crate) closing: Closing,
     // The record of the empty clause.
     pub(crate) empty: Option<u32>,
-    // The last line of a derived clause.
-    pub(crate) last_noted: u64,
     pub(crate) ticks: u64,
     pub(crate) conflicts: u64,
     pub(crate) reductions: u64,
@@ -101,7 +99,6 @@ impl Engine {
             model: Vec::new(alloc),
             closing: Closing::Open,
             empty: None,
-            last_noted: 0,
             ticks: 0,
             conflicts: 0,
             reductions: 0,
@@ -225,7 +222,6 @@ impl Engine {
     pub fn note_line(&mut self, record: u32, id: u64) {
         if id < MOST_LINES {
             self.records.set_line(record, id as u32);
-            self.last_noted = self.last_noted.max(id);
         }
     }
 
