@@ -151,7 +151,7 @@ impl Engine {
     }
 
     /// Clauses or questions to come may name this variable, which is known: it is not to be eliminated. One that they
-    /// name without this call comes back where it was eliminated, with all others.
+    /// name without this call comes back where it was eliminated, with all others, and none is eliminated after that.
     pub fn expect(&mut self, var: u64) -> Result<(), NoMemory> {
         if var >= MOST_VARIABLES {
             return Ok(());

@@ -19,14 +19,15 @@ impl Engine {
         Ok(())
     }
 
-    // Brings all clauses back that are aside.
+    // Brings all clauses back that are aside. Nothing is eliminated any more then: the resolvents stay, and would come
+    // once more each time.
     pub(crate) fn restore(&mut self) -> Result<(), NoMemory> {
         self.backtrack(0)?;
         for number in 0..self.aside.len() {
             self.restore_clause(number)?;
         }
         self.aside.clear();
-        self.rounds.begin_anew();
+        self.rounds.end();
         for var in 1..self.vars.saturating_add(1) {
             if self.aside.is_eliminated(var) {
                 self.aside.set_role(var, Role::Inner);

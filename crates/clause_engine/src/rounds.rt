@@ -4,7 +4,7 @@ use crate::limits::{ELIMINATE_EVERY, ELIMINATION_PART, FREE_TICKS, GROWTHS};
 
 #[derive(Clone, Copy, Debug)]
 pub(crate) struct Rounds {
-    // How many rounds came to their end since clauses came back.
+    // How many rounds came to their end.
     ended: usize,
     // At so many conflicts it's time to see whether there is another one.
     next: u64,
@@ -52,9 +52,8 @@ impl Rounds {
         self.spent = self.spent.saturating_add(ticks);
     }
 
-    // Clauses came back.
-    pub(crate) fn begin_anew(&mut self) {
-        self.ended = 0;
-        self.next = 0;
+    // There are to be none more.
+    pub(crate) fn end(&mut self) {
+        self.ended = GROWTHS.len();
     }
 }
