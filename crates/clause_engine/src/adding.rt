@@ -37,17 +37,32 @@ impl Engine {
         if has_opposites(literals.as_slice()) || self.has_true(literals.as_slice()) {
             return Ok(true);
         }
-        let record = self.records.add_line(id as u32)?;
-        let open = self.put_open_first(literals.as_mut_slice());
-        match literals.as_slice() {
-            [] => self.empty = Some(record),
-            [only] => self.take_unit(*only, record)?,
-            _ => self.take_long(literals.as_slice(), record, open)?,
+        if self.aside.has_eliminated(literals.as_slice()) {
+            self.freeze(literals.as_slice())?;
         }
+        let record = self.records.add_line(id as u32)?;
+        self.put_clause(literals.as_mut_slice(), record)?;
         Ok(true)
     }
 
-    fn has_true(&self, literals: &[Literal]) -> bool {
+    // Puts a clause among the others, none of whose literals is true at level 0.
+    pub(crate) fn put_clause(
+        &mut self,
+        literals: &mut [Literal],
+        record: u32,
+    ) -> Result<(), NoMemory> {
+        let open = self.put_open_first(literals);
+        match literals {
+            [] => {
+                self.empty = Some(record);
+                Ok(())
+            }
+            [only] => self.take_unit(*only, record),
+            _ => self.take_long(literals, record, open),
+        }
+    }
+
+    pub(crate) fn has_true(&self, literals: &[Literal]) -> bool {
         literals.iter().any(|lit| self.trail.is_true(*lit))
     }
 
@@ -142,6 +157,9 @@ impl Engine {
             return Ok(false);
         }
         self.backtrack(0)?;
+        for term in terms.iter() {
+            self.freeze(&[term.lit])?;
+        }
         let record = self.records.add_line(id as u32)?;
         let row = self.row_of(terms, degree.min(MOST_COEFFICIENTS) as i64, record);
         self.rows.add(row)?;

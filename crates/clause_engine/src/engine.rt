@@ -1,6 +1,7 @@
 // The engine as its users see it.
 
 use crate::arena::Arena;
+use crate::aside::Aside;
 use crate::heap::Heap;
 use crate::limits::{FIRST_REDUCTION, MOST_LINES, MOST_VARIABLES};
 use crate::literals::Literal;
@@ -8,6 +9,7 @@ use crate::phases::Phases;
 use crate::queue::Queue;
 use crate::records::{Hint, Records};
 use crate::restarts::Restarts;
+use crate::rounds::Rounds;
 use crate::rows::Rows;
 use crate::trail::Trail;
 use crate::watches::Watches;
@@ -52,6 +54,7 @@ pub struct Engine {
     pub(crate) phases: Phases,
     pub(crate) restarts: Restarts,
     pub(crate) work: Work,
+    pub(crate) aside: Aside,
     // The places of clauses that were taken up, and of learned ones.
     pub(crate) clauses: Vec<u32>,
     pub(crate) learned: Vec<u32>,
@@ -66,6 +69,7 @@ pub struct Engine {
     pub(crate) ticks: u64,
     pub(crate) conflicts: u64,
     pub(crate) reductions: u64,
+    pub(crate) rounds: Rounds,
     pub(crate) next_reduction: u64,
     // How many literals were assigned at level 0 as clauses that are true there were dropped.
     pub(crate) swept_roots: usize,
@@ -87,6 +91,7 @@ impl Engine {
             phases: Phases::new(alloc),
             restarts: Restarts::new(),
             work: Work::new(alloc),
+            aside: Aside::new(alloc),
             clauses: Vec::new(alloc),
             learned: Vec::new(alloc),
             units: Vec::new(alloc),
@@ -97,6 +102,7 @@ impl Engine {
             ticks: 0,
             conflicts: 0,
             reductions: 0,
+            rounds: Rounds::new(),
             next_reduction: FIRST_REDUCTION,
             swept_roots: 0,
         }
@@ -118,6 +124,7 @@ impl Engine {
         self.queue.grow(vars)?;
         self.phases.grow(vars)?;
         self.work.grow(vars)?;
+        self.aside.grow(vars)?;
         for _var in self.units.len()..(vars as usize).saturating_add(1) {
             self.units.push(0)?;
         }
@@ -141,6 +148,20 @@ impl Engine {
         degree: u64,
     ) -> Result<bool, NoMemory> {
         self.take_row(id, terms, degree)
+    }
+
+    /// Clauses or questions to come may name this variable, which is known: it is not to be eliminated. One that they
+    /// name without this call comes back where it was eliminated, with all others, and none is eliminated after that.
+    pub fn expect(&mut self, var: u64) -> Result<(), NoMemory> {
+        if var >= MOST_VARIABLES {
+            return Ok(());
+        }
+        self.freeze(&[Literal::new(var as u32, false)])
+    }
+
+    /// The same of the variables from this one on that become known after this call.
+    pub fn expect_from(&mut self, first: u64) {
+        self.aside.expect_from(first);
     }
 
     /// Whether the assumptions can be true with all that was taken up. `Unknown` where about so many ticks were spent:

@@ -44,6 +44,18 @@ pub(crate) const KEPT_GLUE: u32 = 2;
 pub(crate) const MIDDLE_GLUE: u32 = 6;
 // Of the clauses that may go, this part stays.
 pub(crate) const KEPT_PART: usize = 4;
+// At so many conflicts each it's seen whether there is another round of elimination: a round drops learned clauses.
+pub(crate) const ELIMINATE_EVERY: u64 = 1000;
+// Elimination may take so many ticks at once, some hundredths of a second: the engine is asked where a search took more.
+pub(crate) const FREE_TICKS: u64 = 200_000;
+// Beside those it may take this part of all.
+pub(crate) const ELIMINATION_PART: u64 = 10;
+// How many clauses more a variable that goes may leave, one round after the other: what costs nothing comes first.
+pub(crate) const GROWTHS: [usize; 3] = [0, 8, 16];
+// A variable stays that has more pairs of a clause with it and one with its negation: gates have some ten.
+pub(crate) const MOST_PAIRS: usize = 400;
+// It stays where a resolvent would have more literals: such clauses propagate nothing.
+pub(crate) const MOST_RESOLVENT: usize = 30;
 // The pool is collected where it has at least so many words,
 pub(crate) const LEAST_COLLECTED: usize = 4 << 20;
 // and has grown to so many times what was left last time.

@@ -114,6 +114,22 @@ impl Queue {
         }
     }
 
+    // A variable is not to be decided.
+    pub(crate) fn leave(&mut self, var: u32) {
+        self.take_out(var);
+        let link = self.link(var);
+        if link.after == 0 {
+            self.last = link.before;
+        }
+        self.set(var, NO_LINK);
+    }
+
+    // A variable that left comes back.
+    pub(crate) fn enter(&mut self, var: u32) {
+        self.put_last(var);
+        self.look = var;
+    }
+
     // A conflict had to do with this variable.
     pub(crate) fn bump(&mut self, var: u32, is_open: bool) {
         if self.link(var).after == 0 {

@@ -54,7 +54,7 @@ impl Engine {
         Ok(candidates)
     }
 
-    fn drop_clause(&mut self, at: u32) {
+    pub(crate) fn drop_clause(&mut self, at: u32) {
         let mut standing = self.arena.standing(at);
         standing.is_dropped = true;
         self.arena.set_standing(at, standing);
@@ -73,8 +73,13 @@ impl Engine {
         }
     }
 
+    // Whether a clause is true at level 0, where the trail ends there.
+    pub(crate) fn is_satisfied(&self, at: u32) -> bool {
+        has_true(&self.arena, &self.trail, at)
+    }
+
     // Copies the clauses that stay into another arena, in the same order.
-    fn move_together(&mut self) -> Result<(), NoMemory> {
+    pub(crate) fn move_together(&mut self) -> Result<(), NoMemory> {
         let mut arena = Arena::new(self.alloc);
         move_list(&mut self.clauses, &mut self.arena, &mut arena)?;
         move_list(&mut self.learned, &mut self.arena, &mut arena)?;
@@ -108,6 +113,9 @@ impl Engine {
         let mut marks = vec![in self.alloc; false; self.records.len()]?;
         for at in self.clauses.iter().chain(self.learned.iter()) {
             mark(marks.as_mut_slice(), self.arena.record(*at));
+        }
+        for number in 0..self.aside.len() {
+            mark(marks.as_mut_slice(), self.aside.clause(number).1);
         }
         for record in self.units.iter() {
             mark(marks.as_mut_slice(), *record);

@@ -17,6 +17,7 @@ impl Engine {
             return Ok(Outcome::Unknown);
         };
         self.backtrack(0)?;
+        self.freeze(assumptions.as_slice())?;
         self.restarts.begin(self.conflicts, self.ticks);
         self.phases.forget_target();
         let end = self.ticks.saturating_add(ticks);
@@ -81,6 +82,10 @@ impl Engine {
             self.backtrack(0)?;
             self.restarts.switch(self.ticks);
             self.phases.forget_target();
+            return Ok(None);
+        }
+        if self.rounds.is_due(self.conflicts) {
+            self.eliminate_if_room()?;
             return Ok(None);
         }
         self.decide(assumptions)
@@ -196,7 +201,7 @@ impl Engine {
     fn take_most_active(&mut self) -> Option<u32> {
         for _var in 0..self.vars {
             let var = self.heap.take()?;
-            if self.trail.is_open(var) {
+            if self.trail.is_open(var) && !self.aside.is_eliminated(var) {
                 return Some(var);
             }
         }
@@ -209,6 +214,7 @@ impl Engine {
             self.model
                 .push(self.trail.is_true(Literal::new(var, false)))?;
         }
+        self.aside.extend(self.model.as_mut_slice());
         Ok(())
     }
 

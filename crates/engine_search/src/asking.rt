@@ -173,6 +173,9 @@ impl EngineSearch {
             self.give_up();
             return Ok(None);
         }
+        // What was written since is the engine's own, which it knows: taken up, those lines would be clauses that it
+        // never gives up, and would name variables that it has eliminated.
+        self.next = rec.state().next_id();
         let core = core_at(self.alloc, rec, engine.core_line(), assumptions);
         match in_memory(core)? {
             Some(core) => Ok(Some(Answer::Unsat(core))),
