@@ -4,7 +4,7 @@ use pb_lin::{CostRow, PbProblem};
 
 // What all questions may take together before the first clause is learned.
 pub(crate) fn first_allowance(problem: &PbProblem) -> u64 {
-    let rows = problem.rows().len() as u64;
+    let rows = rows_that_count(problem);
     let size = rows.saturating_add(problem.vars());
     let passes = rows.saturating_mul(rows.saturating_add(PASSES_A_ROW));
     let work_of_passes = passes.saturating_mul(size);
@@ -20,6 +20,17 @@ pub(crate) fn first_allowance(problem: &PbProblem) -> u64 {
         return work / PART_WITHOUT_OBJECTIVES;
     }
     work
+}
+
+// Rows that aren't clauses: search by clauses takes long over these.
+fn rows_that_count(problem: &PbProblem) -> u64 {
+    let mut count = 0u64;
+    for row in problem.rows() {
+        if !row.is_clause() {
+            count = count.saturating_add(1);
+        }
+    }
+    count
 }
 
 // What may be lost on questions that stay open.
