@@ -8,26 +8,28 @@ use Rattle.scut_base.specs.Literal.{Literal}
 use Rattle.proof_laws.specs.State.{StateValue, start}
 use Rattle.proof_laws.specs.Replay.{IsReplay, Leads}
 use Rattle.proof_laws.specs.declared.line.Line.{Line}
-use Rattle.proof_laws.specs.declared.line.Line.TheVariants.{Def, Pol}
+use Rattle.proof_laws.specs.declared.line.Line.TheVariants.{Def, Pol, Rup, Red}
 use Rattle.proof_laws.proofs.Replays.{leads_further}
 use Rattle.proof_rules.specs.Recording.{Snapshot}
-use Rattle.sum_outputs.specs.Totals.{IsTotalizerLine}
+use Rattle.recording.specs.Advice.{IsConservative}
 use Rattle.sum_outputs.specs.Adding.{Continues, IsReached, IsReady}
 use Rattle.sum_outputs.proofs.LaterStates.{KeepsLive, deletes, line_keeps}
 use Rattle.sum_outputs.proofs.ReplayIds.{replay_ids}
 use Rattle.search_base.proofs.TurnStates.{replay_after}
 use Rattle.core_boosting.specs.Counting.{HasVariablesNow, IsLiveNow}
 
-deletes_none : (line : Line) → IsTotalizerLine line → deletes line ≡ false
+deletes_none : (line : Line) → IsConservative line → deletes line ≡ false
 deletes_none (Pol tokens) is = refl
+deletes_none (Rup goal hints) is = refl
+deletes_none (Red goal w proofs) is = refl
 deletes_none (Def var sum) is = refl
 deletes_none line is = absurd is
 
-all_kept : (p : ProblemValue) (lines more : List Line) (s t : StateValue) → All IsTotalizerLine more → IsReplay p lines s → Leads p s more t → KeepsLive s t
+all_kept : (p : ProblemValue) (lines more : List Line) (s t : StateValue) → All IsConservative more → IsReplay p lines s → Leads p s more t → KeepsLive s t
 all_kept p lines [] s t kinds replay leads = subst (λ (u : StateValue). KeepsLive s u) (sym leads) (record { live = λ id c is. is; vars = omega arith })
 all_kept p lines (line ∷ more) s t kinds replay leads =
-    let one = line_keeps s (replay_ids p lines s replay) p line leads.0 (deletes_none line (All-head IsTotalizerLine line more kinds)) leads.1 in
-    let rest = all_kept p (lines ++ line ∷ []) more leads.0 t (All-tail IsTotalizerLine line more kinds)
+    let one = line_keeps s (replay_ids p lines s replay) p line leads.0 (deletes_none line (All-head IsConservative line more kinds)) leads.1 in
+    let rest = all_kept p (lines ++ line ∷ []) more leads.0 t (All-tail IsConservative line more kinds)
     (leads_further p lines (start p) s leads.0 line replay leads.1) leads.2 in
     record { live = λ id c is. rest.live id c (one.live id c is); vars = let a = one.vars in let b = rest.vars in omega arith }
 

@@ -79,13 +79,14 @@ impl<'a> Asking<'a> {
         target: Target,
     ) -> Result<Told, RecordFault>
         requires ready { IsReady (R.seen rec.old) }
+        requires problem { (R.seen rec.old).problem ≡ problem.now }
         ensures recorded { IsRecorded (R.seen rec.old) (R.seen rec.new) result }
         ensures told { IfOk result (IsTold problem.now) }
     {
         let lits = question.lits.as_slice();
         match self
             .linear
-            .ask(rec, lits, question.asked.as_slice(), target)?
+            .ask(rec, problem, lits, question.asked.as_slice(), target)?
         {
             Reply::Closed(_core) => Ok(Told::Closed),
             Reply::Model(model) => {
@@ -174,12 +175,16 @@ impl<'a> Asking<'a> {
         wider: &Limits,
     ) -> Result<Told, RecordFault>
         requires ready { IsReady (R.seen rec.old) }
+        requires problem { (R.seen rec.old).problem ≡ problem.now }
         ensures recorded { IsRecorded (R.seen rec.old) (R.seen rec.new) result }
         ensures told { IfOk result (IsTold problem.now) }
     {
         let lits = in_memory(joined(self.alloc, &question.lits, &wider.lits))?;
         let asked = question.asked.as_slice();
-        match self.linear.ask_further(rec, lits.as_slice(), asked)? {
+        match self
+            .linear
+            .ask_further(rec, problem, lits.as_slice(), asked)?
+        {
             Reply::Closed(_core) => Ok(Told::Closed),
             Reply::Model(model) => {
                 let told = in_memory(told_of(self.alloc, problem, limits, model.as_slice()))?;

@@ -1,8 +1,6 @@
 -- Tokens that make clauses of the live lines, and what is left of a recorder.
-use Rattle.std.specs.Prelude.{◌≡◌, ◌≤◌, ℕ, true, false, Some, List, ◌∷◌, ◌++◌, [], All}
-use Rattle.scut_base.specs.Assignment.{partial_truth}
-use Rattle.std.specs.Prelude.{Option, Bool}
-use Rattle.pb_lin.specs.Constraint.{ConstraintValue, literals}
+use Rattle.std.specs.Prelude.{◌≡◌, ◌≤◌, ℕ, true, List, ◌∷◌, ◌++◌, [], All}
+use Rattle.pb_lin.specs.Constraint.{ConstraintValue}
 use Rattle.cutting_planes.specs.declared.token.PolToken.{PolToken}
 use Rattle.proof_laws.specs.State.{StateValue}
 use Rattle.proof_laws.specs.WellFormed.{IsToken}
@@ -36,10 +34,6 @@ MakesNoClause s tokens = (c : ConstraintValue) → MakesClause s tokens c → �
 -- the same of the state that a recorder has reached
 abbrev pub MakesNoClauseNow : Snapshot → List PolToken → Type 0
 MakesNoClauseNow a tokens = (s : StateValue) → IsReached a s → MakesNoClause s tokens
-
--- each literal of the constraint is false
-abbrev pub IsFalseUnder : List (Option Bool) → ConstraintValue → Type 0
-IsFalseUnder p c = All (λ l. partial_truth p l ≡ Some false) (literals c.terms)
 
 -- the line of these tokens was added, and under this id is live what they make of the lines before
 pub record AddsLine (a b : Snapshot) (tokens : List PolToken) (id : ℕ) : Type 0 where

@@ -55,8 +55,20 @@ impl Combination {
         })
     }
 
+    // Makes it the sum of the lines multiplied, and answers by how much that stays below what it has to be where the partial
+    // assignment holds; `None` where it may not stay below, a line isn't there, or something is too large.
+    pub(crate) fn shortfall_of(
+        &mut self,
+        lines: &Sources<'_>,
+        factors: &[Factor],
+        fixed: &Partial,
+    ) -> Option<i128> {
+        self.set(lines, factors)?;
+        self.shortfall(fixed)
+    }
+
     // Makes it the sum of the lines multiplied; `None` where one isn't there, or something is too large.
-    pub(crate) fn set(&mut self, lines: &Sources<'_>, factors: &[Factor]) -> Option<()> {
+    fn set(&mut self, lines: &Sources<'_>, factors: &[Factor]) -> Option<()> {
         self.clear();
         for factor in factors {
             self.add(lines.get(factor.line)?, factor.factor)?;
@@ -120,7 +132,7 @@ impl Combination {
 
     // By how much the sum stays below `least` where the partial assignment holds; `None` where it may not stay
     // below.
-    pub(crate) fn shortfall(&self, fixed: &Partial) -> Option<i128> {
+    fn shortfall(&self, fixed: &Partial) -> Option<i128> {
         let mut shortfall = self.least;
         for var in self.named.iter() {
             let most = most(fixed, *var, self.coefficient(*var));

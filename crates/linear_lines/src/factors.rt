@@ -59,7 +59,7 @@ pub(crate) fn rounded(
 ) -> Result<Items<Factor>, NoMemory> {
     let mut factors = Items::new(alloc);
     for multiplier in multipliers {
-        let factor = saturating_f64_to_u64((multiplier.value * scale).round());
+        let factor = factor_of(multiplier, scale);
         if factor > 0 {
             factors.push(Factor {
                 line: multiplier.line,
@@ -68,6 +68,11 @@ pub(crate) fn rounded(
         }
     }
     Ok(factors)
+}
+
+// The multiplier scaled and rounded.
+pub(crate) fn factor_of(multiplier: &Multiplier, scale: f64) -> u64 {
+    saturating_f64_to_u64((multiplier.value * scale).round())
 }
 
 // A denominator as a scale: as it is, or so that the largest multiplier comes to it.

@@ -1,11 +1,9 @@
 //! Lines by cutting planes that come of linear programs: combinations of live lines that make constraints.
 //!
-//! Its public contract: `infeasible_leaf` answers tokens and the clause that they make of the live lines, whose
-//! literals are false under a partial assignment; `add_clause_line` records tokens where they make a clause, and
-//! nothing where they don't; `add_line` does so where they make any constraint. `pending_leaf` promises nothing: it serves where
-//! lines that a leaf stands on are to be added only once the leaf is. The multipliers are taken as they
-//! come: nothing of them is believed, since each constraint is what the tokens make. The crate knows no linear
-//! program.
+//! Its public contract: `add_clause_line` records tokens where they make a clause, and nothing where they don't; `add_line` does
+//! so where they make any constraint. Of the clause of a leaf nothing is promised: `infeasible_leaf` answers its literals and how
+//! lines contradict its negation, `leaf_line` makes a line of these, and whoever adds that judges it. The multipliers are taken as
+//! they come. The crate knows no linear program.
 #![tactic(auto)]
 
 mod adding;
@@ -14,11 +12,13 @@ mod factors;
 mod leaf;
 mod making;
 mod pending;
+mod refuting;
 mod spelling;
-mod weakening;
+mod trial;
 
 pub use adding::{ClauseLine, add_clause_line, add_line};
 pub use factors::Multiplier;
 pub use leaf::{Leaf, infeasible_leaf};
 pub use making::resolvent_tokens;
-pub use pending::{FIRST_PENDING, PendingLeaf, pending_constraint, pending_leaf};
+pub use pending::{FIRST_PENDING, pending_constraint};
+pub use refuting::leaf_line;

@@ -3,13 +3,13 @@ use Rattle.std.proofs.Common.{◌≡◌, ℕ, Some, List, map, All, sym, subst}
 use Rattle.std.specs.Prelude.{Contains, Option, Result, Ok, IfOk, IfSome}
 use Rattle.scut_base.specs.declared.memory.NoMemory.{NoMemory}
 use Rattle.oracle.specs.declared.answer.Core.{Core}
-use Rattle.linear_lines.specs.declared.adding.ClauseLine.{ClauseLine}
+use Rattle.recording.specs.declared.advice.ClauseLine.{ClauseLine}
 use Rattle.scut_base.specs.Literal.{Literal}
 use Rattle.pb_lin.specs.Constraint.{ConstraintValue, literals, opposite}
 use Rattle.proof_rules.specs.Recording.{Snapshot}
 use Rattle.oracle.specs.Solving.{IsCore, Reaches}
 use Rattle.oracle.proofs.ClauseCores.{clause_core}
-use Rattle.linear_search.specs.Replies.{IsClauseNow}
+use Rattle.recording.specs.Recorded.{IsClauseNow}
 
 -- such a clause leaves the assumptions a core
 pub core_now : (b : Snapshot) (assumed core : List Literal) (id n : ℕ) (c : ConstraintValue)

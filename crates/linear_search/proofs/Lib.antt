@@ -1,3 +1,2 @@
-pub mod Recordings
 pub mod Closings
 pub mod Assuming

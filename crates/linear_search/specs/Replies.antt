@@ -1,11 +1,7 @@
 -- What a search over linear relaxations answers.
 use Rattle.std.specs.Prelude.{◌≡◌, ℕ, List}
 use Rattle.scut_base.specs.Literal.{Literal}
-use Rattle.pb_lin.specs.Constraint.{ConstraintValue}
-use Rattle.proof_laws.specs.State.{StateValue}
 use Rattle.proof_rules.specs.Recording.{Snapshot}
-use Rattle.sum_outputs.specs.Adding.{IsReached}
-use Rattle.sum_outputs.specs.Totals.{IsKeptClause}
 use Rattle.oracle.specs.Solving.{AreAssumptions, IsCore, Reaches}
 use Rattle.linear_search.specs.Relaxations.{Relaxation}
 use Rattle.linear_search.specs.declared.exploring.Found.{Found}
@@ -33,7 +29,3 @@ IsKeptWhereFound old new found = new ≡ old
 abbrev pub IsReplyTo : Found → Reply → Type 0
 IsReplyTo Nothing reply = reply ≡ Unknown
 IsReplyTo found reply = Unit {0}
-
--- the live line of this id is this clause, and no line has learned it
-abbrev pub IsClauseNow : Snapshot → ℕ → ConstraintValue → Type 0
-IsClauseNow b id c = (s : StateValue) → IsReached b s → IsKeptClause b.problem b.lines s id c

@@ -1,7 +1,9 @@
 // Questions.
 ghost use Rattle.std.specs.Prelude.{◌≡◌, List, IfOk};
 ghost use Rattle.scut_base.specs.Literal.{Literal};
-ghost use Rattle.sum_outputs.specs.Adding.{IsReady, IsRecorded};
+ghost use Rattle.recording.specs.Recorded.{IsReady};
+ghost use Rattle.recording.specs.Adding.{IsAdded};
+ghost use Rattle.recording.specs.Advice.{IsConservative};
 ghost use Rattle.linear_search.specs.Relaxations.{IsPaid};
 ghost use Rattle.linear_search.specs.Replies.{IsKeptWhereAnswered, IsReply, IsReplyTo};
 
@@ -15,10 +17,11 @@ use crate::search::LinearSearch;
 use crate::target::Target;
 use crate::writing::write_tree;
 use oracle::core_of;
+use pb_lin::PbProblem;
 use proof_rules::{RecordFault, Recorder};
+use recording::in_memory;
 use scut_base::{Items, Lit};
 use std::alloc::Global;
-use sum_outputs::in_memory;
 
 impl LinearSearch {
     /// Whether the assumptions can be true together, which say that objectives keep to the limits: the search
@@ -28,19 +31,28 @@ impl LinearSearch {
     pub fn ask<R: Recorder>(
         &mut self,
         rec: &mut R,
+        problem: &PbProblem,
         assumed: &[Lit],
         limits: &[Limit],
         target: Target,
     ) -> Result<Reply, RecordFault>
         requires ready { IsReady (R.seen rec.old) }
-        ensures recorded { IsRecorded (R.seen rec.old) (R.seen rec.new) result }
+        requires problem { (R.seen rec.old).problem ≡ problem.now }
+        ensures recorded { IsAdded IsConservative (R.seen rec.old) (R.seen rec.new) result }
         ensures reply { IfOk result (IsReply (R.seen rec.new) assumed.now) }
         ensures paid { IsPaid self.old self.new }
         ensures kept { IfOk result (IsKeptWhereAnswered self.old self.new) }
     {
         let question = Question { assumed, limits };
         let found = in_memory(self.search(rec.state(), &question, Some(target)))?;
-        reply_of(self.alloc, rec, found, assumed, &mut self.relaxation.cuts)
+        reply_of(
+            self.alloc,
+            rec,
+            problem,
+            found,
+            assumed,
+            &mut self.relaxation.cuts,
+        )
     }
 
     /// The same, in the tree of the last question: its open nodes are taken up again. It serves where nothing is allowed
@@ -48,18 +60,27 @@ impl LinearSearch {
     pub fn ask_further<R: Recorder>(
         &mut self,
         rec: &mut R,
+        problem: &PbProblem,
         assumed: &[Lit],
         limits: &[Limit],
     ) -> Result<Reply, RecordFault>
         requires ready { IsReady (R.seen rec.old) }
-        ensures recorded { IsRecorded (R.seen rec.old) (R.seen rec.new) result }
+        requires problem { (R.seen rec.old).problem ≡ problem.now }
+        ensures recorded { IsAdded IsConservative (R.seen rec.old) (R.seen rec.new) result }
         ensures reply { IfOk result (IsReply (R.seen rec.new) assumed.now) }
         ensures paid { IsPaid self.old self.new }
         ensures kept { IfOk result (IsKeptWhereAnswered self.old self.new) }
     {
         let question = Question { assumed, limits };
         let found = in_memory(self.search(rec.state(), &question, None))?;
-        reply_of(self.alloc, rec, found, assumed, &mut self.relaxation.cuts)
+        reply_of(
+            self.alloc,
+            rec,
+            problem,
+            found,
+            assumed,
+            &mut self.relaxation.cuts,
+        )
     }
 }
 
@@ -67,17 +88,19 @@ impl LinearSearch {
 fn reply_of<R: Recorder>(
     alloc: Global,
     rec: &mut R,
+    problem: &PbProblem,
     found: Found,
     assumed: &[Lit],
     cuts: &mut Cuts,
 ) -> Result<Reply, RecordFault>
     requires ready { IsReady (R.seen rec.old) }
-    ensures recorded { IsRecorded (R.seen rec.old) (R.seen rec.new) result }
+    requires problem { (R.seen rec.old).problem ≡ problem.now }
+    ensures recorded { IsAdded IsConservative (R.seen rec.old) (R.seen rec.new) result }
     ensures reply { IfOk result (IsReply (R.seen rec.new) assumed.now) }
     ensures of_found { IfOk result (IsReplyTo found) }
 {
     match found {
-        Found::Closed(nodes) => close(alloc, rec, nodes.as_slice(), assumed, cuts),
+        Found::Closed(nodes) => close(alloc, rec, problem, nodes.as_slice(), assumed, cuts),
         Found::Model(lits) => Ok(proposal(rec, lits)),
         Found::Nothing => Ok(Reply::Unknown),
     }
@@ -98,15 +121,17 @@ fn proposal<R: Recorder>(rec: &R, lits: Items<Lit>) -> Reply
 fn close<R: Recorder>(
     alloc: Global,
     rec: &mut R,
+    problem: &PbProblem,
     nodes: &[Node],
     assumed: &[Lit],
     cuts: &mut Cuts,
 ) -> Result<Reply, RecordFault>
     requires ready { IsReady (R.seen rec.old) }
-    ensures recorded { IsRecorded (R.seen rec.old) (R.seen rec.new) result }
+    requires problem { (R.seen rec.old).problem ≡ problem.now }
+    ensures recorded { IsAdded IsConservative (R.seen rec.old) (R.seen rec.new) result }
     ensures reply { IfOk result (IsReply (R.seen rec.new) assumed.now) }
 {
-    let Some(line) = write_tree(alloc, rec, nodes, cuts)? else {
+    let Some(line) = write_tree(alloc, rec, problem, nodes, cuts)? else {
         return Ok(Reply::Unknown);
     };
     match in_memory(core_of(alloc, line.id, line.clause.literals(), assumed))? {

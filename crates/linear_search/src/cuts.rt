@@ -99,16 +99,31 @@ impl Cuts {
         Ok(own)
     }
 
-    // The tokens of a cut's line, if it's to be written now; else none, which make no line.
-    pub(crate) fn tokens_to_write(
-        &self,
-        place: usize,
-        is_needed: bool,
-    ) -> Result<Items<PolToken>, NoMemory> {
-        match (self.tokens.get(place), self.ids.get(place)) {
-            (Some(tokens), Some(0)) if is_needed => self.translated(tokens.as_slice()),
-            _ => Ok(Items::new(self.alloc)),
+    // Whether a cut's line was added.
+    pub(crate) fn is_written(&self, place: usize) -> bool {
+        match self.ids.get(place) {
+            Some(id) => *id > 0,
+            None => false,
         }
+    }
+
+    // The tokens of a cut's line.
+    pub(crate) fn tokens_of(&self, place: usize) -> Result<Items<PolToken>, NoMemory> {
+        match self.tokens.get(place) {
+            Some(tokens) => self.translated(tokens.as_slice()),
+            None => Ok(Items::new(self.alloc)),
+        }
+    }
+
+    // Forgets the lines from this id on, which weren't added after all.
+    pub(crate) fn forget_from(&mut self, end: u64) {
+        for id in self.ids.iter_mut() {
+            if *id >= end {
+                *id = 0;
+            }
+        }
+        let kept = self.written.iter().filter(|id| **id < end).count();
+        self.written.truncate(kept);
     }
 
     // Marks the cuts that tokens name.

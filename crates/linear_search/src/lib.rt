@@ -1,10 +1,10 @@
 //! Questions whether literals can be true together, answered by a search over linear relaxations (branch and
-//! bound, Land and Doig 1960) whose leaves and inner nodes are lines by cutting planes. The root of a tree that
+//! bound, Land and Doig 1960) whose leaves and inner nodes are lines, each judged before it is recorded. The root of a tree that
 //! has grown gets cuts (Crowder, Johnson and Padberg 1983).
 //!
 //! Its public contract: `LinearSearch::ask` answers some of the assumptions with a live clause by which they
-//! can't all be true, as an oracle does; or literals that may be a model; or neither. It adds only lines by
-//! cutting planes, and a tree's lines only where it closes. Nothing of the floats is believed.
+//! can't all be true, as an oracle does; or literals that may be a model; or neither. It adds only constraints that
+//! follow from live lines, and a tree's lines only where it closes. Nothing of the floats is believed.
 #![tactic(auto)]
 
 mod asking;

@@ -3,7 +3,7 @@ use cutting_planes::PolToken;
 use scut_base::{Items, Lit, NoMemory};
 use std::alloc::Global;
 
-// How a clause is made: by tokens over live lines, or of two clauses before it.
+// How a clause is made: since tokens contradict its negation, or of two clauses before it.
 #[derive(Debug, Drop)]
 pub(crate) enum Making {
     Leaf(Items<PolToken>),

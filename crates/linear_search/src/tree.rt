@@ -1,7 +1,6 @@
 // A tree of linear programs, searched from the node of least bound on (DECISIONS, best-first).
 use crate::limits::{MOST_KEPT, PARTS_OF_A_STEP, PLUNGE, ROUND_ABOVE, ROUND_EACH};
 use crate::nodes::{Making, Node, has_literal, resolvent_literals};
-use cutting_planes::PolToken;
 use linear_lines::Leaf;
 use linear_program::Basis;
 use scut_base::{Items, Lit, NoMemory, Partial};
@@ -387,22 +386,8 @@ impl Tree {
     }
 
     // Closes a node by a leaf's clause.
-    pub(crate) fn close_by_leaf(&mut self, at: usize, leaf: Leaf) -> Result<(), NoMemory> {
-        let mut lits = Items::new(self.alloc);
-        for lit in leaf.clause.literals() {
-            lits.push(*lit)?;
-        }
-        self.close_by(at, leaf.tokens, lits)
-    }
-
-    // Closes a node by the clause of these literals, which the tokens make.
-    pub(crate) fn close_by(
-        &mut self,
-        at: usize,
-        tokens: Items<PolToken>,
-        lits: Items<Lit>,
-    ) -> Result<(), NoMemory> {
-        let clause = self.add_clause(Making::Leaf(tokens), lits)?;
+    pub(crate) fn close_by(&mut self, at: usize, leaf: Leaf) -> Result<(), NoMemory> {
+        let clause = self.add_clause(Making::Leaf(leaf.tokens), leaf.lits)?;
         self.close(at, clause)
     }
 

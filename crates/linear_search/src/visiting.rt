@@ -4,7 +4,7 @@ use crate::question::{Limit, Question, limit_of};
 use crate::relaxation::{Relaxation, Row};
 use crate::rounding::{Point, THRESHOLDS};
 use crate::tree::{Kept, RowMultiplier, Tree};
-use linear_lines::{FIRST_PENDING, Multiplier, infeasible_leaf, pending_leaf};
+use linear_lines::{Multiplier, infeasible_leaf};
 use linear_program::Answer;
 use proof_rules::ProofState;
 use scut_base::{Items, Lit, NoMemory};
@@ -85,20 +85,14 @@ impl Relaxation {
         at: usize,
         lines: &[Multiplier],
     ) -> Result<bool, NoMemory> {
-        if lines
-            .iter()
-            .any(|multiplier| multiplier.line >= FIRST_PENDING)
-        {
-            let cuts = self.cuts.constraints.as_slice();
-            if let Some(leaf) = pending_leaf(self.alloc, state, cuts, lines, &tree.fixed)? {
-                tree.close_by(at, leaf.tokens, leaf.lits)?;
-                return Ok(true);
+        let cuts = self.cuts.constraints.as_slice();
+        match infeasible_leaf(self.alloc, state, cuts, lines, &tree.fixed)? {
+            Some(leaf) => {
+                tree.close_by(at, leaf)?;
+                Ok(true)
             }
-        } else if let Some(leaf) = infeasible_leaf(self.alloc, state, lines, &tree.fixed)? {
-            tree.close_by_leaf(at, leaf)?;
-            return Ok(true);
+            None => Ok(false),
         }
-        Ok(false)
     }
 
     // Closes a node by what was kept of it, if the limits of now allow that.

@@ -1,38 +1,65 @@
-// The lines of a tree that closed.
-ghost use Rattle.std.specs.Prelude.{IfOk, IfSome};
-ghost use Rattle.proof_laws.specs.State.{StateValue};
-ghost use Rattle.sum_outputs.specs.Adding.{IsReached, IsReady, IsRecorded};
-ghost use Rattle.linear_search.specs.Replies.{IsClauseNow};
+// The lines of a tree that closed (DECISIONS, tree-lines).
+ghost use Rattle.std.specs.Prelude.{◌≡◌, IfOk, IfSome};
+ghost use Rattle.recording.specs.Recorded.{IsClauseNow, IsReady};
+ghost use Rattle.recording.specs.Adding.{IsAdded};
+ghost use Rattle.recording.specs.Advice.{IsConservative};
 
 use crate::cuts::Cuts;
 use crate::nodes::{Making, Node, needed_nodes};
-use cutting_planes::PolToken;
-use linear_lines::{ClauseLine, add_clause_line, add_line, resolvent_tokens};
-use proof_rules::{RecordFault, Recorder};
+use linear_lines::{leaf_line, resolvent_tokens};
+use pb_lin::PbProblem;
+use proof_laws::Line;
+use proof_rules::{Judge, RecordFault, Recorder};
+use recording::{ClauseLine, in_memory, last_clause, take_conservative, taken_ends_advised};
 use scut_base::{Items, NoMemory};
 use std::alloc::Global;
-use sum_outputs::in_memory;
 
-// Writes the lines that the last node stands on, and then its own, which is answered. `None` where one of them
-// makes no clause.
+// Writes the lines that the last node stands on, and then its own, whose clause is answered. Each is judged; `None` where one
+// of them isn't legal, and then those before it are written.
 pub(crate) fn write_tree<R: Recorder>(
     alloc: Global,
     rec: &mut R,
+    problem: &PbProblem,
     nodes: &[Node],
     cuts: &mut Cuts,
 ) -> Result<Option<ClauseLine>, RecordFault>
     requires ready { IsReady (R.seen rec.old) }
-    ensures recorded { IsRecorded (R.seen rec.old) (R.seen rec.new) result }
+    requires problem { (R.seen rec.old).problem ≡ problem.now }
+    ensures recorded { IsAdded IsConservative (R.seen rec.old) (R.seen rec.new) result }
     ensures line { IfOk result (λ line. IfSome line (λ l. IsClauseNow (R.seen rec.new) l.id l.clause)) }
 {
-    let Some((root, others)) = nodes.split_last() else {
+    taken_ends_advised();
+    // Tells that the problem is within its limits.
+    let _vars = problem.vars();
+    let first = rec.state().next_id();
+    let lines = in_memory(lines_of_tree(alloc, nodes, cuts, first))?;
+    let mut judge = in_memory(Judge::new(alloc, problem))?;
+    let taken = take_conservative(&mut judge, rec, lines.as_slice())?;
+    cuts.forget_from(first.saturating_add(taken as u64));
+    if taken == 0 || taken < lines.len() {
         return Ok(None);
+    }
+    in_memory(last_clause(alloc, rec))
+}
+
+// The lines of the cuts and nodes that the last node stands on, and its own, where the first gets this id.
+fn lines_of_tree(
+    alloc: Global,
+    nodes: &[Node],
+    cuts: &mut Cuts,
+    first: u64,
+) -> Result<Items<Line>, NoMemory> {
+    let needed = needed_nodes(alloc, nodes)?;
+    let are_needed = needed_cuts(alloc, nodes, needed.as_slice(), cuts)?;
+    let mut lines = TreeLines {
+        alloc,
+        first,
+        lines: Items::new(alloc),
+        ids: Vec::with_capacity(alloc, nodes.len())?,
     };
-    let needed = in_memory(needed_nodes(alloc, nodes))?;
-    let are_needed = in_memory(needed_cuts(alloc, nodes, needed.as_slice(), cuts))?;
-    write_cuts(alloc, rec, cuts, are_needed.as_slice())?;
-    let ids = write_nodes(alloc, rec, others, needed.as_slice(), cuts)?;
-    write_node(alloc, rec, root, ids.as_slice(), cuts)
+    lines.add_cuts(cuts, are_needed.as_slice())?;
+    lines.add_nodes(nodes, needed.as_slice(), cuts)?;
+    Ok(lines.lines)
 }
 
 // Which cuts the needed nodes stand on.
@@ -52,122 +79,72 @@ fn needed_cuts(
     Ok(are_needed)
 }
 
-// Writes the lines of cuts that are needed, and notes their ids.
-fn write_cuts<R: Recorder>(
+// Lines that are to be written, each of which makes one constraint.
+struct TreeLines {
     alloc: Global,
-    rec: &mut R,
-    cuts: &mut Cuts,
-    are_needed: &[bool],
-) -> Result<(), RecordFault>
-    requires ready { IsReady (R.seen rec.old) }
-    ensures recorded { IsRecorded (R.seen rec.old) (R.seen rec.new) result }
-{
-    for (place, is_needed) in are_needed.iter().enumerate() {
-        write_cut(alloc, rec, cuts, place, *is_needed)?;
-    }
-    Ok(())
+    // The id of the first.
+    first: u64,
+    lines: Items<Line>,
+    // The id of each node's line; 0 where it has none.
+    ids: Vec<u64>,
 }
 
-// Writes the line of a cut, if it's needed and wasn't written before.
-fn write_cut<R: Recorder>(
-    alloc: Global,
-    rec: &mut R,
-    cuts: &mut Cuts,
-    place: usize,
-    is_needed: bool,
-) -> Result<(), RecordFault>
-    requires ready { IsReady (R.seen rec.old) }
-    ensures recorded { IsRecorded (R.seen rec.old) (R.seen rec.new) result }
-{
-    let tokens = in_memory(cuts.tokens_to_write(place, is_needed))?;
-    if let Some(id) = add_line(alloc, rec, tokens)? {
-        in_memory(cuts.note(place, id))?;
+impl TreeLines {
+    // Adds a line, and answers its id.
+    fn add(&mut self, line: Line) -> Result<u64, NoMemory> {
+        let id = self.first.saturating_add(self.lines.len() as u64);
+        self.lines.push(line)?;
+        Ok(id)
     }
-    Ok(())
-}
 
-// Writes the lines of the nodes that are needed, and answers their ids, in order; 0 where there is none.
-fn write_nodes<R: Recorder>(
-    alloc: Global,
-    rec: &mut R,
-    nodes: &[Node],
-    needed: &[bool],
-    cuts: &Cuts,
-) -> Result<Items<u64>, RecordFault>
-    requires ready { IsReady (R.seen rec.old) }
-    ensures recorded { IsRecorded (R.seen rec.old) (R.seen rec.new) result }
-{
-    let mut ids = Items::new(alloc);
-    for (at, node) in nodes.iter().enumerate() {
-        let id = write_needed(
-            alloc,
-            rec,
-            node,
-            needed.get(at) == Some(&true),
-            ids.as_slice(),
-            cuts,
-        )?;
-        in_memory(ids.push(id))?;
+    // Adds the lines of cuts that are needed and weren't written before, and notes their ids.
+    fn add_cuts(&mut self, cuts: &mut Cuts, are_needed: &[bool]) -> Result<(), NoMemory> {
+        for (place, is_needed) in are_needed.iter().enumerate() {
+            if *is_needed && !cuts.is_written(place) {
+                let tokens = cuts.tokens_of(place)?;
+                let id = self.add(Line::Pol { tokens })?;
+                cuts.note(place, id)?;
+            }
+        }
+        Ok(())
     }
-    Ok(ids)
-}
 
-// Writes the line of a node, if it is needed, and answers its id; 0 where there is none.
-fn write_needed<R: Recorder>(
-    alloc: Global,
-    rec: &mut R,
-    node: &Node,
-    is_needed: bool,
-    ids: &[u64],
-    cuts: &Cuts,
-) -> Result<u64, RecordFault>
-    requires ready { IsReady (R.seen rec.old) }
-    ensures recorded { IsRecorded (R.seen rec.old) (R.seen rec.new) result }
-{
-    if !is_needed {
-        return Ok(0);
+    // Adds the lines of nodes that are needed.
+    fn add_nodes(&mut self, nodes: &[Node], needed: &[bool], cuts: &Cuts) -> Result<(), NoMemory> {
+        for (node, is_needed) in nodes.iter().zip(needed) {
+            let id = if *is_needed {
+                self.add_node(node, cuts)?
+            } else {
+                0
+            };
+            self.ids.push(id)?;
+        }
+        Ok(())
     }
-    match write_node(alloc, rec, node, ids, cuts)? {
-        Some(line) => Ok(line.id),
-        None => Ok(0),
-    }
-}
 
-// Writes the line of a node.
-fn write_node<R: Recorder>(
-    alloc: Global,
-    rec: &mut R,
-    node: &Node,
-    ids: &[u64],
-    cuts: &Cuts,
-) -> Result<Option<ClauseLine>, RecordFault>
-    requires ready { IsReady (R.seen rec.old) }
-    ensures recorded { IsRecorded (R.seen rec.old) (R.seen rec.new) result }
-    ensures line { IfOk result (λ line. IfSome line (λ l. IsClauseNow (R.seen rec.new) l.id l.clause)) }
-{
-    let tokens = in_memory(node_tokens(alloc, node, ids, cuts))?;
-    add_clause_line(alloc, rec, tokens)
-}
-
-// The tokens of a node.
-fn node_tokens(
-    alloc: Global,
-    node: &Node,
-    ids: &[u64],
-    cuts: &Cuts,
-) -> Result<Items<PolToken>, NoMemory> {
-    match &node.making {
-        Making::Leaf(tokens) => cuts.translated(tokens.as_slice()),
-        Making::Resolvent { first, second } => {
-            resolvent_tokens(alloc, id_at(ids, *first), id_at(ids, *second))
+    // Adds the line of a node, and answers its id; 0 where it makes none, on which no line can stand.
+    fn add_node(&mut self, node: &Node, cuts: &Cuts) -> Result<u64, NoMemory> {
+        match &node.making {
+            Making::Leaf(tokens) => {
+                let tokens = cuts.translated(tokens.as_slice())?;
+                match leaf_line(self.alloc, node.lits.as_slice(), tokens)? {
+                    Some(line) => self.add(line),
+                    None => Ok(0),
+                }
+            }
+            Making::Resolvent { first, second } => {
+                let (first, second) = (self.id_at(*first), self.id_at(*second));
+                let tokens = resolvent_tokens(self.alloc, first, second)?;
+                self.add(Line::Pol { tokens })
+            }
         }
     }
-}
 
-// The id at a place, and 0 past the end.
-fn id_at(ids: &[u64], at: usize) -> u64 {
-    match ids.get(at) {
-        Some(id) => *id,
-        None => 0,
+    // The id of a node's line, and 0 past the end.
+    fn id_at(&self, at: usize) -> u64 {
+        match self.ids.get(at) {
+            Some(id) => *id,
+            None => 0,
+        }
     }
 }

@@ -1,13 +1,13 @@
 // Lines of which nothing is known, added as far as they are legal.
-ghost use Rattle.std.specs.Prelude.{◌≡◌, ◌<◌, IsTrue, MatchBool, IfOk, IfErr, IfSome, OnOk, OnErr};
+ghost use Rattle.std.specs.Prelude.{◌≡◌, ◌<◌, ◌≤◌, length, take, All, IsTrue, MatchBool, IfOk, IfErr, IfSome, OnOk, OnErr};
 ghost use Rattle.pb_lin.specs.Problem.{IsProblem};
 ghost use Rattle.proof_laws.specs.State.{Fits};
 ghost use Rattle.proof_laws.specs.Legal.{IsLegal};
 ghost use Rattle.proof_laws.specs.WellFormed.{IsWellFormed};
 ghost use Rattle.proof_rules.specs.Recording.{KeepsRecorder};
 ghost use Rattle.recording.specs.Recorded.{IsClauseNow, IsReady};
-ghost use Rattle.recording.specs.Adding.{IsFaultAt};
-ghost use Rattle.recording.specs.Advice.{AdvisedStaysEarned, EndsAdvised, TakenEndsAdvised, TakesAdvice, TakesFirst, TakesSome};
+ghost use Rattle.recording.specs.Adding.{Adds, IsFaultAt};
+ghost use Rattle.recording.specs.Advice.{AdvisedStaysEarned, EndsAdvised, IsConservative, TakenEndsAdvised, TakesAdvice, TakesFirst, TakesSome};
 
 use crate::formed::is_formed;
 use crate::memory::in_memory;
@@ -40,6 +40,50 @@ pub fn take_advice<R: Recorder>(
         }
     }
     Ok(lines.len())
+}
+
+/// The same of conservative lines: up to the first that is of another kind too.
+pub fn take_conservative<R: Recorder>(
+    judge: &mut Judge<'_>,
+    rec: &mut R,
+    lines: &[Line],
+) -> Result<usize, RecordFault>
+    requires ready { IsReady (R.seen rec.old) }
+    requires same { (R.seen rec.old).problem ≡ judge.old }
+    requires problem { IsProblem judge.old }
+    ensures taken { IfOk result (TakesFirst (R.seen rec.old) (R.seen rec.new) lines.now) }
+    ensures conservative { Adds IsConservative (R.seen rec.old) (R.seen rec.new) }
+    ensures ready { OnOk result (IsReady (R.seen rec.new)) }
+    ensures fault { IfErr result (IsFaultAt (R.seen rec.old) (R.seen rec.new)) }
+    ensures judge { judge.new ≡ judge.old }
+{
+    let count = conservative_run(lines);
+    take_advice(judge, rec, &lines[..count])
+}
+
+// How many lines at the head are definitions, or say of themselves that they follow from live ones.
+fn conservative_run(lines: &[Line]) -> usize
+    ensures bound { result ≤ length lines.now }
+    ensures conservative { All IsConservative (take result lines.now) }
+{
+    let mut count = 0;
+    while count < lines.len() && is_conservative(&lines[count]) {
+        count += 1;
+    }
+    count
+}
+
+// Whether the line is of such a kind.
+fn is_conservative(line: &Line) -> bool
+    ensures { IsTrue result → IsConservative line.now }
+{
+    match line {
+        Line::Def { .. } => true,
+        Line::Pol { .. } => true,
+        Line::Rup { .. } => true,
+        Line::Red { witness, .. } => witness.images().is_empty(),
+        _ => false,
+    }
 }
 
 // Records the line, where it may be taken; else `false`, and nothing was added.

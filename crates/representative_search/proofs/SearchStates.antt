@@ -11,7 +11,7 @@ use Rattle.proof_laws.specs.declared.line.Line.{Line}
 use Rattle.proof_laws.specs.declared.line.Line.TheVariants.{Pol, Rup, Learn, Def, Red, Dom, Sol, Del, Reduce, End}
 use Rattle.proof_rules.specs.Recording.{Snapshot}
 use Rattle.sum_outputs.specs.Adding.{Continues, IsReady}
-use Rattle.sum_outputs.specs.Totals.{IsTotalizerLine}
+use Rattle.recording.specs.Advice.{IsConservative}
 use Rattle.oracle.specs.Solving.{AddsSearchLines, AreEarned, IsSearchLine, IsSolution, Reaches}
 use Rattle.representative_search.specs.Seeking.{HasSearched, IsOpen}
 
@@ -90,16 +90,18 @@ StaysOpen s t = (t.ended ≡ s.ended) × (t.sols ≡ s.sols)
 same_open : (s t u : StateValue) → t ≡ u → StaysOpen s u → StaysOpen s t
 same_open s t u is stays = subst (StaysOpen s) (sym is) stays
 
-totalizer_stays : (p : ProblemValue) (line : Line) (s t : StateValue) → IsTotalizerLine line → Makes p s line t → StaysOpen s t
+totalizer_stays : (p : ProblemValue) (line : Line) (s t : StateValue) → IsConservative line → Makes p s line t → StaysOpen s t
 totalizer_stays p (Def var sum) s t kind is = same_open s t _ is (refl, refl)
 totalizer_stays p (Pol tokens) s t kind is = same_open s t _ is.2 (refl, refl)
+totalizer_stays p (Rup goal hints) s t kind is = same_open s t _ is (refl, refl)
+totalizer_stays p (Red goal w proofs) s t kind is = same_open s t _ is (refl, refl)
 totalizer_stays p line s t kind is = absurd kind
 
-totalizers_stay : (p : ProblemValue) (more : List Line) (s t : StateValue) → All IsTotalizerLine more → Leads p s more t → StaysOpen s t
+totalizers_stay : (p : ProblemValue) (more : List Line) (s t : StateValue) → All IsConservative more → Leads p s more t → StaysOpen s t
 totalizers_stay p [] s t kinds leads = same_open s t s leads (refl, refl)
 totalizers_stay p (line ∷ more) s t kinds leads =
-    let one = totalizer_stays p line s leads.0 (All-head IsTotalizerLine line more kinds) leads.1.makes in
-    let rest = totalizers_stay p more leads.0 t (All-tail IsTotalizerLine line more kinds) leads.2 in
+    let one = totalizer_stays p line s leads.0 (All-head IsConservative line more kinds) leads.1.makes in
+    let rest = totalizers_stay p more leads.0 t (All-tail IsConservative line more kinds) leads.2 in
     (rest.0 ∙ one.0, rest.1 ∙ one.1)
 
 -- so a line that ends the proof may follow these too

@@ -74,9 +74,10 @@ fn relax_over<R: Recorder>(
 // What the relaxation answers where nothing is assumed.
 fn ask<R: Recorder>(alloc: Global, problem: &PbProblem, rec: &mut R) -> Result<Reply, RecordFault>
     requires ready { IsReady (R.seen rec.old) }
+    requires problem { (R.seen rec.old).problem ≡ problem.now }
     ensures recorded { IsRecorded (R.seen rec.old) (R.seen rec.new) result }
     ensures reply { IfOk result (IsReply (R.seen rec.new) []) }
 {
     let mut search = LinearSearch::new(alloc, problem, PURSE)?;
-    search.ask(rec, &[], &[], Target::Sum)
+    search.ask(rec, problem, &[], &[], Target::Sum)
 }

@@ -15,7 +15,7 @@ use Rattle.proof_laws.proofs.EarnedLines.{line_keeps_earned}
 use Rattle.proof_laws.proofs.Replays.{leads_further}
 use Rattle.proof_rules.specs.Recording.{Snapshot}
 use Rattle.oracle.specs.Solving.{AreEarned, IsWithin}
-use Rattle.sum_outputs.specs.Totals.{IsTotalizerLine}
+use Rattle.recording.specs.Advice.{IsConservative}
 use Rattle.sum_outputs.specs.Adding.{Continues, IsLater, IsReached, KeptHold}
 use Rattle.totalizer.specs.Keeping.{FittingStays, KeepsOwn, OwnLinesStay, ReformStays}
 use Rattle.search_base.specs.Logged.{AddsTurnLines, IsCovered, LogsNone, logged}
@@ -87,35 +87,37 @@ asking_law own fitting reforms a b t bounds board good reached on =
       none,
     )
 
--- ---- lines of a totalizer
+-- ---- conservative lines
 
-totalizer_plain : (line : Line) → IsTotalizerLine line → changes_learned line ≡ false
+totalizer_plain : (line : Line) → IsConservative line → changes_learned line ≡ false
 totalizer_plain (Def var sum) is = refl
 totalizer_plain (Pol tokens) is = refl
+totalizer_plain (Rup goal hints) is = refl
+totalizer_plain (Red goal w proofs) is = refl
 totalizer_plain line is = absurd is
 
 -- they keep what was earned
-still_earned : (p : ProblemValue) (n : ℕ) (more lines : List Line) (s t : StateValue) → All IsTotalizerLine more →
+still_earned : (p : ProblemValue) (n : ℕ) (more lines : List Line) (s t : StateValue) → All IsConservative more →
     IsReplay p lines s → Leads p s more t → IsEarned p lines n → IsEarned p (lines ++ more) n
 still_earned p n [] lines s t kinds replay leads earned =
     subst (λ (ls : List Line). IsEarned p ls n) (sym (append-nil lines)) earned
 still_earned p n (line ∷ more) lines s t kinds replay leads earned =
-    let plain = totalizer_plain line (All-head IsTotalizerLine line more kinds) in
+    let plain = totalizer_plain line (All-head IsConservative line more kinds) in
     subst (λ (ls : List Line). IsEarned p ls n) (append_assoc lines (line ∷ []) more)
-    (still_earned p n more (lines ++ line ∷ []) leads.0 t (All-tail IsTotalizerLine line more kinds)
+    (still_earned p n more (lines ++ line ∷ []) leads.0 t (All-tail IsConservative line more kinds)
     (leads_further p lines (start p) s leads.0 line replay leads.1) leads.2
     (line_keeps_earned p lines n s leads.0 line earned replay leads.1 plain))
 
 abbrev learned_of : StateValue → ℕ
 learned_of s = s.learned
 
-learns_none : (p : ProblemValue) (s t : StateValue) (line : Line) → IsTotalizerLine line → Makes p s line t →
+learns_none : (p : ProblemValue) (s t : StateValue) (line : Line) → IsConservative line → Makes p s line t →
     t.learned ≡ s.learned
 learns_none p s t (Pol tokens) is made = ap learned_of made.2
 learns_none p s t (Def var sum) is made = ap learned_of made
-learns_none p s t (Rup goal hints) is made = absurd is
+learns_none p s t (Rup goal hints) is made = ap learned_of made
 learns_none p s t (Learn goal hints) is made = absurd is
-learns_none p s t (Red goal w proofs) is made = absurd is
+learns_none p s t (Red goal w proofs) is made = ap learned_of made
 learns_none p s t (Dom goal w proofs) is made = absurd is
 learns_none p s t (Sol model cut ids) is made = absurd is
 learns_none p s t (Del ids) is made = absurd is
@@ -123,12 +125,12 @@ learns_none p s t (Reduce ids) is made = absurd is
 learns_none p s t (End id) is made = absurd is
 
 -- and learn nothing
-none_learned : (p : ProblemValue) (s t : StateValue) (more : List Line) → All IsTotalizerLine more →
+none_learned : (p : ProblemValue) (s t : StateValue) (more : List Line) → All IsConservative more →
     Leads p s more t → t.learned ≡ s.learned
 none_learned p s t [] kinds leads = ap learned_of leads
 none_learned p s t (line ∷ more) kinds leads =
-    none_learned p leads.0 t more (All-tail IsTotalizerLine line more kinds) leads.2
-    ∙ learns_none p s leads.0 line (All-head IsTotalizerLine line more kinds) leads.1.makes
+    none_learned p leads.0 t more (All-tail IsConservative line more kinds) leads.2
+    ∙ learns_none p s leads.0 line (All-head IsConservative line more kinds) leads.1.makes
 
 still_within : (p : ProblemValue) (limit : Option ℕ) (old new : List Line) (s : StateValue) → IsReplay p old s →
     ((t : StateValue) → IsReplay p new t → t.learned ≡ s.learned) → IsWithin limit p old → IsWithin limit p new

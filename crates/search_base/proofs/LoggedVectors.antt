@@ -10,7 +10,7 @@ use Rattle.proof_laws.specs.declared.line.Line.{Line}
 use Rattle.proof_laws.specs.declared.line.Line.TheVariants.{Pol, Rup, Learn, Def, Red, Dom, Sol, Del, Reduce, End}
 use Rattle.proof_rules.specs.Recording.{Snapshot}
 use Rattle.oracle.specs.Solving.{AddsSearchLines, IsSearchLine}
-use Rattle.sum_outputs.specs.Totals.{IsTotalizerLine}
+use Rattle.recording.specs.Advice.{IsConservative}
 use Rattle.sum_outputs.specs.Adding.{Continues}
 use Rattle.search_base.specs.Logged.{LogsNone, logged, logged_by}
 use Rattle.search_base.specs.Laws.{LoggedIsReached}
@@ -72,9 +72,11 @@ search_silent p before (Reduce ids) is = refl
 search_silent p before (Rup goal hints) is = refl
 search_silent p before line is = absurd is
 
-totalizer_silent : (p : ProblemValue) (line : Line) → IsTotalizerLine line → IsSilent p line
+totalizer_silent : (p : ProblemValue) (line : Line) → IsConservative line → IsSilent p line
 totalizer_silent p (Def var sum) is = refl
 totalizer_silent p (Pol tokens) is = refl
+totalizer_silent p (Rup goal hints) is = refl
+totalizer_silent p (Red goal w proofs) is = refl
 totalizer_silent p line is = absurd is
 
 pub search_logs_none : (p : ProblemValue) (old new : List Line) → AddsSearchLines p old new → LogsNone p old new
@@ -86,4 +88,4 @@ pub totalizer_logs_none : (a b : Snapshot) → Continues a b → LogsNone a.prob
 totalizer_logs_none a b on = none_logged a.problem a.lines b.lines on.more on.lines
     (from_places (IsSilent a.problem) on.more
     (λ first line after e. totalizer_silent a.problem line
-    (at_place IsTotalizerLine on.more first after line e on.kinds)))
+    (at_place IsConservative on.more first after line e on.kinds)))

@@ -3,12 +3,12 @@ use Rattle.std.proofs.Common.{◌≡◌, ℕ, Bool, true, false, List, [], ◌�
 use Rattle.std.specs.Prelude.{IfOk, MatchBool, OnErr}
 use Rattle.std.proofs.lemmas.List.Elements.{All-append, All-cons, All-nil, All-weaker}
 use Rattle.proof_laws.specs.declared.line.Line.{Line}
-use Rattle.proof_laws.specs.declared.line.Line.TheVariants.{Pol, Def, Sol}
+use Rattle.proof_laws.specs.declared.line.Line.TheVariants.{Pol, Rup, Def, Red, Sol}
 use Rattle.proof_rules.specs.Recording.{Snapshot}
 use Rattle.proof_rules.specs.declared.recorder.RecordFault.{RecordFault}
 use Rattle.scut_base.specs.Literal.{Literal}
 use Rattle.sum_outputs.specs.Adding.{Continues}
-use Rattle.sum_outputs.specs.Totals.{IsTotalizerLine}
+use Rattle.recording.specs.Advice.{IsConservative}
 use Rattle.totalizer.specs.declared.bound.Bound.{Bound}
 use Rattle.search_base.specs.Cutting.{IsModelLine}
 use Rattle.search_base.specs.Logged.{AddsTakenLines, IsTakenLine}
@@ -17,16 +17,18 @@ use Rattle.search_base.specs.Pending.{AddsLine, MayNotAdd}
 pub none_taken : (lines new : List Line) → new ≡ lines → AddsTakenLines lines new
 none_taken lines new same = record { more = []; is = same ∙ sym (append-nil lines); kinds = All-nil IsTakenLine }
 
-is_taken_line : (line : Line) → IsTotalizerLine line → IsTakenLine line
+is_taken_line : (line : Line) → IsConservative line → IsTakenLine line
 is_taken_line (Def var sum) is = tt
 is_taken_line (Pol tokens) is = tt
+is_taken_line (Rup goal hints) is = tt
+is_taken_line (Red goal w proofs) is = is
 is_taken_line line is = absurd is
 
 pub totalizer_taken : (a b : Snapshot) → Continues a b → AddsTakenLines a.lines b.lines
 totalizer_taken a b on = record {
   more = on.more;
   is = on.lines;
-  kinds = All-weaker IsTotalizerLine IsTakenLine is_taken_line on.more on.kinds;
+  kinds = All-weaker IsConservative IsTakenLine is_taken_line on.more on.kinds;
 }
 
 sol_taken : (old new : List Line) (model cut : List Literal) (ids : List ℕ) (line : Line) → line ≡ Sol model cut ids →

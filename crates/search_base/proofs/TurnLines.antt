@@ -2,11 +2,11 @@
 use Rattle.std.proofs.Common.{◌≡◌, ⊎_elim, List, [], ◌∷◌, ◌++◌, ap, sym, subst, ◌∙◌, append-nil, append_assoc}
 use Rattle.pb_lin.specs.Problem.{ProblemValue}
 use Rattle.proof_laws.specs.declared.line.Line.{Line}
-use Rattle.proof_laws.specs.declared.line.Line.TheVariants.{Pol, Rup, Learn, Def, Sol, Reduce}
+use Rattle.proof_laws.specs.declared.line.Line.TheVariants.{Pol, Rup, Learn, Def, Red, Sol, Reduce}
 use Rattle.proof_rules.specs.Recording.{Snapshot}
 use Rattle.recording.specs.Adding.{Adds}
 use Rattle.oracle.specs.Solving.{AddsSearchLines, IsDerived, IsSearchLine}
-use Rattle.sum_outputs.specs.Totals.{IsTotalizerLine}
+use Rattle.recording.specs.Advice.{IsConservative}
 use Rattle.sum_outputs.specs.Adding.{Continues}
 use Rattle.totalizer.specs.Keeping.{DeletesLearned}
 use Rattle.search_base.specs.Logged.{AddsTurnLines, IsTurnLine}
@@ -22,9 +22,11 @@ search_kind p before (Reduce ids) is = is
 search_kind p before (Rup goal hints) is = tt
 search_kind p before line is = absurd is
 
-totalizer_kind : (p : ProblemValue) (before : List Line) (line : Line) → IsTotalizerLine line → IsTurnLine p before line
+totalizer_kind : (p : ProblemValue) (before : List Line) (line : Line) → IsConservative line → IsTurnLine p before line
 totalizer_kind p before (Def var sum) is = tt
 totalizer_kind p before (Pol tokens) is = tt
+totalizer_kind p before (Rup goal hints) is = tt
+totalizer_kind p before (Red goal w proofs) is = is
 totalizer_kind p before line is = absurd is
 
 derived_kind : (p : ProblemValue) (before : List Line) (line : Line) → IsDerived line → IsTurnLine p before line
@@ -38,6 +40,7 @@ turn_deletes p before (Pol tokens) is = tt
 turn_deletes p before (Rup goal hints) is = tt
 turn_deletes p before (Learn goal hints) is = tt
 turn_deletes p before (Def var sum) is = tt
+turn_deletes p before (Red goal w proofs) is = tt
 turn_deletes p before (Sol model cut ids) is = tt
 turn_deletes p before (Reduce ids) is = is
 turn_deletes p before line is = absurd is
@@ -63,7 +66,7 @@ totalizer_lines a b on = record {
   more = on.more;
   is = on.lines;
   kinds = λ first line after e. totalizer_kind a.problem (a.lines ++ first) line
-      (at_place IsTotalizerLine on.more first after line e on.kinds);
+      (at_place IsConservative on.more first after line e on.kinds);
 }
 
 pub derived_lines : (a b : Snapshot) → Adds IsDerived a b → AddsTurnLines a.problem a.lines b.lines

@@ -34,6 +34,7 @@ turn_never_ends p before (Pol tokens) is = refl
 turn_never_ends p before (Rup goal hints) is = refl
 turn_never_ends p before (Learn goal hints) is = refl
 turn_never_ends p before (Def var sum) is = refl
+turn_never_ends p before (Red goal w proofs) is = refl
 turn_never_ends p before (Sol model cut ids) is = refl
 turn_never_ends p before (Reduce ids) is = refl
 turn_never_ends p before line is = absurd is

@@ -9,7 +9,7 @@ use Rattle.search_base.specs.Good.{IsGood}
 use Rattle.search_base.specs.Logged.{LogsNone}
 use Rattle.search_base.specs.declared.objective_bound.ObjectiveBound.{ObjectiveBound}
 
--- such lines of a totalizer keep a good state good, and log nothing
+-- such conservative lines keep a good state good, and log nothing
 abbrev pub AddingStaysGood : Type 0
 AddingStaysGood = (a b : Snapshot) (bounds : List ObjectiveBound) (board : BoardValue)
     → IsGood a bounds board → Continues a b → b.broken ≡ false

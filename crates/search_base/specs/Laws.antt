@@ -42,7 +42,7 @@ BoundingStaysGood = (a b : Snapshot) (old new : List ObjectiveBound) (board : Bo
     → IsGood a old board → Continues a b → b.broken ≡ false → FitBounds b new
     → IsGood b new board × LogsNone a.problem a.lines b.lines
 
--- the lines of an oracle, those of a totalizer and derived ones are lines of turns, and so are both after each other
+-- the lines of an oracle, conservative ones and derived ones are lines of turns, and so are both after each other
 pub record TurnLinesJoin : Type 0 where
   pub none : (p : ProblemValue) (lines : List Line) → AddsTurnLines p lines lines
   pub search : (p : ProblemValue) (old new : List Line) → AddsSearchLines p old new → AddsTurnLines p old new

@@ -6,7 +6,8 @@ use Rattle.pb_lin.specs.Problem.{ProblemValue, problem_costs}
 use Rattle.proof_laws.specs.Refusal.{assignment_of}
 use Rattle.proof_laws.specs.Earned.{IsLearnedId}
 use Rattle.proof_laws.specs.declared.line.Line.{Line}
-use Rattle.proof_laws.specs.declared.line.Line.TheVariants.{Pol, Rup, Learn, Def, Sol, Reduce}
+use Rattle.recording.specs.Advice.{IsConservative}
+use Rattle.proof_laws.specs.declared.line.Line.TheVariants.{Pol, Rup, Learn, Def, Red, Sol, Reduce}
 
 -- the costs of the model that a line logs, if it logs one
 abbrev pub logged_by : ProblemValue → Line → List (List ℤ)
@@ -29,12 +30,13 @@ LogsNone p old new = logged p new ≡ logged p old
 abbrev pub Logs : ProblemValue → List Line → List Line → List ℤ → Type 0
 Logs p old new v = logged p new ≡ logged p old ++ v ∷ []
 
--- a derived or learned constraint, a definition, a solution, or a reduction of learned clauses
+-- a conservative line, a learned clause, a solution, or a reduction of learned clauses
 abbrev pub IsTurnLine : ProblemValue → List Line → Line → Type 0
 IsTurnLine p before (Pol tokens) = Unit {0}
 IsTurnLine p before (Rup goal hints) = Unit {0}
 IsTurnLine p before (Learn goal hints) = Unit {0}
 IsTurnLine p before (Def var sum) = Unit {0}
+IsTurnLine p before (Red goal witness proofs) = witness ≡ []
 IsTurnLine p before (Sol model cut ids) = Unit {0}
 IsTurnLine p before (Reduce ids) = All (IsLearnedId p before) ids
 IsTurnLine p before line = ⊥
@@ -46,12 +48,10 @@ pub record AddsTurnLines (p : ProblemValue) (old new : List Line) : Type 0 where
   pub kinds : (first : List Line) (line : Line) (after : List Line) → more ≡ first ++ (line ∷ after) →
       IsTurnLine p (old ++ first) line
 
--- a derived constraint, a definition, or a solution
+-- a conservative line, or a solution
 abbrev pub IsTakenLine : Line → Type 0
-IsTakenLine (Pol tokens) = Unit {0}
-IsTakenLine (Def var sum) = Unit {0}
 IsTakenLine (Sol model cut ids) = Unit {0}
-IsTakenLine line = ⊥
+IsTakenLine line = IsConservative line
 
 -- the new lines are the old ones, and such lines
 pub record AddsTakenLines (old new : List Line) : Type 0 where

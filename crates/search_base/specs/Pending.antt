@@ -88,7 +88,7 @@ pub record GoodButForNone : Type 0 where
   pub good : (a : Snapshot) (bounds : List ObjectiveBound) (front : BoardValue) → IsGood a bounds front → IsGoodBut a bounds front []
   pub again : (a : Snapshot) (bounds : List ObjectiveBound) (front : BoardValue) → IsGoodBut a bounds front [] → IsGood a bounds front
 
--- lines of a totalizer keep such a state, where the bounds may be asked after them; and where no bound changes, they may
+-- conservative lines keep such a state, where the bounds may be asked after them; and where no bound changes, they may
 pub record AddingStaysGoodBut : Type 0 where
   pub bounds : (a b : Snapshot) (old new : List ObjectiveBound) (front : BoardValue) (pending : List (List Bool))
       → IsGoodBut a old front pending → Continues a b → b.broken ≡ false → FitBounds b new → IsGoodBut b new front pending

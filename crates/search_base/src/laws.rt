@@ -41,7 +41,7 @@ pub fn bounding_stays_good()
     own_lines_stay();
 }
 
-/// Law: lines of a totalizer by which no bound changes keep a good state good.
+/// Law: conservative lines by which no bound changes keep a good state good.
 pub fn adding_stays_good()
     ensures { AddingStaysGood }
 {
@@ -59,7 +59,7 @@ pub fn deriving_stays_good()
     reform_stays();
 }
 
-/// Law: the lines of oracles and totalizers and derived ones are lines of turns, and may follow each other.
+/// Law: the lines of oracles and conservative lines are lines of turns, and may follow each other.
 pub fn turn_lines_join()
     ensures { TurnLinesJoin }
 {}
@@ -74,7 +74,7 @@ pub fn good_but_for_none()
     ensures { GoodButForNone }
 {}
 
-/// Law: lines of a totalizer keep a state good but for some models.
+/// Law: conservative lines keep a state good but for some models.
 pub fn adding_stays_good_but()
     ensures { AddingStaysGoodBut }
 {

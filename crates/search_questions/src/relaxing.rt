@@ -76,7 +76,13 @@ fn ask_relaxed<O: Oracle>(
         return Ok(Some(Below::Above { stands }));
     };
     let asked = linear_limits(alloc, bounds, limits)?;
-    match linear.ask(oracle, lits.as_slice(), asked.as_slice(), Target::Sum)? {
+    match linear.ask(
+        oracle,
+        problem,
+        lits.as_slice(),
+        asked.as_slice(),
+        Target::Sum,
+    )? {
         Reply::Closed(core) => {
             let below = told_by_core(alloc, excesses, core, objectives)?;
             Ok(Some(below))

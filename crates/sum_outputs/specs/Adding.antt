@@ -5,19 +5,20 @@ use Rattle.proof_rules.specs.declared.recorder.RecordFault.{RecordFault}
 pub use Rattle.recording.specs.Recorded.{IsOwn, KeptHold, IsLater, IsReached, Always, IsReady, HasLater}
 use Rattle.recording.specs.Adding.{Adds, IsAdded}
 pub use Rattle.recording.specs.Adding.{IsFaultAt}
-use Rattle.sum_outputs.specs.Totals.{IsTotalizerLine, definitions}
+use Rattle.recording.specs.Advice.{IsConservative}
+use Rattle.sum_outputs.specs.Totals.{definitions}
 
--- nothing but lines of a totalizer was added
+-- nothing but conservative lines was added
 abbrev pub Continues : Snapshot → Snapshot → Type 0
-Continues a b = Adds IsTotalizerLine a b
+Continues a b = Adds IsConservative a b
 
 -- so many definitions were added
 abbrev pub DefinesMore : Snapshot → Snapshot → ℕ → Type 0
 DefinesMore a b n = definitions b.lines ≡ definitions a.lines + n
 
--- a call that adds lines of a totalizer alone
+-- a call that adds conservative lines alone
 abbrev pub IsRecorded : {T : Type 0} → Snapshot → Snapshot → Result T RecordFault → Type 0
-IsRecorded {T} a b result = IsAdded IsTotalizerLine a b result
+IsRecorded {T} a b result = IsAdded IsConservative a b result
 
 -- A call that adds lines by cutting planes alone, and no definition; where it is done P holds.
 pub record AddsClauses {T : Type 0} (a b : Snapshot) (result : Result T RecordFault) (P : Type 0) : Type 0 where

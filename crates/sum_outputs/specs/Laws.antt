@@ -11,7 +11,7 @@ use Rattle.proof_laws.specs.WellFormed.{AreTokens, IsWellFormed}
 use Rattle.proof_laws.specs.Refusal.{given_in, token_variables}
 use Rattle.proof_laws.specs.declared.line.Line.TheVariants.{Pol}
 use Rattle.proof_rules.specs.Recording.{Snapshot, MayBeAdded, IsNextId}
-use Rattle.sum_outputs.specs.Totals.{IsTotalizerLine}
+use Rattle.recording.specs.Advice.{IsConservative}
 use Rattle.sum_outputs.specs.Adding.{IsOwn, IsReached, IsReady}
 
 -- The tokens make this constraint of the state's live lines: a text can spell them, and their variables are the state's.
@@ -29,7 +29,7 @@ LeavesOwn a tokens c = (b : Snapshot) (t : StateValue) (id : ℕ)
 -- the line may be recorded, and then leaves this constraint
 pub record MayBeRecorded (a : Snapshot) (tokens : List PolToken) (c : ConstraintValue) : Type 0 where
   pub formed : IsWellFormed (Pol tokens)
-  pub kind : IsTotalizerLine (Pol tokens)
+  pub kind : IsConservative (Pol tokens)
   pub legal : MayBeAdded a.problem a.lines (Pol tokens)
   pub own : LeavesOwn a tokens c
 

@@ -4,7 +4,7 @@ use Rattle.std.specs.List.{count_by}
 use Rattle.scut_base.specs.Literal.{Literal}
 use Rattle.pb_lin.specs.Constraint.{total, value}
 use Rattle.proof_laws.specs.declared.line.Line.{Line}
-use Rattle.proof_laws.specs.declared.line.Line.TheVariants.{Def, Pol}
+use Rattle.proof_laws.specs.declared.line.Line.TheVariants.{Def}
 pub use Rattle.recording.specs.Recorded.{IsKeptClause}
 
 -- positive weights that sum below 2^63, on literals of distinct variables
@@ -48,12 +48,6 @@ second_child terms = drop (first_half (length terms)) terms
 abbrev pub Defines : Line → List (Literal × ℕ) → ℕ → Type 0
 Defines (Def var sum) terms n = (sum.degree ≡ n) × ((x : List Bool) → value x sum.terms ≡ value x terms)
 Defines line terms n = ⊥
-
--- definitions and lines by cutting planes
-abbrev pub IsTotalizerLine : Line → Type 0
-IsTotalizerLine (Def var sum) = Unit {0}
-IsTotalizerLine (Pol tokens) = Unit {0}
-IsTotalizerLine line = ⊥
 
 abbrev pub is_definition : Line → Bool
 is_definition (Def var sum) = true

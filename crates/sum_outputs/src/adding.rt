@@ -2,7 +2,7 @@
 ghost use Rattle.std.specs.Prelude.{◌≡◌, ◌++◌, ◌∷◌, [], IfOk, OnOk, OnErr};
 ghost use Rattle.proof_laws.specs.WellFormed.{IsWellFormed};
 ghost use Rattle.proof_rules.specs.Recording.{MayBeAdded, IsNextId};
-ghost use Rattle.sum_outputs.specs.Totals.{IsTotalizerLine};
+ghost use Rattle.recording.specs.Advice.{IsConservative};
 ghost use Rattle.sum_outputs.specs.Adding.{IsReady, IsRecorded};
 
 use proof_laws::Line;
@@ -15,7 +15,7 @@ use proof_rules::{RecordFault, Recorder};
 pub fn record<R: Recorder>(rec: &mut R, line: Line) -> Result<u64, RecordFault>
     requires ready { IsReady (R.seen rec.old) }
     requires formed { IsWellFormed line }
-    requires kind { IsTotalizerLine line }
+    requires kind { IsConservative line }
     requires legal { MayBeAdded (R.seen rec.old).problem (R.seen rec.old).lines line }
     ensures recorded { IsRecorded (R.seen rec.old) (R.seen rec.new) result }
     ensures added { OnOk result ((R.seen rec.new).lines ≡ (R.seen rec.old).lines ++ line ∷ []) }
@@ -29,7 +29,7 @@ pub fn record<R: Recorder>(rec: &mut R, line: Line) -> Result<u64, RecordFault>
 fn record_lent<R: Recorder>(rec: &mut R, line: &Line) -> Result<u64, RecordFault>
     requires ready { IsReady (R.seen rec.old) }
     requires formed { IsWellFormed line.now }
-    requires kind { IsTotalizerLine line.now }
+    requires kind { IsConservative line.now }
     requires legal { MayBeAdded (R.seen rec.old).problem (R.seen rec.old).lines line.now }
     ensures recorded { IsRecorded (R.seen rec.old) (R.seen rec.new) result }
     ensures added { OnOk result ((R.seen rec.new).lines ≡ (R.seen rec.old).lines ++ line.now ∷ []) }

@@ -1,10 +1,15 @@
+use Rattle.std.proofs.Common.{◌∙◌}
 use Rattle.sum_outputs.proofs.LaterStates.{ready_later, recorded_after}
 use Rattle.linear_front.proofs.asking.Asking.ask.Goals as goal
 
 pub answer-requires : goal.answer-requires
 answer-requires g c =
     let R = g.R.Recorder in
-    record { ready = ready_later (R.seen c.args.rec.now) (R.seen c.limits.new.rec) c.requires.ready c.in_ok-question.ensures.recorded.continues c.in_ok-question.ensures.recorded.whole }
+    let call = c.in_ok-question.ensures.recorded in
+    record {
+      ready = ready_later (R.seen c.args.rec.now) (R.seen c.limits.new.rec) c.requires.ready call.continues call.whole;
+      problem = call.continues.problem ∙ c.requires.problem;
+    }
 
 pub returns-clause-recorded : goal.returns-clause-recorded
 returns-clause-recorded g c =
