@@ -80,6 +80,7 @@ fn needed_cuts(
 }
 
 // Lines that are to be written, each of which makes one constraint.
+#[derive(Drop)]
 struct TreeLines {
     alloc: Global,
     // The id of the first.
