@@ -73,12 +73,13 @@ def front_of(path: str) -> List[Tuple[int, ...]]:
 
 
 def count_lines(path: str, kind: str) -> Tuple[int, int]:
-    """How many lines of a log are learned clauses, and how many are of this kind."""
+    """How many lines of a log are learned clauses, and how many are of this kind. A line without a witness, which has `: :`, puts nothing in
+    order: it follows from others."""
     learned = counted = 0
     with open(path, 'rb') as file:
         for line in file:
             learned += line.startswith(b'learn ')
-            counted += line.startswith(kind.encode() + b' ')
+            counted += line.startswith(kind.encode() + b' ') and b': :' not in line
     return learned, counted
 
 

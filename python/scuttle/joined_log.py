@@ -18,6 +18,8 @@ PIECE = 1024
 HARDENED = 'a line by --harden: its reason needs the rows of the part to be those of the problem, so solve the part without --harden'
 # The line of a constraint that is taken for itself, against its negation.
 OPEN = '~ +'
+# The negation of a clause once more, as often as any sum in a log has a condition of it: then the conditions cancel.
+CANCELLED = ['!', str(2 ** 80), '*', '+']
 
 
 class Span(NamedTuple):
@@ -243,6 +245,9 @@ class PartLog:
             else:
                 sections[-1].append(word)
         goal, witness, proofs = sections[0], sections[1], sections[2:]
+        if not witness:
+            self._copy_refutation(goal, proofs)
+            return
         images = dict(zip(witness[::2], witness[1::2]))
         if set(images) != set(images.values()):
             raise _Hardened
@@ -262,6 +267,15 @@ class PartLog:
             raise _Hardened
         text = [shown[number] for number in sorted(shown)] + [' '.join(['c', 'rup'] + self._hints(rest))]
         self._put(' : '.join([' '.join(['red'] + self._weakened(goal)), ' '.join(witness)] + text), 1)
+
+    def _copy_refutation(self, goal: List[str], proofs: List[List[str]]) -> None:
+        """A line that follows since lines contradict its negation. The lines, and their sum, have the conditions denied besides; these the
+        negation of the weakened goal takes away."""
+        (name, kind, *rest), = proofs
+        if name != 'c':
+            raise ValueError('a goal that an empty witness does not have')
+        proof = self._hints(rest) if kind == 'rup' else self._tokens(rest) + CANCELLED * bool(self.denied)
+        self._put('%s : : %s' % (' '.join(['red'] + self._weakened(goal)), ' '.join(['c', kind] + proof)), 1)
 
     def _hints(self, words: Iterable[str]) -> List[str]:
         return [word if word in '~!' else self.id_of(word) for word in words]
