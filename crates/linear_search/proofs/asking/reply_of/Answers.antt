@@ -1,6 +1,6 @@
 use Rattle.std.proofs.Common.{Ok}
 use Rattle.recording.specs.Advice.{IsConservative}
-use Rattle.recording.proofs.Kinds.{added_none}
+use Rattle.recording.proofs.LinesOfKind.{added_none}
 use Rattle.linear_search.specs.declared.reply.Reply.TheVariants.{Unknown}
 use Rattle.linear_search.proofs.asking.reply_of.Goals as goal
 

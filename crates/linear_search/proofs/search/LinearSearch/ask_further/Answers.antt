@@ -1,5 +1,5 @@
 use Rattle.recording.specs.Advice.{IsConservative}
-use Rattle.recording.proofs.Kinds.{refused_none}
+use Rattle.recording.proofs.LinesOfKind.{refused_none}
 use Rattle.linear_search.proofs.search.LinearSearch.ask_further.Goals as goal
 
 pub returns-in_err-found-clause-recorded : goal.returns-in_err-found-clause-recorded
