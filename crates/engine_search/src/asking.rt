@@ -5,7 +5,7 @@ ghost use Rattle.recording.specs.Adding.{IsAdded};
 ghost use Rattle.oracle.specs.Solving.{IsAnswer, IsDerived};
 
 use crate::limits::MOST_TICKS;
-use crate::models::model_of;
+use crate::models::{proposed, solution_by};
 use crate::taking::take_up;
 use crate::writing::{core_at, write_needed};
 use clause_engine::{Engine, Outcome};
@@ -141,9 +141,8 @@ impl EngineSearch {
         ensures { IfOk result (λ found. IfSome found
             (IsAnswer problem.now (R.seen rec.now).lines assumptions.now)) }
     {
-        // Tells that the problem is within its limits.
-        let _vars = problem.vars();
-        match model_of(self.alloc, engine, problem, rec.state(), assumptions)? {
+        let proposed = proposed(self.alloc, engine, rec.state().vars())?;
+        match solution_by(rec, problem, assumptions, proposed) {
             Some(model) => Ok(Some(Answer::Sat(model))),
             None => {
                 self.give_up();

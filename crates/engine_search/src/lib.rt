@@ -2,7 +2,7 @@
 //!
 //! Its public contract: `EngineSearch::ask` answers as an oracle does, with an assignment that satisfies the rows, every
 //! live clause and the assumptions, or with some of the assumptions and a live clause by which they can't all be true; or
-//! it doesn't answer. It adds implied clauses alone, each judged before it is recorded. Nothing of the engine is believed.
+//! it doesn't answer; `solution_by` tries a model that anybody proposes. It adds implied clauses alone, each judged before it is recorded. Nothing of the engine is believed.
 #![tactic(auto)]
 
 mod asking;
@@ -12,3 +12,4 @@ mod taking;
 mod writing;
 
 pub use asking::EngineSearch;
+pub use models::solution_by;

@@ -1,4 +1,4 @@
-// Models that an engine proposes.
+// Models that somebody proposes.
 ghost use Rattle.std.specs.Prelude.{◌≡◌, ℕ, true, length, All, Some, IfOk, IfSome, IsTrue};
 ghost use Rattle.std.specs.FinMap.{get};
 ghost use Rattle.scut_base.specs.Assignment.{lit_true};
@@ -6,39 +6,48 @@ ghost use Rattle.pb_lin.specs.Constraint.{ConstraintValue, Holds, UpTo};
 ghost use Rattle.pb_lin.specs.Problem.{IsProblem};
 ghost use Rattle.proof_laws.specs.State.{Fits};
 ghost use Rattle.proof_laws.specs.Refusal.{is_clause};
-ghost use Rattle.oracle.specs.Solving.{IsSolution};
+ghost use Rattle.oracle.specs.Solving.{IsSolution, Reaches};
 ghost use Rattle.pb_lin.specs.LineMap.{LinesUpTo};
 
 use clause_engine::Engine;
 use pb_lin::{Constraint, Lines, PbProblem};
-use proof_rules::ProofState;
+use proof_rules::{ProofState, Recorder};
 use scut_base::{Assignment, Lit, NoMemory};
 use std::alloc::Global;
 
-// The assignment that the engine proposes, if it makes the problem's rows, every live clause and these literals true. Costs a
-// pass over rows and live lines.
-pub(crate) fn model_of(
-    alloc: Global,
-    engine: &Engine,
+/// The assignment, if it makes the problem's rows, every live clause and the literals true, as an oracle's answer does. Costs a
+/// pass over rows and live lines.
+pub fn solution_by<R: Recorder>(
+    rec: &R,
     problem: &PbProblem,
-    state: &ProofState,
     lits: &[Lit],
-) -> Result<Option<Assignment>, NoMemory>
-    requires { Fits problem.now state.now }
-    ensures { IfOk result (λ found. IfSome found (λ x. IsSolution problem.now lits.now x state.now)) }
+    proposed: Assignment,
+) -> Option<Assignment>
+    requires { (R.seen rec.now).problem ≡ problem.now }
+    ensures { IfSome result (λ x.
+        Reaches problem.now (R.seen rec.now).lines (IsSolution problem.now lits.now x)) }
 {
-    let model = proposed(alloc, engine, state.vars())?;
-    if rows_hold(problem.rows(), &model)
-        && clauses_hold(state.live(), &model)
-        && literals_hold(lits, &model)
-    {
-        return Ok(Some(model));
+    // Tells that the problem is within its limits.
+    let _vars = problem.vars();
+    if is_solution(problem, rec.state(), lits, &proposed) {
+        return Some(proposed);
     }
-    Ok(None)
+    None
+}
+
+// Whether the assignment makes the problem's rows, every live clause and these literals true.
+fn is_solution(problem: &PbProblem, state: &ProofState, lits: &[Lit], a: &Assignment) -> bool
+    requires { Fits problem.now state.now }
+    ensures { IsTrue result → IsSolution problem.now lits.now a.now state.now }
+{
+    if a.len() != state.vars() {
+        return false;
+    }
+    rows_hold(problem.rows(), a) && clauses_hold(state.live(), a) && literals_hold(lits, a)
 }
 
 // What the engine says of so many variables.
-fn proposed(alloc: Global, engine: &Engine, vars: u64) -> Result<Assignment, NoMemory>
+pub(crate) fn proposed(alloc: Global, engine: &Engine, vars: u64) -> Result<Assignment, NoMemory>
     ensures { IfOk result (λ a. length a ≡ vars) }
 {
     let mut a = Assignment::new(alloc, vars)?;

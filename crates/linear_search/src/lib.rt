@@ -19,6 +19,7 @@ mod question;
 mod relaxation;
 mod reply;
 mod rounding;
+mod scale;
 mod search;
 mod target;
 mod tree;

@@ -3,6 +3,12 @@
 // A linear program has at most so many pivots: one that needs more has lost its way.
 pub(crate) const MOST_PIVOTS: u64 = 20_000;
 
+// The factors of a leaf are sought from the largest one of the last leaf on, divided by this, if that's at least the other number:
+// smaller ones are tried from 1 on.
+pub(crate) const TRIED_BELOW: f64 = 4.0;
+
+pub(crate) const LEAST_FIRST_FACTOR: f64 = 8.0;
+
 // So many nodes are visited in one question at most; the work that may be spent ends it long before.
 pub(crate) const MOST_NODES: usize = 10_000_000;
 

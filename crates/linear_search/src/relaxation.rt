@@ -3,6 +3,7 @@ use crate::cuts::Cuts;
 use crate::cutting::Service;
 use crate::limits::{LEAST_PASSES, MOST_SIZE_OF_LINE};
 use crate::rounding::Matrix;
+use crate::scale::Scale;
 use crate::target::{Aim, Target};
 use linear_program::{LinearProgram, MOST_ENTRIES, MOST_ROWS, Range, Term};
 use pb_lin::{Constraint, CostRow, PbProblem};
@@ -55,6 +56,8 @@ pub(crate) struct Relaxation {
     pub(crate) uses: Vec<f64>,
     pub(crate) shares: Vec<f64>,
     pub(crate) aim: Aim,
+    // How multipliers come to whole factors.
+    pub(crate) scale: Scale,
     // The id of the next line to be looked at.
     next_line: u64,
     // The lines from the one id on and below the other that it left alone.
@@ -83,6 +86,7 @@ impl Relaxation {
             uses: vec![in alloc; 1.0; columns]?,
             shares: vec![in alloc; 1.0; columns]?,
             aim: Aim::new(alloc),
+            scale: Scale::new(),
             next_line: (problem.rows().len() as u64).saturating_add(1),
             held_from: 0,
             held_to: 0,

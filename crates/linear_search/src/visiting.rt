@@ -73,21 +73,23 @@ impl Relaxation {
         at: usize,
         multipliers: &[RowMultiplier],
     ) -> Result<bool, NoMemory> {
-        let lines = self.lines_of(question, multipliers)?;
-        self.close_by_lines(state, tree, at, lines.as_slice())
+        let mut lines = self.lines_of(question, multipliers)?;
+        self.close_by_lines(state, tree, at, lines.as_mut_slice())
     }
 
     // The same by the multipliers of lines, which may be those of cuts.
     fn close_by_lines(
-        &self,
+        &mut self,
         state: &ProofState,
         tree: &mut Tree,
         at: usize,
-        lines: &[Multiplier],
+        lines: &mut [Multiplier],
     ) -> Result<bool, NoMemory> {
+        self.scale.begin(lines);
         let cuts = self.cuts.constraints.as_slice();
         match infeasible_leaf(self.alloc, state, cuts, lines, &tree.fixed)? {
             Some(leaf) => {
+                self.scale.note(leaf.tokens.as_slice());
                 tree.close_by(at, leaf)?;
                 Ok(true)
             }
@@ -105,11 +107,11 @@ impl Relaxation {
     ) -> Result<bool, NoMemory> {
         self.enter(question, tree, at)?;
         self.count_passes(PASSES_OF_A_VISIT);
-        let lines = match tree.kept.get(at) {
+        let mut lines = match tree.kept.get(at) {
             Some(kept) => self.lines_of(question, kept.multipliers.as_slice())?,
             None => return Ok(false),
         };
-        self.close_by_lines(state, tree, at, lines.as_slice())
+        self.close_by_lines(state, tree, at, lines.as_mut_slice())
     }
 
     // A node whose bound is above the best model's value has nothing that is better.
