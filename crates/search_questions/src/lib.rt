@@ -8,6 +8,7 @@
 
 mod allowance;
 mod below;
+mod extending;
 mod limits;
 mod question;
 mod relaxations;

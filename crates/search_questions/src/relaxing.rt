@@ -1,32 +1,31 @@
 // Questions to linear relaxations.
 ghost use Rattle.std.specs.Prelude.{◌≡◌, ◌<◌, length, IfOk, IfSome};
-ghost use Rattle.oracle.specs.Solving.{AreAssumptions, Reaches};
 ghost use Rattle.search_base.specs.CostBounds.{FitSome};
 ghost use Rattle.search_questions.specs.Questions.{IsQuestion};
 ghost use Rattle.search_questions.specs.Telling.{IsGoodWithSome, SeeksOn, Tells};
 
 use crate::Below;
+use crate::extending::extended;
 use crate::question::{Question, questioned};
 use crate::seeking::told_by_core;
 use crate::standing::clashing;
+use engine_search::solution_by;
 use front_set::CostVec;
 use linear_search::{Limit, LinearSearch, Reply, Target};
-use oracle::{Answer, Oracle, OracleFault};
+use oracle::{Oracle, OracleFault};
 use pb_lin::PbProblem;
 use scut_base::{Items, Lit, NoMemory};
 use search_base::{
-    Bounds, adding_stays_good, asking_stays_good, bounding_stays_good, costs_at, turn_lines_join,
-    turn_lines_keep_own,
+    Bounds, adding_stays_good, bounding_stays_good, costs_at, turn_lines_join, turn_lines_keep_own,
 };
 use std::alloc::Global;
 use totalizer::own_lines_stay;
 
 /// What `seek_below` asks, of linear relaxations of the problem: `Some` is an answer as `seek_below` gives it, and `None`
-/// says that it isn't known. The oracle is asked at most once, for the model that a relaxation proposes; where that has
-/// costs above the limits, or none is, the answer is `None`. Where the bounds alone tell, nothing is asked. A limit of
-/// `i64::MAX` is none. After `Spent` it may be asked again.
+/// says that it isn't known. The oracle isn't asked: a model that a relaxation proposes is tried on all that is live. Where
+/// the bounds alone tell, nothing is asked. A limit of `i64::MAX` is none.
 ///
-/// Costs a bound for each objective, what `LinearSearch::ask` does, and a call of the oracle where a model is proposed.
+/// Costs a bound for each objective, what `LinearSearch::ask` does, and passes over live lines where a model is proposed.
 pub fn seek_relaxed<O: Oracle>(
     alloc: Global,
     oracle: &mut O,
@@ -87,31 +86,28 @@ fn ask_relaxed<O: Oracle>(
             let below = told_by_core(alloc, excesses, core, objectives)?;
             Ok(Some(below))
         }
-        Reply::Model(model) => { propose(alloc, oracle, bounds, problem, limits, model.as_slice()) }
+        Reply::Model(model) => {
+            let below = propose(alloc, oracle, problem, limits, model.as_slice())?;
+            Ok(below)
+        }
         Reply::Unknown => Ok(None),
     }
 }
 
-// The model that these literals make, where the oracle answers one whose costs are at most the limits.
+// The model that these literals make, where all that is live holds in it and its costs are at most the limits.
 fn propose<O: Oracle>(
     alloc: Global,
-    oracle: &mut O,
-    bounds: &Bounds,
+    oracle: &O,
     problem: &PbProblem,
     limits: &CostVec,
     lits: &[Lit],
-) -> Result<Option<Below>, OracleFault>
-    requires good { IsGoodWithSome (O.seen oracle.old) bounds.now }
-    requires problem { (O.seen oracle.old).problem ≡ problem.now }
-    requires count { length limits.now ≡ length (O.seen oracle.old).problem.costs }
-    requires assumptions { Reaches (O.seen oracle.old).problem (O.seen oracle.old).lines
-        (λ s. AreAssumptions s.vars lits.now) }
-    ensures tells { IfOk result (λ below. IfSome below (Tells (O.seen oracle.new) limits.now)) }
-    ensures seeks { SeeksOn (O.seen oracle.old) (O.seen oracle.new) bounds.now bounds.now result }
+) -> Result<Option<Below>, NoMemory>
+    requires problem { (O.seen oracle.now).problem ≡ problem.now }
+    requires count { length limits.now ≡ length (O.seen oracle.now).problem.costs }
+    ensures tells { IfOk result (λ below. IfSome below (Tells (O.seen oracle.now) limits.now)) }
 {
-    asking_stays_good();
-    turn_lines_join();
-    let Answer::Sat(model) = oracle.solve(lits)? else {
+    let proposed = extended(alloc, oracle.state(), problem, lits)?;
+    let Some(model) = solution_by(oracle, problem, lits, proposed) else {
         return Ok(None);
     };
     // Tells that the lines reach a state.

@@ -1,4 +1,4 @@
--- What closes a tree is a core, and what is proposed is asked of the oracle.
+-- What closes a tree is a core, and what is proposed is tried.
 use Rattle.std.proofs.Common.{◌≡◌, ◌∙◌, None, Some, List, length, ap, sym, subst, ℤ}
 use Rattle.std.proofs.lemmas.Slice.Zip.{AllZip-long}
 use Rattle.scut_base.specs.Literal.{Literal}
@@ -60,7 +60,7 @@ returns-in_err-asked-clause-seeks g c =
     (goes_again a)
 
 pub ask-requires : goal.ask-requires
-ask-requires g c = record { ready = c.requires.good.1.ready }
+ask-requires g c = record { ready = c.requires.good.1.ready; problem = c.requires.problem }
 
 pub returns-in_err-core-clause-seeks : goal.returns-in_err-core-clause-seeks
 returns-in_err-core-clause-seeks g c =
@@ -111,15 +111,6 @@ returns-in-Closed-clause-seeks g c =
     (added_stays_good c.adding_stays_good.ensures a b asked call.continues call.whole)
     (bounds_go_on c.turn_lines_join.ensures a b call.continues)
 
-pub propose-requires-clause-good : goal.propose-requires-clause-good
-propose-requires-clause-good g c =
-    let R = g.O.Recorder in
-    let a = R.seen c.args.oracle.now in
-    let b = R.seen c.ask.new.rec in
-    let call = c.in_ok-core.ensures.recorded in
-    let front = c.requires.good in
-    (front.0, (added_stays_good c.adding_stays_good.ensures a b c.args.bounds.now call.continues call.whole front.0 front.1).0)
-
 pub propose-requires-clause-problem : goal.propose-requires-clause-problem
 propose-requires-clause-problem g c = c.in_ok-core.ensures.recorded.continues.problem ∙ c.requires.problem
 
@@ -127,26 +118,24 @@ pub propose-requires-clause-count : goal.propose-requires-clause-count
 propose-requires-clause-count g c =
     c.requires.count ∙ ap (λ (p : ProblemValue). length p.costs) (sym c.in_ok-core.ensures.recorded.continues.problem)
 
-pub propose-requires-clause-assumptions : goal.propose-requires-clause-assumptions
-propose-requires-clause-assumptions g c =
+pub returns-in_err-below-in-Model-clause-seeks : goal.returns-in_err-below-in-Model-clause-seeks
+returns-in_err-below-in-Model-clause-seeks g c =
     let R = g.O.Recorder in
+    let a = R.seen c.args.oracle.now in
     let b = R.seen c.ask.new.rec in
-    let model = c.in-Model.model in
-    let reply : IsReply b c.as_slice.result.now (Proposed model) = rw c.in-Model.is at c.in_ok-core.ensures.reply in
-    subst (λ (ls : List Literal). Reaches b.problem b.lines (λ s. AreAssumptions s.vars ls))
-    (sym c.as_slice-in-Model.ensures) reply
+    let asked = c.args.bounds.now in
+    seeks_memory a b asked asked c.from_residual-in_err-below-in-Model.result c.from_residual-in_err-below-in-Model.ensures.1
+    (bounds_go_on c.turn_lines_join.ensures a b c.in_ok-core.ensures.recorded.continues)
 
 pub returns-in-Model-clause-seeks : goal.returns-in-Model-clause-seeks
 returns-in-Model-clause-seeks g c =
     let R = g.O.Recorder in
     let a = R.seen c.args.oracle.now in
-    let m = R.seen c.ask.new.rec in
-    let b = R.seen c.propose.new.oracle in
+    let b = R.seen c.ask.new.rec in
     let asked = c.args.bounds.now in
     let call = c.in_ok-core.ensures.recorded in
-    seeks_after a m b asked asked asked c.propose.result
-    (added_stays_good c.adding_stays_good.ensures a m asked call.continues call.whole)
-    (bounds_go_on c.turn_lines_join.ensures a m call.continues) c.propose.ensures.seeks
+    seeks_ok a b asked asked c.in_ok-below-in-Model.below (added_stays_good c.adding_stays_good.ensures a b asked call.continues call.whole)
+    (bounds_go_on c.turn_lines_join.ensures a b call.continues)
 
 pub returns-clause-seeks : goal.returns-clause-seeks
 returns-clause-seeks g c =
