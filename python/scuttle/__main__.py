@@ -15,6 +15,7 @@ from .files import be_printable
 COMMANDS = {
     'choices': 'what is left to choose among the plans of each compromise',
     'compare': 'what has changed between two lists',
+    'describe': 'how many lines of each kind a log has, its ids, variables and solutions',
     'from-csv': 'an instance from a table of options',
     'from-lp': 'an instance from models in the LP format of CPLEX',
     'from-mps': 'an instance from models in the MPS format',
