@@ -21,8 +21,9 @@ pub(crate) const NO_COEFFICIENT: f64 = 1e-7;
 pub(crate) const NO_MULTIPLIER: f64 = 1e-13;
 // Of an eta, a number of at most this size is left out.
 pub(crate) const NO_ETA: f64 = 1e-12;
-// Ratios are about the same where they differ by at most this cost over the coefficient (Harris 1973).
-pub(crate) const HARRIS: f64 = 1e-9;
+// Ratios are about the same where they differ by at most this cost over the coefficient (Harris 1973): far less than what
+// perturbs costs, or ties that this has broken are ties again, and a roster takes ten times the pivots.
+pub(crate) const HARRIS: f64 = 1e-11;
 // The coefficient counts as no less than this there: a tiny one would make all ratios the same.
 pub(crate) const LEAST_HARRIS: f64 = 1e-3;
 // What is left of an excess below this has been made up for by flips.
