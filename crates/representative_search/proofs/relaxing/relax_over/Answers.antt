@@ -6,7 +6,10 @@ use Rattle.representative_search.proofs.Searches.{ended_so, found_after}
 use Rattle.representative_search.proofs.relaxing.relax_over.Goals as goal
 
 pub ask-requires : goal.ask-requires
-ask-requires g c = record { ready = none_ready (g.R.Recorder.seen c.args.rec.now) c.state-state.result.now c.requires.begun c.requires.whole c.state-state.ensures.replays }
+ask-requires g c = record {
+  ready = none_ready (g.R.Recorder.seen c.args.rec.now) c.state-state.result.now c.requires.begun c.requires.whole c.state-state.ensures.replays;
+  problem = c.requires.problem;
+}
 
 pub end_proof-requires-clause-open : goal.end_proof-requires-clause-open
 end_proof-requires-clause-open g c =
