@@ -13,8 +13,9 @@ pub(crate) const FIRST: u64 = 200_000_000;
 // search that has to build them takes at most twice the time of one that begins with them.
 pub(crate) const WORK_OF_A_LINE: u64 = 5_000;
 
-// For each row so many passes over rows and columns, and one more for each row: a linear program takes some for each, and where
-// there are many rows clauses take long too.
+// For each row that counts so many passes over rows that count and columns, and one more for each such row: a linear program takes
+// some for each, and search by clauses takes long over them too. Clauses don't count: where they did, searches of circuits and of
+// rules took thrice as long.
 pub(crate) const PASSES_A_ROW: u64 = 100;
 
 // Nobody waits for more, where it tells nothing.
