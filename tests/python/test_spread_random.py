@@ -22,6 +22,8 @@ from scuttle.parts import Source, Split
 
 # How many cases run where no number is given, and how many reach everything that is counted.
 CASES, REACHES_ALL = 60, 60
+# How many bytes are changed a case. Few changed logs are accepted: a line for a closed case has little that doesn't matter.
+CHANGES = 5
 SEARCHES = ([], ['--search', 'lower-bounding'], ['--boost'], ['--search', 'turns', '--turns', '12'])
 # What wants two costs.
 SEARCHES_OF_TWO = (['--search', 'bioptsat'], ['--search', 'turns', '--turns', '132'])
@@ -63,14 +65,23 @@ class Random(InFolder):
         return Split.load(source, 'parts')
 
     def change_a_byte(self, chance, split, right):
-        """Changes a byte of a part's log."""
+        """Changes a byte of a part's log for one call."""
         node, _ = chance.choice(split.parts())
         path = split.path(node.name, '.log')
-        with open(path, 'r+b') as file:
+        with open(path, 'rb') as file:
             data = file.read()
-            at = chance.randrange(len(data))
-            file.seek(at)
-            file.write(bytes([chance.choice([byte for byte in BYTES if byte != data[at]])]))
+        at = chance.randrange(len(data))
+        other = chance.choice([byte for byte in BYTES if byte != data[at]])
+        with open(path, 'wb') as file:
+            file.write(data[:at] + bytes([other]) + data[at + 1:])
+        try:
+            self.join_changed(chance, split, path, right)
+        finally:
+            with open(path, 'wb') as file:
+                file.write(data)
+
+    def join_changed(self, chance, split, path, right):
+        """Joins parts of which one has a changed log: a fault of that file, a log that is refused, or the same costs."""
         try:
             joined = join(split, 'changed.list', 'changed.log', chance.choice((1, 2)))
         except Malformed as fault:
@@ -98,7 +109,7 @@ class Random(InFolder):
                 self.assertEqual(join(split, 'all.list', 'all.log', chance.choice((1, 2)))[::2], ([], None))
                 self.assertEqual(costs_of('all.list'), costs_of('one.list'))
                 self.assertEqual(self.run_program('check', name, 'all.list', 'all.log'), b'accepted\n')
-                if split.parts():
+                for _ in range(CHANGES if split.parts() else 0):
                     self.change_a_byte(chance, split, costs_of('one.list'))
         if self.cases >= REACHES_ALL:
             wanted = ['clauses', 'statements', 'splits of one part', 'splits of parts', 'parts without a model', 'problems closed by a model',
