@@ -116,6 +116,17 @@ multiplied_holds a k c holds =
     let above : c.degree * k ≤ value a c.terms * k = mul_le_right c.degree (value a c.terms) k holds in
     omega arith
 
+multiplied_terms-one : (ts : Terms) → map (changed (λ n. n * 1)) ts ≡ ts
+multiplied_terms-one [] = refl
+multiplied_terms-one (t ∷ ts) =
+    let rest : map (changed (λ n. n * 1)) ts ≡ ts = multiplied_terms-one ts in
+    ap (λ (n : ℕ). (t.0, n) ∷ map (changed (λ n. n * 1)) ts) (omega arith) ∙ ap (λ (us : Terms). t ∷ us) rest
+
+pub multiplied-one : (c : ConstraintValue) → multiplied 1 c ≡ c
+multiplied-one c =
+    ap (λ (ts : Terms). record { terms = ts; degree = c.degree * 1 }) (multiplied_terms-one c.terms)
+    ∙ ap (λ (n : ℕ). record { terms = c.terms; degree = n }) (omega arith)
+
 -- ---- divided
 
 le-rounded_up : (n k : ℕ) → 0 < k → n ≤ rounded_up n k * k

@@ -16,8 +16,8 @@ use std::alloc::Global;
 /// saturation and weakening, as VeriPB's `pol` has them (Gocht and Nordström 2021). Each token costs at
 /// most two passes over the terms that it reads, and as many `Weaken` as follow one another cost two
 /// passes together and a binary search each. A constraint that is named is pushed by reference, which
-/// takes no memory for its terms, and copied once a token works on it; `Add` makes one new constraint of
-/// two, and the other operations change the topmost in place.
+/// takes no memory for its terms, and copied once a token changes it, which `Mul(1)` and `Add` of `0 >= 0`
+/// don't; `Add` makes one new constraint of two, and the other operations change the topmost in place.
 ///
 /// The first token that fails decides: `NoSuchId(id)` where no line has this id, and `NoSuchId(0)` where
 /// `negated` or `denied` isn't given; `Stack` where a token finds too few constraints, which is judged

@@ -1,6 +1,13 @@
 // Constraints on the stack, lent or made.
-ghost use Rattle.std.specs.Prelude.{◌≡◌, IfOk};
+ghost use Rattle.std.specs.Prelude.{◌≡◌, ◌*◌, ◌+◌, ◌↔◌, [], None, IfOk, OnOk, IfErr, IsTrue, unsigned_abs};
+ghost use Rattle.scut_base.specs.Fault.{IsFaultOr};
+ghost use Rattle.pb_lin.specs.Constraint.{IsNormal, size};
+ghost use Rattle.cutting_planes.specs.Rules.{IsSum, multiplied};
+ghost use Rattle.cutting_planes.specs.Stack.{factor_fault, size_fault};
 
+use crate::PolFault;
+use crate::scale::multiplied;
+use crate::sum::sum;
 use crate::wide::WideConstraint;
 use pb_lin::Constraint;
 use scut_base::{Duplicate, NoMemory};
@@ -66,5 +73,50 @@ impl<'a> Operand<'a> {
             Holding::Lent(c) => c.copy(alloc),
             Holding::Made(c) => c.to_constraint(alloc),
         }
+    }
+
+    // Whether it is `0 >= 0`. Takes constant time.
+    fn is_nothing(&self) -> bool
+        ensures value { IsTrue result ↔ ((self.now.terms ≡ []) × (self.now.degree ≡ 0)) }
+        ensures normal { IsNormal self.now.terms self.now.degree }
+    {
+        match &self.holding {
+            Holding::Lent(c) => c.len() == 0 && c.degree() == 0,
+            Holding::Made(c) => c.len() == 0 && c.degree() == 0,
+        }
+    }
+
+    // The constraint multiplied. By 1 it is itself, and isn't copied.
+    pub(crate) fn times(self, alloc: Global, factor: i128) -> Result<Operand<'a>, PolFault>
+        ensures value { IfOk result (λ r. r ≡ multiplied (unsigned_abs factor) self.entry) }
+        ensures faultless { OnOk result
+            (factor_fault factor (size_fault (size self.entry * unsigned_abs factor)) ≡ None) }
+        ensures fault { IfErr result
+            (IsFaultOr PolFault.NoMemory (factor_fault factor (size_fault (size self.entry * unsigned_abs factor)))) }
+    {
+        if factor == 1 {
+            // Tells that its size is small enough.
+            let _nothing = self.is_nothing();
+            return Ok(self);
+        }
+        Ok(Operand::made(multiplied(self.into_wide(alloc)?, factor)?))
+    }
+
+    // The sum of two constraints. Where one is `0 >= 0` it is the other, which isn't copied.
+    pub(crate) fn plus(self, alloc: Global, other: Operand<'a>) -> Result<Operand<'a>, PolFault>
+        ensures value { IfOk result (λ r. IsSum r self.entry other.entry) }
+        ensures faultless { OnOk result (size_fault (size self.entry + size other.entry) ≡ None) }
+        ensures fault { IfErr result
+            (IsFaultOr PolFault.NoMemory (size_fault (size self.entry + size other.entry))) }
+    {
+        if other.is_nothing() {
+            let _nothing = self.is_nothing();
+            return Ok(self);
+        }
+        if self.is_nothing() {
+            return Ok(other);
+        }
+        let (p, q) = (self.into_wide(alloc)?, other.into_wide(alloc)?);
+        Ok(Operand::made(sum(alloc, &p, &q)?))
     }
 }

@@ -5,9 +5,8 @@ ghost use Rattle.cutting_planes.specs.Applied.{IsApplied, IsPushedIfNamed};
 ghost use Rattle.cutting_planes.specs.Runs.{IsBegun, IsRunApplied, IsWeakening};
 
 use crate::operand::Operand;
-use crate::scale::{divided, multiplied, saturated};
+use crate::scale::{divided, saturated};
 use crate::stack::ConstraintStack;
-use crate::sum::sum;
 use crate::weaken::weakened_all;
 use crate::wide::WideConstraint;
 use crate::{PolFault, PolToken};
@@ -110,8 +109,7 @@ fn add(alloc: Global, stack: &mut ConstraintStack) -> Result<(), PolFault>
 {
     let q = stack.pop().ok_or(PolFault::Stack)?;
     let p = stack.pop().ok_or(PolFault::Stack)?;
-    let (p, q) = (p.into_wide(alloc)?, q.into_wide(alloc)?);
-    stack.push(Operand::made(sum(alloc, &p, &q)?))?;
+    stack.push(p.plus(alloc, q)?)?;
     Ok(())
 }
 
@@ -119,7 +117,7 @@ fn multiply(alloc: Global, stack: &mut ConstraintStack, factor: i128) -> Result<
     ensures { (given : Given) → IsApplied given (PolToken.Mul factor) stack.old stack.new result }
 {
     let c = stack.pop().ok_or(PolFault::Stack)?;
-    stack.push(Operand::made(multiplied(c.into_wide(alloc)?, factor)?))?;
+    stack.push(c.times(alloc, factor)?)?;
     Ok(())
 }
 
