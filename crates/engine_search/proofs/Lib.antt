@@ -1,4 +1,3 @@
 pub mod LiveClauses
-pub mod DerivedLines
 pub mod EngineCores
 pub mod ReachedModels
