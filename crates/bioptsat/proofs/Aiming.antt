@@ -1,5 +1,5 @@
 -- Costs that meet an aim: what limits they keep to, and what a logged vector makes of the aim.
-use Rattle.std.proofs.Common.{◌≡◌, ◌-◌, ◌^◌, Bool, true, not, ◌&&◌, Option, None, Some, List, [], ◌∷◌, ◌++◌, map, length, refl, ap, sym, subst, ◌∙◌, arith, ℤ, pos, ◌-ℤ◌, ◌≤ℤ◌, ◌<ℤ◌}
+use Rattle.std.proofs.Common.{◌≡◌, ◌-◌, ◌<◌, ◌^◌, Bool, true, not, ◌&&◌, Option, None, Some, List, [], ◌∷◌, ◌++◌, map, length, refl, ap, sym, subst, ◌∙◌, arith, ℤ, pos, ◌-ℤ◌, ◌≤ℤ◌, ◌<ℤ◌}
 use Rattle.std.specs.Prelude.{int_lt, IfSome}
 use Rattle.std.specs.List.{All, last_or}
 use Rattle.std.proofs.lemmas.Bool.{and_parts, and_from, not_from_false}
@@ -15,15 +15,15 @@ use Rattle.search_base.specs.Logged.{Logs, LogsNone, logged}
 use Rattle.search_base.specs.Turns.{IsTaken}
 use Rattle.search_base.proofs.CutClauses.{le_from_test}
 use Rattle.search_base.proofs.PutEntries.{last_of_more}
-use Rattle.search_questions.specs.Telling.{IsStanding}
-use Rattle.search_questions.proofs.Excesses.{cost_small}
-use Rattle.search_questions.proofs.Remaining.{none_left}
-use Rattle.search_questions.specs.declared.below.Below.{Below}
-use Rattle.search_questions.specs.declared.below.Below.TheVariants.{Model, End, Above}
+use Rattle.relaxations.specs.Telling.{IsStanding, Tells}
+use Rattle.relaxations.proofs.Excesses.{cost_small}
+use Rattle.relaxations.proofs.Remaining.{none_left}
+use Rattle.relaxations.specs.declared.below.Below.{Below}
+use Rattle.relaxations.specs.declared.below.Below.TheVariants.{Model, End, Above}
 use Rattle.bioptsat.specs.declared.aim.Aim.{Aim}
 use Rattle.bioptsat.specs.declared.aim.Aim.TheVariants.{Anything, First, Second}
-use Rattle.bioptsat.specs.Aims.{GivesUp, Improves, Meets, Serves, aim_after, aim_at, first, given_up, second, vector_of}
-use Rattle.bioptsat.specs.Asking.{IsOneLess, TellsMeeting, TellsOfAim, TellsWithin}
+use Rattle.bioptsat.specs.Aims.{GivesUp, Improves, Meets, Serves, aim_after, aim_at, first, given_up, own_number, second, vector_of}
+use Rattle.bioptsat.specs.Asking.{IsOneLess, TellsMeeting, TellsOfAim}
 
 -- ---- two numbers
 
@@ -81,57 +81,52 @@ second_high x (r ∷ q ∷ rows) all two = high_cost x q (all 1 q (omega arith))
 
 -- ---- answers
 
+-- what is at most one less than a number is less, unless it is the least i64
+under : (u v n : ℤ) → IsOneLess v n → (pos 0 -ℤ pos (2 ^ 63)) <ℤ u → u ≤ℤ n → u <ℤ v
+under u v n less low most = grind (arith, ints, less.above, less.least)
+
+at_most : (u v n : ℤ) → IsOneLess v n → (pos 0 -ℤ pos (2 ^ 63)) <ℤ u → u <ℤ v → u ≤ℤ n
+at_most u v n less low lower = grind (arith, ints, less.above)
+
 module _ (b : Snapshot) (v : List ℤ) (all : AreCostRows b.problem.costs) (two : length b.problem.costs ≡ 2) where
   costs_two : (x : List Bool) → length (problem_costs b.problem x) ≡ 2
   costs_two x = length-map b.problem.costs (row_cost x) ∙ two
 
-  pub told_first : (limit : Option ℤ) (below : Below) → IsOneLess (first v) limit
-      → TellsWithin b limit (Some (pos (2 ^ 63 - 1))) below → TellsMeeting b (First v) below
-  told_first None (Model x) less tells = absurd tells
-  told_first None (End id) less tells = absurd tells
-  told_first None (Above stands) less tells = λ left.
-      let low = first_low left.2 b.problem.costs all two in
-      let meets = left.4 in
-      absurd (omega (arith, ints))
-  told_first (Some n) (Model x) less tells =
+  pub told_first : (limit : ℤ) (below : Below) → IsOneLess (first v) limit
+      → Tells b (limit ∷ pos (2 ^ 63 - 1) ∷ []) below → TellsMeeting b (First v) below
+  told_first n (Model x) less tells =
       let parts = both_below (problem_costs b.problem x) n (pos (2 ^ 63 - 1)) tells.1 in
-      let one = parts.0 in
-      (tells.0, omega (arith, ints))
-  told_first (Some n) (End id) less tells = tells
-  told_first (Some n) (Above stands) less tells = λ left.
+      (tells.0, under (first (problem_costs b.problem x)) (first v) n less (first_low x b.problem.costs all two) parts.0)
+  told_first n (End id) less tells = tells
+  told_first n (Above stands) less tells = λ left.
       let x = left.2 in
-      let meets = left.4 in
       none_left b (n ∷ pos (2 ^ 63 - 1) ∷ []) (IsStanding stands) tells.0 (
         left.0,
         left.1,
         x,
         left.3,
-        below_both (problem_costs b.problem x) n (pos (2 ^ 63 - 1)) (costs_two x) (omega (arith, ints))
+        below_both (problem_costs b.problem x) n (pos (2 ^ 63 - 1)) (costs_two x)
+            (at_most (first (problem_costs b.problem x)) (first v) n less (first_low x b.problem.costs all two) left.4)
             (second_high x b.problem.costs all two),
       )
 
-  pub told_second : (limit : Option ℤ) (below : Below) → IsOneLess (second v) limit
-      → TellsWithin b (Some (first v)) limit below → TellsMeeting b (Second v) below
-  told_second None (Model x) less tells = absurd tells
-  told_second None (End id) less tells = absurd tells
-  told_second None (Above stands) less tells = λ left.
-      let low = second_low left.2 b.problem.costs all two in
-      let meets = left.4.1 in
-      absurd (omega (arith, ints))
-  told_second (Some n) (Model x) less tells =
-      let parts = both_below (problem_costs b.problem x) (first v) n tells.1 in
-      let other = parts.1 in
-      (tells.0, (parts.0, omega (arith, ints)))
-  told_second (Some n) (End id) less tells = tells
-  told_second (Some n) (Above stands) less tells = λ left.
+  pub told_second : (limit : ℤ) (below : Below) → IsOneLess (second v) limit
+      → Tells b (first v ∷ limit ∷ []) below → TellsMeeting b (Second v) below
+  told_second n (Model x) less tells =
+      let parts = both_below (problem_costs b.problem x) (first v) n tells.1 in (
+        tells.0,
+        (parts.0, under (second (problem_costs b.problem x)) (second v) n less (second_low x b.problem.costs all two) parts.1),
+      )
+  told_second n (End id) less tells = tells
+  told_second n (Above stands) less tells = λ left.
       let x = left.2 in
-      let meets = left.4.1 in
       none_left b (first v ∷ n ∷ []) (IsStanding stands) tells.0 (
         left.0,
         left.1,
         x,
         left.3,
-        below_both (problem_costs b.problem x) (first v) n (costs_two x) left.4.0 (omega (arith, ints)),
+        below_both (problem_costs b.problem x) (first v) n (costs_two x) left.4.0
+            (at_most (second (problem_costs b.problem x)) (second v) n less (second_low x b.problem.costs all two) left.4.1),
       )
 
 -- ---- turns
@@ -206,3 +201,18 @@ pub gives_up : (b : Snapshot) (aim now : Aim) (stands : List Bool) → TellsOfAi
 gives_up b Anything now stands tells given = absurd tells
 gives_up b (First v) now stands tells given = record { none = tells; given = given }
 gives_up b (Second v) now stands tells given = record { none = tells; given = given }
+
+pub aim_falls : (b : Snapshot) (aim now : Aim) (stands : List Bool) → TellsOfAim b aim (Above stands)
+    → now ≡ given_up aim → own_number now < own_number aim
+aim_falls b Anything now stands tells given = absurd tells
+aim_falls b (First v) now stands tells given =
+    subst (λ (a : Aim). own_number a < 2) (sym given) (omega arith)
+aim_falls b (Second v) now stands tells given =
+    subst (λ (a : Aim). own_number a < 1) (sym given) (omega arith)
+
+pub given_serves : (p : ProblemValue) (aim now : Aim) → Serves aim p → now ≡ given_up aim → Serves now p
+given_serves p Anything now serves given = subst (λ (a : Aim). Serves a p) (sym given) serves
+given_serves p (First v) now serves given =
+    subst (λ (a : Aim). Serves a p) (sym given) (record { count = serves.count; numbers = serves.numbers })
+given_serves p (Second v) now serves given =
+    subst (λ (a : Aim). Serves a p) (sym given) (record { count = serves.count; numbers = tt })

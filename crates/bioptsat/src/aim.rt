@@ -1,10 +1,17 @@
 // What a search for two objectives aims at.
-ghost use Rattle.std.specs.Prelude.{◌≡◌, IfOk};
-ghost use Rattle.bioptsat.specs.Aims.{aim_after, given_up};
+ghost use Rattle.std.specs.Prelude.{◌≡◌, ◌<◌, length, ◌∷◌, [], refl, IfOk, OnOk, OnErr};
+ghost use Rattle.pb_lin.specs.Problem.{ProblemValue};
+ghost use Rattle.proof_rules.specs.Recording.{Snapshot};
+ghost use Rattle.search_base.specs.CostBounds.{FitSome};
+ghost use Rattle.relaxations.specs.Aims.{TakesModel};
+ghost use Rattle.relaxations.specs.Wanting.{HasCostRows, IsOf, TellsOf};
+ghost use Rattle.bioptsat.specs.Aims.{MovesAim, Serves, aim_after, given_up, own_number};
+ghost use Rattle.bioptsat.specs.Asking.{IsOneLess, TellsOfAim};
 
 use front_set::CostVec;
+use relaxations::{Aims, Wanted};
 use scut_base::{Duplicate, NoMemory};
-use search_base::Board;
+use search_base::{Board, Bounds};
 use std::alloc::Global;
 use std::mem;
 
@@ -43,4 +50,55 @@ impl Aim {
             _ => Aim::Anything,
         };
     }
+}
+
+impl Aims for Aim {
+    ghost own = { own_number };
+
+    ghost serves = { Serves };
+
+    ghost tells = { TellsOfAim };
+
+    ghost moves = { MovesAim };
+
+    // A model whose first cost is less; or no greater, and the second one is less. Nothing costs as little as the least `i64`.
+    fn wanted(&self, alloc: Global) -> Result<Wanted, NoMemory> {
+        match self {
+            Aim::Anything => Ok(Wanted::Any),
+            Aim::First(costs) => within(alloc, one_less(costs.get(0)), i64::MAX),
+            Aim::Second(costs) => within(alloc, costs.get(0), one_less(costs.get(1))),
+        }
+    }
+
+    fn found(&mut self, alloc: Global, board: &Board<'_>) -> Result<(), NoMemory> {
+        *self = self.at_last(alloc, board)?;
+        Ok(())
+    }
+
+    fn none_left(
+        &mut self,
+        _alloc: Global,
+        _bounds: &Bounds,
+        _stands: &[bool],
+    ) -> Result<(), NoMemory> {
+        self.give_up();
+        Ok(())
+    }
+
+    ghost finished = { λ a b aim id. refl };
+}
+
+// A model whose costs are at most these two.
+fn within(alloc: Global, first: i64, second: i64) -> Result<Wanted, NoMemory>
+    ensures { IfOk result (λ wanted. wanted ≡ Wanted.Within (first ∷ second ∷ [])) }
+{
+    let limits = CostVec::from_slice(alloc, &[first, second])?;
+    Ok(Wanted::Within(limits))
+}
+
+// One less than the number, where an `i64` can be that.
+fn one_less(number: i64) -> i64
+    ensures { IsOneLess number result }
+{
+    number.saturating_sub(1)
 }

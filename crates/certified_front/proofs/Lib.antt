@@ -4,3 +4,4 @@ pub mod Boards
 pub mod PreparedLines
 pub mod AdvisedLines
 pub mod BoostedFronts
+pub mod Reordering

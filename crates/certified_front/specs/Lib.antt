@@ -2,6 +2,8 @@ pub use Rattle.oracle.specs.Solving
 pub use Rattle.log_checker.specs.Accepted
 pub use Rattle.recording.specs.Advice
 pub use Rattle.harden.specs.Hardened
+pub use Rattle.search_base.specs.CostBounds
+pub mod Orders
 pub mod Certified
 pub mod Planning
 pub mod Stopping

@@ -8,6 +8,7 @@ ghost use Rattle.certified_front.specs.Planning.{IsBoostedAtEnd};
 ghost use Rattle.certified_front.specs.Stopping.{SearchesFront};
 
 use crate::searching::front_over;
+use crate::term_order::ordered;
 use crate::{Ending, Found};
 use cdcl_laws::learned_is_counted;
 use core_boosting::{boost_all, boosted_stays};
@@ -18,7 +19,6 @@ use proof_rules::RecordFault;
 use search_base::{Search, logged_is_reached};
 use std::alloc::Global;
 use sum_outputs::in_memory;
-use term_order::ordered;
 use totalizer::Reform;
 
 // Boosts all objectives, and searches over what they are then. Where all clauses that may be learned are spent before,

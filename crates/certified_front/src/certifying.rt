@@ -9,6 +9,7 @@ ghost use Rattle.certified_front.specs.Stopping.{SearchesFront};
 use crate::boosting::front_boosted;
 use crate::preparing::prepare;
 use crate::searching::front_over;
+use crate::term_order::ordered;
 use crate::{Found, Plan};
 use alike::Alike;
 use instance::Instance;
@@ -18,7 +19,6 @@ use proof_rules::RecordFault;
 use search_base::{Search, own_reforms};
 use std::alloc::Global;
 use sum_outputs::in_memory;
-use term_order::ordered;
 
 /// Searches for the front of an instance, of which the problem is the normal form, over an oracle without lines, which it
 /// leaves with a proof: by this search, after what the plan says. `Complete` where the proof has ended, `Incomplete` where

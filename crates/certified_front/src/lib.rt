@@ -9,8 +9,11 @@
 mod boosting;
 mod certifying;
 mod ending;
+mod limits;
 mod preparing;
 mod searching;
+mod sharing;
+mod term_order;
 
 pub use certifying::certified_front;
 pub use ending::{Ending, Found};

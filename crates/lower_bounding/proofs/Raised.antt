@@ -4,20 +4,19 @@ use Rattle.std.specs.Prelude.{slice_index_or}
 use Rattle.std.specs.Int.{int_min}
 use Rattle.std.proofs.lemmas.Int.{ints}
 use Rattle.std.proofs.lemmas.List.{length-map}
-use Rattle.std.proofs.lemmas.Slice.Zip.{AllZip-long}
 use Rattle.front_set.specs.Vector.{IsBelow}
 use Rattle.front_set.proofs.FrontLaws.{IsBelow-trans, length-IsBelow}
 use Rattle.pb_lin.specs.Problem.{ProblemValue, problem_costs}
 use Rattle.proof_rules.specs.Recording.{Snapshot}
 use Rattle.search_base.specs.Boards.{BoardValue}
 use Rattle.search_base.specs.Logged.{Logs, LogsNone}
-use Rattle.search_base.specs.CostBounds.{BoundsRow, FitBounds, IsNextValue}
+use Rattle.search_base.specs.CostBounds.{IsNextValue}
 use Rattle.search_base.specs.Turns.{IsTaken}
 use Rattle.search_base.specs.declared.objective_bound.ObjectiveBound.{ObjectiveBound}
-use Rattle.search_questions.specs.Telling.{CanRise, IsStanding, StandInTheWay, Tells, number_at, stands_at}
-use Rattle.search_questions.specs.declared.below.Below.{Below}
-use Rattle.search_questions.specs.declared.below.Below.TheVariants.{Model, End, Above}
-use Rattle.search_questions.proofs.Remaining.{below_at}
+use Rattle.relaxations.specs.Telling.{CanRise, IsStanding, StandInTheWay, Tells, number_at, stands_at}
+use Rattle.relaxations.specs.declared.below.Below.{Below}
+use Rattle.relaxations.specs.declared.below.Below.TheVariants.{Model, End, Above}
+use Rattle.relaxations.proofs.Remaining.{below_at}
 use Rattle.lower_bounding.specs.Fences.{FenceValue, Serves, greatest_cost, own_number, room, FindsInside, HasRisen, Raises}
 use Rattle.lower_bounding.specs.Raising.{AreLimits, CanRaise, IsLimit, IsRaised, RisesWhere, TellsOfFence}
 use Rattle.lower_bounding.proofs.Vectors.{below_from, costs_within, room_less}
@@ -157,11 +156,6 @@ module _ (s : FenceValue) (p : ProblemValue) (serves : Serves s p) (stands : Lis
   }
 
 -- ---- a turn
-
--- a bound for each objective
-pub bounds_length : (m : Snapshot) (bounds : List ObjectiveBound) → FitBounds m bounds
-    → length bounds ≡ length m.problem.costs
-bounds_length m bounds fits = AllZip-long (BoundsRow m) m.problem.costs bounds fits.rows
 
 pub finds_inside : (a m b : Snapshot) {front : BoardValue} (x : List Bool) (fence : List ℤ) → m.problem ≡ a.problem
     → LogsNone a.problem a.lines m.lines → IsBelow (problem_costs m.problem x) fence → IsTaken m b front x

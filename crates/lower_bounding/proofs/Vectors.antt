@@ -6,8 +6,8 @@ use Rattle.std.proofs.lemmas.Int.{ints}
 use Rattle.std.proofs.lemmas.List.{get_or_append_left, get_or_push}
 use Rattle.front_set.specs.Vector.{is_below, IsBelow}
 use Rattle.pb_lin.specs.CostRow.{CostRowValue, row_cost}
-use Rattle.search_questions.specs.Telling.{number_at}
-use Rattle.search_questions.proofs.Remaining.{parts_of}
+use Rattle.relaxations.specs.Telling.{number_at}
+use Rattle.relaxations.proofs.Remaining.{parts_of}
 use Rattle.sum_outputs.proofs.Glue.{value-le-total}
 use Rattle.lower_bounding.specs.Fences.{greatest_cost, room}
 

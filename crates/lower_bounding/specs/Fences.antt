@@ -8,7 +8,7 @@ use Rattle.proof_rules.specs.Recording.{Snapshot}
 use Rattle.search_base.specs.Logged.{Logs}
 use Rattle.search_base.specs.declared.turn.Turn.{Turn}
 use Rattle.search_base.specs.declared.turn.Turn.TheVariants.{Found, Moved, Finished}
-use Rattle.search_questions.specs.Telling.{IsRemainingAt, number_at}
+use Rattle.relaxations.specs.Telling.{IsRemainingAt, number_at}
 
 -- upper bounds of the costs, and what each cost is at most
 pub record FenceValue : Type 0 where

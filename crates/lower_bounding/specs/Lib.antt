@@ -1,4 +1,4 @@
 pub use Rattle.search_base.specs.Turns
-pub use Rattle.search_questions.specs.Telling
+pub use Rattle.relaxations.specs.Telling
 pub mod Fences
 pub mod Raising

@@ -4,9 +4,9 @@ use Rattle.front_set.specs.Vector.{IsBelow}
 use Rattle.pb_lin.specs.Problem.{problem_costs}
 use Rattle.proof_rules.specs.Recording.{Snapshot}
 use Rattle.search_base.specs.Turns.{IsEndLine, IsTakable}
-use Rattle.search_questions.specs.Telling.{IsStanding, StandInTheWay, number_at, stands_at}
-use Rattle.search_questions.specs.declared.below.Below.{Below}
-use Rattle.search_questions.specs.declared.below.Below.TheVariants.{Model, End, Above}
+use Rattle.relaxations.specs.Telling.{IsStanding, StandInTheWay, number_at, stands_at}
+use Rattle.relaxations.specs.declared.below.Below.{Below}
+use Rattle.relaxations.specs.declared.below.Below.TheVariants.{Model, End, Above}
 use Rattle.lower_bounding.specs.Fences.{FenceValue}
 
 -- ---- limits

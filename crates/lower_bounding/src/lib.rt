@@ -4,6 +4,7 @@
 //! Its public contract: `LowerBounding` is a `Search`, whose turns say besides what each makes of its fence.
 #![tactic(auto)]
 
+mod fence;
 mod limits;
 mod lower_bounding;
 mod raising;

@@ -2,19 +2,15 @@
 ghost use Rattle.std.specs.Prelude.{◌≡◌, None, Ok, IfOk, IfErr, map};
 ghost use Rattle.search_base.specs.Good.{GoesOn, IsGood, KeepsBoard};
 ghost use Rattle.search_base.specs.Turns.{IsInOrder, IsSearchFault, IsTurn};
-ghost use Rattle.search_questions.specs.Telling.{IsGoodWithSome, SeeksOn};
 ghost use Rattle.lower_bounding.specs.Fences.{MovesFence, Serves, own_number};
-ghost use Rattle.lower_bounding.specs.Raising.{TellsOfFence};
 
-use crate::limits::limits;
-use crate::raising::raised;
-use crate::tops::greatest_cost;
+use crate::fence::Fence;
 use front_set::CostVec;
 use oracle::{Oracle, OracleFault};
 use pb_lin::PbProblem;
-use scut_base::{Items, NoMemory};
+use relaxations::Relaxations;
+use scut_base::NoMemory;
 use search_base::{Board, Bounds, Search, Turn};
-use search_questions::{Below, Relaxations};
 use std::alloc::Global;
 use std::marker::Model;
 
@@ -22,10 +18,7 @@ use std::marker::Model;
 /// stand in the way rise. Linear relaxations of the problem are asked before the oracle.
 #[derive(Drop)]
 pub struct LowerBounding {
-    alloc: Global,
-    fence: CostVec,
-    // What each cost is at most. The fence stays below it.
-    tops: CostVec,
+    fence: Fence,
     relaxations: Relaxations,
 }
 
@@ -34,7 +27,7 @@ impl Model for LowerBounding {
 
     ghost Value = { FenceValue };
 
-    ghost view = { λ s. record { fence = s.fence; tops = s.tops } };
+    ghost view = { λ s. s.fence };
 }
 
 impl LowerBounding {
@@ -44,16 +37,8 @@ impl LowerBounding {
         ensures fence { IfOk result (λ s. s.fence ≡ map (λ r. r.offset) problem.now.costs) }
         ensures serves { IfOk result (λ s. Serves s problem.now) }
     {
-        let mut fence = Items::new(alloc);
-        let mut tops = Items::new(alloc);
-        for row in problem.costs() {
-            fence.push(row.offset())?;
-            tops.push(greatest_cost(row))?;
-        }
         Ok(LowerBounding {
-            alloc,
-            fence: CostVec::from_items(fence),
-            tops: CostVec::from_items(tops),
+            fence: Fence::around(alloc, problem)?,
             relaxations: Relaxations::new(alloc, problem)?,
         })
     }
@@ -62,37 +47,7 @@ impl LowerBounding {
     pub fn fence(&self) -> &CostVec
         ensures { result.now ≡ self.now.fence }
     {
-        &self.fence
-    }
-
-    // Whether a model is left whose costs are at most the fence.
-    fn seek<O: Oracle>(
-        &mut self,
-        oracle: &mut O,
-        bounds: &mut Bounds,
-        board: &Board<'_>,
-    ) -> Result<Below, OracleFault>
-        requires good { IsGoodWithSome (O.seen oracle.old) bounds.old }
-        requires problem { (O.seen oracle.old).problem ≡ board.now.problem }
-        requires serves { Serves self.old (O.seen oracle.old).problem }
-        ensures tells { IfOk result (TellsOfFence (O.seen oracle.new) self.old) }
-        ensures same { self.new ≡ self.old }
-        ensures seeks { SeeksOn (O.seen oracle.old) (O.seen oracle.new) bounds.old bounds.new result }
-    {
-        let limits = limits(self.alloc, &self.fence, &self.tops)?;
-        let problem = board.problem();
-        self.relaxations
-            .seek_below(oracle, bounds, problem, &limits)
-    }
-
-    // Takes the vector that was logged last out of the relaxations' boxes.
-    fn exclude_last(&mut self, board: &Board<'_>) -> Result<(), NoMemory>
-        ensures { self.new ≡ self.old }
-    {
-        match board.last() {
-            Some(last) => self.relaxations.exclude(last),
-            None => Ok(()),
-        }
+        self.fence.costs()
     }
 }
 
@@ -142,18 +97,7 @@ impl Search for LowerBounding {
         ensures goes_on { GoesOn (O.seen oracle.old) (O.seen oracle.new) }
         ensures board { KeepsBoard board.old board.new }
     {
-        match self.seek(oracle, bounds, board)? {
-            Below::Model(model) => {
-                board.take(oracle, bounds, &model)?;
-                self.exclude_last(board)?;
-                Ok(Turn::Found)
-            }
-            Below::End { id } => Ok(Turn::Finished { id }),
-            Below::Above { stands } => {
-                let stands = stands.as_slice();
-                self.fence = raised(self.alloc, bounds, &self.fence, &self.tops, stands)?;
-                Ok(Turn::Moved)
-            }
-        }
+        self.relaxations
+            .turn(&mut self.fence, oracle, bounds, board)
     }
 }

@@ -12,9 +12,9 @@ use Rattle.search_base.specs.Boards.{BoardValue, IsBoard}
 use Rattle.search_base.specs.Logged.{Logs, LogsNone, logged}
 use Rattle.search_base.specs.Turns.{IsEndLine, IsTaken}
 use Rattle.search_base.proofs.PutEntries.{last_of_more}
-use Rattle.search_questions.specs.Telling.{IsStanding}
-use Rattle.search_questions.specs.declared.below.Below.TheVariants.{Model, End, Above}
-use Rattle.search_questions.proofs.Remaining.{none_left}
+use Rattle.relaxations.specs.Telling.{IsStanding}
+use Rattle.relaxations.specs.declared.below.Below.TheVariants.{Model, End, Above}
+use Rattle.relaxations.proofs.Remaining.{none_left}
 use Rattle.p_minimal.specs.Aiming.{AimsLower, GivesUp, Serves, TellsOfAim, own_number}
 
 lower : (costs at : List ℤ) (aim : Option (List ℤ)) → IsBelow costs at → IfSome aim (λ v. IsBelow at v)

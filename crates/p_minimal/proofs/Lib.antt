@@ -1,2 +1,1 @@
 pub mod Aims
-mod Limits

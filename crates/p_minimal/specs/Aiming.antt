@@ -7,8 +7,8 @@ use Rattle.search_base.specs.Logged.{Logs}
 use Rattle.search_base.specs.Turns.{IsRemaining}
 use Rattle.search_base.specs.declared.turn.Turn.{Turn}
 use Rattle.search_base.specs.declared.turn.Turn.TheVariants.{Found, Moved, Finished}
-use Rattle.search_questions.specs.Telling.{Tells, TellsAny}
-use Rattle.search_questions.specs.declared.below.Below.{Below}
+use Rattle.relaxations.specs.Telling.{Tells, TellsAny}
+use Rattle.relaxations.specs.declared.below.Below.{Below}
 
 -- 1 where there is an aim
 abbrev pub own_number : Option (List ℤ) → ℕ

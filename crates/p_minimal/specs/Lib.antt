@@ -1,3 +1,3 @@
 pub use Rattle.search_base.specs.Turns
-pub use Rattle.search_questions.specs.Telling
+pub use Rattle.relaxations.specs.Telling
 pub mod Aiming

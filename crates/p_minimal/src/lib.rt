@@ -5,7 +5,7 @@
 //! the oracle alone, and `PMinimal::relaxed` asks linear relaxations first; what they don't know goes to the oracle.
 #![tactic(auto)]
 
+mod aim;
 mod p_minimal;
-mod relaxed;
 
 pub use p_minimal::PMinimal;

@@ -4,7 +4,7 @@ use mir.Syntax.{w64}
 use Rattle.std.proofs.Common.{rules, ◌≡◌, ℕ, ◌+◌, ◌<◌, List, [], ◌∷◌, ◌++◌, length, get_or, ap, sym, subst, ◌∙◌, arith, ℤ, pos}
 use Rattle.std.proofs.lemmas.Int.{to_z-of_z}
 use Rattle.std.proofs.lemmas.List.{length_push}
-use Rattle.search_questions.specs.Telling.{number_at}
+use Rattle.relaxations.specs.Telling.{number_at}
 use Rattle.lower_bounding.specs.Raising.{IsLimit}
 use Rattle.lower_bounding.proofs.Vectors.{numbers_more}
 use Rattle.lower_bounding.proofs.limits.limits.Goals as goal

@@ -1,6 +1,6 @@
 -- The limits so far.
 use Rattle.std.proofs.Common.{◌≡◌, ◌<◌, ℕ, length}
-use Rattle.search_questions.specs.Telling.{number_at}
+use Rattle.relaxations.specs.Telling.{number_at}
 use Rattle.lower_bounding.specs.Raising.{IsLimit}
 use Rattle.lower_bounding.proofs.limits.limits.Given as goal
 

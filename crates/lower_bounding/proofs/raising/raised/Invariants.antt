@@ -1,6 +1,6 @@
 -- The numbers so far.
 use Rattle.std.proofs.Common.{◌≡◌, ◌<◌, ℕ, length}
-use Rattle.search_questions.specs.Telling.{number_at, stands_at}
+use Rattle.relaxations.specs.Telling.{number_at, stands_at}
 use Rattle.lower_bounding.specs.Raising.{RisesWhere}
 use Rattle.lower_bounding.proofs.raising.raised.Given as goal
 

@@ -1,9 +1,0 @@
-use Rattle.sum_outputs.proofs.LaterStates.{continues_again}
-use Rattle.linear_lines.proofs.Answering.{memory_handed}
-use Rattle.linear_front.proofs.asking.Asking.answer_further.Goals as goal
-
-pub returns-in_err-lits-clause-recorded : goal.returns-in_err-lits-clause-recorded
-returns-in_err-lits-clause-recorded g c =
-    let a = let R = g.R.Recorder in R.seen c.args.rec.now in
-    memory_handed a a c.in_err-lits.field-0.0 c.from_residual.result (continues_again a)
-    c.in_err-lits.ensures.fault c.from_residual.ensures.1

@@ -1,5 +1,0 @@
-use Rattle.sum_outputs.proofs.OutputsLater.{IsUnderWay}
-use Rattle.linear_front.proofs.asking.Asking.cut_at.Given as goal
-
-abbrev pub invariant-loop-objective : goal.invariant-loop-objective
-invariant-loop-objective g l = let R = g.R.Recorder in IsUnderWay (R.seen l.initial.rec) (R.seen l.rec)

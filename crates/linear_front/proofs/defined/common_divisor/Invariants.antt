@@ -1,4 +1,0 @@
-use Rattle.linear_front.proofs.defined.common_divisor.Given as goal
-
-abbrev pub decreases-loop-rest : goal.decreases-loop-rest
-decreases-loop-rest l = l.rest

@@ -1,6 +1,0 @@
-use Rattle.std.proofs.Common.{take}
-use Rattle.open_boxes.specs.Boxes.{Excludes}
-use Rattle.open_boxes.proofs.boxes.OpenBoxes.exclude.Given as goal
-
-abbrev pub invariant-loop-limits : goal.invariant-loop-limits
-invariant-loop-limits l = Excludes (take l.limits-index l.limits-items) l.remaining.items l.costs

@@ -1,3 +1,0 @@
-pub use Rattle.front_set.specs.Vector
-pub mod Boxes
-pub mod Parts

@@ -1,0 +1,12 @@
+pub use Rattle.front_set.specs.Vector
+pub use Rattle.search_base.specs.Turns
+pub mod Boxes
+pub mod Parts
+pub mod Told
+pub mod Ending
+pub mod Telling
+pub mod Questions
+pub mod Cores
+pub mod Spending
+pub mod Wanting
+pub mod Aims

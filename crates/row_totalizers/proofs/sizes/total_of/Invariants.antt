@@ -1,6 +1,0 @@
-use Rattle.std.proofs.Common.{◌≡◌, take}
-use Rattle.pb_lin.specs.Constraint.{total}
-use Rattle.row_totalizers.proofs.sizes.total_of.Given as goal
-
-abbrev pub invariant-loop-term : goal.invariant-loop-term
-invariant-loop-term l = l.sum ≡ total (take l.term-index l.terms)

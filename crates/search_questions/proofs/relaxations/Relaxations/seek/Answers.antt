@@ -1,7 +1,0 @@
--- Nothing was asked.
-use Rattle.std.proofs.Common.{None}
-use Rattle.search_questions.proofs.Calls.{seeks_nothing}
-use Rattle.search_questions.proofs.relaxations.Relaxations.seek.Goals as goal
-
-pub returns-then-is_spent-clause-seeks : goal.returns-then-is_spent-clause-seeks
-returns-then-is_spent-clause-seeks g c = seeks_nothing (g.O.Recorder.seen c.args.oracle.now) c.args.bounds.now None

@@ -1,6 +1,0 @@
--- No limit has risen.
-use Rattle.front_set.specs.Vector.{IsBelow}
-use Rattle.search_questions.proofs.relaxations.part_of.Given as goal
-
-abbrev pub invariant-loop-objective : goal.invariant-loop-objective
-invariant-loop-objective l = IsBelow l.part l.limits

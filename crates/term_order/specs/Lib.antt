@@ -1,2 +1,0 @@
-pub use Rattle.search_base.specs.CostBounds
-pub mod Orders
