@@ -1,7 +1,7 @@
 -- What is answered by a part of a run, as an answer of the whole.
-use Rattle.std.proofs.Common.{◌≡◌, ℕ, suc, zero, ◌<◌, ◌≤◌, ◌^◌, List, [], ◌∷◌, length, get_or, refl, sym, ap₂, subst, inl, inr, arith, ◌∙◌}
-use Rattle.std.specs.Prelude.{Option}
-use Rattle.scut_base.specs.Files.{Files}
+use Rattle.std.proofs.Common.{◌≡◌, ◌⊎◌, ℕ, suc, zero, ◌<◌, ◌≤◌, ◌^◌, List, [], ◌∷◌, length, get_or, refl, sym, ap₂, subst, inl, inr, arith, ◌∙◌}
+use Rattle.std.specs.Prelude.{Option, None, Some}
+use Rattle.scut_base.specs.Files.{Files, followed, IsPartlyFollowed}
 use Rattle.scut_base.specs.Faults.{Faults, NoneFell, Rose}
 use Rattle.scut_base.specs.World.{World}
 use Rattle.scut_base.specs.declared.shelf.ShelfFault.{ShelfFault}
@@ -10,16 +10,24 @@ use Rattle.instance.specs.declared.fault.BadKind.{BadKind}
 use Rattle.instance.specs.declared.fault.InstanceLimit.{InstanceLimit}
 use Rattle.instance.specs.declared.fault.InstanceLimit.TheVariants.{Bytes}
 use Rattle.instance.specs.declared.fault.ReadFault.TheVariants.{Bad, Limit}
-use Rattle.command_base.specs.Answering.{Answered, AnyRose, Call, CallRose, CallOf, EachOf, OwnRose, reading}
-use Rattle.command_base.specs.Causes.{IsRefused}
+use Rattle.log_checker.specs.ListFaults.{IsListFault}
+use Rattle.log_checker.specs.declared.fault.CheckFault.TheVariants.{ListRefused}
+use Rattle.log_checker.specs.declared.fault.ListWhy.{ListWhy}
+use Rattle.command_base.specs.Answering.{Answered, AnyRose, Call, CallRose, CallOf, EachOf, OwnRose, Runs, UsageTable, calls_of, reading, saying, table_of}
+use Rattle.command_base.specs.Causes.{HasCauseIn, HasText, IsRefused}
+use Rattle.command_base.specs.Inputs.{OfInstance, OfList}
+use Rattle.command_base.specs.Messages.{said_of}
+use Rattle.command_base.specs.Saying.{IsPartlySaid, IsSaid, Says}
 use Rattle.command_base.specs.InstanceFile.{HasFault}
 use Rattle.command_base.specs.Statuses.{status_of_shelf}
-use Rattle.command_base.specs.Stops.{IsInputStop, status_of_input}
+use Rattle.command_base.specs.Stops.{IsInputStop, IsListedStop, status_of_input, status_of_list}
 use Rattle.command_base.specs.Views.{OnlyReads, View, view}
 use Rattle.command_base.specs.declared.instance_file.Format.{Format}
 use Rattle.command_base.specs.declared.status.Status.{Status}
-use Rattle.command_base.specs.declared.status.Status.TheVariants.{BadInput, TooLarge, NoMemory, ShelfFailed}
+use Rattle.command_base.specs.declared.status.Status.TheVariants.{BadInput, Refused, TooLarge, NoMemory, ShelfFailed}
 use Rattle.command_base.specs.declared.stops.InputStop.{InputStop}
+use Rattle.command_base.specs.declared.stops.ListStop.{ListStop}
+use Rattle.command_base.specs.declared.stops.ListStop.TheVariants.{Input as InputStopped, Refused as ListWrong, Large as ListLarge, NoMemory as ListMemory, ShelfFailed as ListFailed}
 use Rattle.command_base.specs.declared.stops.InputStop.TheVariants.{Bad as BadText, Limit as LimitReached, Large as InputLarge, NoMemory as InputMemory, ShelfFailed as InputFailed}
 
 -- ---- own calls
@@ -81,12 +89,18 @@ reads_then a b c first second = record {
   later = λ call name. omega (arith, first.later call name, second.later call name);
 }
 
-pub earlier : (Table : Status → View → View → Type 0) (own : List Call) (status : Status) (before mid after : World) → OnlyReads before mid → Answered Table own status mid after → Answered Table own status before after
-earlier Table own status before mid after reads was = record {
-  table = subst (λ (v : View). Table status v (view after)) (view_kept before mid reads) was.table;
-  cause = λ failed. own_rose_at_last own before.faults mid.faults after.faults reads.later (subst (λ (files : Option Files). OwnRose own files mid.faults after.faults) reads.files (was.cause failed));
-  later = λ call name. omega (arith, reads.later call name, was.later call name);
+pub earlier : (Table : Status → View → View → Type 0) (own : List Call) (status : Status) (before mid after : World) → OnlyReads before mid → Runs Table own status mid after → Runs Table own status before after
+earlier Table own status before mid after reads runs = record {
+  answered = record {
+    table = subst (λ (v : View). Table status v (view after)) (view_kept before mid reads) was.table;
+    cause = λ failed. own_rose_at_last own before.faults mid.faults after.faults reads.later (subst (λ (files : Option Files). OwnRose own files mid.faults after.faults) reads.files (was.cause failed));
+    later = λ call name. omega (arith, reads.later call name, was.later call name);
+  };
+  warned = runs.warned ∙ reads.warned;
 }
+  where
+    was : Answered Table own status mid after
+    was = runs.answered
 
 -- what follows changes nothing but counts of faults
 pub later_too : (Table : Status → View → View → Type 0) (own : List Call) (status : Status) (before mid after : World) → Answered Table own status before mid → after.files ≡ mid.files → after.said ≡ mid.said → NoneFell mid.faults after.faults → Answered Table own status before after
@@ -97,6 +111,10 @@ later_too Table own status before mid after was files said later = record {
 }
 
 -- ---- ends
+
+-- an end of a part of a run that reads
+pub read_ended : (Table : Status → View → View → Type 0) (own : List Call) (status : Status) (before after : World) → OnlyReads before after → Table status (view before) (view after) → (status ≡ ShelfFailed → OwnRose own before.files before.faults after.faults) → Runs Table own status before after
+read_ended Table own status before after reads row cause = record { answered = record { table = row; cause = cause; later = reads.later }; warned = reads.warned }
 
 -- an end of which no fault is the cause
 pub ended : (Table : Status → View → View → Type 0) (own : List Call) (status : Status) (before after : World) → Table status (view before) (view after) → (status ≡ ShelfFailed → ⊥) → NoneFell before.faults after.faults → Answered Table own status before after
@@ -119,15 +137,57 @@ pub record TakesInput (Table : Status → View → View → Type 0) (format : Fo
   pub failed : after ≡ before → Table ShelfFailed before after
 
 pub input_stopped : (Table : Status → View → View → Type 0) (own : List Call) (format : Format) (input : List ℕ) (stop : InputStop) (before after : World) → TakesInput Table format input (view before) (view after) → IsOwn own (reading input)
-    → IsInputStop format input stop before.files before.faults after.faults → OnlyReads before after → Answered Table own (status_of_input stop) before after
+    → IsInputStop format input stop before.files before.faults after.faults → OnlyReads before after → Runs Table own (status_of_input stop) before after
 input_stopped Table own format input (BadText line kind) before after rows there stop reads =
-    record { table = rows.bad line kind (record { cause = stop; same = view_kept before after reads }); cause = λ is. absurd cc; later = reads.later }
+    read_ended Table own (BadInput line kind) before after reads (rows.bad line kind (record { cause = stop; same = view_kept before after reads })) (λ is. absurd cc)
 input_stopped Table own format input (LimitReached zero which) before after rows there stop reads = absurd (omega (arith, stop.0))
 input_stopped Table own format input (LimitReached (suc line) which) before after rows there stop reads =
-    record { table = rows.limit line which (record { cause = stop.1; same = view_kept before after reads }); cause = λ is. absurd cc; later = reads.later }
+    read_ended Table own (TooLarge (suc line) which) before after reads (rows.limit line which (record { cause = stop.1; same = view_kept before after reads })) (λ is. absurd cc)
 input_stopped Table own format input InputLarge before after rows there stop reads =
-    record { table = rows.large (record { cause = stop; same = view_kept before after reads }); cause = λ is. absurd cc; later = reads.later }
-input_stopped Table own format input InputMemory before after rows there stop reads =
-    record { table = rows.memory (view_kept before after reads); cause = λ is. absurd cc; later = reads.later }
+    read_ended Table own (TooLarge 0 Bytes) before after reads (rows.large (record { cause = stop; same = view_kept before after reads })) (λ is. absurd cc)
+input_stopped Table own format input InputMemory before after rows there stop reads = read_ended Table own NoMemory before after reads (rows.memory (view_kept before after reads)) (λ is. absurd cc)
 input_stopped Table own format input InputFailed before after rows there stop reads =
-    record { table = rows.failed (view_kept before after reads); cause = λ is. own_rose own (reading input) before.faults after.faults there stop; later = reads.later }
+    read_ended Table own ShelfFailed before after reads (rows.failed (view_kept before after reads)) (λ is. own_rose own (reading input) before.faults after.faults there stop)
+
+-- the same where a list is read too
+pub record TakesListed (Table : Status → View → View → Type 0) (format : Format) (input list : List ℕ) (before after : View) : Type 0 where
+  pub first : TakesInput Table format input before after
+  pub refused : (k : ℕ) (why : ListWhy) → HasCauseIn before after (OfList before.files format input list (λ i listed. IsListFault i listed k why)) → Table (Refused (ListRefused k why)) before after
+  pub large : HasCauseIn before after (OfInstance before.files format input (λ i. HasText before.files list (λ listed. 2 ^ 32 ≤ length listed))) → Table (TooLarge 0 Bytes) before after
+
+pub listed_stopped : (Table : Status → View → View → Type 0) (own : List Call) (format : Format) (input list : List ℕ) (stop : ListStop) (before after : World) → TakesListed Table format input list (view before) (view after) → IsOwn own (reading input) → IsOwn own (reading list)
+    → IsListedStop format input list stop before.files before.faults after.faults → OnlyReads before after → Runs Table own (status_of_list stop) before after
+listed_stopped Table own format input list (InputStopped stop) before after rows there list_there why reads = input_stopped Table own format input stop before after rows.first there why reads
+listed_stopped Table own format input list (ListWrong k why) before after rows there list_there is reads =
+    read_ended Table own (Refused (ListRefused k why)) before after reads (rows.refused k why (record { cause = is; same = view_kept before after reads })) (λ failed. absurd cc)
+listed_stopped Table own format input list ListLarge before after rows there list_there is reads =
+    read_ended Table own (TooLarge 0 Bytes) before after reads (rows.large (record { cause = is; same = view_kept before after reads })) (λ failed. absurd cc)
+listed_stopped Table own format input list ListMemory before after rows there list_there is reads =
+    read_ended Table own NoMemory before after reads (rows.first.memory (view_kept before after reads)) (λ failed. absurd cc)
+listed_stopped Table own format input list ListFailed before after rows there list_there is reads =
+    read_ended Table own ShelfFailed before after reads (rows.first.failed (view_kept before after reads)) (λ failed. own_rose own (reading list) before.faults after.faults list_there is)
+
+-- ---- the last call says something
+
+module _ (Table : Status → View → View → Type 0) (own : List Call) (status : Status) (before mid after : World) (there : IsOwn own saying) (other : status ≡ ShelfFailed → ⊥) (first : NoneFell before.faults mid.faults) (quiet : mid.warned ≡ before.warned)
+    (whole : after.said ≡ followed mid.said (said_of status) → Table status (view before) (view after))
+    (partly : IsPartlyFollowed mid.said after.said (said_of status) → Table NoMemory (view before) (view after) × Table ShelfFailed (view before) (view after)) where
+  answered_last : (result : Status) → NoneFell mid.faults after.faults → IsSaid status result mid after ⊎ IsPartlySaid status result mid after → Answered Table own result before after
+  answered_last result later (inl said) = subst (λ (s : Status). Answered Table own s before after) (sym said.same) (ended Table own status before after (whole said.said) other (λ call name. omega (arith, first call name, later call name)))
+  answered_last result later (inr part) =
+      subst (λ (s : Status). Answered Table own s before after) (sym part.same)
+      (shelf_fault Table own part.fault before after (partly part.said).0 (partly part.said).1
+      (λ failed. own_rose_at_last own before.faults mid.faults after.faults first (own_rose own saying mid.faults after.faults there (part.failed failed)))
+      (λ call name. omega (arith, first call name, later call name)))
+
+  pub said_last : (result : Status) → Says status result mid after → Runs Table own result before after
+  said_last result says = record { answered = answered_last result says.later says.said; warned = says.warned ∙ quiet }
+
+-- memory was wanted, and nothing has changed
+pub idle : (Table : Status → View → View → Type 0) (own : List Call) (w : World) → Table NoMemory (view w) (view w) → Runs Table own NoMemory w w
+idle Table own w row = record { answered = ended Table own NoMemory w w row (λ is. cc) (none_fell w.faults); warned = refl }
+
+-- the same of whatever words ask of a command
+pub wanted : {A : Type 0} (Table : A → Status → View → View → Type 0) (own : A → List Call) → ((a : A) (v : View) → Table a NoMemory v v) → (asked : Option A) (w : World) → Runs (table_of Table asked) (calls_of own asked) NoMemory w w
+wanted Table own undone None w = idle UsageTable [] w refl
+wanted Table own undone (Some a) w = idle (Table a) (own a) w (undone a (view w))

@@ -7,6 +7,7 @@ pub mod LogLines
 pub mod RewrittenLines
 pub mod RewrittenLogs
 pub mod ClapWords
+pub mod FileWords
 pub mod Answered
 pub mod Readable
 pub mod CheckerLaws

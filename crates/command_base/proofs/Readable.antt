@@ -9,14 +9,17 @@ use Rattle.instance.specs.Shape.{InstanceValue}
 use Rattle.instance.specs.declared.fault.InstanceLimit.TheVariants.{Bytes}
 use Rattle.instance.specs.declared.fault.ReadFault.{ReadFault}
 use Rattle.instance.specs.declared.fault.ReadFault.TheVariants.{Bad, Limit}
+use Rattle.log_checker.specs.ListFaults.{IsListFault}
+use Rattle.log_checker.specs.declared.fault.ListWhy.{ListWhy}
 use Rattle.command_base.specs.Causes.{HasText}
+use Rattle.command_base.specs.Inputs.{OfList}
 use Rattle.command_base.specs.InputTable.{InputTable}
 use Rattle.command_base.specs.InstanceFile.{IsTextOf, HasFault}
 use Rattle.command_base.specs.Views.{View}
 use Rattle.command_base.specs.declared.instance_file.Format.{Format}
 use Rattle.command_base.specs.declared.status.Status.{Status}
 use Rattle.command_base.specs.declared.status.Status.TheVariants.{BadInput, TooLarge}
-use Rattle.command_base.proofs.InstanceFiles.{no_fault_spelled}
+use Rattle.command_base.proofs.InstanceFiles.{no_fault_spelled, one_in}
 
 -- what is said of the file's text, where this is the text
 pub of_text : (files : Option Files) (name text : List ℕ) (P : List ℕ → Type 0) → content files name ≡ Some text → HasText files name P → P text
@@ -41,3 +44,11 @@ readable format input text i (TooLarge zero Bytes) before after there spelled wa
 readable format input text i (TooLarge line which) before after there spelled was =
     no_fault format text i _ spelled (of_text before.files input text (HasFault format (Limit line which)) there was.cause)
 readable format input text i status before after there spelled was = was
+
+-- what is wrong with the list of an instance that is spelled
+pub list_fault : (format : Format) (input list : List ℕ) (files : Option Files) (text listed : List ℕ) (i : InstanceValue) → content files input ≡ Some text → IsTextOf format i text → content files list ≡ Some listed → (k : ℕ) (why : ListWhy)
+    → OfList files format input list (λ j bytes. IsListFault j bytes k why) → IsListFault i listed k why
+list_fault format input list files text listed i there spelled list_there k why of =
+    let has = of_text files input text (λ bytes. (j : InstanceValue) × IsTextOf format j bytes × HasText files list (λ bytes'. (length bytes' < 2 ^ 32) × IsListFault j bytes' k why)) there of in
+    let fault = of_text files list listed (λ bytes. (length bytes < 2 ^ 32) × IsListFault has.0 bytes k why) list_there has.2 in
+    subst (λ (j : InstanceValue). IsListFault j listed k why) (one_in format text has.0 i has.1.spelled spelled.spelled) fault.1

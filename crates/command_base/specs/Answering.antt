@@ -1,5 +1,5 @@
 -- What every command answers, whatever it is: a row of its own table, and a cause of a fault.
-use Rattle.std.specs.Prelude.{◌≡◌, ◌≢◌, ◌⊎◌, ℕ, List, [], ◌∷◌, Option}
+use Rattle.std.specs.Prelude.{◌≡◌, ◌≢◌, ◌⊎◌, ℕ, List, [], ◌∷◌, Option, Some, None}
 use Rattle.scut_base.specs.Faults.{Faults, NoneFell, Rose, count}
 use Rattle.scut_base.specs.Files.{Files}
 use Rattle.scut_base.specs.World.{World}
@@ -58,6 +58,11 @@ pub record Answered (Table : Status → View → View → Type 0) (own : List Ca
   pub cause : status ≡ ShelfFailed → OwnRose own before.files before.faults after.faults
   pub later : NoneFell before.faults after.faults
 
+-- It answers so, and warns of nothing.
+pub record Runs (Table : Status → View → View → Type 0) (own : List Call) (status : Status) (before after : World) : Type 0 where
+  pub answered : Answered Table own status before after
+  pub warned : after.warned ≡ before.warned
+
 -- Where the files are as the command needs them and none of its own calls failed, the status is one of its ends, unless
 -- memory was wanted.
 abbrev pub Completes : (Needs : Option Files → Type 0) → ((files : Option Files) → Needs files → Status → Type 0) → List Call → Status → World → World → Type 0
@@ -69,3 +74,13 @@ abbrev pub UsageTable : Status → View → View → Type 0
 UsageTable Usage before after = after ≡ before
 UsageTable NoMemory before after = after ≡ before
 UsageTable status before after = ⊥
+
+-- ---- what words ask of a command, or nothing
+
+abbrev pub table_of : {A : Type 0} → (A → Status → View → View → Type 0) → Option A → Status → View → View → Type 0
+table_of Table None = UsageTable
+table_of Table (Some a) = Table a
+
+abbrev pub calls_of : {A : Type 0} → (A → List Call) → Option A → List Call
+calls_of own None = []
+calls_of own (Some a) = own a

@@ -14,6 +14,7 @@ pub mod Answering
 pub mod Causes
 pub mod InstanceFile
 pub mod InputTable
+pub mod Inputs
 pub mod Stops
 pub mod StopsFrom
 pub mod Taking
@@ -26,5 +27,7 @@ pub mod WholeFile
 pub mod Statuses
 pub mod Refusals
 pub mod Messages
+pub mod Saying
 pub mod CommandWords
+pub mod FileWords
 pub mod ListSizes

@@ -9,6 +9,7 @@ use Rattle.proof_laws.specs.declared.why.Why.{Why}
 use Rattle.log_checker.specs.declared.fault.CheckFault.TheVariants.{Refused as LineRefused, ListRefused}
 use Rattle.log_checker.specs.ListFaults.{IsListFault}
 use Rattle.command_base.specs.Causes.{HasText}
+use Rattle.command_base.specs.Inputs.{OfInstance, OfList}
 use Rattle.command_base.specs.InstanceFile.{HasFault}
 use Rattle.command_base.specs.Taking.{IsTakenFault, IsTooLarge}
 use Rattle.command_base.specs.declared.instance_file.Format.{Format}
@@ -17,7 +18,7 @@ use Rattle.command_base.specs.declared.status.Status.TheVariants.{Refused, BadIn
 use Rattle.command_base.specs.declared.stops.InputStop.{InputStop}
 use Rattle.command_base.specs.declared.stops.InputStop.TheVariants.{Bad as BadText, Limit as LimitReached, Large as InputLarge, NoMemory as InputMemory, ShelfFailed as InputFailed}
 use Rattle.command_base.specs.declared.stops.ListStop.{ListStop}
-use Rattle.command_base.specs.declared.stops.ListStop.TheVariants.{Refused as ListWrong, Large as ListLarge, NoMemory as ListMemory, ShelfFailed as ListFailed}
+use Rattle.command_base.specs.declared.stops.ListStop.TheVariants.{Input as InputStopped, Refused as ListWrong, Large as ListLarge, NoMemory as ListMemory, ShelfFailed as ListFailed}
 use Rattle.command_base.specs.declared.stops.LogStop.{LogStop}
 use Rattle.command_base.specs.declared.stops.LogStop.TheVariants.{Refused as LineWrong, Large as LogLarge, NoMemory as LogMemory, ShelfFailed as LogFailed}
 
@@ -31,12 +32,21 @@ IsInputStop format input InputLarge files before after = HasText files input (λ
 IsInputStop format input InputMemory files before after = Unit {0}
 IsInputStop format input InputFailed files before after = ReadingFailed before after input
 
--- the list is refused, or too large
+-- the list of this instance is refused, or too large
 abbrev pub IsListStop : InstanceValue → List ℕ → ListStop → Option Files → Faults → Faults → Type 0
+IsListStop i list (InputStopped stop) files before after = ⊥
 IsListStop i list (ListWrong k why) files before after = HasText files list (λ listed. (length listed < 2 ^ 32) × IsListFault i listed k why)
 IsListStop i list ListLarge files before after = HasText files list (λ listed. 2 ^ 32 ≤ length listed)
 IsListStop i list ListMemory files before after = Unit {0}
 IsListStop i list ListFailed files before after = ReadingFailed before after list
+
+-- the instance file is stopped at; or it spells an instance, whose list is
+abbrev pub IsListedStop : Format → (input list : List ℕ) → ListStop → Option Files → Faults → Faults → Type 0
+IsListedStop format input list (InputStopped stop) files before after = IsInputStop format input stop files before after
+IsListedStop format input list (ListWrong k why) files before after = OfList files format input list (λ i listed. IsListFault i listed k why)
+IsListedStop format input list ListLarge files before after = OfInstance files format input (λ i. HasText files list (λ listed. 2 ^ 32 ≤ length listed))
+IsListedStop format input list ListMemory files before after = Unit {0}
+IsListedStop format input list ListFailed files before after = ReadingFailed before after list
 
 -- a line of the log is refused, or the log is too large
 abbrev pub IsLogStop : (whole every : List ℕ → ℕ → Why → Type 0) → List ℕ → LogStop → Option Files → Faults → Faults → Type 0
@@ -55,6 +65,7 @@ status_of_input InputMemory = NoMemory
 status_of_input InputFailed = ShelfFailed
 
 abbrev pub status_of_list : ListStop → Status
+status_of_list (InputStopped stop) = status_of_input stop
 status_of_list (ListWrong entry why) = Refused (ListRefused entry why)
 status_of_list ListLarge = TooLarge 0 Bytes
 status_of_list ListMemory = NoMemory

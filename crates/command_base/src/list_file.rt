@@ -16,7 +16,7 @@ use scut_base::Shelf;
 use std::alloc::Global;
 
 /// The list of a file, where it is one of right entries; else its first fault, or that the file is too large.
-pub fn read_right_list<H: Shelf>(
+pub(crate) fn read_right_list<H: Shelf>(
     alloc: Global,
     inst: &Instance,
     list: &str,

@@ -24,6 +24,8 @@ pub enum InputStop {
 /// Why a list isn't taken.
 #[derive(Clone, Copy, Debug, PartialEq, Eq)]
 pub enum ListStop {
+    /// Its instance file isn't read.
+    Input(InputStop),
     /// This entry is the first that is wrong; 0 stands for the first line.
     Refused { entry: u64, why: ListWhy },
     /// It has too many bytes.
@@ -75,6 +77,7 @@ impl From<ListStop> for Status {
 
     fn from(stop: ListStop) -> Status {
         match stop {
+            ListStop::Input(stop) => Status::from(stop),
             ListStop::Refused { entry, why } => {
                 Status::Refused(CheckFault::ListRefused { entry, why })
             }
@@ -118,6 +121,17 @@ impl From<ShelfFault> for InputStop {
             ShelfFault::Failed => InputStop::ShelfFailed,
             ShelfFault::NoMemory => InputStop::NoMemory,
         }
+    }
+}
+
+impl From<NoMemory> for InputStop {
+    ghost use Rattle.std.specs.Prelude.{◌≡◌};
+    ghost use Rattle.command_base.specs.declared.stops.InputStop.TheVariants.{NoMemory};
+
+    ghost from_gives = { λ _ s. s ≡ NoMemory };
+
+    fn from(_: NoMemory) -> InputStop {
+        InputStop::NoMemory
     }
 }
 

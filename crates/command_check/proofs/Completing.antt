@@ -18,13 +18,14 @@ use Rattle.log_checker.specs.declared.fault.ListWhy.{ListWhy}
 use Rattle.log_checker.proofs.Unrefused.{accepted_unrefused}
 use Rattle.command_base.specs.Answering.{Answered}
 use Rattle.command_base.specs.Causes.{HasText}
+use Rattle.command_base.specs.Inputs.{OfList}
 use Rattle.command_base.specs.InstanceFile.{IsTextOf}
 use Rattle.command_base.specs.Views.{view}
 use Rattle.command_base.specs.declared.status.Status.{Status}
 use Rattle.command_base.specs.declared.status.Status.TheVariants.{Accepted, Refused, TooLarge, NoMemory, ShelfFailed}
 use Rattle.command_base.proofs.InstanceFiles.{one_in}
 use Rattle.command_base.proofs.Readable.{not_larger, of_text, readable}
-use Rattle.command_check.specs.Table.{AreCheckable, CheckCompletes, CheckTable, HasLargeFile, IsLineFault, OfList, OfLog, OfRightList, check_calls}
+use Rattle.command_check.specs.Table.{AreCheckable, CheckCompletes, CheckTable, HasLargeFile, IsLineFault, OfLog, OfRightList, check_calls}
 use Rattle.command_check.specs.Words.{CheckAsked}
 
 module _ (a : CheckAsked) (files : Option Files) (are : AreCheckable a files) where
@@ -40,7 +41,7 @@ module _ (a : CheckAsked) (files : Option Files) (are : AreCheckable a files) wh
       not_larger files a.log are.logged (2 ^ 62) are.log_there are.log_taken (λ told'. let g = listed.2.1 told' in (g.0, g.1, g.2.holds.0))
 
   -- what is said of the instance and of the files, where these are they
-  of_list : (P : InstanceValue → List ℕ → Type 0) → OfList files a P → P are.instance are.listed
+  of_list : (P : InstanceValue → List ℕ → Type 0) → OfList files a.format a.input a.list P → P are.instance are.listed
   of_list P of =
       let text = of_text files a.input are.text (λ text. (i : InstanceValue) × IsTextOf a.format i text × HasText files a.list (λ listed. (length listed < 2 ^ 32) × P i listed)) are.there of in
       let listed = of_text files a.list are.listed (λ listed. (length listed < 2 ^ 32) × P text.0 listed) are.list_there text.2 in
@@ -54,7 +55,7 @@ module _ (a : CheckAsked) (files : Option Files) (are : AreCheckable a files) wh
     unrefused : IsRefusedNowhere are.instance are.listed are.logged
     unrefused = accepted_unrefused are.instance are.listed are.logged (let short = are.list_taken in omega arith) accepted
 
-    no_entry_refused : (k : ℕ) (why : ListWhy) → OfList files a (λ i listed. IsListFault i listed k why) → ⊥
+    no_entry_refused : (k : ℕ) (why : ListWhy) → OfList files a.format a.input a.list (λ i listed. IsListFault i listed k why) → ⊥
     no_entry_refused k why of = unrefused.right_list k why (of_list (λ i listed. IsListFault i listed k why) of)
 
     no_taken_fault : (k : ℕ) (why : Why) (p : ProblemValue) (vectors : List (List ℤ)) → IsLineFault are.logged k why p vectors → IsLogFault p vectors are.logged k why

@@ -15,9 +15,10 @@ use Rattle.log_checker.specs.declared.fault.CheckFault.TheVariants.{Refused as L
 use Rattle.log_checker.specs.Accepted.{IsAccepted, IsRightList, problem_vectors}
 use Rattle.log_checker.specs.ListFaults.{IsListFault}
 use Rattle.log_checker.specs.LogFaults.{IsLogFault, IsWholeFault}
-use Rattle.command_base.specs.Answering.{Call, Completes, reading, saying}
+use Rattle.command_base.specs.Answering.{Call, Completes, Runs, reading, saying}
 use Rattle.command_base.specs.Causes.{HasCauseIn, HasText}
 use Rattle.command_base.specs.InputTable.{InputTable}
+use Rattle.command_base.specs.Inputs.{OfInstance, OfList}
 use Rattle.command_base.specs.InstanceFile.{IsTextOf}
 use Rattle.command_base.specs.Messages.{said_of}
 use Rattle.command_base.specs.Taking.{IsTakenFault, IsTooLarge}
@@ -32,17 +33,9 @@ check_calls a = reading a.input ∷ reading a.list ∷ reading a.log ∷ saying 
 
 -- ---- what the three files hold
 
--- IN spells an instance, of which P holds
-abbrev pub OfInstance : Option Files → CheckAsked → (InstanceValue → Type 0) → Type 0
-OfInstance files a P = HasText files a.input (λ text. (i : InstanceValue) × IsTextOf a.format i text × P i)
-
--- and LIST is no larger than it may be, and P holds of both
-abbrev pub OfList : Option Files → CheckAsked → (InstanceValue → List ℕ → Type 0) → Type 0
-OfList files a P = OfInstance files a (λ i. HasText files a.list (λ listed. (length listed < 2 ^ 32) × P i listed))
-
--- and LOG is there, and P holds of the three
+-- IN spells an instance, LIST is no larger than it may be, LOG is there, and P holds of the three
 abbrev pub OfLog : Option Files → CheckAsked → (InstanceValue → List ℕ → List ℕ → Type 0) → Type 0
-OfLog files a P = OfList files a (λ i listed. HasText files a.log (P i listed))
+OfLog files a P = OfList files a.format a.input a.list (λ i listed. HasText files a.log (P i listed))
 
 -- the list is the text of the instance's front
 abbrev pub IsFrontText : InstanceValue → List ℕ → Type 0
@@ -74,7 +67,7 @@ IsLargeLog log p vectors = IsTooLarge (IsWholeFault p vectors) log
 -- the first of the files that is too large: IN, LIST where IN spells an instance, LOG where the list is right
 abbrev pub HasLargeFile : Option Files → CheckAsked → Type 0
 HasLargeFile files a = HasText files a.input (λ text. 2 ^ 32 ≤ length text)
-    ⊎ (OfInstance files a (λ i. HasText files a.list (λ listed. 2 ^ 32 ≤ length listed))
+    ⊎ (OfInstance files a.format a.input (λ i. HasText files a.list (λ listed. 2 ^ 32 ≤ length listed))
     ⊎ OfLog files a (λ i listed log. OfRightList i listed (IsLargeLog log)))
 
 -- ---- the answers
@@ -101,11 +94,15 @@ CheckTable a Accepted before after = IsAcceptedSaid before after a
 CheckTable a (Refused (LineRefused k why)) before after =
     HasCauseIn before after (OfLog before.files a (λ i listed log. OfRightList i listed (IsLineFault log k why)))
 CheckTable a (Refused (ListRefused k why)) before after =
-    HasCauseIn before after (OfList before.files a (λ i listed. IsListFault i listed k why))
+    HasCauseIn before after (OfList before.files a.format a.input a.list (λ i listed. IsListFault i listed k why))
 CheckTable a (TooLarge zero Bytes) before after = HasCauseIn before after (HasLargeFile before.files a)
 CheckTable a NoMemory before after = IsCutOff before after a
 CheckTable a ShelfFailed before after = IsCutOff before after a
 CheckTable a status before after = InputTable a.format a.input status before after
+
+-- it answers so, and warns of nothing
+abbrev pub CheckRuns : CheckAsked → Status → World → World → Type 0
+CheckRuns a = Runs (CheckTable a) (check_calls a)
 
 -- ---- where it completes
 

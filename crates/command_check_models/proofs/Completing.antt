@@ -33,36 +33,37 @@ use Rattle.representatives.proofs.Faults.{no_fault_law}
 use Rattle.representatives.proofs.OneProblem.{one_problem_law}
 use Rattle.command_base.specs.Answering.{Answered}
 use Rattle.command_base.specs.Causes.{HasText}
+use Rattle.command_base.specs.Inputs.{OfList}
 use Rattle.command_base.specs.InstanceFile.{IsTextOf}
 use Rattle.command_base.specs.Taking.{IsTakenFault}
 use Rattle.command_base.specs.Views.{view}
 use Rattle.command_base.specs.declared.status.Status.{Status}
 use Rattle.command_base.specs.declared.status.Status.TheVariants.{Accepted, ModelsRefused, Refused, TooLarge, NoMemory, ShelfFailed}
 use Rattle.command_base.proofs.InstanceFiles.{one_in}
-use Rattle.command_base.proofs.Readable.{not_larger, of_text, readable}
-use Rattle.command_check_models.specs.Entries.{AfterRight, AreRightFrom, HasLargeLog, IsEntryWrong, IsInput, IsLargeLog, IsLogWrong, IsModelsFault, IsOfAll, IsPosed, IsRightEntry}
-use Rattle.command_check_models.specs.Table.{AreAcceptable, CheckModelsCompletes, CheckModelsTable, HasLargeFile, HasLargeInput, OfList, OfModels, check_models_calls}
+use Rattle.command_base.proofs.Readable.{list_fault, not_larger, of_text, readable}
+use Rattle.command_check_models.specs.Entries.{AfterRight, AreRightFrom, HasLargeLog, IsEntryWrong, IsLargeLog, IsLogWrong, IsModelsFault, IsOfAll, IsPosed, IsRightEntry}
+use Rattle.command_check_models.specs.Table.{AreAcceptable, CheckModelsCompletes, CheckModelsTable, HasLargeFile, HasLargeInput, OfModels, check_models_calls}
 use Rattle.command_check_models.specs.Words.{ModelsAsked, log_name, models_name}
 use Rattle.command_check_models.proofs.RightEntries.{right_at, right_count}
 
 module _ (a : ModelsAsked) (files : Option Files) (are : AreAcceptable a files) where
   -- ---- what the files hold
 
-  instance_is : (i : InstanceValue) → IsInput files a i → i ≡ are.instance
-  instance_is i input = one_in a.format are.text i are.instance (of_text files a.input are.text (IsTextOf a.format i) are.there input.text).spelled are.spelled.spelled
+  instance_is : (i : InstanceValue) → HasText files a.input (IsTextOf a.format i) → i ≡ are.instance
+  instance_is i text = one_in a.format are.text i are.instance (of_text files a.input are.text (IsTextOf a.format i) are.there text).spelled are.spelled.spelled
 
   entries_are : (i : InstanceValue) (entries : List Entry) (p : ProblemValue) → IsPosed files a i entries p → entries ≡ are.entries
   entries_are i entries p posed =
       let short = are.list_taken in
-      (one_list_of are.listed _ _ entries are.entries (omega arith) (of_text files a.list are.listed (λ listed. (length listed < 2 ^ 32) × Spells listed true entries) are.list_there posed.listed.listed).1 are.list_spelled).1
+      (one_list_of are.listed _ _ entries are.entries (omega arith) (of_text files a.list are.listed (λ listed. (length listed < 2 ^ 32) × Spells listed true entries) are.list_there posed.listed).1 are.list_spelled).1
 
   problem_is : (i : InstanceValue) (entries : List Entry) (p : ProblemValue) → IsPosed files a i entries p → p ≡ are.problem
   problem_is i entries p posed =
-      one_form are.instance p are.problem (subst (λ (j : InstanceValue). IsNormalFormOf j p) (instance_is i posed.listed.input) posed.normal) are.normal
+      one_form are.instance p are.problem (subst (λ (j : InstanceValue). IsNormalFormOf j p) (instance_is i posed.read.text) posed.read.normal) are.normal
 
   of_models : (P : InstanceValue → ProblemValue → List Entry → List ℕ → Type 0) → OfModels files a P → P are.instance are.problem are.entries (models_text are.reps)
   of_models P of =
-      subst (λ (i : InstanceValue). P i are.problem are.entries (models_text are.reps)) (instance_is of.instance of.posed.listed.input)
+      subst (λ (i : InstanceValue). P i are.problem are.entries (models_text are.reps)) (instance_is of.instance of.posed.read.text)
       (subst (λ (p : ProblemValue). P of.instance p are.entries (models_text are.reps)) (problem_is of.instance of.entries of.problem of.posed)
       (subst (λ (es : List Entry). P of.instance of.problem es (models_text are.reps)) (entries_are of.instance of.entries of.problem of.posed)
       (of_text files (models_name a.base) (models_text are.reps) (P of.instance of.problem of.entries) are.models_there of.text)))
@@ -74,7 +75,7 @@ module _ (a : ModelsAsked) (files : Option Files) (are : AreAcceptable a files) 
 
   list_not_large : HasLargeInput files a → ⊥
   list_not_large (inl large) = not_larger files a.input are.text (2 ^ 32) are.there are.spelled.taken large
-  list_not_large (inr (i, input, large)) = not_larger files a.list are.listed (2 ^ 32) are.list_there are.list_taken large
+  list_not_large (inr of) = not_larger files a.list are.listed (2 ^ 32) are.list_there are.list_taken (of (told_by_content files a.input are.text are.there)).2.2
 
   log_not_large : HasLargeLog files a are.instance are.problem are.entries (models_text are.reps) → ⊥
   log_not_large all =
@@ -94,11 +95,11 @@ module _ (a : ModelsAsked) (files : Option Files) (are : AreAcceptable a files) 
 
   -- ---- nothing is refused
 
-  no_list_refused : (k : ℕ) (why : ListWhy) → OfList files a (λ i listed. (length listed < 2 ^ 32) × IsListFault i listed k why) → ⊥
-  no_list_refused k why (i, input, has) =
+  no_list_refused : (k : ℕ) (why : ListWhy) → OfList files a.format a.input a.list (λ i listed. IsListFault i listed k why) → ⊥
+  no_list_refused k why of =
       let short = are.list_taken in
-      let fault : IsListFault i are.listed k why = (of_text files a.list are.listed (λ listed. (length listed < 2 ^ 32) × IsListFault i listed k why) are.list_there has).1 in
-      right_has_no_fault are.instance are.listed (omega arith) are.entries k why are.list_spelled are.right (subst (λ (j : InstanceValue). IsListFault j are.listed k why) (instance_is i input) fault)
+      let fault = list_fault a.format a.input a.list files are.text are.listed are.instance are.there are.spelled are.list_there k why of in
+      right_has_no_fault are.instance are.listed (omega arith) are.entries k why are.list_spelled are.right fault
 
   -- of an entry that is right
   module _ (n : ℕ) (e : Entry) (r : Reps) (right : IsRightEntry files a are.instance are.problem n e r) where

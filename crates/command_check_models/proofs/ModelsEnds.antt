@@ -1,54 +1,75 @@
 -- How each end of the command `check-models` is answered.
-use Rattle.std.proofs.Common.{◌≡◌, ℕ, zero, suc, ◌<◌, ◌≤◌, ◌^◌, List, length, true, refl, ◌∙◌, ap, subst, inl, inr, arith}
+use Rattle.std.proofs.Common.{◌≡◌, ℕ, zero, suc, ◌<◌, ◌^◌, List, length, refl, sym, ◌∙◌, ap, subst, inl, inr, arith}
 use Rattle.std.specs.Prelude.{Option}
 use Rattle.scut_base.specs.Files.{Files, followed, IsPartlyFollowed}
-use Rattle.scut_base.specs.Faults.{NoneFell, SayingFailed}
 use Rattle.scut_base.specs.World.{World}
-use Rattle.scut_base.specs.declared.shelf.ShelfFault.{ShelfFault}
-use Rattle.scut_base.specs.declared.shelf.ShelfFault.TheVariants.{Failed}
 use Rattle.front_set.specs.declared.entry.Entry.{Entry}
 use Rattle.instance.specs.Shape.{InstanceValue}
 use Rattle.models_text.specs.declared.reps.Reps.{Reps}
 use Rattle.pb_lin.specs.Problem.{ProblemValue}
 use Rattle.representatives.specs.declared.fault.RepsWhy.{RepsWhy}
 use Rattle.representatives.specs.declared.fault.RepsWhy.TheVariants.{Syntax, Count, NotModel, Costs, Repeated, Log}
-use Rattle.command_base.specs.Answering.{Answered, OwnRose, reading, reading_each, saying}
+use Rattle.command_base.specs.Answering.{Answered, reading, reading_each}
 use Rattle.command_base.specs.Causes.{HasText}
+use Rattle.command_base.specs.Inputs.{IsListed}
 use Rattle.command_base.specs.Messages.{said_of}
-use Rattle.command_base.specs.Statuses.{status_of_shelf}
-use Rattle.command_base.specs.Stops.{IsListStop, status_of_list}
+use Rattle.command_base.specs.Saying.{Says}
+use Rattle.command_base.specs.Stops.{IsListedStop}
 use Rattle.command_base.specs.Views.{OnlyReads, View, view}
 use Rattle.command_base.specs.declared.stops.ListStop.{ListStop}
-use Rattle.command_base.specs.declared.stops.ListStop.TheVariants.{Refused as ListWrong, Large as ListLarge, NoMemory as ListMemory, ShelfFailed as ListFailed}
-use Rattle.command_base.specs.declared.status.Status.TheVariants.{Accepted, ModelsRefused, NoMemory}
-use Rattle.command_base.proofs.Answered.{IsOwn, TakesInput, ended, own_rose, own_rose_at_last, shelf_fault, view_kept}
-use Rattle.command_check_models.specs.Entries.{AreLogsTakenFrom, AreRightFrom, IsInput, IsModelsFault, IsPosed}
+use Rattle.command_base.specs.declared.input.Listed.{Listed}
+use Rattle.command_base.specs.declared.instance_file.Format.{Format}
+use Rattle.command_base.specs.declared.status.Status.{Status}
+use Rattle.command_base.specs.declared.status.Status.TheVariants.{Accepted, ModelsRefused}
+use Rattle.command_base.proofs.Answered.{IsOwn, TakesListed, own_rose, said_last, view_kept}
+use Rattle.command_check_models.specs.Entries.{AreLogsTakenFrom, AreRightFrom, IsModelsFault, IsPosed}
 use Rattle.command_check_models.specs.Judging.{IsJudgingStop, IsModelsText, IsReadingStop, status_of_models}
-use Rattle.command_check_models.specs.Table.{AreRight, CheckModelsTable, IsCutOff, IsLogRead, OfModels, check_models_calls}
+use Rattle.command_check_models.specs.Table.{AreRight, CheckModelsRuns, CheckModelsTable, IsCutOff, IsLogRead, OfModels, check_models_calls}
 use Rattle.command_check_models.specs.Words.{ModelsAsked, log_name, models_name}
 use Rattle.command_check_models.specs.declared.stop.ModelsStop.{ModelsStop}
 use Rattle.command_check_models.specs.declared.stop.ModelsStop.TheVariants.{Refused, Large, NoMemory as ModelsMemory, ShelfFailed as ModelsFailed}
+
+-- ---- what was read, by what was asked
+
+pub posed_by : (a : ModelsAsked) (before after : Option Files) (format : Format) (input list : List ℕ) (it : Listed) (entries : List Entry) → after ≡ before → format ≡ a.format → input ≡ a.input → list ≡ a.list → entries ≡ it.entries
+    → IsListed before format input list it.input.inst it.input.problem it.entries → IsPosed after a it.input.inst entries it.input.problem
+posed_by a before after format input list it entries files is_format is_input is_list is_entries read =
+    subst (λ (f : Option Files). IsListed f a.format a.input a.list it.input.inst it.input.problem entries) (sym files)
+    (subst (λ (es : List Entry). IsListed before a.format a.input a.list it.input.inst it.input.problem es) (sym is_entries)
+    (subst (λ (name : List ℕ). IsListed before a.format a.input name it.input.inst it.input.problem it.entries) is_list
+    (subst (λ (name : List ℕ). IsListed before a.format name list it.input.inst it.input.problem it.entries) is_input
+    (subst (λ (f : Format). IsListed before f input list it.input.inst it.input.problem it.entries) is_format read))))
+
+pub stop_by : (a : ModelsAsked) (format : Format) (input list : List ℕ) (stop : ListStop) (before after : World) → format ≡ a.format → input ≡ a.input → list ≡ a.list
+    → IsListedStop format input list stop before.files before.faults after.faults → IsListedStop a.format a.input a.list stop before.files before.faults after.faults
+stop_by a format input list stop before after is_format is_input is_list why =
+    subst (λ (name : List ℕ). IsListedStop a.format a.input name stop before.files before.faults after.faults) is_list
+    (subst (λ (name : List ℕ). IsListedStop a.format name list stop before.files before.faults after.faults) is_input
+    (subst (λ (f : Format). IsListedStop f input list stop before.files before.faults after.faults) is_format why))
 
 module _ (a : ModelsAsked) where
   pub reads_input : IsOwn (check_models_calls a) (reading a.input)
   reads_input = (0, omega arith, refl)
 
+  pub reads_list : IsOwn (check_models_calls a) (reading a.list)
+  reads_list = (1, omega arith, refl)
+
   -- nothing has changed
-  pub nothing_done : (before after : View) → after ≡ before → IsCutOff before after a
+  nothing_done : (before after : View) → after ≡ before → IsCutOff before after a
   nothing_done before after same = record { files = ap (λ (v : View). v.files) same; said = inl (ap (λ (v : View). v.said) same) }
 
-  pub takes_input : (before after : View) → TakesInput (CheckModelsTable a) a.format a.input before after
-  takes_input before after = record {
-    bad = λ line kind was. was;
-    limit = λ line which was. was;
-    large = λ was. record { cause = inl (inl was.cause); same = was.same };
-    memory = nothing_done before after;
-    failed = nothing_done before after;
+  pub takes_listed : (before after : View) → TakesListed (CheckModelsTable a) a.format a.input a.list before after
+  takes_listed before after = record {
+    first = record {
+      bad = λ line kind was. was;
+      limit = λ line which was. was;
+      large = λ was. record { cause = inl (inl was.cause); same = was.same };
+      memory = nothing_done before after;
+      failed = nothing_done before after;
+    };
+    refused = λ k why was. was;
+    large = λ was. record { cause = inl (inr was.cause); same = was.same };
   }
-
-  -- memory was wanted, and nothing has changed
-  pub no_memory : (w : World) → Answered (CheckModelsTable a) (check_models_calls a) NoMemory w w
-  no_memory w = ended (CheckModelsTable a) (check_models_calls a) NoMemory w w (nothing_done (view w) (view w) refl) (λ is. cc) (λ call name. omega arith)
 
   -- ---- the stops
 
@@ -56,13 +77,6 @@ module _ (a : ModelsAsked) where
   module _ (before after : World) (reads : OnlyReads before after) where
     unread : IsCutOff (view before) (view after) a
     unread = nothing_done (view before) (view after) (view_kept before after reads)
-
-    -- the list isn't taken
-    pub list_stopped : (stop : ListStop) (i : InstanceValue) → IsInput before.files a i → IsListStop i a.list stop before.files before.faults after.faults → Answered (CheckModelsTable a) (check_models_calls a) (status_of_list stop) before after
-    list_stopped (ListWrong k why) i read stop = record { table = record { cause = (i, read, stop); same = view_kept before after reads }; cause = λ is. absurd cc; later = reads.later }
-    list_stopped ListLarge i read stop = record { table = record { cause = inl (inr (i, read, stop)); same = view_kept before after reads }; cause = λ is. absurd cc; later = reads.later }
-    list_stopped ListMemory i read stop = record { table = unread; cause = λ is. absurd cc; later = reads.later }
-    list_stopped ListFailed i read stop = record { table = unread; cause = λ is. own_rose (check_models_calls a) (reading a.list) before.faults after.faults (1, omega arith, refl) stop; later = reads.later }
 
     module _ (i : InstanceValue) (entries : List Entry) (p : ProblemValue) (posed : IsPosed before.files a i entries p) where
       -- the text of all models isn't read
@@ -126,11 +140,7 @@ module _ (a : ModelsAsked) where
   -- ---- what is accepted
 
   module _ (before mid after : World) (i : InstanceValue) (entries : List Entry) (p : ProblemValue) (posed : IsPosed before.files a i entries p) (reps : List Reps)
-      (text : IsModelsText before.files a.base reps) (each : AreRightFrom before.files a i p 1 entries reps) (taken : AreLogsTakenFrom before.files a 1 reps)
-      (reads : OnlyReads before mid) (files : after.files ≡ mid.files) (later : NoneFell mid.faults after.faults) where
-    none_fell : NoneFell before.faults after.faults
-    none_fell call name = omega (arith, reads.later call name, later call name)
-
+      (text : IsModelsText before.files a.base reps) (each : AreRightFrom before.files a i p 1 entries reps) (taken : AreLogsTakenFrom before.files a 1 reps) (reads : OnlyReads before mid) where
     right : OfModels before.files a (AreRight before.files a)
     right = record {
       instance = i;
@@ -140,19 +150,16 @@ module _ (a : ModelsAsked) where
       text = λ told. let f = text told in (f.0, f.1, record { taken = f.2.0; reps = reps; spelled = f.2.1; each = each; logs_taken = taken });
     }
 
-    -- the line couldn't be said whole
-    pub saying_stopped : (fault : ShelfFault) → IsPartlyFollowed mid.said after.said (said_of Accepted) → (fault ≡ Failed → SayingFailed mid.faults after.faults) → Answered (CheckModelsTable a) (check_models_calls a) (status_of_shelf fault) before after
-    saying_stopped fault partly rose = shelf_fault (CheckModelsTable a) (check_models_calls a) fault before after row row
-        (λ failed. own_rose_at_last (check_models_calls a) before.faults mid.faults after.faults reads.later (own_rose (check_models_calls a) saying mid.faults after.faults (4, omega arith, refl) (rose failed))) none_fell
+    -- the models are right, and that is said
+    pub all_accepted : (result : Status) → Says Accepted result mid after → CheckModelsRuns a result before after
+    all_accepted result says =
+        said_last (CheckModelsTable a) (check_models_calls a) Accepted before mid after (4, omega arith, refl) (λ is. cc) reads.later reads.warned
+        (λ said. record { cause = right; files = says.files ∙ reads.files; said = said ∙ ap (λ (old : Option (List ℕ)). followed old (said_of Accepted)) reads.said })
+        (λ partly. let row = cut_off partly in (row, row))
+        result says
       where
-        row : IsCutOff (view before) (view after) a
-        row = record {
-          files = files ∙ reads.files;
+        cut_off : IsPartlyFollowed mid.said after.said (said_of Accepted) → IsCutOff (view before) (view after) a
+        cut_off partly = record {
+          files = says.files ∙ reads.files;
           said = inr record { cause = right; said = subst (λ (said : Option (List ℕ)). IsPartlyFollowed said after.said (said_of Accepted)) reads.said partly };
         }
-
-    -- the models are right, and that is said
-    pub all_accepted : after.said ≡ followed mid.said (said_of Accepted) → Answered (CheckModelsTable a) (check_models_calls a) Accepted before after
-    all_accepted said = ended (CheckModelsTable a) (check_models_calls a) Accepted before after
-        (record { cause = right; files = files ∙ reads.files; said = said ∙ ap (λ (old : Option (List ℕ)). followed old (said_of Accepted)) reads.said })
-        (λ is. cc) none_fell

@@ -1,12 +1,9 @@
 -- Lists with models for each entry: what IN and LIST hold, which models are right, and what is wrong first.
-use Rattle.std.specs.Prelude.{◌≡◌, ◌≢◌, ℕ, zero, suc, ◌+◌, ◌<◌, ◌≤◌, ◌^◌, ◌⊎◌, true, List, [], ◌∷◌, ◌++◌, length, Option, ℤ, Bool}
+use Rattle.std.specs.Prelude.{◌≡◌, ◌≢◌, ℕ, zero, suc, ◌+◌, ◌<◌, ◌^◌, true, List, [], ◌∷◌, ◌++◌, length, Option, ℤ, Bool}
 use Rattle.scut_base.specs.Files.{Files, IsTold}
 use Rattle.front_set.specs.declared.entry.Entry.{Entry}
-use Rattle.front_text.specs.Spelling.{Spells}
-use Rattle.instance.specs.ParetoFront.{AreProblemVectors, problem_vector}
-use Rattle.instance.specs.Shape.{InstanceValue, IsWithinLimits}
-use Rattle.instance_normal.specs.NormalForm.{IsNormalFormOf}
-use Rattle.log_checker.specs.Accepted.{IsRightList}
+use Rattle.instance.specs.ParetoFront.{problem_vector}
+use Rattle.instance.specs.Shape.{InstanceValue}
 use Rattle.log_checker.specs.LogFaults.{IsLogFault, IsWholeFault}
 use Rattle.models_text.specs.ModelsText.{models_text}
 use Rattle.models_text.specs.Spelling.{IsSyntaxAt}
@@ -19,28 +16,15 @@ use Rattle.representatives.specs.Representatives.{AreReps, AreServing}
 use Rattle.representatives.specs.declared.fault.RepsWhy.{RepsWhy}
 use Rattle.representatives.specs.declared.fault.RepsWhy.TheVariants.{Syntax, Count, Log}
 use Rattle.command_base.specs.Causes.{HasText}
-use Rattle.command_base.specs.InstanceFile.{IsTextOf}
+use Rattle.command_base.specs.Inputs.{IsListed}
 use Rattle.command_base.specs.Taking.{IsTakenFault, IsTooLarge}
 use Rattle.command_check_models.specs.Words.{ModelsAsked, log_name}
 
 -- ---- what IN and LIST hold
 
--- IN spells the instance
-pub record IsInput (files : Option Files) (a : ModelsAsked) (i : InstanceValue) : Type 0 where
-  pub text : HasText files a.input (IsTextOf a.format i)
-  pub limits : IsWithinLimits i
-
--- and LIST is the list of right entries
-pub record IsListed (files : Option Files) (a : ModelsAsked) (i : InstanceValue) (entries : List Entry) : Type 0 where
-  pub input : IsInput files a i
-  pub listed : HasText files a.list (λ listed. (length listed < 2 ^ 32) × Spells listed true entries)
-  pub right : IsRightList i entries
-  pub vectors : AreProblemVectors i entries
-
--- and the problem is the instance's normal form
-pub record IsPosed (files : Option Files) (a : ModelsAsked) (i : InstanceValue) (entries : List Entry) (p : ProblemValue) : Type 0 where
-  pub listed : IsListed files a i entries
-  pub normal : IsNormalFormOf i p
+-- IN spells the instance, LIST is the list of right entries, and the problem is the instance's normal form
+abbrev pub IsPosed : Option Files → ModelsAsked → InstanceValue → List Entry → ProblemValue → Type 0
+IsPosed files a i entries p = IsListed files a.format a.input a.list i p entries
 
 -- ---- models that are right
 

@@ -14,30 +14,27 @@ use Rattle.models_text.specs.ModelsText.{models_text}
 use Rattle.models_text.specs.declared.reps.Reps.{Reps}
 use Rattle.pb_lin.specs.Problem.{ProblemValue}
 use Rattle.representatives.specs.declared.fault.RepsWhy.{RepsWhy}
-use Rattle.command_base.specs.Answering.{Call, Completes, reading, reading_each, saying}
+use Rattle.command_base.specs.Answering.{Call, Completes, Runs, reading, reading_each, saying}
 use Rattle.command_base.specs.Causes.{HasCauseIn, HasText}
 use Rattle.command_base.specs.InputTable.{InputTable}
+use Rattle.command_base.specs.Inputs.{OfInstance, OfList}
 use Rattle.command_base.specs.InstanceFile.{IsTextOf}
 use Rattle.command_base.specs.Messages.{said_of}
 use Rattle.command_base.specs.Views.{View}
 use Rattle.command_base.specs.declared.status.Status.{Status}
 use Rattle.command_base.specs.declared.status.Status.TheVariants.{Accepted, ModelsRefused, Refused, TooLarge, NoMemory, ShelfFailed}
-use Rattle.command_check_models.specs.Entries.{AreLogsTakenFrom, AreRightFrom, HasLargeLog, IsInput, IsMarkedAll, IsModelsFault, IsOfAll, IsPosed}
+use Rattle.command_check_models.specs.Entries.{AreLogsTakenFrom, AreRightFrom, HasLargeLog, IsMarkedAll, IsModelsFault, IsOfAll, IsPosed}
 use Rattle.command_check_models.specs.Words.{ModelsAsked, log_name, models_name}
 
 -- ---- the rows that come of reading IN and LIST
 
--- IN spells an instance, and LIST is there, and P holds of both
-abbrev pub OfList : Option Files → ModelsAsked → (InstanceValue → List ℕ → Type 0) → Type 0
-OfList files a P = (i : InstanceValue) × IsInput files a i × HasText files a.list (P i)
-
 -- the first of these files that is too large: IN, or LIST where IN spells an instance
 abbrev pub HasLargeInput : Option Files → ModelsAsked → Type 0
-HasLargeInput files a = HasText files a.input (λ text. 2 ^ 32 ≤ length text) ⊎ OfList files a (λ i listed. 2 ^ 32 ≤ length listed)
+HasLargeInput files a = HasText files a.input (λ text. 2 ^ 32 ≤ length text) ⊎ OfInstance files a.format a.input (λ i. HasText files a.list (λ listed. 2 ^ 32 ≤ length listed))
 
 -- `models` has these rows too
 abbrev pub ListTable : ModelsAsked → Status → View → View → Type 0
-ListTable a (Refused (ListRefused k why)) before after = HasCauseIn before after (OfList before.files a (λ i listed. (length listed < 2 ^ 32) × IsListFault i listed k why))
+ListTable a (Refused (ListRefused k why)) before after = HasCauseIn before after (OfList before.files a.format a.input a.list (λ i listed. IsListFault i listed k why))
 ListTable a (TooLarge zero Bytes) before after = HasCauseIn before after (HasLargeInput before.files a)
 ListTable a status before after = InputTable a.format a.input status before after
 
@@ -98,6 +95,10 @@ CheckModelsTable a (TooLarge zero Bytes) before after = HasCauseIn before after 
 CheckModelsTable a NoMemory before after = IsCutOff before after a
 CheckModelsTable a ShelfFailed before after = IsCutOff before after a
 CheckModelsTable a status before after = ListTable a status before after
+
+-- it answers so, and warns of nothing
+abbrev pub CheckModelsRuns : ModelsAsked → Status → World → World → Type 0
+CheckModelsRuns a = Runs (CheckModelsTable a) (check_models_calls a)
 
 -- ---- where it completes
 

@@ -6,12 +6,9 @@
 //! (`read_request`), since they are the same but for the first.
 #![tactic(auto)]
 
-ghost use Rattle.std.specs.Prelude.{◌≡◌, IfOk, map, string_bytes};
-ghost use Rattle.command_base.specs.Answering.{Answered};
-ghost use Rattle.command_check_models.specs.Entries.{IsInput, IsListed, IsPosed};
+ghost use Rattle.command_check_models.specs.Entries.{IsPosed};
 ghost use Rattle.command_check_models.specs.Judging.{IsModelsText};
-ghost use Rattle.command_check_models.specs.Table.{CheckModelsTable, check_models_calls};
-ghost use Rattle.command_check_models.specs.Words.{check_models_asked};
+ghost use Rattle.command_check_models.specs.Table.{CheckModelsRuns};
 
 mod files;
 mod judging;
@@ -21,11 +18,10 @@ mod words;
 
 use crate::judging::judge_entries;
 use crate::reading::read_all_models;
-use command_base::{Command, Status, read_instance, read_right_list, say_of};
+use command_base::{Command, Status, read_listed, say};
 pub use files::{log_name, models_name};
 use front_set::Entry;
 use instance::Instance;
-use instance_normal::normalise;
 use models_text::Reps;
 use pb_lin::PbProblem;
 use scut_base::{NoMemory, Shelf};
@@ -47,68 +43,45 @@ impl<'a> Model for CheckModels<'a> {
     ghost view = { λ c. c.request };
 }
 
-/// The command that the words ask for, of which the first is `check-models`; `None` exactly where clap, the names or the number refuse them.
-pub fn read_check_models<'a>(
-    alloc: Global,
-    words: &'a [String],
-) -> Result<Option<CheckModels<'a>>, NoMemory>
-    ensures { IfOk result (λ found. found ≡ check_models_asked (map string_bytes words.entry.now)) }
-{
-    match read_request(alloc, "check-models", words)? {
-        Some(request) => Ok(Some(CheckModels { request })),
-        None => Ok(None),
-    }
-}
-
-impl<'a> Command for CheckModels<'a> {
+impl<'a> Command<'a> for CheckModels<'a> {
+    ghost use Rattle.std.proofs.Common.{inl, refl};
     ghost use Rattle.command_check_models.specs.Table.{CheckModelsTable, check_models_calls};
+    ghost use Rattle.command_check_models.specs.Words.{ModelsAsked, check_models_asked};
 
-    ghost table = { λ c. CheckModelsTable c };
+    ghost Asked = { ModelsAsked };
 
-    ghost own = { λ c. check_models_calls c };
+    ghost request = { λ c. c };
+
+    ghost asked_by = { check_models_asked };
+
+    ghost table = { CheckModelsTable };
+
+    ghost own = { check_models_calls };
+
+    ghost undone = { λ a v. record { files = refl; said = inl refl } };
+
+    fn read(alloc: Global, words: &'a [String]) -> Result<Option<CheckModels<'a>>, NoMemory> {
+        match read_request(alloc, "check-models", words)? {
+            Some(request) => Ok(Some(CheckModels { request })),
+            None => Ok(None),
+        }
+    }
 
     fn run<H: Shelf>(&self, alloc: Global, shelf: &mut H) -> Status {
-        match read_instance(alloc, self.request.format(), self.request.input(), shelf) {
-            Ok(inst) => self.read_list(alloc, &inst, shelf),
+        let asked = &self.request;
+        match read_listed(alloc, asked.format(), asked.input(), asked.list(), shelf) {
+            Ok(listed) => {
+                let input = &listed.input;
+                let entries = listed.entries.as_slice();
+                self.read_models(alloc, &input.inst, entries, &input.problem, shelf)
+            }
             Err(stop) => Status::from(stop),
         }
     }
 }
 
 impl<'a> CheckModels<'a> {
-    // Reads the list, and goes on where it is that of right entries.
-    fn read_list<H: Shelf>(&self, alloc: Global, inst: &Instance, shelf: &mut H) -> Status
-        requires { IsInput (H.world shelf.old).files self.now inst.now }
-        ensures answered { Answered (CheckModelsTable self.now) (check_models_calls self.now)
-            result (H.world shelf.old) (H.world shelf.new) }
-        ensures warned { (H.world shelf.new).warned ≡ (H.world shelf.old).warned }
-    {
-        match read_right_list(alloc, inst, self.request.list(), shelf) {
-            Ok(found) => self.normalise(alloc, inst, found.entries.as_slice(), shelf),
-            Err(stop) => Status::from(stop),
-        }
-    }
-
-    // Judges the models of these entries.
-    fn normalise<H: Shelf>(
-        &self,
-        alloc: Global,
-        inst: &Instance,
-        entries: &[Entry],
-        shelf: &mut H,
-    ) -> Status
-        requires { IsListed (H.world shelf.old).files self.now inst.now entries.now }
-        ensures answered { Answered (CheckModelsTable self.now) (check_models_calls self.now)
-            result (H.world shelf.old) (H.world shelf.new) }
-        ensures warned { (H.world shelf.new).warned ≡ (H.world shelf.old).warned }
-    {
-        match normalise(alloc, inst) {
-            Ok(problem) => self.read_models(alloc, inst, entries, &problem, shelf),
-            Err(fault) => Status::from(fault),
-        }
-    }
-
-    // The same over the instance's normal form.
+    // Reads the models of these entries.
     fn read_models<H: Shelf>(
         &self,
         alloc: Global,
@@ -118,9 +91,7 @@ impl<'a> CheckModels<'a> {
         shelf: &mut H,
     ) -> Status
         requires { IsPosed (H.world shelf.old).files self.now inst.now entries.now problem.now }
-        ensures answered { Answered (CheckModelsTable self.now) (check_models_calls self.now)
-            result (H.world shelf.old) (H.world shelf.new) }
-        ensures warned { (H.world shelf.new).warned ≡ (H.world shelf.old).warned }
+        ensures { CheckModelsRuns self.now result (H.world shelf.old) (H.world shelf.new) }
     {
         match read_all_models(alloc, self.request.base(), shelf) {
             Ok(reps) => self.judge(alloc, inst, entries, problem, reps.as_slice(), shelf),
@@ -140,17 +111,11 @@ impl<'a> CheckModels<'a> {
     ) -> Status
         requires posed { IsPosed (H.world shelf.old).files self.now inst.now entries.now problem.now }
         requires read { IsModelsText (H.world shelf.old).files self.now.base reps.now }
-        ensures answered { Answered (CheckModelsTable self.now) (check_models_calls self.now)
-            result (H.world shelf.old) (H.world shelf.new) }
-        ensures warned { (H.world shelf.new).warned ≡ (H.world shelf.old).warned }
+        ensures { CheckModelsRuns self.now result (H.world shelf.old) (H.world shelf.new) }
     {
         match judge_entries(alloc, &self.request, inst, entries, problem, reps, shelf) {
-            Ok(()) => {}
-            Err(stop) => return Status::from(stop),
-        }
-        match say_of(alloc, Status::Accepted, shelf) {
-            Ok(()) => Status::Accepted,
-            Err(fault) => Status::from(fault),
+            Ok(()) => say(alloc, Status::Accepted, shelf),
+            Err(stop) => Status::from(stop),
         }
     }
 }

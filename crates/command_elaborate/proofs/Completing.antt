@@ -17,13 +17,14 @@ use Rattle.log_checker.specs.declared.fault.CheckFault.TheVariants.{Refused as L
 use Rattle.log_elab.specs.Reasons.{Elaborates}
 use Rattle.log_elab.proofs.Lists.{elaborations_law, goes_on_law}
 use Rattle.command_base.specs.Answering.{Answered}
+use Rattle.command_base.specs.Inputs.{IsInput}
 use Rattle.command_base.specs.InstanceFile.{IsTextOf}
 use Rattle.command_base.specs.LogLines.{IsFirstWrong, IsLogOf}
 use Rattle.command_base.specs.Views.{view}
 use Rattle.command_base.specs.declared.status.Status.{Status}
 use Rattle.command_base.specs.declared.status.Status.TheVariants.{Done, Refused, TooLarge, NoMemory, ShelfFailed}
 use Rattle.command_base.proofs.Readable.{not_larger, of_text, readable}
-use Rattle.command_elaborate.specs.Table.{AreElaborable, ElaborateCompletes, ElaborateTable, IsCutAfter, IsLineRefused, IsLooseProof, IsProblemOf, IsRefusedAfter, IsWritten, elaborate_calls}
+use Rattle.command_elaborate.specs.Table.{AreElaborable, ElaborateCompletes, ElaborateTable, IsCutAfter, IsLineRefused, IsLooseProof, IsRefusedAfter, IsWritten, elaborate_calls}
 use Rattle.command_elaborate.specs.Words.{ElaborateAsked}
 
 -- where a log spells lines, what it begins with is the first of them
@@ -58,7 +59,7 @@ none_refused p lines given news k why log is proof (inl r) = by r.wrong.wrong
     by (inr ends) = never_unfinished log lines is.spelled k ends.2
 
 module _ (a : ElaborateAsked) (files : Option Files) (are : AreElaborable a files) where
-  a_proof : (i : InstanceValue) (p : ProblemValue) → IsProblemOf files a i p → IsLooseProof p are.lines
+  a_proof : (i : InstanceValue) (p : ProblemValue) → IsInput files a.format a.input i p → IsLooseProof p are.lines
   a_proof i p of_file = are.loosely i p (of_text files a.input are.text (IsTextOf a.format i) are.there of_file.text) of_file.normal
 
   no_refusal : (after : Option Files) (k : ℕ) (why : Why) → IsWritten files after a (λ p lines news. IsRefusedAfter p lines news k why) → ⊥

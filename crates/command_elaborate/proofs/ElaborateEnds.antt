@@ -2,10 +2,8 @@
 use Rattle.std.proofs.Common.{◌≡◌, inl, inr, ℕ, List, refl, sym, ◌∙◌, ap, subst, arith}
 use Rattle.std.specs.Prelude.{None, Option}
 use Rattle.scut_base.specs.Files.{Files, followed, IsPartlyFollowed}
-use Rattle.scut_base.specs.Faults.{NoneFell, SayingFailed}
+use Rattle.scut_base.specs.Faults.{NoneFell}
 use Rattle.scut_base.specs.World.{World}
-use Rattle.scut_base.specs.declared.shelf.ShelfFault.{ShelfFault}
-use Rattle.scut_base.specs.declared.shelf.ShelfFault.TheVariants.{Failed}
 use Rattle.instance.specs.Shape.{InstanceValue}
 use Rattle.pb_lin.specs.Problem.{ProblemValue}
 use Rattle.proof_laws.specs.State.{start}
@@ -15,19 +13,21 @@ use Rattle.proof_lines.specs.declared.spelling.Spelling.TheVariants.{Plain}
 use Rattle.log_checker.specs.declared.fault.CheckFault.TheVariants.{Refused as LineRefused}
 use Rattle.log_elab.specs.Loose.{IsLooselyRefused}
 use Rattle.log_elab.specs.Reasons.{Elaborates, Elaboration}
-use Rattle.command_base.specs.Answering.{Answered, appending, beginning, reading, saying}
+use Rattle.command_base.specs.Answering.{Answered, appending, beginning, reading}
+use Rattle.command_base.specs.Inputs.{IsInput}
 use Rattle.command_base.specs.LogLines.{IsLargeAfter, IsLogOf, IsWrongAfter, before_limit}
 use Rattle.command_base.specs.Messages.{said_of}
 use Rattle.command_base.specs.Rewriting.{IsLineAfter, IsRefusal, IsRewriteStop, IsRewritten, IsRewrittenPart}
-use Rattle.command_base.specs.Statuses.{status_of_shelf}
+use Rattle.command_base.specs.Saying.{Says}
 use Rattle.command_base.specs.Stops.{status_of_log}
 use Rattle.command_base.specs.Views.{View, view}
 use Rattle.command_base.specs.declared.stops.LogStop.{LogStop}
 use Rattle.command_base.specs.declared.stops.LogStop.TheVariants.{Refused as LineWrong, Large, NoMemory as LogMemory, ShelfFailed as LogFailed}
-use Rattle.command_base.specs.declared.status.Status.TheVariants.{Done, NoMemory, Refused}
-use Rattle.command_base.proofs.Answered.{IsOwn, TakesInput, ended, own_rose, own_rose_at_last, shelf_fault}
+use Rattle.command_base.specs.declared.status.Status.{Status}
+use Rattle.command_base.specs.declared.status.Status.TheVariants.{Done, Refused}
+use Rattle.command_base.proofs.Answered.{IsOwn, TakesInput, ended, own_rose, said_last}
 use Rattle.command_elaborate.specs.Elaborating.{HasAnswered, Refuses}
-use Rattle.command_elaborate.specs.Table.{AreAnswered, ElaborateTable, IsCutAfter, IsElaboratedPartly, IsNewTouched, IsProblemOf, IsRefusedAfter, IsTakenLog, IsWritten, elaborate_calls}
+use Rattle.command_elaborate.specs.Table.{AreAnswered, ElaborateRuns, ElaborateTable, IsCutAfter, IsElaboratedPartly, IsNewTouched, IsRefusedAfter, IsTakenLog, IsWritten, elaborate_calls}
 use Rattle.command_elaborate.specs.Words.{ElaborateAsked}
 
 module _ (a : ElaborateAsked) where
@@ -43,11 +43,7 @@ module _ (a : ElaborateAsked) where
     failed = inl;
   }
 
-  -- memory was wanted, and nothing has changed
-  pub no_memory : (w : World) → Answered (ElaborateTable a) (elaborate_calls a) NoMemory w w
-  no_memory w = ended (ElaborateTable a) (elaborate_calls a) NoMemory w w (inl refl) (λ is. cc) (λ call name. omega arith)
-
-  module _ (i : InstanceValue) (p : ProblemValue) (before : World) (of_file : IsProblemOf before.files a i p) (e : Elaboration) (is : e.problem ≡ p) where
+  module _ (i : InstanceValue) (p : ProblemValue) (before : World) (of_file : IsInput before.files a.format a.input i p) (e : Elaboration) (is : e.problem ≡ p) where
     answered_so : (lines news : List Line) → HasAnswered e lines news → Elaborates p (start p) lines news e.state None
     answered_so lines news was = subst (λ (q : ProblemValue). Elaborates q (start q) lines news e.state None) is was
 
@@ -120,28 +116,18 @@ module _ (a : ElaborateAsked) where
       later = later;
     }
 
-    module _ (mid after : World) (new : IsRewritten (HasAnswered e) before.files mid.files a.log a.output Plain IsLogOf) (quiet : mid.said ≡ before.said) (later : NoneFell before.faults mid.faults) (files : after.files ≡ mid.files) (last : NoneFell mid.faults after.faults) where
-      none_fell : NoneFell before.faults after.faults
-      none_fell call name = omega (arith, later call name, last call name)
+    -- the new log was written, and that was said
+    pub all_done : (mid after : World) (result : Status) → IsRewritten (HasAnswered e) before.files mid.files a.log a.output Plain IsLogOf → mid.said ≡ before.said → mid.warned ≡ before.warned → NoneFell before.faults mid.faults → Says Done result mid after → ElaborateRuns a result before after
+    all_done mid after result new kept quiet later says =
+        said_last (ElaborateTable a) (elaborate_calls a) Done before mid after (4, omega arith, refl) (λ is. cc) later quiet
+        (λ said. record { written = all_written; said = said ∙ ap (λ (text : Option (List ℕ)). followed text (said_of Done)) kept })
+        (λ partly. let row = cut_off partly in (row, row))
+        result says
+      where
+        all_written : IsWritten before.files after.files a IsTakenLog
+        all_written =
+            let here = subst (λ (f : Option Files). IsRewritten (HasAnswered e) before.files f a.log a.output Plain IsLogOf) (sym says.files) new in
+            written after.files IsLogOf IsTakenLog here (λ log spelled. record { spelled = spelled; answered = are_answered here.lines here.news here.answered })
 
-      all_written : IsWritten before.files after.files a IsTakenLog
-      all_written =
-          let here = subst (λ (f : Option Files). IsRewritten (HasAnswered e) before.files f a.log a.output Plain IsLogOf) (sym files) new in
-          written after.files IsLogOf IsTakenLog here (λ log spelled. record { spelled = spelled; answered = are_answered here.lines here.news here.answered })
-
-      -- the line couldn't be said whole
-      pub saying_stopped : (fault : ShelfFault) → IsPartlyFollowed mid.said after.said (said_of Done) → (fault ≡ Failed → SayingFailed mid.faults after.faults) → Answered (ElaborateTable a) (elaborate_calls a) (status_of_shelf fault) before after
-      saying_stopped fault partly rose = shelf_fault (ElaborateTable a) (elaborate_calls a) fault before after row row
-          (λ failed. own_rose_at_last (elaborate_calls a) before.faults mid.faults after.faults later (own_rose (elaborate_calls a) saying mid.faults after.faults (4, omega arith, refl) (rose failed))) none_fell
-        where
-          row : IsElaboratedPartly (view before) (view after) a
-          row = inr (inr (record {
-            written = all_written;
-            said = subst (λ (text : Option (List ℕ)). IsPartlyFollowed text after.said (said_of Done)) quiet partly;
-          }))
-
-      -- the log was elaborated, and that was said
-      pub all_done : after.said ≡ followed mid.said (said_of Done) → Answered (ElaborateTable a) (elaborate_calls a) Done before after
-      all_done said = ended (ElaborateTable a) (elaborate_calls a) Done before after
-          (record { written = all_written; said = said ∙ ap (λ (text : Option (List ℕ)). followed text (said_of Done)) quiet })
-          (λ is. cc) none_fell
+        cut_off : IsPartlyFollowed mid.said after.said (said_of Done) → IsElaboratedPartly (view before) (view after) a
+        cut_off partly = inr (inr (record { written = all_written; said = subst (λ (text : Option (List ℕ)). IsPartlyFollowed text after.said (said_of Done)) kept partly }))

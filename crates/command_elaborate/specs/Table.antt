@@ -16,9 +16,10 @@ use Rattle.proof_text.specs.Versions.{log_text}
 use Rattle.log_checker.specs.declared.fault.CheckFault.TheVariants.{Refused as LineRefused}
 use Rattle.log_elab.specs.Loose.{IsLooselyRefused, IsLooseReplay}
 use Rattle.log_elab.specs.Reasons.{Elaborates}
-use Rattle.command_base.specs.Answering.{Call, Completes, appending, beginning, reading, saying}
+use Rattle.command_base.specs.Answering.{Call, Completes, Runs, appending, beginning, reading, saying}
 use Rattle.command_base.specs.Causes.{HasText, IsRefused}
 use Rattle.command_base.specs.InputTable.{InputTable}
+use Rattle.command_base.specs.Inputs.{IsInput}
 use Rattle.command_base.specs.InstanceFile.{IsTextOf}
 use Rattle.command_base.specs.LogLines.{IsLargeAfter, IsLogOf, IsWrongAfter, before_limit}
 use Rattle.command_base.specs.Messages.{said_of}
@@ -30,11 +31,6 @@ use Rattle.command_elaborate.specs.Words.{ElaborateAsked}
 -- it reads IN and LOG, begins NEW and appends to it, and says something
 abbrev pub elaborate_calls : ElaborateAsked → List Call
 elaborate_calls a = reading a.input ∷ reading a.log ∷ beginning a.output ∷ appending a.output ∷ saying ∷ []
-
--- IN spells the instance, and the problem is its normal form
-pub record IsProblemOf (files : Option Files) (a : ElaborateAsked) (i : InstanceValue) (p : ProblemValue) : Type 0 where
-  pub text : HasText files a.input (IsTextOf a.format i)
-  pub normal : IsNormalFormOf i p
 
 -- the text of the lines that were answered, in version 1
 abbrev pub elaborated : List Line → List ℕ
@@ -87,7 +83,7 @@ pub record AreRead (files : Option Files) (log : List ℕ) (p : ProblemValue) (l
 pub record IsWritten (before after : Option Files) (a : ElaborateAsked) (P : ProblemValue → List Line → List Line → List ℕ → Type 0) : Type 0 where
   pub instance : InstanceValue
   pub problem : ProblemValue
-  pub of_file : IsProblemOf before a instance problem
+  pub of_file : IsInput before a.format a.input instance problem
   pub lines : List Line
   pub news : List Line
   pub log : HasText before a.log (P problem lines news)
@@ -118,7 +114,7 @@ pub record IsLogLarge (before after : View) (a : ElaborateAsked) : Type 0 where
 pub record IsNewTouched (before after : View) (a : ElaborateAsked) : Type 0 where
   pub instance : InstanceValue
   pub problem : ProblemValue
-  pub of_file : IsProblemOf before.files a instance problem
+  pub of_file : IsInput before.files a.format a.input instance problem
   pub lines : List Line
   pub news : List Line
   pub read : AreRead before.files a.log problem lines news
@@ -137,6 +133,10 @@ ElaborateTable a (TooLarge zero Bytes) before after = IsRefused before after a.i
 ElaborateTable a NoMemory before after = IsElaboratedPartly before after a
 ElaborateTable a ShelfFailed before after = IsElaboratedPartly before after a
 ElaborateTable a status before after = InputTable a.format a.input status before after
+
+-- it answers so, and warns of nothing
+abbrev pub ElaborateRuns : ElaborateAsked → Status → World → World → Type 0
+ElaborateRuns a = Runs (ElaborateTable a) (elaborate_calls a)
 
 -- ---- where it completes
 

@@ -1,10 +1,9 @@
 -- How each end of the command `front` is answered.
-use Rattle.std.proofs.Common.{◌≡◌, ℕ, suc, ◌<◌, ◌≤◌, List, [], ◌∷◌, length, true, refl, sym, ◌∙◌, ap, subst, inl, inr, arith}
-use Rattle.std.specs.Prelude.{Option, Some, Result, Ok, Err, OnOk, OnErr, IsErrOf}
+use Rattle.std.proofs.Common.{◌≡◌, ℕ, ◌<◌, List, length, true, refl, ◌∙◌, ap, subst, inl, inr, arith}
+use Rattle.std.specs.Prelude.{Option}
 use Rattle.std.specs.List.{concat}
-use Rattle.std.proofs.lemmas.List.{append-nil}
-use Rattle.scut_base.specs.Files.{Files, with_file, followed, IsTouched, IsPrefixOf, IsPartlyFollowed}
-use Rattle.scut_base.specs.Faults.{NoneFell, WritingFailed, SayingFailed}
+use Rattle.scut_base.specs.Files.{with_file, followed, IsTouched, IsPrefixOf, IsPartlyFollowed}
+use Rattle.scut_base.specs.Faults.{NoneFell, WritingFailed}
 use Rattle.scut_base.specs.World.{World}
 use Rattle.scut_base.specs.declared.shelf.ShelfFault.{ShelfFault}
 use Rattle.scut_base.specs.declared.shelf.ShelfFault.TheVariants.{Failed}
@@ -14,17 +13,18 @@ use Rattle.front_text.specs.Lines.{list_lines}
 use Rattle.front_text.proofs.Lines.{concat-list_lines}
 use Rattle.instance.specs.Shape.{InstanceValue}
 use Rattle.instance.specs.declared.fault.InstanceLimit.TheVariants.{Vars}
-use Rattle.command_base.specs.Answering.{Answered, Call, OwnRose, appending, beginning, reading, saying}
+use Rattle.command_base.specs.Answering.{Answered, OwnRose, appending, beginning, reading}
 use Rattle.command_base.specs.Causes.{HasText}
 use Rattle.command_base.specs.InstanceFile.{IsTextOf}
 use Rattle.command_base.specs.Messages.{said_of}
+use Rattle.command_base.specs.Saying.{Says}
 use Rattle.command_base.specs.Statuses.{status_of_shelf}
-use Rattle.command_base.specs.Views.{OnlyReads, View, view}
+use Rattle.command_base.specs.Views.{View, view}
 use Rattle.command_base.specs.declared.status.Status.{Status}
-use Rattle.command_base.specs.declared.status.Status.TheVariants.{Complete, TooLarge, NoMemory, ShelfFailed}
-use Rattle.command_base.proofs.Answered.{IsOwn, TakesInput, ended, own_rose, own_rose_at_last, shelf_fault, view_kept}
+use Rattle.command_base.specs.declared.status.Status.TheVariants.{Complete, TooLarge}
+use Rattle.command_base.proofs.Answered.{IsOwn, TakesInput, ended, own_rose, said_last, shelf_fault}
 use Rattle.command_base.proofs.ListSizes.{size_zero}
-use Rattle.command_front.specs.Table.{FrontTable, IsCutShort, IsFrontOf, IsPrefixOfFront, IsWritten, front_calls}
+use Rattle.command_front.specs.Table.{FrontRuns, FrontTable, IsCutShort, IsFrontOf, IsPrefixOfFront, IsWritten, front_calls}
 use Rattle.command_front.specs.Words.{FrontAsked}
 
 module _ (a : FrontAsked) where
@@ -32,7 +32,7 @@ module _ (a : FrontAsked) where
   reads_input = (0, omega arith, refl)
 
   -- nothing has changed
-  pub nothing_done : (before after : View) → after ≡ before → IsCutShort before after a
+  nothing_done : (before after : View) → after ≡ before → IsCutShort before after a
   nothing_done before after same = inl (ap (λ (v : View). v.said) same, inl (ap (λ (v : View). v.files) same))
 
   pub takes_input : (before after : View) → TakesInput (FrontTable a) a.format a.input before after
@@ -45,13 +45,12 @@ module _ (a : FrontAsked) where
   }
 
   -- the instance has too many variables
-  pub many_variables : (w : World) (i : InstanceValue) → HasText w.files a.input (IsTextOf a.format i) → 20 < i.vars → Answered (FrontTable a) (front_calls a) (TooLarge 0 Vars) w w
-  many_variables w i text many = ended (FrontTable a) (front_calls a) (TooLarge 0 Vars) w w
-      (record { cause = λ told. let f = text told in (f.0, f.1, (i, f.2, many)); same = refl }) (λ is. cc) (λ call name. omega arith)
-
-  -- memory was wanted, and nothing has changed
-  pub no_memory : (w : World) → Answered (FrontTable a) (front_calls a) NoMemory w w
-  no_memory w = ended (FrontTable a) (front_calls a) NoMemory w w (nothing_done (view w) (view w) refl) (λ is. cc) (λ call name. omega arith)
+  pub many_variables : (w : World) (i : InstanceValue) → HasText w.files a.input (IsTextOf a.format i) → 20 < i.vars → FrontRuns a (TooLarge 0 Vars) w w
+  many_variables w i text many = record {
+    answered = ended (FrontTable a) (front_calls a) (TooLarge 0 Vars) w w
+        (record { cause = λ told. let f = text told in (f.0, f.1, (i, f.2, many)); same = refl }) (λ is. cc) (λ call name. omega arith);
+    warned = refl;
+  }
 
   -- ---- writing and saying
 
@@ -77,36 +76,28 @@ module _ (a : FrontAsked) where
           | inr appends ↦ own_rose (front_calls a) (appending a.list) before.faults after.faults (2, omega arith, refl) appends
         ]
 
-    module _ (written : mid.files ≡ with_file before.files a.list (concat lines)) (kept : mid.said ≡ before.said) (first : NoneFell before.faults mid.faults) (files : after.files ≡ mid.files) (later : NoneFell mid.faults after.faults) where
-      whole : IsWritten (view before) (view after) a entries
-      whole = files ∙ written ∙ ap (with_file before.files a.list) text_is
+    -- the front is written and its size is said
+    pub complete : (result : Status) → mid.files ≡ with_file before.files a.list (concat lines) → mid.said ≡ before.said → mid.warned ≡ before.warned → NoneFell before.faults mid.faults → Says (Complete (length entries)) result mid after → FrontRuns a result before after
+    complete result written kept quiet first says =
+        said_last (FrontTable a) (front_calls a) (Complete (length entries)) before mid after (3, omega arith, refl) (λ is'. cc) first quiet
+        (λ said. record {
+          entries = entries;
+          front = front;
+          counted = refl;
+          empty = size_zero front.instance entries front.front;
+          files = whole;
+          said = said ∙ ap (λ (text : Option (List ℕ)). followed text (said_of (Complete (length entries)))) kept;
+        })
+        (λ partly. let row = cut_off partly in (row, row))
+        result says
+      where
+        whole : IsWritten (view before) (view after) a entries
+        whole = says.files ∙ written ∙ ap (with_file before.files a.list) text_is
 
-      none_fell : NoneFell before.faults after.faults
-      none_fell call name = omega (arith, first call name, later call name)
-
-      -- the line couldn't be said whole
-      pub saying_stopped : (fault : ShelfFault) → IsPartlyFollowed mid.said after.said (said_of (Complete (length entries))) → (fault ≡ Failed → SayingFailed mid.faults after.faults)
-          → Answered (FrontTable a) (front_calls a) (status_of_shelf fault) before after
-      saying_stopped fault partly rose = shelf_fault (FrontTable a) (front_calls a) fault before after row row
-          (λ failed. own_rose_at_last (front_calls a) before.faults mid.faults after.faults first (own_rose (front_calls a) saying mid.faults after.faults (3, omega arith, refl) (rose failed))) none_fell
-        where
-          row : IsCutShort (view before) (view after) a
-          row = inr record {
-            entries = entries;
-            front = front;
-            files = whole;
-            said = subst (λ (text : Option (List ℕ)). IsPartlyFollowed text after.said (said_of (Complete (length entries)))) kept partly;
-          }
-
-      -- the front is written and its size is said
-      pub complete : after.said ≡ followed mid.said (said_of (Complete (length entries))) → Answered (FrontTable a) (front_calls a) (Complete (length entries)) before after
-      complete said = ended (FrontTable a) (front_calls a) (Complete (length entries)) before after
-          (record {
-            entries = entries;
-            front = front;
-            counted = refl;
-            empty = size_zero front.instance entries front.front;
-            files = whole;
-            said = said ∙ ap (λ (text : Option (List ℕ)). followed text (said_of (Complete (length entries)))) kept;
-          })
-          (λ is'. cc) none_fell
+        cut_off : IsPartlyFollowed mid.said after.said (said_of (Complete (length entries))) → IsCutShort (view before) (view after) a
+        cut_off partly = inr record {
+          entries = entries;
+          front = front;
+          files = whole;
+          said = subst (λ (text : Option (List ℕ)). IsPartlyFollowed text after.said (said_of (Complete (length entries)))) kept partly;
+        }

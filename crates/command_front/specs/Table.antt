@@ -7,7 +7,7 @@ use Rattle.front_set.specs.ListText.{list_text}
 use Rattle.instance.specs.declared.fault.InstanceLimit.TheVariants.{Vars}
 use Rattle.instance.specs.Shape.{InstanceValue}
 use Rattle.instance.specs.ParetoFront.{IsFront}
-use Rattle.command_base.specs.Answering.{Call, Completes, appending, beginning, reading, saying}
+use Rattle.command_base.specs.Answering.{Call, Completes, Runs, appending, beginning, reading, saying}
 use Rattle.command_base.specs.Causes.{HasText, IsRefused}
 use Rattle.command_base.specs.InputTable.{InputTable}
 use Rattle.command_base.specs.InstanceFile.{IsTextOf}
@@ -71,6 +71,10 @@ FrontTable a (TooLarge zero Vars) before after = IsRefused before after a.input 
 FrontTable a NoMemory before after = IsCutShort before after a
 FrontTable a ShelfFailed before after = IsCutShort before after a
 FrontTable a status before after = InputTable a.format a.input status before after
+
+-- it answers so, and warns of nothing
+abbrev pub FrontRuns : FrontAsked → Status → World → World → Type 0
+FrontRuns a = Runs (FrontTable a) (front_calls a)
 
 -- ---- where it completes
 

@@ -10,7 +10,7 @@ use std::alloc::Global;
 
 /// The front of an instance of at most 20 variables, as a list shows it. Goes through all 2^vars
 /// assignments.
-pub fn front_of(alloc: Global, inst: &Instance) -> Result<Vec<Entry>, NoMemory>
+pub fn enumerated_front(alloc: Global, inst: &Instance) -> Result<Vec<Entry>, NoMemory>
     requires { inst.now.vars ≤ 20 }
     ensures { IfOk result (λ entries. IsFront inst.now entries.items) }
 {

@@ -4,24 +4,20 @@
 //! Its public contract: what it answers goes by its table (`FrontTable`), and what its words ask for is `front_asked`.
 #![tactic(auto)]
 
-ghost use Rattle.std.specs.Prelude.{◌≡◌, IfOk, true, map, option_map, string_bytes};
-ghost use Rattle.clap.specs.Words.{app_of};
+ghost use Rattle.std.specs.Prelude.{◌≡◌, true, map, option_map};
 ghost use Rattle.front_text.specs.Lines.{list_lines};
-ghost use Rattle.command_base.specs.Answering.{Answered};
 ghost use Rattle.command_base.specs.Causes.{HasText};
+ghost use Rattle.command_base.specs.FileWords.{names_of};
 ghost use Rattle.command_base.specs.InstanceFile.{IsTextOf};
-ghost use Rattle.clap.specs.Words.{rows_of, found_of};
-ghost use Rattle.command_front.specs.Table.{FrontTable, IsFrontOf, front_calls};
-ghost use Rattle.command_front.specs.Words.{asked, front_app, front_asked, front_of_rows};
+ghost use Rattle.command_front.specs.Table.{FrontRuns, IsFrontOf};
+ghost use Rattle.command_front.specs.Words.{asked, front_of};
 
 mod enumeration;
 
-use clap::ArgMatches;
 use command_base::{
-    Command, Format, Status, file, format_of, read_by, read_instance, say_of, value, with_arg,
-    write_lines,
+    Command, FileNames, Format, Status, read_files, read_instance, say, write_lines,
 };
-use enumeration::front_of;
+use enumeration::enumerated_front;
 use front_set::Entry;
 use front_text::list_lines;
 use instance::{Instance, InstanceLimit};
@@ -40,51 +36,43 @@ pub struct Front<'a> {
     pub list: &'a str,
 }
 
-// The words of the command, as clap reads them.
-fn front_words<'a>(alloc: Global) -> Result<clap::Command<'a>, NoMemory>
-    ensures { IfOk result (λ c. app_of c ≡ front_app) }
+// The command of two files.
+fn front_of<'a>(files: &FileNames<'a>) -> Option<Front<'a>>
+    ensures { option_map asked result ≡ front_of (names_of files.now) }
 {
-    let command = clap::Command::new(alloc, "front");
-    let command = with_arg(command, file(alloc, "IN"))?;
-    with_arg(command, file(alloc, "LIST"))
-}
-
-// The command of two different names, the first of an instance file.
-fn front_of_matches<'a>(matches: &ArgMatches<'a>) -> Option<Front<'a>>
-    ensures { option_map asked result ≡ front_of_rows (rows_of (found_of matches.now)) }
-{
-    let input = value(matches, "IN");
-    let list = value(matches, "LIST");
-    if input == list {
-        return None;
-    }
-    let format = format_of(input)?;
-    Some(Front {
-        format,
-        input,
-        list,
-    })
-}
-
-/// The command that the words ask for, of which the first is `front`; `None` exactly where clap or the names refuse them.
-pub fn read_front<'a>(alloc: Global, words: &'a [String]) -> Result<Option<Front<'a>>, NoMemory>
-    ensures { IfOk result (λ found.
-        option_map asked found ≡ front_asked (map string_bytes words.entry.now)) }
-{
-    let command = front_words(alloc)?;
-    match read_by(command, words)? {
-        Some(matches) => Ok(front_of_matches(&matches)),
-        None => Ok(None),
+    match files.names.as_slice() {
+        [input, list] => Some(Front {
+            format: files.format,
+            input,
+            list,
+        }),
+        _ => None,
     }
 }
 
-impl<'a> Command for Front<'a> {
+impl<'a> Command<'a> for Front<'a> {
+    ghost use Rattle.std.proofs.Common.{inl, refl};
     ghost use Rattle.command_front.specs.Table.{FrontTable, front_calls};
-    ghost use Rattle.command_front.specs.Words.{asked};
+    ghost use Rattle.command_front.specs.Words.{FrontAsked, asked, front_asked};
 
-    ghost table = { λ c. FrontTable (asked c) };
+    ghost Asked = { FrontAsked };
 
-    ghost own = { λ c. front_calls (asked c) };
+    ghost request = { asked };
+
+    ghost asked_by = { front_asked };
+
+    ghost table = { FrontTable };
+
+    ghost own = { front_calls };
+
+    ghost undone = { λ a v. inl (refl, inl refl) };
+
+    fn read(alloc: Global, words: &'a [String]) -> Result<Option<Front<'a>>, NoMemory> {
+        match read_files(alloc, "front", &["IN", "LIST"], words)? {
+            Some(files) => Ok(front_of(&files)),
+            None => Ok(None),
+        }
+    }
 
     fn run<H: Shelf>(&self, alloc: Global, shelf: &mut H) -> Status {
         match read_instance(alloc, self.format, self.input, shelf) {
@@ -99,9 +87,7 @@ impl<'a> Front<'a> {
     fn enumerate<H: Shelf>(&self, alloc: Global, inst: &Instance, shelf: &mut H) -> Status
         requires { HasText (H.world shelf.old).files self.now.input.now
             (IsTextOf self.now.format inst.now) }
-        ensures answered { Answered (FrontTable (asked self.now)) (front_calls (asked self.now))
-            result (H.world shelf.old) (H.world shelf.new) }
-        ensures warned { (H.world shelf.new).warned ≡ (H.world shelf.old).warned }
+        ensures { FrontRuns (asked self.now) result (H.world shelf.old) (H.world shelf.new) }
     {
         if inst.vars() > MOST_VARS {
             return Status::TooLarge {
@@ -109,7 +95,7 @@ impl<'a> Front<'a> {
                 which: InstanceLimit::Vars,
             };
         }
-        match front_of(alloc, inst) {
+        match enumerated_front(alloc, inst) {
             Ok(entries) => self.print(alloc, &entries, shelf),
             Err(fault) => Status::from(fault),
         }
@@ -118,9 +104,7 @@ impl<'a> Front<'a> {
     // Writes the front and says its size.
     fn print<H: Shelf>(&self, alloc: Global, entries: &[Entry], shelf: &mut H) -> Status
         requires { IsFrontOf (H.world shelf.old).files (asked self.now) entries.now }
-        ensures answered { Answered (FrontTable (asked self.now)) (front_calls (asked self.now))
-            result (H.world shelf.old) (H.world shelf.new) }
-        ensures warned { (H.world shelf.new).warned ≡ (H.world shelf.old).warned }
+        ensures { FrontRuns (asked self.now) result (H.world shelf.old) (H.world shelf.new) }
     {
         match list_lines(alloc, true, entries) {
             Ok(lines) => self.write(alloc, entries, lines.as_slice(), shelf),
@@ -138,9 +122,7 @@ impl<'a> Front<'a> {
     ) -> Status
         requires front { IsFrontOf (H.world shelf.old).files (asked self.now) entries.now }
         requires lines { lines.now ≡ list_lines true entries.now }
-        ensures answered { Answered (FrontTable (asked self.now)) (front_calls (asked self.now))
-            result (H.world shelf.old) (H.world shelf.new) }
-        ensures warned { (H.world shelf.new).warned ≡ (H.world shelf.old).warned }
+        ensures { FrontRuns (asked self.now) result (H.world shelf.old) (H.world shelf.new) }
     {
         match write_lines(shelf, self.list, lines) {
             Ok(()) => {}
@@ -149,9 +131,6 @@ impl<'a> Front<'a> {
         let status = Status::Complete {
             size: entries.len() as u64,
         };
-        match say_of(alloc, status, shelf) {
-            Ok(()) => status,
-            Err(fault) => Status::from(fault),
-        }
+        say(alloc, status, shelf)
     }
 }

@@ -2,23 +2,25 @@
 use Rattle.std.proofs.Common.{◌≡◌, ℕ, ◌<◌, ◌^◌, List, length, refl, sym, ap, subst, ◌∙◌, inl, inr, arith}
 use Rattle.std.specs.Prelude.{Option}
 use Rattle.scut_base.specs.Files.{with_file, followed, IsTouched, IsPrefixOf, IsPartlyFollowed}
-use Rattle.scut_base.specs.Faults.{NoneFell, WritingFailed, SayingFailed}
+use Rattle.scut_base.specs.Faults.{NoneFell, WritingFailed}
 use Rattle.scut_base.specs.World.{World}
 use Rattle.scut_base.specs.declared.shelf.ShelfFault.{ShelfFault}
 use Rattle.scut_base.specs.declared.shelf.ShelfFault.TheVariants.{Failed}
 use Rattle.instance.specs.Shape.{InstanceValue}
 use Rattle.mcnf_reader.specs.Grammar.{Spells}
 use Rattle.gen_instance.specs.Printed.{AllOccur, mcnf_text}
-use Rattle.command_base.specs.Answering.{Answered, OwnRose, appending, beginning, saying}
+use Rattle.command_base.specs.Answering.{Answered, OwnRose, appending, beginning}
 use Rattle.command_base.specs.InstanceFile.{IsTextOf}
 use Rattle.command_base.specs.Messages.{said_of}
+use Rattle.command_base.specs.Saying.{Says}
 use Rattle.command_base.specs.Statuses.{status_of_shelf}
 use Rattle.command_base.specs.Views.{View, view}
 use Rattle.command_base.specs.declared.instance_file.Format.TheVariants.{Mcnf}
-use Rattle.command_base.specs.declared.status.Status.TheVariants.{Done, NoMemory}
-use Rattle.command_base.proofs.Answered.{ended, own_rose, own_rose_at_last, shelf_fault}
+use Rattle.command_base.specs.declared.status.Status.{Status}
+use Rattle.command_base.specs.declared.status.Status.TheVariants.{Done}
+use Rattle.command_base.proofs.Answered.{own_rose, said_last, shelf_fault}
 use Rattle.command_gen.specs.Origin.{OriginValue, instance_from, text_from}
-use Rattle.command_gen.specs.Table.{GenTable, IsCutShort, gen_calls}
+use Rattle.command_gen.specs.Table.{GenRuns, GenTable, IsCutShort, gen_calls}
 use Rattle.command_gen.specs.Words.{GenAsked}
 
 -- the text that is printed of the instance
@@ -32,14 +34,6 @@ text_spells o i text same printed short occur spells = record {
 }
 
 module _ (a : GenAsked) where
-  -- nothing has changed
-  pub nothing_done : (before after : View) → after ≡ before → IsCutShort before after a
-  nothing_done before after same = inl (record { files = inl (ap (λ (v : View). v.files) same); said = ap (λ (v : View). v.said) same })
-
-  -- memory was wanted, and nothing has changed
-  pub no_memory : (w : World) → Answered (GenTable a) (gen_calls a) NoMemory w w
-  no_memory w = ended (GenTable a) (gen_calls a) NoMemory w w (nothing_done (view w) (view w) refl) (λ is. cc) (λ call name. omega arith)
-
   module _ (before mid after : World) (text : List ℕ) (is : text ≡ text_from a.origin) where
     -- OUT couldn't be written whole
     pub writing_stopped : (fault : ShelfFault) → IsTouched before.files after.files a.out (λ bytes. IsPrefixOf bytes text) → after.said ≡ before.said → (fault ≡ Failed → WritingFailed before.faults after.faults a.out) → NoneFell before.faults after.faults
@@ -55,28 +49,20 @@ module _ (a : GenAsked) where
           | inr appends ↦ own_rose (gen_calls a) (appending a.out) before.faults after.faults (1, omega arith, refl) appends
         ]
 
-    module _ (written : mid.files ≡ with_file before.files a.out text) (kept : mid.said ≡ before.said) (first : NoneFell before.faults mid.faults) (files : after.files ≡ mid.files) (later : NoneFell mid.faults after.faults) where
-      whole : after.files ≡ with_file before.files a.out (text_from a.origin)
-      whole = files ∙ written ∙ ap (with_file before.files a.out) is
+    -- the text is written, and that is said
+    pub done : (result : Status) → IsTextOf Mcnf (instance_from a.origin) text → mid.files ≡ with_file before.files a.out text → mid.said ≡ before.said → mid.warned ≡ before.warned → NoneFell before.faults mid.faults → Says Done result mid after → GenRuns a result before after
+    done result spelled written kept quiet first says =
+        said_last (GenTable a) (gen_calls a) Done before mid after (2, omega arith, refl) (λ is'. cc) first quiet
+        (λ said. record {
+          spelled = subst (λ (t : List ℕ). IsTextOf Mcnf (instance_from a.origin) t) is spelled;
+          files = whole;
+          said = said ∙ ap (λ (t : Option (List ℕ)). followed t (said_of Done)) kept;
+        })
+        (λ partly. let row = cut_off partly in (row, row))
+        result says
+      where
+        whole : after.files ≡ with_file before.files a.out (text_from a.origin)
+        whole = says.files ∙ written ∙ ap (with_file before.files a.out) is
 
-      none_fell : NoneFell before.faults after.faults
-      none_fell call name = omega (arith, first call name, later call name)
-
-      -- the line couldn't be said whole
-      pub saying_stopped : (fault : ShelfFault) → IsPartlyFollowed mid.said after.said (said_of Done) → (fault ≡ Failed → SayingFailed mid.faults after.faults)
-          → Answered (GenTable a) (gen_calls a) (status_of_shelf fault) before after
-      saying_stopped fault partly rose = shelf_fault (GenTable a) (gen_calls a) fault before after row row
-          (λ failed. own_rose_at_last (gen_calls a) before.faults mid.faults after.faults first (own_rose (gen_calls a) saying mid.faults after.faults (2, omega arith, refl) (rose failed))) none_fell
-        where
-          row : IsCutShort (view before) (view after) a
-          row = inr (record { files = whole; said = subst (λ (t : Option (List ℕ)). IsPartlyFollowed t after.said (said_of Done)) kept partly })
-
-      -- the text is written, and that is said
-      pub done : IsTextOf Mcnf (instance_from a.origin) text → after.said ≡ followed mid.said (said_of Done) → Answered (GenTable a) (gen_calls a) Done before after
-      done spelled said = ended (GenTable a) (gen_calls a) Done before after
-          (record {
-            spelled = subst (λ (t : List ℕ). IsTextOf Mcnf (instance_from a.origin) t) is spelled;
-            files = whole;
-            said = said ∙ ap (λ (t : Option (List ℕ)). followed t (said_of Done)) kept;
-          })
-          (λ is'. cc) none_fell
+        cut_off : IsPartlyFollowed mid.said after.said (said_of Done) → IsCutShort (view before) (view after) a
+        cut_off partly = inr (record { files = whole; said = subst (λ (t : Option (List ℕ)). IsPartlyFollowed t after.said (said_of Done)) kept partly })

@@ -2,7 +2,7 @@
 use Rattle.std.specs.Prelude.{◌≡◌, ◌⊎◌, List, [], ◌∷◌}
 use Rattle.scut_base.specs.Files.{with_file, followed, IsPartlyFollowed, IsPrefixOf, IsTouched}
 use Rattle.scut_base.specs.World.{World}
-use Rattle.command_base.specs.Answering.{Call, Completes, appending, beginning, saying}
+use Rattle.command_base.specs.Answering.{Call, Completes, Runs, appending, beginning, saying}
 use Rattle.command_base.specs.InstanceFile.{IsTextOf}
 use Rattle.command_base.specs.Messages.{said_of}
 use Rattle.command_base.specs.Views.{View}
@@ -46,6 +46,10 @@ GenTable a Done before after = IsGenerated before after a
 GenTable a NoMemory before after = IsCutShort before after a
 GenTable a ShelfFailed before after = IsCutShort before after a
 GenTable a status before after = ⊥
+
+-- it answers so, and warns of nothing
+abbrev pub GenRuns : GenAsked → Status → World → World → Type 0
+GenRuns a = Runs (GenTable a) (gen_calls a)
 
 -- ---- where it completes
 

@@ -5,21 +5,20 @@
 //! words make the same file.
 #![tactic(auto)]
 
-ghost use Rattle.std.specs.Prelude.{◌≡◌, IfOk, IsErrOf, OnErr, OnOk, map, option_map, string_bytes};
+ghost use Rattle.std.specs.Prelude.{◌≡◌, IfOk, IsErrOf, OnErr, OnOk, option_map};
 ghost use Rattle.clap.specs.Words.{app_of, found_of, rows_of};
 ghost use Rattle.scut_base.specs.Faults.{NoneFell, WritingFailed};
 ghost use Rattle.scut_base.specs.Files.{IsPrefixOf, IsTouched, with_file};
-ghost use Rattle.command_base.specs.Answering.{Answered};
 ghost use Rattle.command_base.specs.InstanceFile.{IsTextOf};
 ghost use Rattle.command_base.specs.declared.instance_file.Format.TheVariants.{Mcnf};
 ghost use Rattle.command_gen.specs.Origin.{instance_from, text_from};
-ghost use Rattle.command_gen.specs.Table.{GenTable, gen_calls};
-ghost use Rattle.command_gen.specs.Words.{asked, gen_app, gen_asked, gen_of_rows, gen_sizes};
+ghost use Rattle.command_gen.specs.Table.{GenRuns};
+ghost use Rattle.command_gen.specs.Words.{asked, gen_app, gen_of_rows, gen_sizes};
 
 mod origin;
 
 use clap::ArgMatches;
-use command_base::{Command, Status, file, read_by, say_of, value, with_arg};
+use command_base::{Command, Status, file, read_by, say, value, with_arg};
 use gen_instance::print_mcnf;
 pub use origin::Origin;
 use scut_base::{NoMemory, Shelf, ShelfFault};
@@ -65,26 +64,30 @@ fn gen_of_matches<'a>(matches: &ArgMatches<'a>) -> Option<Gen<'a>>
     Some(Gen { origin, out })
 }
 
-/// The command that the words ask for, of which the first is `gen`; `None` exactly where clap, the numbers or the name
-/// refuse them.
-pub fn read_gen<'a>(alloc: Global, words: &'a [String]) -> Result<Option<Gen<'a>>, NoMemory>
-    ensures { IfOk result (λ found.
-        option_map asked found ≡ gen_asked (map string_bytes words.entry.now)) }
-{
-    let command = gen_words(alloc)?;
-    match read_by(command, words)? {
-        Some(matches) => Ok(gen_of_matches(&matches)),
-        None => Ok(None),
-    }
-}
-
-impl<'a> Command for Gen<'a> {
+impl<'a> Command<'a> for Gen<'a> {
+    ghost use Rattle.std.proofs.Common.{inl, refl};
     ghost use Rattle.command_gen.specs.Table.{GenTable, gen_calls};
-    ghost use Rattle.command_gen.specs.Words.{asked};
+    ghost use Rattle.command_gen.specs.Words.{GenAsked, asked, gen_asked};
 
-    ghost table = { λ c. GenTable (asked c) };
+    ghost Asked = { GenAsked };
 
-    ghost own = { λ c. gen_calls (asked c) };
+    ghost request = { asked };
+
+    ghost asked_by = { gen_asked };
+
+    ghost table = { GenTable };
+
+    ghost own = { gen_calls };
+
+    ghost undone = { λ a v. inl (record { files = inl refl; said = refl }) };
+
+    fn read(alloc: Global, words: &'a [String]) -> Result<Option<Gen<'a>>, NoMemory> {
+        let command = gen_words(alloc)?;
+        match read_by(command, words)? {
+            Some(matches) => Ok(gen_of_matches(&matches)),
+            None => Ok(None),
+        }
+    }
 
     fn run<H: Shelf>(&self, alloc: Global, shelf: &mut H) -> Status {
         match text_of(alloc, self.origin) {
@@ -99,16 +102,10 @@ impl<'a> Gen<'a> {
     fn write<H: Shelf>(&self, alloc: Global, text: &[u8], shelf: &mut H) -> Status
         requires text { text.now ≡ text_from self.now.origin }
         requires spelled { IsTextOf Mcnf (instance_from self.now.origin) text.now }
-        ensures answered { Answered (GenTable (asked self.now)) (gen_calls (asked self.now))
-            result (H.world shelf.old) (H.world shelf.new) }
-        ensures warned { (H.world shelf.new).warned ≡ (H.world shelf.old).warned }
+        ensures { GenRuns (asked self.now) result (H.world shelf.old) (H.world shelf.new) }
     {
         match write_text(shelf, self.out, text) {
-            Ok(()) => {}
-            Err(fault) => return Status::from(fault),
-        }
-        match say_of(alloc, Status::Done, shelf) {
-            Ok(()) => Status::Done,
+            Ok(()) => say(alloc, Status::Done, shelf),
             Err(fault) => Status::from(fault),
         }
     }

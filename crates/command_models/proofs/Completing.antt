@@ -1,37 +1,34 @@
 -- Where the command `models` completes.
-use Rattle.std.proofs.Common.{◌≡◌, ℕ, zero, ◌<◌, ◌≤◌, ◌^◌, List, length, refl, inl, inr, subst, arith}
+use Rattle.std.proofs.Common.{ℕ, zero, ◌^◌, refl, inl, inr, arith}
 use Rattle.std.specs.Prelude.{Option}
 use Rattle.scut_base.specs.Files.{Files}
 use Rattle.scut_base.specs.World.{World}
-use Rattle.instance.specs.Shape.{InstanceValue}
+use Rattle.scut_base.proofs.FileLaws.{told_by_content}
 use Rattle.instance.specs.declared.fault.InstanceLimit.TheVariants.{Bytes}
 use Rattle.log_checker.specs.ListFaults.{IsListFault}
 use Rattle.log_checker.specs.declared.fault.CheckFault.TheVariants.{ListRefused}
 use Rattle.log_checker.specs.declared.fault.ListWhy.{ListWhy}
 use Rattle.log_checker.proofs.ListLaws.{right_has_no_fault}
 use Rattle.command_base.specs.Answering.{Answered}
-use Rattle.command_base.specs.InstanceFile.{IsTextOf}
+use Rattle.command_base.specs.Inputs.{OfList}
 use Rattle.command_base.specs.Views.{view}
 use Rattle.command_base.specs.declared.status.Status.{Status}
 use Rattle.command_base.specs.declared.status.Status.TheVariants.{Models, LogFull, Refused, TooLarge, NoMemory, ShelfFailed}
-use Rattle.command_base.proofs.InstanceFiles.{one_in}
-use Rattle.command_base.proofs.Readable.{not_larger, of_text, readable}
-use Rattle.command_check_models.specs.Entries.{IsInput}
-use Rattle.command_check_models.specs.Table.{HasLargeInput, OfList}
+use Rattle.command_base.proofs.Readable.{list_fault, not_larger, readable}
+use Rattle.command_check_models.specs.Table.{HasLargeInput}
 use Rattle.command_check_models.specs.Words.{ModelsAsked}
 use Rattle.command_models.specs.Table.{AreListable, ModelsCompletes, ModelsTable, models_calls}
 
 module _ (a : ModelsAsked) (files : Option Files) (are : AreListable a files) where
   none_is_large : HasLargeInput files a → ⊥
   none_is_large (inl large) = not_larger files a.input are.text (2 ^ 32) are.there are.spelled.taken large
-  none_is_large (inr (i, input, large)) = not_larger files a.list are.listed (2 ^ 32) are.list_there are.list_taken large
+  none_is_large (inr of) = not_larger files a.list are.listed (2 ^ 32) are.list_there are.list_taken (of (told_by_content files a.input are.text are.there)).2.2
 
-  no_list_refused : (k : ℕ) (why : ListWhy) → OfList files a (λ i listed. (length listed < 2 ^ 32) × IsListFault i listed k why) → ⊥
-  no_list_refused k why (i, input, has) =
+  no_list_refused : (k : ℕ) (why : ListWhy) → OfList files a.format a.input a.list (λ i listed. IsListFault i listed k why) → ⊥
+  no_list_refused k why of =
       let short = are.list_taken in
-      let fault : IsListFault i are.listed k why = (of_text files a.list are.listed (λ listed. (length listed < 2 ^ 32) × IsListFault i listed k why) are.list_there has).1 in
-      let same : i ≡ are.instance = one_in a.format are.text i are.instance (of_text files a.input are.text (IsTextOf a.format i) are.there input.text).spelled are.spelled.spelled in
-      right_has_no_fault are.instance are.listed (omega arith) are.entries k why are.list_spelled are.right (subst (λ (j : InstanceValue). IsListFault j are.listed k why) same fault)
+      let fault = list_fault a.format a.input a.list files are.text are.listed are.instance are.there are.spelled are.list_there k why of in
+      right_has_no_fault are.instance are.listed (omega arith) are.entries k why are.list_spelled are.right fault
 
 pub models_completes : (a : ModelsAsked) (status : Status) (before after : World) → Answered (ModelsTable a) (models_calls a) status before after → ModelsCompletes a status before after
 models_completes a (Models count) before after was are quiet other = tt

@@ -2,52 +2,45 @@
 use Rattle.std.proofs.Common.{◌≡◌, ℕ, ◌<◌, ◌≤◌, ◌^◌, List, length, refl, sym, ◌∙◌, ap, subst, inl, inr, ◌⊎◌, arith}
 use Rattle.std.specs.Prelude.{Option}
 use Rattle.scut_base.specs.Files.{Files, followed, IsPartlyFollowed}
-use Rattle.scut_base.specs.Faults.{Faults, NoneFell, SayingFailed, WritingFailed}
+use Rattle.scut_base.specs.Faults.{Faults, NoneFell, WritingFailed}
 use Rattle.scut_base.specs.World.{World}
-use Rattle.scut_base.specs.declared.shelf.ShelfFault.{ShelfFault}
-use Rattle.scut_base.specs.declared.shelf.ShelfFault.TheVariants.{Failed}
 use Rattle.front_set.specs.declared.entry.Entry.{Entry}
 use Rattle.instance.specs.Shape.{InstanceValue}
 use Rattle.pb_lin.specs.Problem.{ProblemValue}
 use Rattle.proof_rules.specs.declared.recorder.RecordFault.{RecordFault}
 use Rattle.proof_rules.specs.declared.recorder.RecordFault.TheVariants.{Failed as RecordFailed, Full, NoMemory as RecordNoMemory}
-use Rattle.command_base.specs.Answering.{Answered, OwnRose, appending, appending_each, beginning, beginning_each, reading, saying}
+use Rattle.command_base.specs.Answering.{Answered, OwnRose, appending, appending_each, beginning, beginning_each, reading}
 use Rattle.command_base.specs.Messages.{said_of}
-use Rattle.command_base.specs.Statuses.{status_of_recording, status_of_shelf}
-use Rattle.command_base.specs.Stops.{IsListStop, status_of_list}
-use Rattle.command_base.specs.Views.{OnlyReads, View, view}
-use Rattle.command_base.specs.declared.stops.ListStop.{ListStop}
-use Rattle.command_base.specs.declared.stops.ListStop.TheVariants.{Refused as ListWrong, Large as ListLarge, NoMemory as ListMemory, ShelfFailed as ListFailed}
-use Rattle.command_base.specs.declared.status.Status.TheVariants.{Models, NoMemory}
-use Rattle.command_base.proofs.Answered.{IsOwn, TakesInput, ended, own_rose, own_rose_at_last, shelf_fault, view_kept}
-use Rattle.command_check_models.specs.Entries.{IsInput, IsPosed}
+use Rattle.command_base.specs.Saying.{Says}
+use Rattle.command_base.specs.Statuses.{status_of_recording}
+use Rattle.command_base.specs.Views.{View, view}
+use Rattle.command_base.specs.declared.status.Status.{Status}
+use Rattle.command_base.specs.declared.status.Status.TheVariants.{Models}
+use Rattle.command_base.proofs.Answered.{IsOwn, TakesListed, own_rose, said_last}
+use Rattle.command_check_models.specs.Entries.{IsPosed}
 use Rattle.command_check_models.specs.Words.{ModelsAsked, log_name, models_name}
 use Rattle.command_models.specs.Gathering.{IsWritingStop, LogFailed}
-use Rattle.command_models.specs.Table.{AreListedPartly, AreTouched, AreWritten, IsLogWritten, ModelsTable, OfEntries, models_calls}
+use Rattle.command_models.specs.Table.{AreListedPartly, AreTouched, AreWritten, IsLogWritten, ModelsRuns, ModelsTable, OfEntries, models_calls}
 
 module _ (a : ModelsAsked) where
   pub reads_input : IsOwn (models_calls a) (reading a.input)
   reads_input = (0, omega arith, refl)
 
-  pub takes_input : (before after : View) → TakesInput (ModelsTable a) a.format a.input before after
-  takes_input before after = record {
-    bad = λ line kind was. was;
-    limit = λ line which was. was;
-    large = λ was. record { cause = inl was.cause; same = was.same };
-    memory = λ same. inl same;
-    failed = λ same. inl same;
+  pub reads_list : IsOwn (models_calls a) (reading a.list)
+  reads_list = (1, omega arith, refl)
+
+  pub takes_listed : (before after : View) → TakesListed (ModelsTable a) a.format a.input a.list before after
+  takes_listed before after = record {
+    first = record {
+      bad = λ line kind was. was;
+      limit = λ line which was. was;
+      large = λ was. record { cause = inl was.cause; same = was.same };
+      memory = inl;
+      failed = inl;
+    };
+    refused = λ k why was. was;
+    large = λ was. record { cause = inr was.cause; same = was.same };
   }
-
-  -- memory was wanted, and nothing has changed
-  pub no_memory : (w : World) → Answered (ModelsTable a) (models_calls a) NoMemory w w
-  no_memory w = ended (ModelsTable a) (models_calls a) NoMemory w w (inl refl) (λ is. cc) (λ call name. omega arith)
-
-  -- the list isn't taken
-  pub list_stopped : (before after : World) → OnlyReads before after → (stop : ListStop) (i : InstanceValue) → IsInput before.files a i → IsListStop i a.list stop before.files before.faults after.faults → Answered (ModelsTable a) (models_calls a) (status_of_list stop) before after
-  list_stopped before after reads (ListWrong k why) i read stop = record { table = record { cause = (i, read, stop); same = view_kept before after reads }; cause = λ is. absurd cc; later = reads.later }
-  list_stopped before after reads ListLarge i read stop = record { table = record { cause = inr (i, read, stop); same = view_kept before after reads }; cause = λ is. absurd cc; later = reads.later }
-  list_stopped before after reads ListMemory i read stop = record { table = inl (view_kept before after reads); cause = λ is. absurd cc; later = reads.later }
-  list_stopped before after reads ListFailed i read stop = record { table = inl (view_kept before after reads); cause = λ is. own_rose (models_calls a) (reading a.list) before.faults after.faults (1, omega arith, refl) stop; later = reads.later }
 
   module _ (before mid : World) (i : InstanceValue) (entries : List Entry) (p : ProblemValue) (posed : IsPosed before.files a i entries p) (said : mid.said ≡ before.said) (first : NoneFell before.faults mid.faults) where
     touched_row : AreTouched before.files mid.files a i p entries → AreListedPartly (view before) (view mid) a
@@ -78,31 +71,22 @@ module _ (a : ModelsAsked) where
     }
     writing_stopped RecordNoMemory stop = record { table = touched_row stop.touched; cause = λ is. absurd cc; later = first }
 
-    -- the models are written
-    module _ (after : World) (written : AreWritten before.files mid.files a i p entries) (files : after.files ≡ mid.files) (later : NoneFell mid.faults after.faults) where
-      none_fell : NoneFell before.faults after.faults
-      none_fell call name = omega (arith, first call name, later call name)
+    -- the models are written, and that is said
+    pub all_listed : (after : World) (result : Status) → AreWritten before.files mid.files a i p entries → mid.warned ≡ before.warned → Says (Models (length entries)) result mid after → ModelsRuns a result before after
+    all_listed after result written quiet says =
+        said_last (ModelsTable a) (models_calls a) (Models (length entries)) before mid after (6, omega arith, refl) (λ is. cc) first quiet
+        (λ now. record { written = listed; said = now ∙ ap (λ (old : Option (List ℕ)). followed old (said_of (Models (length entries)))) said })
+        (λ partly. let row = cut_off partly in (row, row))
+        result says
+      where
+        here : AreWritten before.files after.files a i p entries
+        here = subst (λ (now : Option Files). AreWritten before.files now a i p entries) (sym says.files) written
 
-      here : AreWritten before.files after.files a i p entries
-      here = subst (λ (now : Option Files). AreWritten before.files now a i p entries) (sym files) written
+        listed : OfEntries before.files a (λ i' p' es. AreWritten before.files after.files a i' p' es × (length es ≡ length entries))
+        listed = record { instance = i; entries = entries; problem = p; posed = posed; holds = (here, refl) }
 
-      pub saying_stopped : (fault : ShelfFault) → IsPartlyFollowed mid.said after.said (said_of (Models (length entries))) → (fault ≡ Failed → SayingFailed mid.faults after.faults) → Answered (ModelsTable a) (models_calls a) (status_of_shelf fault) before after
-      saying_stopped fault partly rose = shelf_fault (ModelsTable a) (models_calls a) fault before after row row
-          (λ failed. own_rose_at_last (models_calls a) before.faults mid.faults after.faults first (own_rose (models_calls a) saying mid.faults after.faults (6, omega arith, refl) (rose failed))) none_fell
-        where
-          row : AreListedPartly (view before) (view after) a
-          row = inr (inr (
-            length entries,
-            record {
-              written = record { instance = i; entries = entries; problem = p; posed = posed; holds = (here, refl) };
-              said = subst (λ (text : Option (List ℕ)). IsPartlyFollowed text after.said (said_of (Models (length entries)))) said partly;
-            },
-          ))
-
-      pub all_listed : after.said ≡ followed mid.said (said_of (Models (length entries))) → Answered (ModelsTable a) (models_calls a) (Models (length entries)) before after
-      all_listed now = ended (ModelsTable a) (models_calls a) (Models (length entries)) before after
-          (record {
-            written = record { instance = i; entries = entries; problem = p; posed = posed; holds = (here, refl) };
-            said = now ∙ ap (λ (old : Option (List ℕ)). followed old (said_of (Models (length entries)))) said;
-          })
-          (λ is. cc) none_fell
+        cut_off : IsPartlyFollowed mid.said after.said (said_of (Models (length entries))) → AreListedPartly (view before) (view after) a
+        cut_off partly = inr (inr (
+          length entries,
+          record { written = listed; said = subst (λ (text : Option (List ℕ)). IsPartlyFollowed text after.said (said_of (Models (length entries)))) said partly },
+        ))

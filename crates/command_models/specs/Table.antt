@@ -17,7 +17,7 @@ use Rattle.proof_laws.specs.declared.line.Line.{Line}
 use Rattle.proof_text.specs.LogText.{SpellsLog}
 use Rattle.representatives.specs.Representatives.{AreReps}
 use Rattle.representative_search.specs.Gathered.{IsPartOfSearch, OfBounded}
-use Rattle.command_base.specs.Answering.{Call, Completes, appending, appending_each, beginning, beginning_each, reading, saying}
+use Rattle.command_base.specs.Answering.{Call, Completes, Runs, appending, appending_each, beginning, beginning_each, reading, saying}
 use Rattle.command_base.specs.Causes.{HasText}
 use Rattle.command_base.specs.InstanceFile.{IsTextOf}
 use Rattle.command_base.specs.Messages.{said_of}
@@ -132,6 +132,10 @@ ModelsTable a (LogFull lines) before after = (lines ≡ 2 ^ 61) × IsLogFull bef
 ModelsTable a NoMemory before after = AreListedPartly before after a
 ModelsTable a ShelfFailed before after = AreListedPartly before after a
 ModelsTable a status before after = ListTable a status before after
+
+-- it answers so, and warns of nothing
+abbrev pub ModelsRuns : ModelsAsked → Status → World → World → Type 0
+ModelsRuns a = Runs (ModelsTable a) (models_calls a)
 
 -- ---- where it completes
 

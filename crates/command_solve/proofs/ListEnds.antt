@@ -2,18 +2,20 @@
 use Rattle.std.proofs.Common.{◌≡◌, ℕ, List, refl, ap, subst, ◌∙◌, inl, inr, arith}
 use Rattle.std.specs.Prelude.{Option}
 use Rattle.scut_base.specs.Files.{IsPartlyFollowed, IsPrefixOf, IsTouched, followed, with_file}
-use Rattle.scut_base.specs.Faults.{NoneFell, SayingFailed, WritingFailed}
+use Rattle.scut_base.specs.Faults.{NoneFell, WritingFailed}
 use Rattle.scut_base.specs.World.{World}
 use Rattle.scut_base.specs.declared.shelf.ShelfFault.{ShelfFault}
 use Rattle.scut_base.specs.declared.shelf.ShelfFault.TheVariants.{Failed}
 use Rattle.certified_front.specs.declared.ending.Ending.{Ending}
 use Rattle.certified_front.specs.declared.ending.Ending.TheVariants.{Complete as EndingComplete, Incomplete as EndingIncomplete}
-use Rattle.command_base.specs.Answering.{Answered, OwnRose, appending, beginning, saying}
+use Rattle.command_base.specs.Answering.{Answered, OwnRose, Runs, appending, beginning}
 use Rattle.command_base.specs.Messages.{said_of}
+use Rattle.command_base.specs.Saying.{Says}
 use Rattle.command_base.specs.Statuses.{status_of_shelf}
 use Rattle.command_base.specs.Views.{View, view}
+use Rattle.command_base.specs.declared.status.Status.{Status}
 use Rattle.command_base.specs.declared.status.Status.TheVariants.{NoMemory, ShelfFailed}
-use Rattle.command_base.proofs.Answered.{ended, own_rose, own_rose_at_last, shelf_fault}
+use Rattle.command_base.proofs.Answered.{idle, own_rose, said_last, shelf_fault}
 use Rattle.command_solve.specs.Listing.{IsListPartlySaid, IsListUnsaid, IsListed, ListTable, list_calls, status_of}
 
 row_listed : (list text : List ℕ) (size : ℕ) (how : Ending) (before after : View) → IsListed list text (status_of size how) before after → ListTable list text size how (status_of size how) before after
@@ -26,8 +28,8 @@ no_fault size (EndingIncomplete learned) is = cc
 
 module _ (list text : List ℕ) (size : ℕ) (how : Ending) where
   -- memory was wanted, and nothing has changed
-  pub no_lines : (w : World) → Answered (ListTable list text size how) (list_calls list) NoMemory w w
-  no_lines w = ended (ListTable list text size how) (list_calls list) NoMemory w w (inl (record { files = inl refl; said = refl })) (λ is. cc) (λ call name. omega arith)
+  pub no_lines : (w : World) → Runs (ListTable list text size how) (list_calls list) NoMemory w w
+  no_lines w = idle (ListTable list text size how) (list_calls list) w (inl (record { files = inl refl; said = refl }))
 
   -- LIST couldn't be written whole
   pub writing_stopped : (before after : World) (fault : ShelfFault) → IsTouched before.files after.files list (λ bytes. IsPrefixOf bytes text) → after.said ≡ before.said → (fault ≡ Failed → WritingFailed before.faults after.faults list) → NoneFell before.faults after.faults
@@ -43,20 +45,14 @@ module _ (list text : List ℕ) (size : ℕ) (how : Ending) where
         | inr appends ↦ own_rose (list_calls list) (appending list) before.faults after.faults (1, omega arith, refl) appends
       ]
 
-  module _ (before mid after : World) (written : mid.files ≡ with_file before.files list text) (kept : mid.said ≡ before.said) (first : NoneFell before.faults mid.faults) (files : after.files ≡ mid.files) (later : NoneFell mid.faults after.faults) where
-    none_fell : NoneFell before.faults after.faults
-    none_fell call name = omega (arith, first call name, later call name)
-
-    -- the line couldn't be said whole
-    pub saying_stopped : (fault : ShelfFault) → IsPartlyFollowed mid.said after.said (said_of (status_of size how)) → (fault ≡ Failed → SayingFailed mid.faults after.faults) → Answered (ListTable list text size how) (list_calls list) (status_of_shelf fault) before after
-    saying_stopped fault partly rose = shelf_fault (ListTable list text size how) (list_calls list) fault before after (inr said) (inr said)
-        (λ failed. own_rose_at_last (list_calls list) before.faults mid.faults after.faults first (own_rose (list_calls list) saying mid.faults after.faults (2, omega arith, refl) (rose failed))) none_fell
-      where
-        said : IsListPartlySaid list text size how (view before) (view after)
-        said = record { files = files ∙ written; said = subst (λ (t : Option (List ℕ)). IsPartlyFollowed t after.said (said_of (status_of size how))) kept partly }
-
-    -- the list is written and its size is said
-    pub listed : after.said ≡ followed mid.said (said_of (status_of size how)) → Answered (ListTable list text size how) (list_calls list) (status_of size how) before after
-    listed said = ended (ListTable list text size how) (list_calls list) (status_of size how) before after
-        (row_listed list text size how (view before) (view after) (record { files = files ∙ written; said = said ∙ ap (λ (t : Option (List ℕ)). followed t (said_of (status_of size how))) kept }))
-        (no_fault size how) none_fell
+  -- the list is written and its size is said
+  pub listed : (before mid after : World) (result : Status) → mid.files ≡ with_file before.files list text → mid.said ≡ before.said → mid.warned ≡ before.warned → NoneFell before.faults mid.faults → Says (status_of size how) result mid after
+      → Runs (ListTable list text size how) (list_calls list) result before after
+  listed before mid after result written kept quiet first says =
+      said_last (ListTable list text size how) (list_calls list) (status_of size how) before mid after (2, omega arith, refl) (no_fault size how) first quiet
+      (λ said. row_listed list text size how (view before) (view after) (record { files = says.files ∙ written; said = said ∙ ap (λ (t : Option (List ℕ)). followed t (said_of (status_of size how))) kept }))
+      (λ partly. let row = cut_off partly in (inr row, inr row))
+      result says
+    where
+      cut_off : IsPartlyFollowed mid.said after.said (said_of (status_of size how)) → IsListPartlySaid list text size how (view before) (view after)
+      cut_off partly = record { files = says.files ∙ written; said = subst (λ (t : Option (List ℕ)). IsPartlyFollowed t after.said (said_of (status_of size how))) kept partly }

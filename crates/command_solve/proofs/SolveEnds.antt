@@ -1,6 +1,7 @@
 -- How each end of the command `solve` is answered.
 use Rattle.std.proofs.Common.{◌≡◌, ℕ, suc, ◌+◌, ◌^◌, true, List, [], ◌∷◌, length, refl, sym, ap, subst, ◌∙◌, inl, inr, arith}
-use Rattle.std.specs.Prelude.{All}
+use Rattle.std.specs.Prelude.{All, Option}
+use Rattle.scut_base.specs.Files.{Files}
 use Rattle.std.specs.List.{filter}
 use Rattle.std.proofs.lemmas.List.Elements.{All-weaker}
 use Rattle.std.proofs.lemmas.Slice.Zip.{AllZip-long}
@@ -23,7 +24,8 @@ use Rattle.certified_front.specs.Certified.{HasEnded, IsEnding}
 use Rattle.certified_front.specs.declared.ending.Ending.{Ending}
 use Rattle.certified_front.specs.declared.ending.Ending.TheVariants.{Complete as EndingComplete, Incomplete as EndingIncomplete}
 use Rattle.certified_front.specs.declared.ending.Found.{Found}
-use Rattle.command_base.specs.Answering.{Answered, appending, beginning, reading}
+use Rattle.command_base.specs.Answering.{Answered, Runs, appending, beginning, reading}
+use Rattle.command_base.specs.Inputs.{IsInput}
 use Rattle.command_base.specs.Statuses.{status_of_recording}
 use Rattle.command_base.specs.Views.{View, view}
 use Rattle.command_base.specs.declared.status.Status.{Status}
@@ -33,7 +35,7 @@ use Rattle.command_base.proofs.ListSizes.{size_zero}
 use Rattle.command_solve.specs.Listing.{IsListed, ListTable, is_complete, list_calls, status_of}
 use Rattle.proof_text.specs.LogParts.{IsLogStopped}
 use Rattle.command_solve.specs.Logging.{IsLogged}
-use Rattle.command_solve.specs.Table.{IsCertified, IsFound, IsListTouched, IsProblemOf, IsUnfinished, SolveTable, solve_calls, with_log}
+use Rattle.command_solve.specs.Table.{HasSearch, IsCertified, IsFound, IsListTouched, IsProblemOf, IsSolvedPartly, IsUnfinished, SolveRuns, SolveTable, solve_calls, with_log}
 use Rattle.command_solve.specs.Words.{SolveAsked}
 
 sources_count : (var : ℕ) (os : List Objective) → length (cost_sources var os) ≡ length os
@@ -61,9 +63,9 @@ module _ (a : SolveAsked) where
     failed = inl;
   }
 
-  -- memory was wanted, and nothing has changed
-  pub no_memory : (w : World) → Answered (SolveTable a) (solve_calls a) NoMemory w w
-  no_memory w = ended (SolveTable a) (solve_calls a) NoMemory w w (inl refl) (λ is. cc) (λ call name. omega arith)
+  -- the problem is that of the file, which the search takes
+  pub problem_of : (files : Option Files) (i : InstanceValue) (p : ProblemValue) → IsInput files a.format a.input i p → HasSearch a i → IsProblemOf files a i p
+  problem_of files i p read search = record { text = read.text; search = search; normal = read.normal }
 
   module _ (i : InstanceValue) (p : ProblemValue) where
     -- the search didn't end
@@ -178,9 +180,15 @@ module _ (a : SolveAsked) where
       row after (LogFull lines) listed = done after (LogFull lines) listed
 
       -- the list was written, or a part of it
-      pub search_listed : (after : World) (status : Status) → NoneFell before.faults mid.faults → Answered Listing (list_calls a.list) status mid after → Answered (SolveTable a) (solve_calls a) status before after
-      search_listed after status later was = record {
-        table = row (view after) status was.table;
-        cause = λ failed. own_rose_at_last (solve_calls a) before.faults mid.faults after.faults later (record { call = inr (inr (inr (was.cause failed).call)) });
-        later = λ call name. omega (arith, later call name, was.later call name);
+      pub search_listed : (after : World) (status : Status) → mid.warned ≡ before.warned → NoneFell before.faults mid.faults → Runs Listing (list_calls a.list) status mid after → SolveRuns a status before after
+      search_listed after status unwarned later runs = record {
+        answered = record {
+          table = row (view after) status was.table;
+          cause = λ failed. own_rose_at_last (solve_calls a) before.faults mid.faults after.faults later (record { call = inr (inr (inr (was.cause failed).call)) });
+          later = λ call name. omega (arith, later call name, was.later call name);
+        };
+        warned = runs.warned ∙ unwarned;
       }
+        where
+          was : Answered Listing (list_calls a.list) status mid after
+          was = runs.answered

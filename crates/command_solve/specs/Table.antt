@@ -17,7 +17,7 @@ use Rattle.certified_front.specs.Certified.{CoversLogged, IsEnding}
 use Rattle.certified_front.specs.Planning.{FollowsPlan}
 use Rattle.certified_front.specs.declared.ending.Ending.{Ending}
 use Rattle.certified_front.specs.declared.ending.Ending.TheVariants.{Complete as EndingComplete, Incomplete as EndingIncomplete}
-use Rattle.command_base.specs.Answering.{Call, Completes, appending, beginning, reading}
+use Rattle.command_base.specs.Answering.{Call, Completes, Runs, appending, beginning, reading}
 use Rattle.command_base.specs.Causes.{HasText, IsRefused}
 use Rattle.command_base.specs.InputTable.{InputTable}
 use Rattle.command_base.specs.InstanceFile.{IsTextOf}
@@ -138,6 +138,10 @@ SolveTable a Usage before after = IsRefused before after a.input (HasOtherObject
 SolveTable a NoMemory before after = IsSolvedPartly before after a
 SolveTable a ShelfFailed before after = IsSolvedPartly before after a
 SolveTable a status before after = InputTable a.format a.input status before after
+
+-- it answers so, and warns of nothing
+abbrev pub SolveRuns : SolveAsked → Status → World → World → Type 0
+SolveRuns a = Runs (SolveTable a) (solve_calls a)
 
 -- ---- where it completes
 

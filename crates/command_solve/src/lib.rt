@@ -5,15 +5,12 @@
 //! log is begun before the search, and the list after it.
 #![tactic(auto)]
 
-ghost use Rattle.std.specs.Prelude.{◌≡◌, IfOk, map, option_map, string_bytes};
+ghost use Rattle.std.specs.Prelude.{◌≡◌, IfOk, option_map};
 ghost use Rattle.clap.specs.Words.{app_of, found_of, rows_of};
 ghost use Rattle.instance.specs.Shape.{IsWithinLimits};
-ghost use Rattle.instance_normal.specs.NormalForm.{IsNormalFormOf};
-ghost use Rattle.command_base.specs.Answering.{Answered};
-ghost use Rattle.command_base.specs.Causes.{HasText};
-ghost use Rattle.command_base.specs.InstanceFile.{IsTextOf};
-ghost use Rattle.command_solve.specs.Table.{IsProblemOf, SolveTable, solve_calls};
-ghost use Rattle.command_solve.specs.Words.{asked, solve_app, solve_asked, solve_files, solve_of_rows, solve_options};
+ghost use Rattle.command_base.specs.Inputs.{IsInput};
+ghost use Rattle.command_solve.specs.Table.{IsProblemOf, SolveRuns};
+ghost use Rattle.command_solve.specs.Words.{asked, solve_app, solve_files, solve_of_rows, solve_options};
 
 mod listing;
 mod logging;
@@ -27,11 +24,10 @@ use bioptsat::BiOpt;
 pub use certified_front::Plan;
 use clap::ArgMatches;
 use command_base::{
-    Command, Format, Status, file, flag, format_of_three, is_set, option, optional, read_by,
-    read_instance, value, with_arg,
+    Command, Format, Input, Status, file, flag, format_of_three, is_set, option, optional, read_by,
+    read_input, value, with_arg,
 };
 use instance::Instance;
-use instance_normal::normalise;
 use lower_bounding::LowerBounding;
 pub use options::SearchKind;
 use p_minimal::PMinimal;
@@ -111,71 +107,50 @@ fn solve_of_matches<'a>(matches: &ArgMatches<'a>) -> Option<Solve<'a>>
     })
 }
 
-/// The command that the words ask for, of which the first is `solve`; `None` exactly where clap, the names or the options
-/// refuse them.
-pub fn read_solve<'a>(alloc: Global, words: &'a [String]) -> Result<Option<Solve<'a>>, NoMemory>
-    ensures { IfOk result (λ found.
-        option_map asked found ≡ solve_asked (map string_bytes words.entry.now)) }
-{
-    let command = solve_words(alloc)?;
-    match read_by(command, words)? {
-        Some(matches) => Ok(solve_of_matches(&matches)),
-        None => Ok(None),
-    }
-}
-
-impl<'a> Command for Solve<'a> {
+impl<'a> Command<'a> for Solve<'a> {
+    ghost use Rattle.std.proofs.Common.{inl, refl};
     ghost use Rattle.command_solve.specs.Table.{SolveTable, solve_calls};
-    ghost use Rattle.command_solve.specs.Words.{asked};
+    ghost use Rattle.command_solve.specs.Words.{SolveAsked, asked, solve_asked};
 
-    ghost table = { λ c. SolveTable (asked c) };
+    ghost Asked = { SolveAsked };
 
-    ghost own = { λ c. solve_calls (asked c) };
+    ghost request = { asked };
+
+    ghost asked_by = { solve_asked };
+
+    ghost table = { SolveTable };
+
+    ghost own = { solve_calls };
+
+    ghost undone = { λ a v. inl refl };
+
+    fn read(alloc: Global, words: &'a [String]) -> Result<Option<Solve<'a>>, NoMemory> {
+        let command = solve_words(alloc)?;
+        match read_by(command, words)? {
+            Some(matches) => Ok(solve_of_matches(&matches)),
+            None => Ok(None),
+        }
+    }
 
     fn run<H: Shelf>(&self, alloc: Global, shelf: &mut H) -> Status {
-        match read_instance(alloc, self.format, self.input, shelf) {
-            Ok(inst) => self.solve(alloc, &inst, shelf),
+        match read_input(alloc, self.format, self.input, shelf) {
+            Ok(input) => self.search(alloc, &input, shelf),
             Err(stop) => Status::from(stop),
         }
     }
 }
 
 impl<'a> Solve<'a> {
-    // Searches for the front of an instance, by its normal form.
-    fn solve<H: Shelf>(&self, alloc: Global, inst: &Instance, shelf: &mut H) -> Status
-        requires text { HasText (H.world shelf.old).files self.now.input.now
-            (IsTextOf self.now.format inst.now) }
-        requires limits { IsWithinLimits inst.now }
-        ensures answered { Answered (SolveTable (asked self.now)) (solve_calls (asked self.now))
-            result (H.world shelf.old) (H.world shelf.new) }
-        ensures warned { (H.world shelf.new).warned ≡ (H.world shelf.old).warned }
+    // Searches for the front of an instance, if the search that is asked for takes it.
+    fn search<H: Shelf>(&self, alloc: Global, input: &Input, shelf: &mut H) -> Status
+        requires { IsInput (H.world shelf.old).files self.now.format self.now.input.now
+            input.now.inst input.now.problem }
+        ensures { SolveRuns (asked self.now) result (H.world shelf.old) (H.world shelf.new) }
     {
-        match normalise(alloc, inst) {
-            Ok(problem) => self.search(alloc, inst, &problem, shelf),
-            Err(fault) => Status::from(fault),
-        }
-    }
-
-    // Searches, where the search that is asked for takes the instance.
-    fn search<H: Shelf>(
-        &self,
-        alloc: Global,
-        inst: &Instance,
-        problem: &PbProblem,
-        shelf: &mut H,
-    ) -> Status
-        requires text { HasText (H.world shelf.old).files self.now.input.now
-            (IsTextOf self.now.format inst.now) }
-        requires normal { IsNormalFormOf inst.now problem.now }
-        requires limits { IsWithinLimits inst.now }
-        ensures answered { Answered (SolveTable (asked self.now)) (solve_calls (asked self.now))
-            result (H.world shelf.old) (H.world shelf.new) }
-        ensures warned { (H.world shelf.new).warned ≡ (H.world shelf.old).warned }
-    {
-        if !takes(self.search, self.turns, inst.objectives.len()) {
+        if !takes(self.search, self.turns, input.inst.objectives.len()) {
             return Status::Usage;
         }
-        self.search_for(alloc, inst, problem, shelf)
+        self.search_for(alloc, &input.inst, &input.problem, shelf)
     }
 
     // Makes the search that is asked for, and searches by it.
@@ -188,9 +163,7 @@ impl<'a> Solve<'a> {
     ) -> Status
         requires problem { IsProblemOf (H.world shelf.old).files (asked self.now) inst.now problem.now }
         requires limits { IsWithinLimits inst.now }
-        ensures answered { Answered (SolveTable (asked self.now)) (solve_calls (asked self.now))
-            result (H.world shelf.old) (H.world shelf.new) }
-        ensures warned { (H.world shelf.new).warned ≡ (H.world shelf.old).warned }
+        ensures { SolveRuns (asked self.now) result (H.world shelf.old) (H.world shelf.new) }
     {
         match self.search {
             SearchKind::PMinimal => {
@@ -221,9 +194,7 @@ impl<'a> Solve<'a> {
         requires problem { IsProblemOf (H.world shelf.old).files (asked self.now) inst.now problem.now }
         requires limits { IsWithinLimits inst.now }
         requires serves { IfOk made (λ search. S.serves search problem.now) }
-        ensures answered { Answered (SolveTable (asked self.now)) (solve_calls (asked self.now))
-            result (H.world shelf.old) (H.world shelf.new) }
-        ensures warned { (H.world shelf.new).warned ≡ (H.world shelf.old).warned }
+        ensures { SolveRuns (asked self.now) result (H.world shelf.old) (H.world shelf.new) }
     {
         match made {
             Ok(mut search) => self.search_by(alloc, inst, problem, &mut search, shelf),
@@ -243,9 +214,7 @@ impl<'a> Solve<'a> {
         requires problem { IsProblemOf (H.world shelf.old).files (asked self.now) inst.now problem.now }
         requires limits { IsWithinLimits inst.now }
         requires serves { S.serves search.old problem.now }
-        ensures answered { Answered (SolveTable (asked self.now)) (solve_calls (asked self.now))
-            result (H.world shelf.old) (H.world shelf.new) }
-        ensures warned { (H.world shelf.new).warned ≡ (H.world shelf.old).warned }
+        ensures { SolveRuns (asked self.now) result (H.world shelf.old) (H.world shelf.new) }
     {
         match search_with_log(
             alloc,

@@ -2,11 +2,11 @@
 ghost use Rattle.std.specs.Prelude.{◌≡◌, length};
 ghost use Rattle.std.specs.List.{concat};
 ghost use Rattle.front_set.specs.ListText.{list_text};
-ghost use Rattle.command_base.specs.Answering.{Answered};
+ghost use Rattle.command_base.specs.Answering.{Runs};
 ghost use Rattle.command_solve.specs.Listing.{ListTable, is_complete, list_calls, status_of};
 
 use certified_front::{Ending, Found};
-use command_base::{Status, say_of, write_lines};
+use command_base::{Status, say, write_lines};
 use front_text::list_lines;
 use scut_base::{Items, Shelf};
 use std::alloc::Global;
@@ -18,11 +18,10 @@ pub(crate) fn write_found<H: Shelf>(
     list: &str,
     shelf: &mut H,
 ) -> Status
-    ensures answered { Answered (ListTable list.now
+    ensures { Runs (ListTable list.now
         (list_text (is_complete found.now.ending) found.now.entries.items)
         (length found.now.entries.items) found.now.ending) (list_calls list.now) result
         (H.world shelf.old) (H.world shelf.new) }
-    ensures warned { (H.world shelf.new).warned ≡ (H.world shelf.old).warned }
 {
     let size = found.entries.len() as u64;
     match list_lines(alloc, is_complete(found.ending), &found.entries) {
@@ -40,17 +39,11 @@ fn write_list<H: Shelf>(
     lines: &[Items<u8>],
     shelf: &mut H,
 ) -> Status
-    ensures answered { Answered (ListTable list.now (concat lines.now) size ending)
-        (list_calls list.now) result (H.world shelf.old) (H.world shelf.new) }
-    ensures warned { (H.world shelf.new).warned ≡ (H.world shelf.old).warned }
+    ensures { Runs (ListTable list.now (concat lines.now) size ending) (list_calls list.now)
+        result (H.world shelf.old) (H.world shelf.new) }
 {
     match write_lines(shelf, list, lines) {
-        Ok(()) => {}
-        Err(fault) => return Status::from(fault),
-    }
-    let status = status_of(size, ending);
-    match say_of(alloc, status, shelf) {
-        Ok(()) => status,
+        Ok(()) => say(alloc, status_of(size, ending), shelf),
         Err(fault) => Status::from(fault),
     }
 }

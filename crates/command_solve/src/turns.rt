@@ -2,8 +2,7 @@
 ghost use Rattle.std.specs.Prelude.{◌≡◌, IfOk, IfSome};
 ghost use Rattle.std.specs.Option.{option_copied_mut};
 ghost use Rattle.instance.specs.Shape.{IsWithinLimits};
-ghost use Rattle.command_base.specs.Answering.{Answered};
-ghost use Rattle.command_solve.specs.Table.{IsProblemOf, SolveTable, searches_for, solve_calls};
+ghost use Rattle.command_solve.specs.Table.{IsProblemOf, SolveRuns, searches_for};
 ghost use Rattle.command_solve.specs.TurnDigits.{numbers_of};
 ghost use Rattle.command_solve.specs.Words.{asked};
 ghost use Rattle.command_solve.specs.declared.options.SearchKind.TheVariants.{Turns};
@@ -20,7 +19,8 @@ use lower_bounding::LowerBounding;
 use p_minimal::PMinimal;
 use pb_lin::PbProblem;
 use portfolio::Cycle;
-use scut_base::{Items, NoMemory, Shelf};
+use scut_base::{Items, NoMemory, Shelf, boxed};
+use search_base::Search;
 use std::alloc::Global;
 
 impl<'a> Solve<'a> {
@@ -35,9 +35,7 @@ impl<'a> Solve<'a> {
         requires problem { IsProblemOf (H.world shelf.old).files (asked self.now) inst.now problem.now }
         requires limits { IsWithinLimits inst.now }
         requires search { self.now.search ≡ Turns }
-        ensures answered { Answered (SolveTable (asked self.now)) (solve_calls (asked self.now))
-            result (H.world shelf.old) (H.world shelf.new) }
-        ensures warned { (H.world shelf.new).warned ≡ (H.world shelf.old).warned }
+        ensures { SolveRuns (asked self.now) result (H.world shelf.old) (H.world shelf.new) }
     {
         let Some(digits) = self.turns else {
             unreachable!();
@@ -60,13 +58,11 @@ impl<'a> Solve<'a> {
         requires problem { IsProblemOf (H.world shelf.old).files (asked self.now) inst.now problem.now }
         requires limits { IsWithinLimits inst.now }
         requires turns { AreTurns (searches_for inst.now) turns.now }
-        ensures answered { Answered (SolveTable (asked self.now)) (solve_calls (asked self.now))
-            result (H.world shelf.old) (H.world shelf.new) }
-        ensures warned { (H.world shelf.new).warned ≡ (H.world shelf.old).warned }
+        ensures { SolveRuns (asked self.now) result (H.world shelf.old) (H.world shelf.new) }
     {
-        match LowerBounding::new(alloc, problem) {
+        match boxed_search(alloc, problem, LowerBounding::new(alloc, problem)) {
             Ok(mut second) => {
-                self.search_beside(alloc, inst, problem, &mut second, turns, shelf)
+                self.search_beside(alloc, inst, problem, &mut *second, turns, shelf)
             }
             Err(fault) => Status::from(fault),
         }
@@ -86,13 +82,11 @@ impl<'a> Solve<'a> {
         requires limits { IsWithinLimits inst.now }
         requires turns { AreTurns (searches_for inst.now) turns.now }
         requires second { FenceServes second.old problem.now }
-        ensures answered { Answered (SolveTable (asked self.now)) (solve_calls (asked self.now))
-            result (H.world shelf.old) (H.world shelf.new) }
-        ensures warned { (H.world shelf.new).warned ≡ (H.world shelf.old).warned }
+        ensures { SolveRuns (asked self.now) result (H.world shelf.old) (H.world shelf.new) }
     {
-        match PMinimal::relaxed(alloc, problem) {
+        match boxed_search(alloc, problem, PMinimal::relaxed(alloc, problem)) {
             Ok(mut first) => {
-                self.search_by_two(alloc, inst, problem, &mut first, second, turns, shelf)
+                self.search_by_two(alloc, inst, problem, &mut *first, second, turns, shelf)
             }
             Err(fault) => Status::from(fault),
         }
@@ -114,16 +108,14 @@ impl<'a> Solve<'a> {
         requires first { AimServes first.old problem.now }
         requires second { FenceServes second.old problem.now }
         requires turns { AreTurns (searches_for inst.now) turns.now }
-        ensures answered { Answered (SolveTable (asked self.now)) (solve_calls (asked self.now))
-            result (H.world shelf.old) (H.world shelf.new) }
-        ensures warned { (H.world shelf.new).warned ≡ (H.world shelf.old).warned }
+        ensures { SolveRuns (asked self.now) result (H.world shelf.old) (H.world shelf.new) }
     {
         if inst.objectives.len() != 2 {
             return self.search_by_all(alloc, inst, problem, first, second, None, turns, shelf);
         }
-        match BiOpt::relaxed(alloc, problem) {
+        match boxed_search(alloc, problem, BiOpt::relaxed(alloc, problem)) {
             Ok(mut third) => {
-                let third = Some(&mut third);
+                let third = Some(&mut *third);
                 self.search_by_all(alloc, inst, problem, first, second, third, turns, shelf)
             }
             Err(fault) => Status::from(fault),
@@ -148,13 +140,24 @@ impl<'a> Solve<'a> {
         requires second { FenceServes second.old problem.now }
         requires third { IfSome (option_copied_mut third) (λ search. BothServe search problem.now) }
         requires turns { AreTurns (search_count (option_copied_mut third)) turns.now }
-        ensures answered { Answered (SolveTable (asked self.now)) (solve_calls (asked self.now))
-            result (H.world shelf.old) (H.world shelf.new) }
-        ensures warned { (H.world shelf.new).warned ≡ (H.world shelf.old).warned }
+        ensures { SolveRuns (asked self.now) result (H.world shelf.old) (H.world shelf.new) }
     {
         let mut cycle = Cycle::new(first, second, third, turns);
         self.search_by(alloc, inst, problem, &mut cycle, shelf)
     }
+}
+
+// A search in a box, if there was memory for it. It is one part there, of whatever type it is; to own its many parts past
+// several ways out takes long to prove.
+fn boxed_search<S: Search + Drop>(
+    alloc: Global,
+    _problem: &PbProblem,
+    made: Result<S, NoMemory>,
+) -> Result<Box<S>, NoMemory>
+    requires { IfOk made (λ search. S.serves search _problem.now) }
+    ensures { IfOk result (λ search. S.serves search.value _problem.now) }
+{
+    boxed(alloc, made?)
 }
 
 // The numbers of the searches of these digits.

@@ -16,6 +16,7 @@ use Rattle.log_checker.specs.NoRefusal.{IsRefusedNowhere}
 use Rattle.log_checker.specs.declared.fault.ListWhy.{ListWhy}
 use Rattle.log_checker.proofs.Faults.{whole_fault_more}
 use Rattle.log_checker.proofs.Unrefused.{accepted_unrefused}
+use Rattle.command_base.specs.Inputs.{OfList}
 use Rattle.command_base.specs.Causes.{HasText}
 use Rattle.command_base.specs.InstanceFile.{IsTextOf}
 use Rattle.command_base.specs.Views.{View}
@@ -25,7 +26,7 @@ use Rattle.command_base.proofs.Readable.{not_larger, of_text}
 use Rattle.command_gen.specs.Origin.{instance_from, text_from}
 use Rattle.command_gen.specs.Table.{IsGenerated}
 use Rattle.command_solve.specs.Table.{IsCertified}
-use Rattle.command_check.specs.Table.{HasLargeFile, IsLineFault, IsTakenAndAccepted, OfList, OfLog, OfRightList}
+use Rattle.command_check.specs.Table.{HasLargeFile, IsLineFault, IsTakenAndAccepted, OfLog, OfRightList}
 use Rattle.command_trial.specs.Table.{IsSolved, with_three}
 use Rattle.command_trial.specs.Words.{TrialAsked, check_part, gen_part, instance_name, list_name, log_name, solve_part}
 use Rattle.command_trial.proofs.Names.{input_not_list, input_not_log, log_not_list}
@@ -107,7 +108,7 @@ module _ (a : TrialAsked) (before mid : View) (told : IsTold before.files) (made
 
     -- ---- what is said of the instance that is read back
 
-    of_list : (P : InstanceValue → List ℕ → Type 0) → OfList last.files (check_part a) P → (length listed < 2 ^ 32) × P instance listed
+    of_list : (P : InstanceValue → List ℕ → Type 0) → OfList last.files Mcnf (instance_name a) (list_name a) P → (length listed < 2 ^ 32) × P instance listed
     of_list P of =
         let read = of_text last.files (instance_name a) text (λ (t : List ℕ). (i : InstanceValue) × IsTextOf Mcnf i t × HasText last.files (list_name a) (λ l. (length l < 2 ^ 32) × P i l)) text_there of in
         let found = of_text last.files (list_name a) listed (λ (l : List ℕ). (length l < 2 ^ 32) × P read.0 l) list_there read.2 in
@@ -136,7 +137,7 @@ module _ (a : TrialAsked) (before mid : View) (told : IsTold before.files) (made
         inl (subst (λ (bytes : List ℕ). IsWholeFault p vectors bytes k why) (take-append-drop (2 ^ 62 - 1) proof)
         (whole_fault_more p vectors (take (2 ^ 62 - 1) proof) (drop (2 ^ 62 - 1) proof) k why fault))
 
-    pub no_entry_refused : (k : ℕ) (why : ListWhy) → OfList last.files (check_part a) (λ i l. IsListFault i l k why) → ⊥
+    pub no_entry_refused : (k : ℕ) (why : ListWhy) → OfList last.files Mcnf (instance_name a) (list_name a) (λ i l. IsListFault i l k why) → ⊥
     no_entry_refused k why of =
         let found = of_list (λ i l. IsListFault i l k why) of in
         (unrefused found.0).right_list k why found.1

@@ -1,5 +1,5 @@
 -- How each end of the command `trial` is answered, by the tables of its parts.
-use Rattle.std.proofs.Common.{◌≡◌, ℕ, zero, true, false, List, refl, ap, ◌∙◌, subst, inl, inr, arith}
+use Rattle.std.proofs.Common.{◌≡◌, ℕ, zero, true, false, List, ap, ◌∙◌, subst, inl, inr, arith}
 use Rattle.std.specs.Prelude.{Option}
 use Rattle.std.proofs.lemmas.Option.{none-some}
 use Rattle.scut_base.specs.Files.{Files, IsTold, followed}
@@ -15,10 +15,9 @@ use Rattle.command_base.specs.Views.{View, view}
 use Rattle.command_base.specs.declared.instance_file.Format.TheVariants.{Mcnf}
 use Rattle.command_base.specs.declared.status.Status.{Status}
 use Rattle.command_base.specs.declared.status.Status.TheVariants.{Done, Complete, Incomplete, LogFull, Accepted, Refused, Usage, BadInput, TooLarge, NoMemory, ShelfFailed}
-use Rattle.command_base.proofs.Answered.{ended, own_rose_at_last}
+use Rattle.command_base.proofs.Answered.{own_rose_at_last}
 use Rattle.command_base.proofs.Readable.{readable}
 use Rattle.command_gen.specs.Table.{GenTable, IsGenerated, gen_calls}
-use Rattle.command_gen.proofs.GenEnds.{nothing_done as gen_not_done}
 use Rattle.proof_text.specs.declared.version.LogVersion.TheVariants.{One}
 use Rattle.proof_text.specs.LogParts.{IsFull}
 use Rattle.command_solve.specs.Table.{IsCertified, IsLogFull, SolveTable, solve_calls}
@@ -32,14 +31,6 @@ use Rattle.command_trial.proofs.OwnCalls.{check_rose, gen_rose, solve_rose}
 use Rattle.command_trial.proofs.ReadBack.{large_file, no_entry_refused, no_line_refused, same_instance, solved, taken, text_there, there_then, told_then}
 
 module _ (a : TrialAsked) where
-  -- nothing has changed
-  pub nothing_done : (before after : View) → after ≡ before → IsTriedPartly before after a
-  nothing_done before after same = inl (gen_not_done (gen_part a) before after same)
-
-  -- memory was wanted, and nothing has changed
-  pub no_memory : (w : World) → Answered (TrialTable a) (trial_calls a) NoMemory w w
-  no_memory w = ended (TrialTable a) (trial_calls a) NoMemory w w (nothing_done (view w) (view w) refl) (λ is. cc) (λ call name. omega arith)
-
   -- ---- the first part
 
   made_by : (status : Status) (before after : View) → goes_on status ≡ true → GenTable (gen_part a) status before after → IsGenerated before after (gen_part a)

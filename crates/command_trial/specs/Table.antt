@@ -10,7 +10,7 @@ use Rattle.instance.specs.ParetoFront.{IsFront}
 use Rattle.instance_normal.specs.NormalForm.{IsNormalFormOf}
 use Rattle.pb_lin.specs.Problem.{ProblemValue}
 use Rattle.log_checker.specs.Accepted.{IsAccepted}
-use Rattle.command_base.specs.Answering.{Call, Completes, appending, beginning, reading, saying}
+use Rattle.command_base.specs.Answering.{Call, Completes, Runs, appending, beginning, reading, saying}
 use Rattle.command_base.specs.InstanceFile.{IsTextOf}
 use Rattle.command_base.specs.Messages.{said_of}
 use Rattle.command_base.specs.Views.{View}
@@ -120,6 +120,10 @@ TrialTable a (BadInput line kind) before after = IsUntold before.files
 TrialTable a (Refused fault) before after = IsUntold before.files
 TrialTable a Usage before after = IsUntold before.files
 TrialTable a status before after = ⊥
+
+-- it answers so, and warns of nothing
+abbrev pub TrialRuns : TrialAsked → Status → World → World → Type 0
+TrialRuns a = Runs (TrialTable a) (trial_calls a)
 
 -- ---- where it completes
 

@@ -6,14 +6,13 @@
 //! parts are the commands `gen`, `solve` and `check`, each by its own table.
 #![tactic(auto)]
 
-ghost use Rattle.std.specs.Prelude.{◌≡◌, ◌++◌, IfOk, map, option_map, string_bytes};
+ghost use Rattle.std.specs.Prelude.{◌≡◌, ◌++◌, IfOk, option_map, string_bytes};
 ghost use Rattle.clap.specs.Words.{app_of, found_of, rows_of};
-ghost use Rattle.command_base.specs.Answering.{Answered};
 ghost use Rattle.command_check.specs.Words.{asked as check_values};
 ghost use Rattle.command_gen.specs.Words.{asked as gen_values};
 ghost use Rattle.command_solve.specs.Words.{asked as solve_values};
-ghost use Rattle.command_trial.specs.Table.{TrialTable, goes_on, trial_calls};
-ghost use Rattle.command_trial.specs.Words.{AreNames, asked, check_in, gen_in, instance_name, list_name, solve_in, trial_app, trial_asked, trial_of_rows, trial_sizes};
+ghost use Rattle.command_trial.specs.Table.{TrialRuns, goes_on};
+ghost use Rattle.command_trial.specs.Words.{AreNames, asked, check_in, gen_in, instance_name, list_name, solve_in, trial_app, trial_of_rows, trial_sizes};
 
 use clap::ArgMatches;
 use command_base::{Command, Format, Status, file, read_by, value, with_arg};
@@ -61,25 +60,30 @@ fn trial_of_matches<'a>(matches: &ArgMatches<'a>) -> Option<Trial<'a>>
     Some(Trial { origin, base })
 }
 
-/// The command that the words ask for, of which the first is `trial`; `None` exactly where clap or the numbers refuse them.
-pub fn read_trial<'a>(alloc: Global, words: &'a [String]) -> Result<Option<Trial<'a>>, NoMemory>
-    ensures { IfOk result (λ found.
-        option_map asked found ≡ trial_asked (map string_bytes words.entry.now)) }
-{
-    let command = trial_words(alloc)?;
-    match read_by(command, words)? {
-        Some(matches) => Ok(trial_of_matches(&matches)),
-        None => Ok(None),
-    }
-}
-
-impl<'a> Command for Trial<'a> {
+impl<'a> Command<'a> for Trial<'a> {
+    ghost use Rattle.std.proofs.Common.{inl, refl};
     ghost use Rattle.command_trial.specs.Table.{TrialTable, trial_calls};
-    ghost use Rattle.command_trial.specs.Words.{asked};
+    ghost use Rattle.command_trial.specs.Words.{TrialAsked, asked, trial_asked};
 
-    ghost table = { λ c. TrialTable (asked c) };
+    ghost Asked = { TrialAsked };
 
-    ghost own = { λ c. trial_calls (asked c) };
+    ghost request = { asked };
+
+    ghost asked_by = { trial_asked };
+
+    ghost table = { TrialTable };
+
+    ghost own = { trial_calls };
+
+    ghost undone = { λ a v. inl (inl (record { files = inl refl; said = refl })) };
+
+    fn read(alloc: Global, words: &'a [String]) -> Result<Option<Trial<'a>>, NoMemory> {
+        let command = trial_words(alloc)?;
+        match read_by(command, words)? {
+            Some(matches) => Ok(trial_of_matches(&matches)),
+            None => Ok(None),
+        }
+    }
 
     fn run<H: Shelf>(&self, alloc: Global, shelf: &mut H) -> Status {
         match name_of(alloc, self.base, ".mcnf") {
@@ -93,9 +97,7 @@ impl<'a> Trial<'a> {
     // The same, where this is the name of the instance file.
     fn name_list<H: Shelf>(&self, alloc: Global, input: &str, shelf: &mut H) -> Status
         requires input { input.now ≡ instance_name (asked self.now) }
-        ensures answered { Answered (TrialTable (asked self.now)) (trial_calls (asked self.now))
-            result (H.world shelf.old) (H.world shelf.new) }
-        ensures warned { (H.world shelf.new).warned ≡ (H.world shelf.old).warned }
+        ensures { TrialRuns (asked self.now) result (H.world shelf.old) (H.world shelf.new) }
     {
         match name_of(alloc, self.base, ".list") {
             Ok(list) => self.name_log(alloc, input, list.as_str(), shelf),
@@ -107,9 +109,7 @@ impl<'a> Trial<'a> {
     fn name_log<H: Shelf>(&self, alloc: Global, input: &str, list: &str, shelf: &mut H) -> Status
         requires input { input.now ≡ instance_name (asked self.now) }
         requires list { list.now ≡ list_name (asked self.now) }
-        ensures answered { Answered (TrialTable (asked self.now)) (trial_calls (asked self.now))
-            result (H.world shelf.old) (H.world shelf.new) }
-        ensures warned { (H.world shelf.new).warned ≡ (H.world shelf.old).warned }
+        ensures { TrialRuns (asked self.now) result (H.world shelf.old) (H.world shelf.new) }
     {
         match name_of(alloc, self.base, ".log") {
             Ok(log) => self.run_parts(alloc, input, list, log.as_str(), shelf),
@@ -127,9 +127,7 @@ impl<'a> Trial<'a> {
         shelf: &mut H,
     ) -> Status
         requires { AreNames (asked self.now) input.now list.now log.now }
-        ensures answered { Answered (TrialTable (asked self.now)) (trial_calls (asked self.now))
-            result (H.world shelf.old) (H.world shelf.new) }
-        ensures warned { (H.world shelf.new).warned ≡ (H.world shelf.old).warned }
+        ensures { TrialRuns (asked self.now) result (H.world shelf.old) (H.world shelf.new) }
     {
         let gen_part = gen_in(self.origin, input);
         let made = gen_part.run(alloc, shelf);

@@ -3,7 +3,6 @@ use Rattle.std.specs.Prelude.{◌≡◌, ℕ, ◌+◌, ◌<◌, ◌≤◌, ◌^�
 use Rattle.scut_base.specs.Files.{Files}
 use Rattle.front_set.specs.declared.entry.Entry.{Entry}
 use Rattle.instance.specs.Shape.{InstanceValue}
-use Rattle.instance_normal.specs.NormalForm.{IsNormalFormOf}
 use Rattle.pb_lin.specs.Problem.{ProblemValue}
 use Rattle.proof_laws.specs.State.{Fits}
 use Rattle.proof_laws.specs.declared.line.Line.{Line}
@@ -20,8 +19,7 @@ use Rattle.command_base.specs.Causes.{HasText}
 use Rattle.command_base.specs.Judging.{JudgedBy}
 use Rattle.command_base.specs.declared.log_file.LineFault.{LineFault}
 use Rattle.command_base.specs.declared.log_file.LineFault.TheVariants.{Refused, NoMemory}
-use Rattle.command_check.specs.Stages.{IsListed}
-use Rattle.command_trim.specs.Words.{TrimAsked, check_of}
+use Rattle.command_trim.specs.Words.{TrimAsked}
 use Rattle.command_trim.specs.declared.keeping.Keeper.{Keeper}
 
 -- ---- what refuses lines
@@ -96,7 +94,6 @@ AreFew p lines = length p.rows + 1 + made_by lines ≤ 2 ^ 63
 
 -- LIST was taken, and LOG is accepted with it; these are its lines.
 pub record IsProved (files : Option Files) (a : TrimAsked) (i : InstanceValue) (entries : List Entry) (p : ProblemValue) (lines : List Line) : Type 0 where
-  pub listed : IsListed files (check_of a) i entries
-  pub normal : IsNormalFormOf i p
+  pub listed : IsListed files a.format a.input a.list i p entries
   pub proof : HoldsProof files a.log (record { problem = p; vectors = problem_vectors i entries }) lines
   pub few : AreFew p lines

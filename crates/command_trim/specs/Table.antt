@@ -3,7 +3,7 @@ use Rattle.std.specs.Prelude.{◌≡◌, ℕ, ◌⊎◌, List, [], ◌∷◌, Op
 use Rattle.scut_base.specs.Files.{Files, followed, with_file, IsPartlyFollowed, IsPrefixOf, IsTouched}
 use Rattle.scut_base.specs.World.{World}
 use Rattle.log_checker.specs.Accepted.{IsAccepted}
-use Rattle.command_base.specs.Answering.{Call, Completes, appending, beginning, reading, saying}
+use Rattle.command_base.specs.Answering.{Call, Completes, Runs, appending, beginning, reading, saying}
 use Rattle.command_base.specs.Messages.{said_of}
 use Rattle.command_base.specs.Views.{View}
 use Rattle.command_base.specs.declared.status.Status.{Status}
@@ -60,6 +60,10 @@ TrimTable a Accepted before after = ⊥
 TrimTable a NoMemory before after = IsCutOff before after a
 TrimTable a ShelfFailed before after = IsCutOff before after a
 TrimTable a status before after = CheckTable (check_of a) status before after
+
+-- it answers so, and warns of nothing
+abbrev pub TrimRuns : TrimAsked → Status → World → World → Type 0
+TrimRuns a = Runs (TrimTable a) (trim_calls a)
 
 -- ---- where it completes
 

@@ -1,10 +1,7 @@
 -- The words of `trim IN LIST LOG NEW`.
-use Rattle.std.specs.Prelude.{◌||◌, if◌then◌else◌, ℕ, List, codes, Option, None}
-use Rattle.std.specs.Option.{option_and_then, option_map}
-use Rattle.std.specs.Str.{bytes_eq}
-use Rattle.clap.specs.Words.{App, Row, new_app, with_rule}
-use Rattle.command_base.specs.CommandWords.{file_rule, rows_by, value_of}
-use Rattle.command_base.specs.InstanceFile.{format_of_three}
+use Rattle.std.specs.Prelude.{ℕ, List, [], ◌∷◌, codes, Option, Some, None}
+use Rattle.std.specs.Option.{option_and_then}
+use Rattle.command_base.specs.FileWords.{FilesAsked, files_asked}
 use Rattle.command_base.specs.declared.instance_file.Format.{Format}
 use Rattle.command_check.specs.Words.{CheckAsked}
 use Rattle.command_trim.specs.declared.Trim.{Trim}
@@ -24,19 +21,14 @@ asked c = record { format = c.format; input = c.input.now; list = c.list.now; lo
 abbrev pub check_of : TrimAsked → CheckAsked
 check_of a = record { format = a.format; input = a.input; list = a.list; log = a.log }
 
--- the words, as clap reads them
-abbrev pub trim_app : App
-trim_app = with_rule (with_rule (with_rule (with_rule (new_app (codes "trim")) (file_rule (codes "IN"))) (file_rule (codes "LIST"))) (file_rule (codes "LOG"))) (file_rule (codes "NEW"))
+abbrev pub trim_in : Format → List (List ℕ) → Option TrimAsked
+trim_in format (input ∷ list ∷ log ∷ output ∷ []) = Some (record { format = format; input = input; list = list; log = log; output = output })
+trim_in format names = None
 
--- four different names, the first of an instance file
-abbrev pub trim_of_names : List ℕ → List ℕ → List ℕ → List ℕ → Option TrimAsked
-trim_of_names input list log output =
-    if bytes_eq output input || bytes_eq output list || bytes_eq output log then None
-    else option_map (λ format. let a : TrimAsked = record { format = format; input = input; list = list; log = log; output = output } in a) (format_of_three input list log)
-
-abbrev pub trim_of_rows : List Row → Option TrimAsked
-trim_of_rows rows = trim_of_names (value_of (codes "IN") rows) (value_of (codes "LIST") rows) (value_of (codes "LOG") rows) (value_of (codes "NEW") rows)
+-- the trimming of four files
+abbrev pub trim_of : FilesAsked → Option TrimAsked
+trim_of files = trim_in files.format files.names
 
 -- What the words ask for, of which the first is `trim`; nothing where clap or the names refuse them.
 abbrev pub trim_asked : List (List ℕ) → Option TrimAsked
-trim_asked words = option_and_then trim_of_rows (rows_by trim_app words)
+trim_asked words = option_and_then trim_of (files_asked (codes "trim") (codes "IN" ∷ codes "LIST" ∷ codes "LOG" ∷ codes "NEW" ∷ []) words)

@@ -4,7 +4,6 @@ use Rattle.scut_base.specs.Files.{Files, content, followed, with_file, IsPartlyF
 use Rattle.scut_base.specs.World.{World}
 use Rattle.instance.specs.declared.fault.InstanceLimit.TheVariants.{Bytes}
 use Rattle.instance.specs.Shape.{InstanceValue}
-use Rattle.instance_normal.specs.NormalForm.{IsNormalFormOf}
 use Rattle.pb_lin.specs.Problem.{ProblemValue}
 use Rattle.proof_laws.specs.declared.line.Line.{Line}
 use Rattle.proof_laws.specs.declared.why.Why.TheVariants.{Syntax}
@@ -12,9 +11,10 @@ use Rattle.proof_text.specs.LogText.{BeginsWith, SpellsLog}
 use Rattle.proof_text.specs.Versions.{first_of, log_text}
 use Rattle.proof_text.specs.declared.version.LogVersion.TheVariants.{Two}
 use Rattle.log_checker.specs.declared.fault.CheckFault.TheVariants.{Refused as LineRefused}
-use Rattle.command_base.specs.Answering.{Call, Completes, appending, beginning, reading, saying}
+use Rattle.command_base.specs.Answering.{Call, Completes, Runs, appending, beginning, reading, saying}
 use Rattle.command_base.specs.Causes.{HasText, IsRefused}
 use Rattle.command_base.specs.InputTable.{InputTable}
+use Rattle.command_base.specs.Inputs.{IsInput}
 use Rattle.command_base.specs.InstanceFile.{IsTextOf}
 use Rattle.command_base.specs.LogLines.{IsLargeAfter, IsLogOf, IsWrongAfter}
 use Rattle.command_base.specs.Messages.{said_of}
@@ -26,11 +26,6 @@ use Rattle.command_upgrade.specs.Words.{UpgradeAsked}
 -- it reads IN and LOG, begins NEW and appends to it, and says something
 abbrev pub upgrade_calls : UpgradeAsked → List Call
 upgrade_calls a = reading a.input ∷ reading a.log ∷ beginning a.output ∷ appending a.output ∷ saying ∷ []
-
--- IN spells the instance, and the problem is its normal form
-pub record IsProblemOf (files : Option Files) (a : UpgradeAsked) (i : InstanceValue) (p : ProblemValue) : Type 0 where
-  pub text : HasText files a.input (IsTextOf a.format i)
-  pub normal : IsNormalFormOf i p
 
 -- the text of the lines in version 2, over the rows of the problem
 abbrev pub upgraded : ProblemValue → List Line → List ℕ
@@ -48,7 +43,7 @@ AreRead files a lines = (lines ≡ []) ⊎ HasText files a.log (λ log. (rest : 
 pub record IsWritten (before after : Option Files) (a : UpgradeAsked) (P : List Line → List ℕ → Type 0) : Type 0 where
   pub instance : InstanceValue
   pub problem : ProblemValue
-  pub of_file : IsProblemOf before a instance problem
+  pub of_file : IsInput before a.format a.input instance problem
   pub lines : List Line
   pub log : HasText before a.log (P lines)
   pub files : after ≡ with_file before a.output (upgraded problem lines)
@@ -78,7 +73,7 @@ pub record IsLogLarge (before after : View) (a : UpgradeAsked) : Type 0 where
 pub record IsNewTouched (before after : View) (a : UpgradeAsked) : Type 0 where
   pub instance : InstanceValue
   pub problem : ProblemValue
-  pub of_file : IsProblemOf before.files a instance problem
+  pub of_file : IsInput before.files a.format a.input instance problem
   pub lines : List Line
   pub read : AreRead before.files a lines
   pub files : IsTouched before.files after.files a.output (λ bytes. IsPrefixOf bytes (upgraded problem lines))
@@ -96,6 +91,10 @@ UpgradeTable a (TooLarge zero Bytes) before after = IsRefused before after a.inp
 UpgradeTable a NoMemory before after = IsUpgradedPartly before after a
 UpgradeTable a ShelfFailed before after = IsUpgradedPartly before after a
 UpgradeTable a status before after = InputTable a.format a.input status before after
+
+-- it answers so, and warns of nothing
+abbrev pub UpgradeRuns : UpgradeAsked → Status → World → World → Type 0
+UpgradeRuns a = Runs (UpgradeTable a) (upgrade_calls a)
 
 -- ---- where it completes
 

@@ -5,25 +5,18 @@
 //! NEW is begun when IN was accepted, and each line is written as it was read.
 #![tactic(auto)]
 
-ghost use Rattle.std.specs.Prelude.{◌≡◌, IfOk, map, string_bytes};
-ghost use Rattle.clap.specs.Words.{app_of, found_of, rows_of};
-ghost use Rattle.command_base.specs.Answering.{Answered};
-ghost use Rattle.command_base.specs.Causes.{HasText};
-ghost use Rattle.command_base.specs.InstanceFile.{IsTextOf};
-ghost use Rattle.command_upgrade.specs.Table.{IsProblemOf, UpgradeTable, upgrade_calls};
-ghost use Rattle.command_upgrade.specs.Words.{upgrade_app, upgrade_asked, upgrade_of_rows};
+ghost use Rattle.std.specs.Prelude.{◌≡◌, true};
+ghost use Rattle.command_base.specs.FileWords.{all_differ, names_of};
+ghost use Rattle.command_base.specs.Inputs.{IsInput};
+ghost use Rattle.command_upgrade.specs.Table.{UpgradeRuns};
+ghost use Rattle.command_upgrade.specs.Words.{upgrade_of};
 
 mod unchanged;
 
 use crate::unchanged::Unchanged;
-use clap::ArgMatches;
 use command_base::{
-    Command, Format, Status, file, format_of_three, read_by, read_instance, rewrite_log, say_of,
-    value, with_arg,
+    Command, FileNames, Format, Input, Status, read_files, read_input, rewrite_log, say,
 };
-use instance::Instance;
-use instance_normal::normalise;
-use pb_lin::PbProblem;
 use proof_text::{LogVersion, first_of};
 use scut_base::{NoMemory, Shelf};
 use std::alloc::Global;
@@ -54,96 +47,65 @@ impl<'a> Model for Upgrade<'a> {
     ghost invariant = { λ c. c.log.now ≢ c.output.now };
 }
 
-// The words of the command, as clap reads them.
-fn upgrade_words<'a>(alloc: Global) -> Result<clap::Command<'a>, NoMemory>
-    ensures { IfOk result (λ c. app_of c ≡ upgrade_app) }
+// The command of three files.
+fn upgrade_of<'a>(files: &FileNames<'a>) -> Option<Upgrade<'a>>
+    requires { all_differ (names_of files.now).names ≡ true }
+    ensures { result ≡ upgrade_of (names_of files.now) }
 {
-    let command = clap::Command::new(alloc, "upgrade");
-    let command = with_arg(command, file(alloc, "IN"))?;
-    let command = with_arg(command, file(alloc, "LOG"))?;
-    with_arg(command, file(alloc, "NEW"))
-}
-
-// The command of three different names, the first of an instance file.
-fn upgrade_of_matches<'a>(matches: &ArgMatches<'a>) -> Option<Upgrade<'a>>
-    ensures { result ≡ upgrade_of_rows (rows_of (found_of matches.now)) }
-{
-    let input = value(matches, "IN");
-    let log = value(matches, "LOG");
-    let output = value(matches, "NEW");
-    match format_of_three(input, log, output) {
-        Some(format) => Some(Upgrade {
-            format,
+    match files.names.as_slice() {
+        [input, log, output] => Some(Upgrade {
+            format: files.format,
             input,
             log,
             output,
         }),
-        None => None,
+        _ => None,
     }
 }
 
-/// The command that the words ask for, of which the first is `upgrade`; `None` exactly where clap or the names refuse them.
-pub fn read_upgrade<'a>(alloc: Global, words: &'a [String]) -> Result<Option<Upgrade<'a>>, NoMemory>
-    ensures { IfOk result (λ found. found ≡ upgrade_asked (map string_bytes words.entry.now)) }
-{
-    let command = upgrade_words(alloc)?;
-    match read_by(command, words)? {
-        Some(matches) => Ok(upgrade_of_matches(&matches)),
-        None => Ok(None),
-    }
-}
-
-impl<'a> Command for Upgrade<'a> {
+impl<'a> Command<'a> for Upgrade<'a> {
+    ghost use Rattle.std.proofs.Common.{inl, refl};
     ghost use Rattle.command_upgrade.specs.Table.{UpgradeTable, upgrade_calls};
+    ghost use Rattle.command_upgrade.specs.Words.{UpgradeAsked, upgrade_asked};
 
-    ghost table = { λ c. UpgradeTable c };
+    ghost Asked = { UpgradeAsked };
 
-    ghost own = { λ c. upgrade_calls c };
+    ghost request = { λ c. c };
+
+    ghost asked_by = { upgrade_asked };
+
+    ghost table = { UpgradeTable };
+
+    ghost own = { upgrade_calls };
+
+    ghost undone = { λ a v. inl refl };
+
+    fn read(alloc: Global, words: &'a [String]) -> Result<Option<Upgrade<'a>>, NoMemory> {
+        match read_files(alloc, "upgrade", &["IN", "LOG", "NEW"], words)? {
+            Some(files) => Ok(upgrade_of(&files)),
+            None => Ok(None),
+        }
+    }
 
     fn run<H: Shelf>(&self, alloc: Global, shelf: &mut H) -> Status {
-        match read_instance(alloc, self.format, self.input, shelf) {
-            Ok(inst) => self.upgrade(alloc, &inst, shelf),
+        match read_input(alloc, self.format, self.input, shelf) {
+            Ok(input) => self.write(alloc, &input, shelf),
             Err(stop) => Status::from(stop),
         }
     }
 }
 
 impl<'a> Upgrade<'a> {
-    // Upgrades the log of an instance, over its normal form.
-    fn upgrade<H: Shelf>(&self, alloc: Global, inst: &Instance, shelf: &mut H) -> Status
-        requires { HasText (H.world shelf.old).files self.now.input
-            (IsTextOf self.now.format inst.now) }
-        ensures answered { Answered (UpgradeTable self.now) (upgrade_calls self.now)
-            result (H.world shelf.old) (H.world shelf.new) }
-        ensures warned { (H.world shelf.new).warned ≡ (H.world shelf.old).warned }
-    {
-        match normalise(alloc, inst) {
-            Ok(problem) => self.write(alloc, inst, &problem, shelf),
-            Err(fault) => Status::from(fault),
-        }
-    }
-
     // Writes the new log.
-    fn write<H: Shelf>(
-        &self,
-        alloc: Global,
-        inst: &Instance,
-        problem: &PbProblem,
-        shelf: &mut H,
-    ) -> Status
-        requires { IsProblemOf (H.world shelf.old).files self.now inst.now problem.now }
-        ensures answered { Answered (UpgradeTable self.now) (upgrade_calls self.now)
-            result (H.world shelf.old) (H.world shelf.new) }
-        ensures warned { (H.world shelf.new).warned ≡ (H.world shelf.old).warned }
+    fn write<H: Shelf>(&self, alloc: Global, input: &Input, shelf: &mut H) -> Status
+        requires { IsInput (H.world shelf.old).files self.now.format self.now.input
+            input.now.inst input.now.problem }
+        ensures { UpgradeRuns self.now result (H.world shelf.old) (H.world shelf.new) }
     {
-        let first = first_of(LogVersion::Two, problem);
+        let first = first_of(LogVersion::Two, &input.problem);
         match rewrite_log(alloc, &mut Unchanged, self.log, self.output, first, shelf) {
-            Ok(()) => {}
-            Err(stop) => return Status::from(stop),
-        }
-        match say_of(alloc, Status::Done, shelf) {
-            Ok(()) => Status::Done,
-            Err(fault) => Status::from(fault),
+            Ok(()) => say(alloc, Status::Done, shelf),
+            Err(stop) => Status::from(stop),
         }
     }
 }

@@ -1,39 +1,29 @@
 -- What is answered where a command was run, where none was, and what that says of Usage and of completing.
-use Rattle.std.proofs.Common.{◌≡◌, ◌≢◌, List, [], ℕ, inl, refl, sym, subst}
+use Rattle.std.proofs.Common.{◌≡◌, ◌≢◌, List, [], ℕ, refl, sym, subst}
 use Rattle.std.specs.Prelude.{Option, Some, None, Result, Ok, Err}
 use Rattle.std.specs.Option.{option_map}
 use Rattle.std.proofs.lemmas.List.{append-nil}
 use Rattle.std.proofs.lemmas.Option.{none-some}
 use Rattle.scut_base.specs.declared.shelf.ShelfFault.{ShelfFault}
-use Rattle.scut_base.specs.Files.{Files, IsPartlyFollowed}
+use Rattle.scut_base.specs.Files.{IsPartlyFollowed}
 use Rattle.scut_base.specs.Faults.{NoneFell}
 use Rattle.scut_base.specs.World.{World}
-use Rattle.command_base.specs.Answering.{Answered, UsageTable}
+use Rattle.command_base.specs.Answering.{Answered, UsageTable, calls_of, table_of}
 use Rattle.command_base.specs.Messages.{IsWarned}
 use Rattle.command_base.specs.Views.{view}
 use Rattle.command_base.specs.declared.status.Status.{Status}
-use Rattle.command_base.specs.declared.status.Status.TheVariants.{Done, Complete, Incomplete, Trimmed, Models, LogFull, Accepted, Refused, ModelsRefused, Usage, BadInput, TooLarge, NoMemory, ShelfFailed}
+use Rattle.command_base.specs.declared.status.Status.TheVariants.{Usage, NoMemory}
 use Rattle.command_base.proofs.Answered.{ended}
-use Rattle.command_front.specs.Table.{FrontTable}
 use Rattle.command_front.proofs.Completing.{front_completes}
-use Rattle.command_front.proofs.FrontEnds.{nothing_done as front_not_done}
-use Rattle.command_solve.specs.Table.{SolveTable}
 use Rattle.command_solve.proofs.Completing.{solve_completes}
-use Rattle.command_check.specs.Table.{CheckTable}
 use Rattle.command_check.proofs.Completing.{check_completes}
-use Rattle.command_check.proofs.CheckEnds.{nothing_done as check_not_done}
 use Rattle.command_upgrade.proofs.Completing.{upgrade_completes}
 use Rattle.command_elaborate.proofs.Completing.{elaborate_completes}
 use Rattle.command_trim.proofs.Completing.{trim_completes}
 use Rattle.command_models.proofs.Completing.{models_completes}
 use Rattle.command_check_models.proofs.Completing.{check_models_completes}
-use Rattle.command_check_models.proofs.ModelsEnds.{nothing_done as check_models_not_done}
-use Rattle.command_gen.specs.Table.{GenTable}
 use Rattle.command_gen.proofs.Completing.{gen_completes}
-use Rattle.command_gen.proofs.GenEnds.{nothing_done as gen_not_done}
-use Rattle.command_trial.specs.Table.{TrialTable}
 use Rattle.command_trial.proofs.Completing.{trial_completes}
-use Rattle.command_trial.proofs.TrialEnds.{nothing_done as trial_not_done}
 use Rattle.scuttle_cli.specs.Answers.{CompletesOf, HasUsage, TableOf, own_calls}
 use Rattle.scuttle_cli.specs.Requests.{CheckModelsOf, CheckOf, ElaborateOf, FrontOf, GenOf, ModelsOf, Request, SolveOf, TrialOf, TrimOf, UpgradeOf, command_in, request_by, request_of}
 use Rattle.scuttle_cli.specs.declared.names.CommandName.{CommandName}
@@ -49,35 +39,13 @@ pub no_request : (status : Status) (before after : World) → status ≡ Usage �
 no_request status before after is same later =
     subst (λ (s : Status). AnsweredFor None s before after) (sym is) (ended UsageTable [] Usage before after same (λ is'. cc) later)
 
--- memory was wanted, and nothing has changed
-no_memory_row : (request : Option Request) (before after : World) → view after ≡ view before → TableOf request NoMemory (view before) (view after)
-no_memory_row None before after same = same
-no_memory_row (Some (FrontOf a)) before after same = front_not_done a (view before) (view after) same
-no_memory_row (Some (SolveOf a)) before after same = inl same
-no_memory_row (Some (CheckOf a)) before after same = check_not_done a (view before) (view after) same
-no_memory_row (Some (UpgradeOf a)) before after same = inl same
-no_memory_row (Some (ElaborateOf a)) before after same = inl same
-no_memory_row (Some (TrimOf a)) before after same = inl same
-no_memory_row (Some (ModelsOf a)) before after same = inl same
-no_memory_row (Some (CheckModelsOf a)) before after same = check_models_not_done a (view before) (view after) same
-no_memory_row (Some (GenOf a)) before after same = gen_not_done a (view before) (view after) same
-no_memory_row (Some (TrialOf a)) before after same = trial_not_done a (view before) (view after) same
-
-pub no_memory : (request : Option Request) (status : Status) (before after : World) → status ≡ NoMemory → view after ≡ view before → NoneFell before.faults after.faults → AnsweredFor request status before after
-no_memory request status before after is same later =
-    subst (λ (s : Status). AnsweredFor request s before after) (sym is)
-    (ended (TableOf request) (own_calls request) NoMemory before after (no_memory_row request before after same) (λ is'. cc) later)
-
 -- ---- by what the words ask for
 
-module _ {A : Type 0} (request : A → Request) (status : Status) (before after : World) where
-  -- the words ask for this, which was run
-  pub was_run : (asked : A) (found : Option A) → Some asked ≡ found → AnsweredFor (Some (request asked)) status before after → AnsweredFor (option_map request found) status before after
-  was_run asked found is was = subst (λ (f : Option A). AnsweredFor (option_map request f) status before after) is was
-
-  -- the words are refused
-  pub was_refused : (found : Option A) → None ≡ found → status ≡ Usage → view after ≡ view before → NoneFell before.faults after.faults → AnsweredFor (option_map request found) status before after
-  was_refused found is usage same later = subst (λ (f : Option A). AnsweredFor (option_map request f) status before after) is (no_request status before after usage same later)
+-- what they ask of a command, as what they ask for
+pub was_asked : {A : Type 0} (request : A → Request) (found : Option A) (status : Status) (before after : World) → Answered (table_of (λ a. TableOf (Some (request a))) found) (calls_of (λ a. own_calls (Some (request a))) found) status before after
+    → AnsweredFor (option_map request found) status before after
+was_asked request None status before after was = was
+was_asked request (Some asked) status before after was = was
 
 -- what the first word names is what the words ask for
 pub was_named : (name : Option CommandName) (words : List (List ℕ)) (status : Status) (before after : World) → name ≡ command_in words → AnsweredFor (request_by name words) status before after → AnsweredFor (request_of words) status before after

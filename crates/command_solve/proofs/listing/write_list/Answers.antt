@@ -1,24 +1,20 @@
 use Rattle.std.proofs.Common.{ap}
 use Rattle.std.specs.Prelude.{Err}
-use Rattle.command_solve.proofs.ListEnds.{listed, saying_stopped, writing_stopped}
+use Rattle.command_solve.proofs.ListEnds.{listed, writing_stopped}
 use Rattle.command_solve.proofs.listing.write_list.Goals as goal
 
-pub returns-in-Err-clause-answered : goal.returns-in-Err-clause-answered
-returns-in-Err-clause-answered g c =
+pub returns-in-Err : goal.returns-in-Err
+returns-in-Err g c =
+    let w = g.H.Shelf.world in
     let e = c.in-Err.ensures in
     rw c.from.ensures
-    (writing_stopped c.args.list.now _ c.args.size c.args.ending (g.H.Shelf.world c.args.shelf.now) (g.H.Shelf.world c.write_lines.new.shelf) c.in-Err.fault e.err e.said (λ failed. e.failed (ap Err failed)) e.later)
+    (record {
+      answered = writing_stopped c.args.list.now _ c.args.size c.args.ending (w c.args.shelf.now) (w c.write_lines.new.shelf) c.in-Err.fault e.err e.said (λ failed. e.failed (ap Err failed)) e.later;
+      warned = e.warned;
+    })
 
-pub returns-in-Ok-say_of-clause-answered : goal.returns-in-Ok-say_of-clause-answered
-returns-in-Ok-say_of-clause-answered g c =
-    let w = c.in-Ok.ensures in
-    let e = rw c.status_of-status.ensures at c.in-Ok-say_of.ensures in
-    rw c.status_of-status.ensures
-    (listed c.args.list.now _ c.args.size c.args.ending (g.H.Shelf.world c.args.shelf.now) (g.H.Shelf.world c.write_lines.new.shelf) (g.H.Shelf.world c.say_of.new.shelf) w.ok w.said w.later e.files e.cause.later e.said)
-
-pub returns-in-Err-say_of-clause-answered : goal.returns-in-Err-say_of-clause-answered
-returns-in-Err-say_of-clause-answered g c =
-    let w = c.in-Ok.ensures in
-    let e = rw c.status_of-status.ensures at c.in-Err-say_of.ensures in
-    rw c.from-in-Err-say_of.ensures
-    (saying_stopped c.args.list.now _ c.args.size c.args.ending (g.H.Shelf.world c.args.shelf.now) (g.H.Shelf.world c.write_lines.new.shelf) (g.H.Shelf.world c.say_of.new.shelf) w.ok w.said w.later e.files e.cause.later c.in-Err-say_of.fault e.cut (λ failed. e.cause.failed (ap Err failed)))
+pub returns-in-Ok : goal.returns-in-Ok
+returns-in-Ok g c =
+    let w = g.H.Shelf.world in
+    let e = c.in-Ok.ensures in
+    listed c.args.list.now _ c.args.size c.args.ending (w c.args.shelf.now) (w c.write_lines.new.shelf) (w c.say.new.shelf) c.say.result e.ok e.said e.warned e.later (rw c.status_of.ensures at c.say.ensures)

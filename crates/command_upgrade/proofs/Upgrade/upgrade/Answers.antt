@@ -1,5 +1,0 @@
-use Rattle.command_upgrade.proofs.UpgradeEnds.{no_memory}
-use Rattle.command_upgrade.proofs.Upgrade.upgrade.Goals as goal
-
-pub returns-in-Err-clause-answered : goal.returns-in-Err-clause-answered
-returns-in-Err-clause-answered g c = rw c.from.ensures (no_memory c.args.self.now (g.H.Shelf.world c.args.shelf.now))
