@@ -4,6 +4,7 @@
 use crate::limits::{GROWN_ANYWAY, GROWN_PER_ROW, GROWN_TIMES, NO_ETA, REBUILD_AFTER};
 use crate::matrix::Entry;
 use crate::numbers::{negate, number_at, put_number};
+use crate::sparse_numbers::SparseNumbers;
 use scut_base::NoMemory;
 use std::alloc::Global;
 
@@ -110,17 +111,15 @@ impl Etas {
     }
 
     // Puts a column, as the basis tells it, in at a place.
-    pub(crate) fn push(&mut self, column: &[f64], place: usize) -> Result<(), NoMemory> {
+    pub(crate) fn push(&mut self, column: &SparseNumbers, place: usize) -> Result<(), NoMemory> {
         let from = self.entries.len();
-        for (at, number) in column.iter().enumerate() {
-            if number.abs() > NO_ETA && at != place {
-                self.entries.push(Entry {
-                    place: at,
-                    number: *number,
-                })?;
+        for at in column.listed() {
+            let number = column.number(*at);
+            if number.abs() > NO_ETA && *at != place {
+                self.entries.push(Entry { place: *at, number })?;
             }
         }
-        self.close(from, place, number_at(column, place))
+        self.close(from, place, column.number(place))
     }
 
     // The same for a column that no eta changes, by its coefficients.
@@ -170,7 +169,24 @@ impl Etas {
         touched
     }
 
-    // The same with a row from the other side.
+    // The same for a sparse column, given with the other sign. It counts as much, so that what is done within an amount
+    // of work doesn't depend on how a column is kept.
+    pub(crate) fn forward_sparse(&self, column: &mut SparseNumbers) -> Result<usize, NoMemory> {
+        let mut touched = column.places().saturating_add(self.list.len());
+        for eta in self.list.iter() {
+            let number = column.number(eta.place);
+            if number != 0.0 {
+                let number = number / eta.pivot;
+                column.replace(eta.place, number);
+                let entries = self.entries_of(eta);
+                column.add_multiple(entries, -number)?;
+                touched = touched.saturating_add(entries.len());
+            }
+        }
+        Ok(touched)
+    }
+
+    // As `forward`, with a row from the other side.
     pub(crate) fn backward(&self, row: &mut [f64]) -> usize {
         for eta in self.list.iter().rev() {
             let number = number_at(row, eta.place);

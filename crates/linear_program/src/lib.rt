@@ -19,7 +19,6 @@ mod limits;
 mod matrix;
 mod numbers;
 mod ordering;
-mod pivot_row;
 mod pivoting;
 mod pricing;
 mod program;
@@ -28,6 +27,7 @@ mod rebuilding;
 mod refuting;
 mod simplex;
 mod solving;
+mod sparse_numbers;
 mod variables;
 
 pub use basis::Basis;

@@ -2,7 +2,7 @@
 
 /// How many numbers other than 0 all rows have together at most: with both orders, 128 MB.
 pub const MOST_ENTRIES: usize = 4_000_000;
-/// How many rows there are at most: each pivot passes over all of them about a dozen times.
+/// How many rows there are at most: each pivot passes over all of them about ten times.
 pub const MOST_ROWS: usize = 20_000;
 
 // A variable is outside of its range from this much on.
@@ -22,7 +22,7 @@ pub(crate) const NO_MULTIPLIER: f64 = 1e-13;
 // Of an eta, a number of at most this size is left out.
 pub(crate) const NO_ETA: f64 = 1e-12;
 // Ratios are about the same where they differ by at most this cost over the coefficient (Harris 1973): far less than what
-// perturbs costs, or ties that this has broken are ties again, and a roster takes twenty times the pivots.
+// perturbs costs, or ties that this has broken are ties again, and a roster takes ten times the pivots.
 pub(crate) const HARRIS: f64 = 1e-11;
 // The coefficient counts as no less than this there: a tiny one would make all ratios the same.
 pub(crate) const LEAST_HARRIS: f64 = 1e-3;
@@ -44,6 +44,8 @@ pub(crate) const GROWN_TIMES: usize = 3;
 pub(crate) const GROWN_PER_ROW: usize = 20;
 // and these, which cost nothing.
 pub(crate) const GROWN_ANYWAY: usize = 10_000;
+// The places of a sparse list are sorted where they are fewer than one in so many; else a walk over all of them takes less.
+pub(crate) const SORTED_BELOW: usize = 16;
 // A steepest-edge weight is at least this: below it roundings decide.
 pub(crate) const LEAST_WEIGHT: f64 = 1e-4;
 // The square of a row of the inverse is at least this.

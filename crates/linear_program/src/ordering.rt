@@ -4,6 +4,7 @@
 use crate::limits::{CHOSEN_PART, LONE_PART, NO_PIVOT};
 use crate::matrix::{Entry, Matrix};
 use crate::simplex::Basic;
+use crate::sparse_numbers::SparseNumbers;
 use scut_base::NoMemory;
 use std::alloc::Global;
 
@@ -316,15 +317,17 @@ impl Order {
 
     // The free row for a column, as the basis tells that: the shortest of those in which it's large. `None` where
     // it's small in all of them.
-    pub(crate) fn row_for(&self, column: &[f64]) -> Option<usize> {
-        let least = CHOSEN_PART * self.largest_free(column);
+    pub(crate) fn row_for(&self, column: &SparseNumbers) -> Option<usize> {
+        let least = (CHOSEN_PART * self.largest_free(column)).max(NO_PIVOT);
         let mut shortest = None;
         let mut count = usize::MAX;
-        for (row, (state, number)) in self.rows.iter().zip(column).enumerate() {
-            let size = number.abs();
-            if state.is_free && size >= least && size >= NO_PIVOT && state.count < count {
-                count = state.count;
-                shortest = Some(row);
+        for row in column.listed() {
+            if let Some(state) = self.rows.get(*row) {
+                let size = column.number(*row).abs();
+                if state.is_free && size >= least && state.count < count {
+                    count = state.count;
+                    shortest = Some(*row);
+                }
             }
         }
         shortest
@@ -335,11 +338,11 @@ impl Order {
         Some(*column)
     }
 
-    fn largest_free(&self, column: &[f64]) -> f64 {
+    fn largest_free(&self, column: &SparseNumbers) -> f64 {
         let mut largest: f64 = 0.0;
-        for (state, number) in self.rows.iter().zip(column) {
-            if state.is_free {
-                largest = largest.max(number.abs());
+        for row in column.listed() {
+            if self.is_free_row(*row) {
+                largest = largest.max(column.number(*row).abs());
             }
         }
         largest

@@ -1,7 +1,7 @@
 // Pivots: values, reduced costs, weights and the inverse after one variable has come in for another.
 
 use crate::limits::{AGREEMENT, LEAST_SQUARE, LEAST_WEIGHT, NO_PIVOT};
-use crate::numbers::{add_multiple, add_number, number_at, sum_of_squares};
+use crate::numbers::{number_at, sum_of_squares};
 use crate::pricing::Leaving;
 use crate::simplex::{Basic, Simplex};
 use crate::variables::{Standing, Variable, end_of};
@@ -30,22 +30,25 @@ struct Step {
 }
 
 impl Simplex {
-    // The column of the variable that enters, as the basis tells it.
-    pub(crate) fn take_pivot_column(&mut self, entering: usize) {
-        self.pivot_column.fill(0.0);
+    // The column of the variable that enters, as the basis tells it, by place.
+    pub(crate) fn take_pivot_column(&mut self, entering: usize) -> Result<(), NoMemory> {
+        self.pivot_column.clear();
         if entering < self.columns {
-            add_multiple(&mut self.pivot_column, self.matrix.column(entering), 1.0);
+            self.pivot_column
+                .add_multiple(self.matrix.column(entering), -1.0)?;
         } else {
-            add_number(&mut self.pivot_column, entering - self.columns, -1.0);
+            self.pivot_column.add(entering - self.columns, 1.0)?;
         }
-        let touched = self.etas.forward(&mut self.pivot_column);
+        let touched = self.etas.forward_sparse(&mut self.pivot_column)?;
         self.count(touched);
+        self.pivot_column.order();
+        Ok(())
     }
 
     // Whether the pivot is the same in its row and in its column.
     pub(crate) fn agreement(&self, place: usize, entering: usize) -> Agreement {
         let by_row = self.pivot_row.number(entering);
-        let by_column = number_at(self.pivot_column.as_slice(), place);
+        let by_column = self.pivot_column.number(place);
         if (by_row - by_column).abs() > AGREEMENT * (1.0 + by_row.abs()) && self.etas.has_grown() {
             Agreement::Bad
         } else if by_column.abs() < NO_PIVOT {
@@ -60,7 +63,7 @@ impl Simplex {
         // Should memory be refused, the inverse doesn't belong to the basis.
         self.is_stale = true;
         self.flip();
-        let pivot = number_at(self.pivot_column.as_slice(), leaving.place);
+        let pivot = self.pivot_column.number(leaving.place);
         let step = Step {
             place: leaving.place,
             pivot,
@@ -73,7 +76,7 @@ impl Simplex {
         self.exchange(leaving, entering, &step);
         let touched = self.basics.len().saturating_mul(4);
         self.count(touched);
-        self.etas.push(self.pivot_column.as_slice(), leaving.place)?;
+        self.etas.push(&self.pivot_column, leaving.place)?;
         self.is_stale = false;
         Ok(())
     }
@@ -87,15 +90,19 @@ impl Simplex {
 
     // The values of the basis and its weights after the pivot.
     fn move_basics(&mut self, step: &Step) {
-        let numbers = self.pivot_column.iter().zip(self.edge_column.as_slice());
-        for ((place, basic), (number, edge)) in self.basics.iter_mut().enumerate().zip(numbers) {
-            if *number != 0.0 {
-                basic.value -= *number * step.by;
-                if place != step.place {
-                    if let Some(variable) = self.variables.get_mut(basic.variable) {
-                        reweigh(variable, *number / step.pivot, *edge, step.square);
+        for place in self.pivot_column.listed() {
+            let number = self.pivot_column.number(*place);
+            let edge = number_at(self.edge_column.as_slice(), *place);
+            match self.basics.get_mut(*place) {
+                Some(basic) if number != 0.0 => {
+                    basic.value -= number * step.by;
+                    if *place != step.place {
+                        if let Some(variable) = self.variables.get_mut(basic.variable) {
+                            reweigh(variable, number / step.pivot, edge, step.square);
+                        }
                     }
                 }
+                _ => (),
             }
         }
     }

@@ -76,7 +76,7 @@ impl Simplex {
         for (row, multiplier) in self.inverse_row.iter().enumerate() {
             if multiplier.abs() > NO_MULTIPLIER {
                 let entries = self.matrix.row(row);
-                self.pivot_row.add_row(entries, *multiplier)?;
+                self.pivot_row.add_multiple(entries, *multiplier)?;
                 self.pivot_row
                     .add(self.columns.saturating_add(row), -*multiplier)?;
                 touched = touched.saturating_add(entries.len());

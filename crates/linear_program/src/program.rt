@@ -177,7 +177,8 @@ impl LinearProgram {
         Ok(())
     }
 
-    /// How many numbers have been touched so far: those of etas and of rows, and passes over places.
+    /// How many numbers have been touched so far: those of etas and of rows, and passes over places, as one of which
+    /// each sparse column counts.
     pub fn work(&self) -> u64 {
         self.simplex.work
     }

@@ -1,7 +1,6 @@
 // The inverse built anew.
 
 use crate::limits::NO_PIVOT;
-use crate::numbers::number_at;
 use crate::ordering::Pair;
 use crate::simplex::Simplex;
 use crate::variables::{Standing, end_of};
@@ -32,8 +31,8 @@ impl Simplex {
     fn resize(&mut self) -> Result<(), NoMemory> {
         let places = self.basics.len();
         self.inverse_row.resize(places, 0.0)?;
-        self.pivot_column.resize(places, 0.0)?;
         self.edge_column.resize(places, 0.0)?;
+        self.pivot_column.resize(places)?;
         self.pivot_row.resize(self.variables.len())
     }
 
@@ -50,8 +49,8 @@ impl Simplex {
     fn enter_middle(&mut self) -> Result<(), NoMemory> {
         for at in 0..self.order.middle.len() {
             if let Some(column) = self.order.middle_column(at) {
-                self.take_pivot_column(column);
-                if let Some(row) = self.order.row_for(self.pivot_column.as_slice()) {
+                self.take_pivot_column(column)?;
+                if let Some(row) = self.order.row_for(&self.pivot_column) {
                     let pair = Pair { column, row };
                     self.order.take_middle(&self.matrix, pair);
                     self.enter(pair)?;
@@ -64,8 +63,8 @@ impl Simplex {
     fn enter_last(&mut self) -> Result<(), NoMemory> {
         for _pair in 0..self.order.last.len() {
             if let Some(pair) = self.order.last.pop() {
-                self.take_pivot_column(pair.column);
-                let pivot = number_at(self.pivot_column.as_slice(), pair.row);
+                self.take_pivot_column(pair.column)?;
+                let pivot = self.pivot_column.number(pair.row);
                 if pivot.abs() >= NO_PIVOT {
                     self.enter(pair)?;
                 }
@@ -76,7 +75,7 @@ impl Simplex {
 
     // The column that has been taken comes in at a place.
     fn enter(&mut self, pair: Pair) -> Result<(), NoMemory> {
-        self.etas.push(self.pivot_column.as_slice(), pair.row)?;
+        self.etas.push(&self.pivot_column, pair.row)?;
         put_variable(&mut self.order.variables, pair);
         Ok(())
     }

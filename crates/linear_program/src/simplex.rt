@@ -5,8 +5,8 @@ use crate::limits::{CROSSED, FIRST_OF_SEQUENCE, NO_COST, SPREAD, SPREAD_WITHOUT_
 use crate::matrix::{Entry, Matrix};
 use crate::numbers::{add_multiple, add_number, number_at, product};
 use crate::ordering::Order;
-use crate::pivot_row::PivotRow;
 use crate::ratios::Candidates;
+use crate::sparse_numbers::SparseNumbers;
 use crate::variables::{Standing, Variable, scaled};
 use crate::{Range, Term};
 use scut_base::NoMemory;
@@ -36,10 +36,10 @@ pub(crate) struct Simplex {
     pub(crate) are_costs_new: bool,
     // Numbers touched so far.
     pub(crate) work: u64,
-    // Of the pivot that is made: its row of the inverse, its row, its column, and that row once more as a column.
+    // Of the pivot that is made: its row of the inverse, its row, its column, and that row of the inverse as a column.
     pub(crate) inverse_row: Vec<f64>,
-    pub(crate) pivot_row: PivotRow,
-    pub(crate) pivot_column: Vec<f64>,
+    pub(crate) pivot_row: SparseNumbers,
+    pub(crate) pivot_column: SparseNumbers,
     pub(crate) edge_column: Vec<f64>,
     pub(crate) candidates: Candidates,
     // For a rebuilding.
@@ -60,8 +60,8 @@ impl Simplex {
             are_costs_new: true,
             work: 0,
             inverse_row: Vec::new(alloc),
-            pivot_row: PivotRow::new(alloc),
-            pivot_column: Vec::new(alloc),
+            pivot_row: SparseNumbers::new(alloc),
+            pivot_column: SparseNumbers::new(alloc),
             edge_column: Vec::new(alloc),
             candidates: Candidates::new(alloc),
             order: Order::new(alloc),
@@ -182,24 +182,24 @@ impl Simplex {
     // The values of the basis.
     pub(crate) fn evaluate(&mut self) {
         self.take_ends();
-        let touched = self.etas.forward(&mut self.pivot_column);
+        let touched = self.etas.forward(&mut self.edge_column);
         self.count(touched);
         self.count_matrix();
-        for (basic, value) in self.basics.iter_mut().zip(self.pivot_column.as_slice()) {
+        for (basic, value) in self.basics.iter_mut().zip(self.edge_column.as_slice()) {
             basic.value = *value;
         }
     }
 
     // What the variables outside of the basis make of the rows where they stand.
     fn take_ends(&mut self) {
-        self.pivot_column.fill(0.0);
+        self.edge_column.fill(0.0);
         for (at, variable) in self.variables.iter().enumerate() {
             let end = variable.end();
             if !variable.is_basic() && end != 0.0 {
                 if at < self.columns {
-                    add_multiple(&mut self.pivot_column, self.matrix.column(at), -end);
+                    add_multiple(&mut self.edge_column, self.matrix.column(at), -end);
                 } else {
-                    add_number(&mut self.pivot_column, at - self.columns, end);
+                    add_number(&mut self.edge_column, at - self.columns, end);
                 }
             }
         }

@@ -165,7 +165,7 @@ impl Simplex {
 
     // A pivot, if its row and its column agree.
     fn try_pivot(&mut self, leaving: &Leaving, entering: usize) -> Result<Step, NoMemory> {
-        self.take_pivot_column(entering);
+        self.take_pivot_column(entering)?;
         match self.agreement(leaving.place, entering) {
             Agreement::Good => {
                 self.pivot(leaving, entering)?;
