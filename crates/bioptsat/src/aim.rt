@@ -1,10 +1,5 @@
 // What a search for two objectives aims at.
-ghost use Rattle.std.specs.Prelude.{◌≡◌, ◌<◌, length, ◌∷◌, [], refl, IfOk, OnOk, OnErr};
-ghost use Rattle.pb_lin.specs.Problem.{ProblemValue};
-ghost use Rattle.proof_rules.specs.Recording.{Snapshot};
-ghost use Rattle.search_base.specs.CostBounds.{FitSome};
-ghost use Rattle.relaxations.specs.Aims.{TakesModel};
-ghost use Rattle.relaxations.specs.Wanting.{HasCostRows, IsOf, TellsOf};
+ghost use Rattle.std.specs.Prelude.{◌≡◌, ◌<◌, ◌∷◌, [], refl, IfOk};
 ghost use Rattle.bioptsat.specs.Aims.{MovesAim, Serves, aim_after, given_up, own_number};
 ghost use Rattle.bioptsat.specs.Asking.{IsOneLess, TellsOfAim};
 

@@ -2,7 +2,7 @@
 // its weights, so that terms of one weight side by side make few outputs; and terms that share constraints side by side make
 // outputs that say something. So terms whose neighbours share constraints clearly more than other pairs do stay in their order,
 // and others are sorted by weight. Nothing of which order it is is promised.
-ghost use Rattle.std.specs.Prelude.{◌≡◌, IfOk};
+ghost use Rattle.std.specs.Prelude.{IfOk};
 ghost use Rattle.std.specs.List.{AllZip};
 ghost use Rattle.proof_rules.specs.Recording.{Snapshot};
 ghost use Rattle.search_base.specs.CostBounds.{AreReforms};

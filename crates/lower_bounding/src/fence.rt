@@ -1,10 +1,5 @@
 // The fence: what the next model is to cost at most, objective by objective.
-ghost use Rattle.std.specs.Prelude.{◌≡◌, ◌<◌, length, refl, IfOk, OnOk, OnErr, map};
-ghost use Rattle.pb_lin.specs.Problem.{ProblemValue};
-ghost use Rattle.proof_rules.specs.Recording.{Snapshot};
-ghost use Rattle.search_base.specs.CostBounds.{FitSome};
-ghost use Rattle.relaxations.specs.Aims.{TakesModel};
-ghost use Rattle.relaxations.specs.Wanting.{HasCostRows, IsOf, TellsOf};
+ghost use Rattle.std.specs.Prelude.{◌≡◌, ◌<◌, refl, IfOk, map};
 ghost use Rattle.lower_bounding.specs.Fences.{MovesFence, Serves, own_number};
 ghost use Rattle.lower_bounding.specs.Raising.{TellsOfFence};
 

@@ -1,10 +1,5 @@
 // The vector that is improved.
-ghost use Rattle.std.specs.Prelude.{◌≡◌, ◌<◌, length, None, refl, IfOk, OnOk, OnErr, option_copied};
-ghost use Rattle.pb_lin.specs.Problem.{ProblemValue};
-ghost use Rattle.proof_rules.specs.Recording.{Snapshot};
-ghost use Rattle.search_base.specs.CostBounds.{FitSome};
-ghost use Rattle.relaxations.specs.Aims.{TakesModel};
-ghost use Rattle.relaxations.specs.Wanting.{HasCostRows, IsOf, TellsOf};
+ghost use Rattle.std.specs.Prelude.{◌≡◌, ◌<◌, None, refl, IfOk, option_copied};
 ghost use Rattle.p_minimal.specs.Aiming.{Aims as MovesAim, Serves, TellsOfAim, own_number};
 
 use front_set::CostVec;

@@ -1,5 +1,5 @@
 -- Calls one after another keep a good state good.
-use Rattle.std.proofs.Common.{◌≡◌, ◌∙◌, ℕ, false, Option, Result, Ok, Err, List, [], ◌∷◌, ap, arith, refl, sym, subst}
+use Rattle.std.proofs.Common.{◌≡◌, ◌∙◌, ℕ, false, Option, Result, Ok, Err, List, [], ◌∷◌, ap, refl, sym, subst}
 use Rattle.std.specs.Prelude.{IfErr, IsErrAnd, OnOk}
 use Rattle.std.proofs.lemmas.Result.{err_from_is_err_and}
 use Rattle.std.specs.List.{All, AllZip}
@@ -8,17 +8,15 @@ use Rattle.scut_base.specs.Faults.{Rose}
 use Rattle.pb_lin.specs.CostRow.{CostRowValue, IsCostRow}
 use Rattle.pb_lin.specs.Problem.{ProblemValue}
 use Rattle.instance_normal.specs.NormalForm.{CostSource, IsCostRowOf}
-use Rattle.proof_laws.specs.State.{StateValue}
-use Rattle.proof_laws.proofs.Replays.{replay_once}
 use Rattle.proof_rules.specs.Recording.{Snapshot, KeepsRecorder}
 use Rattle.proof_rules.specs.declared.recorder.RecordFault.{RecordFault}
-use Rattle.proof_rules.specs.declared.recorder.RecordFault.TheVariants.{Failed as RecordingFailed, Full as RecordFull, NoMemory as RecordNoMemory}
+use Rattle.proof_rules.specs.declared.recorder.RecordFault.TheVariants.{NoMemory as RecordNoMemory}
 use Rattle.recording.specs.Adding.{Adds}
-use Rattle.oracle.specs.Solving.{AddsSearchLines, AreEarned, HasFault, IsDerived, IsOrderly, IsSpent, IsWithin, Reaches, fault_of_recording}
+use Rattle.oracle.specs.Solving.{AddsSearchLines, AreEarned, HasFault, IsDerived, IsOrderly, IsWithin, fault_of_recording}
 use Rattle.oracle.specs.declared.answer.Answer.{Answer}
 use Rattle.oracle.specs.declared.fault.OracleFault.{OracleFault}
 use Rattle.oracle.specs.declared.fault.OracleFault.TheVariants.{Spent, Failed, Full, NoMemory}
-use Rattle.sum_outputs.specs.Adding.{Continues, IsFaultAt, IsReady}
+use Rattle.sum_outputs.specs.Adding.{Continues, IsFaultAt}
 use Rattle.search_base.specs.Adding.{DerivingStaysGood}
 use Rattle.search_base.specs.CostBounds.{FitBounds}
 use Rattle.search_base.specs.Good.{GoesOn}

@@ -1,5 +1,5 @@
 -- Limits that are below others.
-use Rattle.std.proofs.Common.{◌≡◌, ◌∙◌, ℕ, zero, suc, true, false, not, Option, None, Some, List, [], ◌∷◌, refl, sym, ap, subst, ℤ, ◌≤ℤ◌, ◌<ℤ◌, arith}
+use Rattle.std.proofs.Common.{◌≡◌, ◌∙◌, ℕ, zero, suc, true, false, not, Option, None, Some, List, [], ◌∷◌, refl, sym, ap, subst, ℤ, ◌≤ℤ◌, arith}
 use Rattle.std.specs.Prelude.{int_lt, slice_get, slice_set, IfSome}
 use Rattle.std.proofs.lemmas.Bool.{and_from, not_from_false}
 use Rattle.std.proofs.lemmas.Int.{ints}

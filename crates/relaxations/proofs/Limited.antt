@@ -1,7 +1,7 @@
 -- A call with a limit of its own.
 use Rattle.std.proofs.Common.{◌≡◌, ◌⊎◌, inl, inr, ℕ, ◌<◌, ◌≤◌, Bool, true, false, Option, None, Some, Err, List, arith, refl, sym, ap, ◌∙◌, ⊎_elim}
 use Rattle.std.specs.Prelude.{nat_lt, not}
-use Rattle.std.proofs.lemmas.Bool.{cases_Bool, cases_lt, cond-false, cond-true, le-ltb, lt-ltb, ltb-true}
+use Rattle.std.proofs.lemmas.Bool.{cases_lt, cond-false, cond-true, le-ltb, lt-ltb, ltb-true}
 use Rattle.scut_base.specs.Literal.{Literal}
 use Rattle.pb_lin.specs.Problem.{ProblemValue}
 use Rattle.proof_laws.specs.State.{StateValue}
@@ -9,7 +9,7 @@ use Rattle.proof_laws.specs.Replay.{IsReplay}
 use Rattle.proof_laws.specs.declared.line.Line.{Line}
 use Rattle.proof_laws.proofs.Replays.{replay_once}
 use Rattle.proof_rules.specs.Recording.{Snapshot}
-use Rattle.oracle.specs.Solving.{AreAssumptions, HasFault, IsSpent, IsWithin, MayBeAsked, Reaches, lesser}
+use Rattle.oracle.specs.Solving.{AreAssumptions, HasFault, IsWithin, MayBeAsked, Reaches, lesser}
 use Rattle.oracle.specs.declared.fault.OracleFault.{OracleFault}
 use Rattle.oracle.specs.declared.fault.OracleFault.TheVariants.{Spent, Failed, Full, NoMemory}
 use Rattle.search_base.specs.declared.objective_bound.ObjectiveBound.{ObjectiveBound}

@@ -1,5 +1,5 @@
 -- What a call with a limit of its own leaves, and literals that may still be assumed after other lines.
-use Rattle.std.proofs.Common.{◌≡◌, ℕ, arith, true, false, Option, None, Some, Result, Ok, Err, List, refl, subst, sym}
+use Rattle.std.proofs.Common.{◌≡◌, ℕ, arith, true, false, Option, None, Some, Result, Ok, Err, List, refl, subst}
 use Rattle.std.proofs.lemmas.List.Elements.{All-weaker}
 use Rattle.scut_base.specs.Literal.{Literal}
 use Rattle.pb_lin.specs.Constraint.{IsVariable}

@@ -1,5 +1,5 @@
 -- Calls one after another: what they add, and their faults.
-use Rattle.std.proofs.Common.{◌≡◌, ◌∙◌, ℕ, false, Bool, Option, Result, Ok, Err, List, [], ap, arith, sym, subst}
+use Rattle.std.proofs.Common.{◌≡◌, ℕ, false, Option, Result, Ok, Err, arith, sym, subst}
 use Rattle.std.specs.Prelude.{IfErr}
 use Rattle.scut_base.specs.Faults.{Rose}
 use Rattle.pb_lin.specs.Problem.{ProblemValue}
@@ -13,12 +13,10 @@ use Rattle.oracle.specs.declared.fault.OracleFault.{OracleFault}
 use Rattle.oracle.specs.declared.fault.OracleFault.TheVariants.{Spent, Failed, Full, NoMemory}
 use Rattle.sum_outputs.specs.Adding.{Continues, IsFaultAt, IsReady}
 use Rattle.sum_outputs.proofs.LaterStates.{fault_later}
-use Rattle.search_base.specs.Boards.{BoardValue}
 use Rattle.search_base.specs.Good.{GoesOn}
 use Rattle.search_base.specs.Laws.{TurnLinesJoin}
-use Rattle.search_base.specs.Pending.{AskingStaysGoodBut, IsGoodBut}
+use Rattle.search_base.specs.Pending.{AskingStaysGoodBut}
 use Rattle.search_base.specs.Turns.{IsInOrder, IsSearchFault}
-use Rattle.search_base.specs.declared.objective_bound.ObjectiveBound.{ObjectiveBound}
 use Rattle.relaxations.specs.Ending.{StaysGoodBut}
 
 -- ---- before a call

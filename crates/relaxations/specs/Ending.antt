@@ -1,5 +1,5 @@
 -- How relaxations end.
-use Rattle.std.specs.Prelude.{◌≡◌, ℕ, [], List, Bool}
+use Rattle.std.specs.Prelude.{ℕ, [], List, Bool}
 use Rattle.proof_laws.specs.State.{StateValue}
 use Rattle.proof_rules.specs.Recording.{Snapshot}
 use Rattle.sum_outputs.specs.Adding.{IsReached}

@@ -1,5 +1,4 @@
 // Literals of which at most one can be true: cliques over the problem's rows of two literals (DECISIONS, cliques).
-ghost use Rattle.std.specs.Prelude.{◌≡◌};
 ghost use Rattle.sum_outputs.specs.Adding.{IsReady, IsRecorded};
 
 use crate::limits::{LEAST_MEMBERS, MOST_LOOKS, MOST_MEMBERS};

@@ -1,5 +1,5 @@
 // Outputs of objectives that are only defined: true exactly where the objective costs at least a value.
-ghost use Rattle.std.specs.Prelude.{◌≡◌, ◌<◌, ◌≤◌, length, IfOk};
+ghost use Rattle.std.specs.Prelude.{◌≡◌, ◌<◌, ◌≤◌};
 ghost use Rattle.pb_lin.specs.Constraint.{TermsUpTo, total};
 ghost use Rattle.sum_outputs.specs.Adding.{IsReady, IsRecorded};
 

@@ -3,7 +3,7 @@ use Rattle.std.proofs.Common.{◌∙◌, None, Some, List, length, ap, sym, ℤ}
 use Rattle.std.proofs.lemmas.Slice.Zip.{AllZip-long}
 use Rattle.pb_lin.specs.Problem.{ProblemValue}
 use Rattle.linear_search.specs.Replies.{IsReply}
-use Rattle.linear_search.specs.declared.reply.Reply.TheVariants.{Closed, Model as Proposed}
+use Rattle.linear_search.specs.declared.reply.Reply.TheVariants.{Closed}
 use Rattle.search_base.specs.CostBounds.{BoundsRow}
 use Rattle.search_base.proofs.Turning.{goes_again}
 use Rattle.relaxations.specs.Cores.{IsToldByCore}

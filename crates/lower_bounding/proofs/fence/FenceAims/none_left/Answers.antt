@@ -1,6 +1,5 @@
 -- The numbers that stand in the way rise.
-use Rattle.std.proofs.Common.{◌≡◌, ◌<◌, length, ap, sym, subst, ◌∙◌}
-use Rattle.pb_lin.specs.Problem.{ProblemValue}
+use Rattle.std.proofs.Common.{◌<◌, length, ap, sym, subst, ◌∙◌}
 use Rattle.lower_bounding.specs.Fences.{FenceValue, Serves, own_number, room}
 use Rattle.lower_bounding.specs.Raising.{CanRaise, IsRaised}
 use Rattle.lower_bounding.proofs.Raised.{raised_falls, raised_serves, raises, rows_length, tops_length}
@@ -34,11 +33,11 @@ returns-clause-moved c =
     let risen : IsRaised was.fence was.tops stands now =
     subst (λ (v : FenceValue). IsRaised v.fence v.tops stands now) c.self.view_is is in
     λ a m serves tells.
-        let here : Serves s m.problem = subst (λ (v : FenceValue). Serves v m.problem) (sym c.self.view_is) serves in
-        let can : CanRaise s.fence s.tops stands =
-        subst (λ (v : FenceValue). CanRaise v.fence v.tops stands) (sym c.self.view_is) tells.1 in (
-          subst (λ (v : FenceValue). room now s.tops < own_number v) c.self.view_is
-              (raised_falls s m.problem here stands can now is),
-          raises was m.problem serves stands tells.1 now risen m tells.0,
-          raised_serves s m.problem here stands can now is,
-        )
+    let here : Serves s m.problem = subst (λ (v : FenceValue). Serves v m.problem) (sym c.self.view_is) serves in
+    let can : CanRaise s.fence s.tops stands =
+    subst (λ (v : FenceValue). CanRaise v.fence v.tops stands) (sym c.self.view_is) tells.1 in (
+      subst (λ (v : FenceValue). room now s.tops < own_number v) c.self.view_is
+          (raised_falls s m.problem here stands can now is),
+      raises was m.problem serves stands tells.1 now risen m tells.0,
+      raised_serves s m.problem here stands can now is,
+    )
