@@ -4,7 +4,7 @@
 //! Its public contract: what it answers goes by its table (`CheckTable`), and what its words ask for is `check_asked`.
 #![tactic(auto)]
 
-ghost use Rattle.std.specs.Prelude.{◌≡◌, IfOk, [], false, map, option_map};
+ghost use Rattle.std.specs.Prelude.{◌≡◌, IfOk, [], false, option_map};
 ghost use Rattle.instance.specs.ParetoFront.{AreProblemVectors};
 ghost use Rattle.instance_normal.specs.NormalForm.{IsNormalFormOf};
 ghost use Rattle.log_checker.specs.Checking.{StandsFor};

@@ -4,7 +4,7 @@
 //! Its public contract: what it answers goes by its table (`FrontTable`), and what its words ask for is `front_asked`.
 #![tactic(auto)]
 
-ghost use Rattle.std.specs.Prelude.{◌≡◌, true, map, option_map};
+ghost use Rattle.std.specs.Prelude.{◌≡◌, true, option_map};
 ghost use Rattle.front_text.specs.Lines.{list_lines};
 ghost use Rattle.command_base.specs.Causes.{HasText};
 ghost use Rattle.command_base.specs.FileWords.{names_of};

@@ -14,7 +14,7 @@ use Rattle.command_base.specs.InstanceFile.{IsTextOf}
 use Rattle.command_base.specs.Messages.{said_of}
 use Rattle.command_base.specs.Saying.{Says}
 use Rattle.command_base.specs.Statuses.{status_of_shelf}
-use Rattle.command_base.specs.Views.{View, view}
+use Rattle.command_base.specs.Views.{view}
 use Rattle.command_base.specs.declared.instance_file.Format.TheVariants.{Mcnf}
 use Rattle.command_base.specs.declared.status.Status.{Status}
 use Rattle.command_base.specs.declared.status.Status.TheVariants.{Done}

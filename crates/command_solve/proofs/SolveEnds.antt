@@ -35,7 +35,7 @@ use Rattle.command_base.proofs.ListSizes.{size_zero}
 use Rattle.command_solve.specs.Listing.{IsListed, ListTable, is_complete, list_calls, status_of}
 use Rattle.proof_text.specs.LogParts.{IsLogStopped}
 use Rattle.command_solve.specs.Logging.{IsLogged}
-use Rattle.command_solve.specs.Table.{HasSearch, IsCertified, IsFound, IsListTouched, IsProblemOf, IsSolvedPartly, IsUnfinished, SolveRuns, SolveTable, solve_calls, with_log}
+use Rattle.command_solve.specs.Table.{HasSearch, IsCertified, IsFound, IsListTouched, IsProblemOf, IsUnfinished, SolveRuns, SolveTable, solve_calls, with_log}
 use Rattle.command_solve.specs.Words.{SolveAsked}
 
 sources_count : (var : ℕ) (os : List Objective) → length (cost_sources var os) ≡ length os

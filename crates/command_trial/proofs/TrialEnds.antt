@@ -22,7 +22,7 @@ use Rattle.proof_text.specs.declared.version.LogVersion.TheVariants.{One}
 use Rattle.proof_text.specs.LogParts.{IsFull}
 use Rattle.command_solve.specs.Table.{IsCertified, IsLogFull, SolveTable, solve_calls}
 use Rattle.command_check.specs.Table.{CheckTable, check_calls}
-use Rattle.command_trial.specs.Table.{IsTriedFull, IsTriedPartly, TrialTable, goes_on, trial_calls}
+use Rattle.command_trial.specs.Table.{IsTriedFull, TrialTable, goes_on, trial_calls}
 use Rattle.command_gen.specs.Words.{GenAsked}
 use Rattle.command_solve.specs.Words.{SolveAsked}
 use Rattle.command_check.specs.Words.{CheckAsked}

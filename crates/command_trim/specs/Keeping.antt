@@ -16,6 +16,7 @@ use Rattle.log_checker.specs.Judging.{IsUnderway}
 use Rattle.log_checker.specs.LogFaults.{IsLogFault, IsWholeFault}
 use Rattle.log_trim.specs.Marks.{made_by}
 use Rattle.command_base.specs.Causes.{HasText}
+use Rattle.command_base.specs.Inputs.{IsListed}
 use Rattle.command_base.specs.Judging.{JudgedBy}
 use Rattle.command_base.specs.declared.log_file.LineFault.{LineFault}
 use Rattle.command_base.specs.declared.log_file.LineFault.TheVariants.{Refused, NoMemory}

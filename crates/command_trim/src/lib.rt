@@ -6,7 +6,7 @@
 //! accepted for the same list.
 #![tactic(auto)]
 
-ghost use Rattle.std.specs.Prelude.{◌≡◌, length, map, option_map};
+ghost use Rattle.std.specs.Prelude.{◌≡◌, length, option_map};
 ghost use Rattle.proof_lines.specs.declared.spelling.Spelling.TheVariants.{Plain};
 ghost use Rattle.proof_text.specs.Versions.{log_text};
 ghost use Rattle.command_base.specs.FileWords.{names_of};

@@ -1,8 +1,4 @@
 use Rattle.std.specs.Prelude.{codes}
-use Rattle.std.proofs.Common.{◌∙◌, sym, ap, subst}
-use Rattle.std.specs.Prelude.{MatchOption}
-use Rattle.std.proofs.lemmas.Bool.Decides.{Decides-eqb}
-use Rattle.std.proofs.lemmas.Slice.Eq.{strip_prefix_is}
 use Rattle.command_check_models.proofs.Names.{found_rest, no_rest, rest_begins, none_begins}
 use Rattle.command_check_models.proofs.words.begins_with.Goals as goal
 

@@ -10,7 +10,7 @@ use Rattle.command_trim.proofs.TrimEnds.{log_stopped}
 use Rattle.command_trim.proofs.Trim.judge.Goals as goal
 
 pub proved_lines-requires : goal.proved_lines-requires
-proved_lines-requires g c = rw c.as_slice-entries.ensures c.requires.vectors
+proved_lines-requires g c = record { entries = rw c.as_slice-entries.ensures c.requires.vectors }
 
 pub trim-requires : goal.trim-requires
 trim-requires g c =
