@@ -147,10 +147,11 @@ impl<'a> Solve<'a> {
             input.now.inst input.now.problem }
         ensures { SolveRuns (asked self.now) result (H.world shelf.old) (H.world shelf.new) }
     {
-        if !takes(self.search, self.turns, input.inst.objectives.len()) {
+        let Input { inst, problem } = input;
+        if !takes(self.search, self.turns, inst.objectives.len()) {
             return Status::Usage;
         }
-        self.search_for(alloc, &input.inst, &input.problem, shelf)
+        self.search_for(alloc, inst, problem, shelf)
     }
 
     // Makes the search that is asked for, and searches by it.
