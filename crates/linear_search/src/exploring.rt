@@ -1,5 +1,5 @@
 // The search through the tree, the node of least bound first.
-use crate::limits::{MOST_NODES, PASSES_MORE, TIMES_MORE};
+use crate::limits::{MOST_NODES, NODES_OF_ATTEMPTS, PASSES_MORE, TIMES_MORE};
 use crate::nodes::Node;
 use crate::question::Question;
 use crate::relaxation::{Relaxation, column_of};
@@ -29,11 +29,34 @@ impl Relaxation {
         most: u64,
     ) -> Result<Found, NoMemory> {
         self.take_back_cuts()?;
+        self.sway = 0;
         self.begin_at_root(state, question, tree)?;
         if self.may_cut() && !self.begin_with_cuts(state, question, tree, most)? {
             return found_in(tree);
         }
+        for (attempt, nodes) in NODES_OF_ATTEMPTS.iter().enumerate() {
+            if !self.split_nodes(state, question, tree, most, *nodes)? || !tree.is_flat() {
+                break;
+            }
+            self.begin_otherwise(state, question, tree, attempt)?;
+        }
         self.explore(state, question, tree, most)
+    }
+
+    // Begins the tree anew, but for its best model, and weighs columns otherwise in it.
+    fn begin_otherwise(
+        &mut self,
+        state: &ProofState,
+        question: &Question<'_>,
+        tree: &mut Tree,
+        attempt: usize,
+    ) -> Result<(), NoMemory> {
+        self.sway = (attempt as u64).saturating_add(1);
+        let mut best = None;
+        std::mem::swap(&mut best, &mut tree.best);
+        self.begin_at_root(state, question, tree)?;
+        tree.best = best;
+        Ok(())
     }
 
     // Begins a tree with its root alone, which is visited.

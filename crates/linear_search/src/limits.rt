@@ -16,6 +16,13 @@ pub(crate) const MOST_NODES: usize = 10_000_000;
 // from wherever the relaxation stands.
 pub(crate) const MOST_KEPT: usize = 30_000_000;
 
+// A tree begins anew after so many nodes, and again after so many more, as long as its bound is above the root's by no more than so
+// many times what a better model lacks: sizes of trees have heavy tails there, and another one may be small (Gomes, Selman, Crato and
+// Kautz 2000). By any bound 120 projects took a third longer.
+pub(crate) const NODES_OF_ATTEMPTS: [usize; 3] = [300, 600, 1200];
+
+pub(crate) const FLAT: f64 = 12.0;
+
 // A value is whole within this.
 pub(crate) const WHOLE: f64 = 1e-5;
 

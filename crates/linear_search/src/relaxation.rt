@@ -56,6 +56,8 @@ pub(crate) struct Relaxation {
     pub(crate) uses: Vec<f64>,
     pub(crate) shares: Vec<f64>,
     pub(crate) aim: Aim,
+    // By what the choice of columns to split by is swayed.
+    pub(crate) sway: u64,
     // How multipliers come to whole factors.
     pub(crate) scale: Scale,
     // The id of the next line to be looked at.
@@ -86,6 +88,7 @@ impl Relaxation {
             uses: vec![in alloc; 1.0; columns]?,
             shares: vec![in alloc; 1.0; columns]?,
             aim: Aim::new(alloc),
+            sway: 0,
             scale: Scale::new(),
             next_line: (problem.rows().len() as u64).saturating_add(1),
             held_from: 0,

@@ -1,5 +1,5 @@
 // A tree of linear programs, searched from the node of least bound on (DECISIONS, best-first).
-use crate::limits::{MOST_KEPT, PARTS_OF_A_STEP, PLUNGE, ROUND_ABOVE, ROUND_EACH};
+use crate::limits::{FLAT, MOST_KEPT, PARTS_OF_A_STEP, PLUNGE, ROUND_ABOVE, ROUND_EACH};
 use crate::nodes::{Making, Node, has_literal, resolvent_literals};
 use linear_lines::Leaf;
 use linear_program::Basis;
@@ -222,6 +222,14 @@ impl Tree {
     // A bound as a whole number: bounds are told apart by a part of what a better model lacks.
     fn order_of(&self, bound: f64) -> u64 {
         saturating_f64_to_u64((bound - self.least) / self.unit * PARTS_OF_A_STEP)
+    }
+
+    // Whether the least bound of what is left is hardly above the root's.
+    pub(crate) fn is_flat(&self) -> bool {
+        match self.queue.peek() {
+            Some((key, _)) => self.order_of(self.bound_of(0) + FLAT * self.unit) >= u64::MAX - *key,
+            None => false,
+        }
     }
 
     // Puts the nodes below one that was split among those that can be, but for one where the search goes on: where its bound is no

@@ -8,7 +8,7 @@ use linear_lines::{Multiplier, infeasible_leaf};
 use linear_program::Answer;
 use proof_rules::ProofState;
 use scut_base::{Items, Lit, NoMemory};
-use std::num::nearest_i64_to_f64;
+use std::num::{nearest_i64_to_f64, nearest_u64_to_f64};
 
 impl Relaxation {
     // Puts the relaxation to a node: its columns are fixed by the path, and no others.
@@ -242,7 +242,7 @@ impl Relaxation {
         let mut most = 0.0;
         let weights = self.uses.iter().zip(self.shares.as_slice());
         for ((column, value), (uses, share)) in values.iter().enumerate().zip(weights) {
-            let score = uncertainty(*value) * *uses * *share;
+            let score = uncertainty(*value) * *uses * *share * swayed(self.sway, column);
             if score > most {
                 most = score;
                 best = literal_of(column, *value);
@@ -309,6 +309,20 @@ fn product(costs: &[f64], values: &[f64]) -> f64 {
         sum += *cost * value.round();
     }
     sum
+}
+
+// What a column's score is multiplied by: 1 where nothing sways it, else a number from 1 to 2, another one for each sway (hashed
+// as in splitmix: Steele, Lea and Flood 2014).
+fn swayed(sway: u64, column: usize) -> f64 {
+    if sway == 0 {
+        return 1.0;
+    }
+    let mixed = (column as u64)
+        .wrapping_mul(64)
+        .wrapping_add(sway)
+        .wrapping_mul(0x9E37_79B9_7F4A_7C15);
+    let mixed = (mixed ^ (mixed >> 29)).wrapping_mul(0xBF58_476D_1CE4_E5B9);
+    1.0 + nearest_u64_to_f64(mixed >> 33) / 2_147_483_648.0
 }
 
 // How far a value is from whole; 0 where it's as good as whole.
