@@ -260,9 +260,9 @@ PROBLEMS: Dict[str, Maker] = {
     'li10-21': lambda: links(Numbers(21), nodes=9, parallel=3, extra=8),
     'co30-21': lambda: colours(Numbers(21), nodes=30, count=8, apart=350, near=150),
     'co34-21': lambda: colours(Numbers(21), nodes=34, count=7, apart=220, near=150),
-    'ma24-21': lambda: machines(Numbers(21), jobs=24, count=7, room=25),
-    'ma24-22': lambda: machines(Numbers(22), jobs=24, count=7, room=25),
-    'ma24k-21': lambda: machines(Numbers(21), jobs=24, count=7, room=22, kinds=6),
+    'ma24-21': lambda: jobs_on_machines(21, kinds=0),
+    'ma24-22': lambda: jobs_on_machines(22, kinds=0),
+    'ma24k-21': lambda: jobs_on_machines(21, kinds=6),
     'roA-31': lambda: roster(Numbers(31), groups=2, people=4, demand=2, fair=True),
     'roB-31': lambda: roster(Numbers(31), groups=1, people=9, demand=4, fair=True),
     'roB-32': lambda: roster(Numbers(32), groups=1, people=9, demand=4, fair=True),
@@ -270,3 +270,19 @@ PROBLEMS: Dict[str, Maker] = {
     'pigeons-8': lambda: pigeons(8),
     'pigeons-12': lambda: pigeons(12),
 }
+
+MACHINE_SEEDS = range(21, 41)
+
+
+def jobs_on_machines(seed: int, kinds: int) -> Problem:
+    """24 jobs on seven machines; of six kinds there is less room."""
+    return machines(Numbers(seed), jobs=24, count=7, room=22 if kinds else 25, kinds=kinds)
+
+
+def machine_problems() -> Dict[str, Maker]:
+    """One of each seed with unlike jobs, and one with jobs of six kinds."""
+    made: Dict[str, Maker] = {}
+    for name, kinds in (('ma24', 0), ('ma24k', 6)):
+        for seed in MACHINE_SEEDS:
+            made['%s-%d' % (name, seed)] = lambda seed=seed, kinds=kinds: jobs_on_machines(seed, kinds)
+    return made

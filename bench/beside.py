@@ -107,7 +107,8 @@ def shown(took: Optional[Run], limit: int) -> List[str]:
     return ['%.2f' % took.seconds, pages.bytes_text(took.log), format(took.learned, ',')]
 
 
-def row_of(name: str, request: Request) -> List[str]:
+def row_of(name: str, request: Request) -> Tuple[List[str], List[bool]]:
+    """The row of a problem, and which programs have ended."""
     made = request.family.problems[name]()
     with tempfile.TemporaryDirectory() as folder:
         with open(os.path.join(folder, 'a.opb'), 'w', encoding='ascii') as file:
@@ -118,7 +119,8 @@ def row_of(name: str, request: Request) -> List[str]:
         raise Mistake('the fronts differ: %s' % fronts)
     cells = [name, str(made.variables), format(len(made.rows), ','), str(len(made.costs)), str(len(fronts[0])) if fronts else '']
     last = runs[-1]
-    return cells + [cell for took in runs for cell in shown(took, request.limit)] + [format(last.counted, ',') if last else '']
+    row = cells + [cell for took in runs for cell in shown(took, request.limit)] + [format(last.counted, ',') if last else '']
+    return row, [took is not None for took in runs]
 
 
 def head_of(programs: List[Program], counted: str) -> List[str]:
@@ -161,15 +163,20 @@ def write_instances(family: Family, folder: str) -> int:
 
 def compare(request: Request) -> int:
     rows, failed = [], 0
+    ended = [0] * len(request.programs)
     for name in request.family.problems:
         if request.only not in name:
             continue
         try:
-            rows.append(row_of(name, request))
-            print('  '.join(rows[-1]), file=sys.stderr, flush=True)
+            row, have_ended = row_of(name, request)
+            rows.append(row)
+            ended = [count + has_ended for count, has_ended in zip(ended, have_ended)]
+            print('  '.join(row), file=sys.stderr, flush=True)
         except Mistake as mistake:
             failed += 1
             print('%s: %s: %s' % (request.family.command, name, mistake), file=sys.stderr, flush=True)
+    for program, count in zip(request.programs, ended):
+        print('%s: %s has ended %d of %d' % (request.family.command, program.name, count, len(rows)), file=sys.stderr, flush=True)
     text = pages.table(head_of(request.programs, request.family.counted), rows)
     print(text)
     if request.write and not failed:

@@ -9,7 +9,7 @@ from setting import PROGRAM, ROOT, InFolder
 
 sys.path.insert(0, os.path.join(ROOT, 'bench'))
 
-from alike_problems import PROBLEMS  # noqa: E402
+from alike_problems import PROBLEMS, machine_problems  # noqa: E402
 
 from scuttle.instances import read_instance  # noqa: E402
 
@@ -38,6 +38,14 @@ class Alike(InFolder):
                           ((name, make()) for name, make in PROBLEMS.items())}, SIZES)
         self.assertEqual(hashlib.sha256(''.join(make().text() for make in PROBLEMS.values()).encode()).hexdigest(), DIGEST)
 
+    def test_problems_with_machines(self):
+        made = machine_problems()
+        self.assertEqual(len(made), 40)
+        for name in ('ma24-21', 'ma24-22', 'ma24k-21'):
+            self.assertEqual(made[name]().text(), PROBLEMS[name]().text())
+        self.assertEqual({(problem.variables, len(problem.rows)) for problem in (make() for make in made.values())}, {(199, 31)})
+        self.assertEqual(len({make().text() for make in made.values()}), 40)
+
     def test_files(self):
         self.assertEqual(self.run_alike('--instances', 'made'), (0, '', ''))
         self.assertEqual(set(os.listdir('made')), {name + '.opb' for name in PROBLEMS})
@@ -50,6 +58,7 @@ class Alike(InFolder):
         endless = self.program('endless', 'while :; do :; done\n')
         number, said, warned = self.run_alike('ours=' + PROGRAM, endless, '--limit', '1', '--only', 'pigeons-8')
         self.assertEqual(number, 0, warned)
+        self.assertIn('alike: ours has ended 1 of 1\nalike: endless has ended 0 of 1\n', warned)
         head, _, row = said.rstrip('\n').split('\n')
         self.assertEqual(head, '| Problem | Variables | Rows | Costs | Compromises | ours: `solve`, s | log | learned '
                                '| endless: `solve`, s | log | learned | `red` lines |')
