@@ -2,7 +2,7 @@
 
 cd "$elsewhere" || exit 1
 rm -f r.log
-run "$stop_at" r.log "$first_model" 2,terminal:INT "$tree/scuttle" --watch solve long.mcnf r.list r.log
+run "$stop_at" r.log "$first_model" 4,terminal:INT "$tree/scuttle" --watch solve long.mcnf r.list r.log
 # A terminal's width may cut the line's end.
 expect 'a line is rewritten on a terminal' 10 said '[0-9] models, best of each cost [0-9]* [0-9]* [0-9]*, [0-9]* learned a second, log [0-9]'
 cp "$work/said" kept.said
