@@ -1,5 +1,8 @@
 // How much work relaxations may do, in numbers touched (DECISIONS, purse).
-use crate::limits::{FIRST_WORK, MOST_WORK, PART_WITHOUT_OBJECTIVES, PASSES_A_ROW, WORK_OF_A_LINE};
+use crate::limits::{
+    FIRST_WORK, FIRST_WORK_OF_CLAUSES, MOST_WORK, PART_WITHOUT_OBJECTIVES, PASSES_A_ROW,
+    WORK_OF_A_LINE,
+};
 use pb_lin::{CostRow, PbProblem};
 
 // What all questions may take together before the first clause is learned.
@@ -12,7 +15,7 @@ pub(crate) fn first_allowance(problem: &PbProblem) -> u64 {
     for row in problem.costs() {
         lines = lines.saturating_add(lines_of_totalizer(row));
     }
-    let work = FIRST_WORK
+    let work = first_work(rows)
         .saturating_add(work_of_passes)
         .saturating_add(lines.saturating_mul(WORK_OF_A_LINE))
         .min(MOST_WORK);
@@ -20,6 +23,15 @@ pub(crate) fn first_allowance(problem: &PbProblem) -> u64 {
         return work / PART_WITHOUT_OBJECTIVES;
     }
     work
+}
+
+// What they may take where so many rows count, whatever else there is.
+fn first_work(rows: u64) -> u64 {
+    if rows == 0 {
+        FIRST_WORK_OF_CLAUSES
+    } else {
+        FIRST_WORK
+    }
 }
 
 // Rows that aren't clauses: search by clauses takes long over these.
