@@ -3,7 +3,7 @@ use crate::limits::{
     FIRST_WORK, FIRST_WORK_OF_CLAUSES, MOST_WORK, PART_WITHOUT_OBJECTIVES, PASSES_A_ROW,
     WORK_OF_A_LINE,
 };
-use pb_lin::{CostRow, PbProblem};
+use pb_lin::{Constraint, CostRow, PbProblem};
 
 // What all questions may take together before the first clause is learned.
 pub(crate) fn first_allowance(problem: &PbProblem) -> u64 {
@@ -34,15 +34,25 @@ fn first_work(rows: u64) -> u64 {
     }
 }
 
-// Rows that aren't clauses: search by clauses takes long over these.
+// Rows of which one true literal isn't enough: search by clauses takes long over these.
 fn rows_that_count(problem: &PbProblem) -> u64 {
     let mut count = 0u64;
     for row in problem.rows() {
-        if !row.is_clause() {
+        if !row.is_clause() && wants_more_than_one(row) {
             count = count.saturating_add(1);
         }
     }
     count
+}
+
+// Whether some literal of a row doesn't meet it by itself.
+fn wants_more_than_one(row: &Constraint) -> bool {
+    for at in 0..row.len() {
+        if row.term(at).1 < row.degree() {
+            return true;
+        }
+    }
+    false
 }
 
 // What may be lost on questions that stay open.

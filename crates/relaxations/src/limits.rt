@@ -43,8 +43,8 @@ pub(crate) const MOST_LOOKS: usize = 5_000_000;
 // At first: some tenths of a second.
 pub(crate) const FIRST_WORK: u64 = 200_000_000;
 
-// The same where all rows are clauses. A search by clauses ends circuits and rules in less, and where it doesn't, since objectives are
-// large, what their totalizers take is allowed besides.
+// The same where each row is met by any of its literals, as clauses are. A search by clauses ends circuits and rules in less, and where
+// it doesn't, since objectives are large, what their totalizers take is allowed besides.
 pub(crate) const FIRST_WORK_OF_CLAUSES: u64 = 20_000_000;
 
 // For each line of the objectives' totalizers, as far as they can be estimated: what a line takes to make and to judge, so that a
