@@ -44,8 +44,9 @@ pub(crate) const MOST_LOOKS: usize = 5_000_000;
 pub(crate) const FIRST_WORK: u64 = 200_000_000;
 
 // The same where each row is met by any of its literals, as clauses are. A search by clauses ends circuits and rules in less, and where
-// it doesn't, since objectives are large, what their totalizers take is allowed besides.
-pub(crate) const FIRST_WORK_OF_CLAUSES: u64 = 20_000_000;
+// it doesn't, since objectives are large, what their totalizers take is allowed besides. With a quarter of this rules took two thirds, and
+// a product line of four costs twice as long.
+pub(crate) const FIRST_WORK_OF_CLAUSES: u64 = 80_000_000;
 
 // For each line of the objectives' totalizers, as far as they can be estimated: what a line takes to make and to judge, so that a
 // search that has to build them takes at most twice the time of one that begins with them.
