@@ -1,5 +1,5 @@
 // The search for two objectives.
-ghost use Rattle.std.specs.Prelude.{◌≡◌, None, Ok, IfOk, IfErr, option_copied};
+ghost use Rattle.std.specs.Prelude.{◌≡◌, IfOk, IfErr, option_copied};
 ghost use Rattle.search_base.specs.Good.{GoesOn, IsGood, KeepsBoard};
 ghost use Rattle.search_base.specs.Turns.{IsInOrder, IsSearchFault, IsTurn};
 ghost use Rattle.bioptsat.specs.declared.aim.Aim.TheVariants.{Anything};
@@ -75,25 +75,6 @@ impl Search for BiOpt {
     ghost own = { own_number };
 
     ghost serves = { Serves };
-
-    /// Nothing.
-    fn begin<O: Oracle>(
-        &mut self,
-        _oracle: &mut O,
-        _bounds: &mut Bounds,
-        _board: &mut Board<'_>,
-    ) -> Result<Option<u64>, OracleFault>
-        requires good { IsGood (O.seen _oracle.old) _bounds.old _board.old }
-        requires serves { Serves self.old (O.seen _oracle.old).problem }
-        ensures none { result ≡ Ok None }
-        ensures same { self.new ≡ self.old }
-        ensures oracle { O.seen _oracle.new ≡ O.seen _oracle.old }
-        ensures bounds { _bounds.new ≡ _bounds.old }
-        ensures board { _board.new ≡ _board.old }
-        ensures goes_on { GoesOn (O.seen _oracle.old) (O.seen _oracle.new) }
-    {
-        Ok(None)
-    }
 
     /// One turn. Without an aim it asks for any model: `Found`, whose costs are the new aim, or `Finished`.
     /// With an aim it asks for a smaller first cost, or where that is least for a smaller second cost:

@@ -20,16 +20,6 @@ impl<'a> Search for Noting<'a> {
 
     ghost serves = { λ s p. Unit {0} };
 
-    /// Nothing.
-    fn begin<O: Oracle>(
-        &mut self,
-        _oracle: &mut O,
-        _bounds: &mut Bounds,
-        _board: &mut Board<'_>,
-    ) -> Result<Option<u64>, OracleFault> {
-        Ok(None)
-    }
-
     /// Notes its number, or gives up where no turn is left.
     fn turn<O: Oracle>(
         &mut self,

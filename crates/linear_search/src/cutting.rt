@@ -69,10 +69,7 @@ impl Relaxation {
         }
         let most = most.min(self.work().saturating_add(allowance));
         if self.cut_root(state, tree, most)? {
-            let mut best = None;
-            std::mem::swap(&mut best, &mut tree.best);
-            self.begin_at_root(state, question, tree)?;
-            tree.best = best;
+            self.begin_anew(state, question, tree)?;
         }
         Ok(true)
     }

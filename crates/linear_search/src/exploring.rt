@@ -34,24 +34,26 @@ impl Relaxation {
         if self.may_cut() && !self.begin_with_cuts(state, question, tree, most)? {
             return found_in(tree);
         }
-        for (attempt, nodes) in NODES_OF_ATTEMPTS.iter().enumerate() {
-            if !self.split_nodes(state, question, tree, most, *nodes)? || !tree.is_flat() {
+        for nodes in NODES_OF_ATTEMPTS {
+            if !self.split_nodes(state, question, tree, most, nodes)? {
+                return self.end(tree);
+            }
+            if !tree.is_flat() {
                 break;
             }
-            self.begin_otherwise(state, question, tree, attempt)?;
+            self.sway = self.sway.saturating_add(1);
+            self.begin_anew(state, question, tree)?;
         }
         self.explore(state, question, tree, most)
     }
 
-    // Begins the tree anew, but for its best model, and weighs columns otherwise in it.
-    fn begin_otherwise(
+    // Begins the tree anew, but for its best model.
+    pub(crate) fn begin_anew(
         &mut self,
         state: &ProofState,
         question: &Question<'_>,
         tree: &mut Tree,
-        attempt: usize,
     ) -> Result<(), NoMemory> {
-        self.sway = (attempt as u64).saturating_add(1);
         let mut best = None;
         std::mem::swap(&mut best, &mut tree.best);
         self.begin_at_root(state, question, tree)?;
@@ -118,6 +120,11 @@ impl Relaxation {
         most: u64,
     ) -> Result<Found, NoMemory> {
         self.split_nodes(state, question, tree, most, MOST_NODES)?;
+        self.end(tree)
+    }
+
+    // What a tree has come to that isn't searched further.
+    fn end(&mut self, tree: &mut Tree) -> Result<Found, NoMemory> {
         self.settle_cuts(tree);
         found_in(tree)
     }

@@ -1,5 +1,5 @@
 // The search from below.
-ghost use Rattle.std.specs.Prelude.{◌≡◌, None, Ok, IfOk, IfErr, map};
+ghost use Rattle.std.specs.Prelude.{◌≡◌, IfOk, IfErr, map};
 ghost use Rattle.search_base.specs.Good.{GoesOn, IsGood, KeepsBoard};
 ghost use Rattle.search_base.specs.Turns.{IsInOrder, IsSearchFault, IsTurn};
 ghost use Rattle.lower_bounding.specs.Fences.{MovesFence, Serves, own_number};
@@ -55,25 +55,6 @@ impl Search for LowerBounding {
     ghost own = { own_number };
 
     ghost serves = { Serves };
-
-    /// Nothing.
-    fn begin<O: Oracle>(
-        &mut self,
-        _oracle: &mut O,
-        _bounds: &mut Bounds,
-        _board: &mut Board<'_>,
-    ) -> Result<Option<u64>, OracleFault>
-        requires good { IsGood (O.seen _oracle.old) _bounds.old _board.old }
-        requires serves { Serves self.old (O.seen _oracle.old).problem }
-        ensures none { result ≡ Ok None }
-        ensures same { self.new ≡ self.old }
-        ensures oracle { O.seen _oracle.new ≡ O.seen _oracle.old }
-        ensures bounds { _bounds.new ≡ _bounds.old }
-        ensures board { _board.new ≡ _board.old }
-        ensures goes_on { GoesOn (O.seen _oracle.old) (O.seen _oracle.new) }
-    {
-        Ok(None)
-    }
 
     /// One turn. It asks for a model whose costs are at most the fence: `Found` where there is one, and the
     /// fence stays; `Finished` where no model at all is left. Else `Moved`: the numbers that stand in the way

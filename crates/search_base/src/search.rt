@@ -17,22 +17,26 @@ pub trait Search {
     ghost serves: { Self → ProblemValue → Type 0 };
 
     /// What is done before the first turn: models may be taken onto the board, or it is proved that nothing is left: then
-    /// the id of a live line `0 >= 1`. After `Spent` it may go on; after other faults it isn't used again.
+    /// the id of a live line `0 >= 1`. After `Spent` it may go on; after other faults it isn't used again. Nothing, if a
+    /// search doesn't say otherwise.
     fn begin<O: Oracle>(
         &mut self,
-        oracle: &mut O,
-        bounds: &mut Bounds,
-        board: &mut Board<'_>,
+        _oracle: &mut O,
+        _bounds: &mut Bounds,
+        _board: &mut Board<'_>,
     ) -> Result<Option<u64>, OracleFault>
-        requires good { IsGood (O.seen oracle.old) bounds.old board.old }
-        requires serves { serves self.old (O.seen oracle.old).problem }
+        requires good { IsGood (O.seen _oracle.old) _bounds.old _board.old }
+        requires serves { serves self.old (O.seen _oracle.old).problem }
         ensures end { IfOk result (λ found. IfSome found
-            (IsEndLine (O.seen oracle.new).problem (O.seen oracle.new).lines)) }
-        ensures good { IsInOrder result → IsGood (O.seen oracle.new) bounds.new board.new }
-        ensures serves { IsInOrder result → serves self.new (O.seen oracle.new).problem }
-        ensures fault { IfErr result (IsSearchFault (O.seen oracle.old) (O.seen oracle.new)) }
-        ensures goes_on { GoesOn (O.seen oracle.old) (O.seen oracle.new) }
-        ensures board { KeepsBoard board.old board.new };
+            (IsEndLine (O.seen _oracle.new).problem (O.seen _oracle.new).lines)) }
+        ensures good { IsInOrder result → IsGood (O.seen _oracle.new) _bounds.new _board.new }
+        ensures serves { IsInOrder result → serves self.new (O.seen _oracle.new).problem }
+        ensures fault { IfErr result (IsSearchFault (O.seen _oracle.old) (O.seen _oracle.new)) }
+        ensures goes_on { GoesOn (O.seen _oracle.old) (O.seen _oracle.new) }
+        ensures board { KeepsBoard _board.old _board.new }
+    {
+        Ok(None)
+    }
 
     /// One turn: takes one model onto the board, or moves on, or proves that nothing is left. After `Spent`
     /// it may be asked again; after other faults it isn't.
