@@ -76,6 +76,8 @@ impl Search for BiOpt {
 
     ghost serves = { Serves };
 
+    ghost begins = { λ s. ⊥ };
+
     /// One turn. Without an aim it asks for any model: `Found`, whose costs are the new aim, or `Finished`.
     /// With an aim it asks for a smaller first cost, or where that is least for a smaller second cost:
     /// `Found`, whose costs are the new aim, `Finished`, or `Moved`. Then the first cost is least; or where

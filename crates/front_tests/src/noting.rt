@@ -20,6 +20,8 @@ impl<'a> Search for Noting<'a> {
 
     ghost serves = { λ s p. Unit {0} };
 
+    ghost begins = { λ s. ⊥ };
+
     /// Notes its number, or gives up where no turn is left.
     fn turn<O: Oracle>(
         &mut self,

@@ -56,6 +56,8 @@ impl Search for LowerBounding {
 
     ghost serves = { Serves };
 
+    ghost begins = { λ s. ⊥ };
+
     /// One turn. It asks for a model whose costs are at most the fence: `Found` where there is one, and the
     /// fence stays; `Finished` where no model at all is left. Else `Moved`: the numbers that stand in the way
     /// rise, each to the next value that its objective is known to have, or by one.

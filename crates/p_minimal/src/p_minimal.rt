@@ -65,6 +65,8 @@ impl Search for PMinimal {
 
     ghost serves = { Serves };
 
+    ghost begins = { λ s. Unit {0} };
+
     /// The relaxations, where it has them, find of the front what they can.
     fn begin<O: Oracle>(
         &mut self,

@@ -1,5 +1,5 @@
 // What a search is.
-ghost use Rattle.std.specs.Prelude.{ℕ, IfOk, IfErr, IfSome};
+ghost use Rattle.std.specs.Prelude.{◌≡◌, ℕ, None, Ok, IfOk, IfErr, IfSome};
 ghost use Rattle.pb_lin.specs.Problem.{ProblemValue};
 ghost use Rattle.search_base.specs.Good.{GoesOn, IsGood, KeepsBoard};
 ghost use Rattle.search_base.specs.Turns.{IsEndLine, IsInOrder, IsSearchFault, IsTurn};
@@ -16,9 +16,12 @@ pub trait Search {
     /// It was made for this problem.
     ghost serves: { Self → ProblemValue → Type 0 };
 
+    /// It does something before its first turn.
+    ghost begins: { Self → Type 0 };
+
     /// What is done before the first turn: models may be taken onto the board, or it is proved that nothing is left: then
-    /// the id of a live line `0 >= 1`. After `Spent` it may go on; after other faults it isn't used again. Nothing, if a
-    /// search doesn't say otherwise.
+    /// the id of a live line `0 >= 1`. After `Spent` it may go on; after other faults it isn't used again. Nothing, unless a
+    /// search says otherwise.
     fn begin<O: Oracle>(
         &mut self,
         _oracle: &mut O,
@@ -34,6 +37,10 @@ pub trait Search {
         ensures fault { IfErr result (IsSearchFault (O.seen _oracle.old) (O.seen _oracle.new)) }
         ensures goes_on { GoesOn (O.seen _oracle.old) (O.seen _oracle.new) }
         ensures board { KeepsBoard _board.old _board.new }
+        ensures nothing { (begins self.old → ⊥)
+            → (result ≡ Ok None) × (O.seen _oracle.new ≡ O.seen _oracle.old) }
+        ensures same { (begins self.old → ⊥)
+            → (self.new ≡ self.old) × (_bounds.new ≡ _bounds.old) × (_board.new ≡ _board.old) }
     {
         Ok(None)
     }
