@@ -1,6 +1,6 @@
 //! Questions whether literals can be true together, answered by a search over linear relaxations (branch and
 //! bound, Land and Doig 1960) whose leaves and inner nodes are lines, each judged before it is recorded. The root of a tree that
-//! has grown gets cuts (Crowder, Johnson and Padberg 1983).
+//! has grown gets cuts (Crowder, Johnson and Padberg 1983). Where a search finds nothing, a walk over whole values may meet a model.
 //!
 //! Its public contract: `LinearSearch::ask` answers some of the assumptions with a live clause by which they
 //! can't all be true, as an oracle does; or literals that may be a model; or neither. It adds only constraints that
@@ -8,6 +8,7 @@
 #![tactic(auto)]
 
 mod asking;
+mod broken_rows;
 mod closing;
 mod cuts;
 mod cutting;
@@ -24,6 +25,7 @@ mod search;
 mod target;
 mod tree;
 mod visiting;
+mod walking;
 mod writing;
 
 pub use model::model_of;

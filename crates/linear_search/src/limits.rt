@@ -103,3 +103,26 @@ pub(crate) const LEAST_SHARE: f64 = 0.25;
 pub(crate) const MOST_FAILED: u64 = 3;
 
 pub(crate) const FEW_VISITS: u64 = 4;
+
+// ---- walks (walks)
+
+// A walk may take so many passes over rows and columns: a tenth of a second on 3,500 rows, in which a roster's costs come to within
+// a twentieth of the least. One that finds nothing halves what the next may take, down to the other number.
+pub(crate) const PASSES_OF_A_WALK: u64 = 2000;
+
+pub(crate) const LEAST_PASSES_OF_A_WALK: u64 = 200;
+
+// From a model on it takes so many times the work, and this much, to a better one, or it ends: a small problem's walks soon stand
+// at the best that they meet.
+pub(crate) const TIMES_TO_BETTER: u64 = 4;
+
+pub(crate) const LEAST_TO_BETTER: u64 = 20_000;
+
+// So many changes of a broken row's columns are tried, the best of which is made: long rows have hundreds.
+pub(crate) const CHANGES_TRIED: usize = 40;
+
+// Where nothing gets better a broken row weighs more by this part of what it weighed at first. By 1 costs were a twentieth higher.
+pub(crate) const RISE: f64 = 0.3;
+
+// Its work ends a walk before so many changes.
+pub(crate) const MOST_STEPS: usize = 100_000_000;

@@ -2,13 +2,16 @@
 use crate::cuts::Cuts;
 use crate::cutting::Service;
 use crate::limits::{LEAST_PASSES, MOST_SIZE_OF_LINE};
+use crate::question::Limit;
 use crate::rounding::Matrix;
 use crate::scale::Scale;
 use crate::target::{Aim, Target};
+use crate::visiting::literals_of;
+use crate::walking::Walk;
 use linear_program::{LinearProgram, MOST_ENTRIES, MOST_ROWS, Range, Term};
 use pb_lin::{Constraint, CostRow, PbProblem};
 use proof_rules::ProofState;
-use scut_base::{Lit, NoMemory};
+use scut_base::{Items, Lit, NoMemory};
 use std::alloc::Global;
 use std::num::{nearest_i64_to_f64, nearest_u64_to_f64, nearest_usize_to_f64};
 
@@ -58,6 +61,9 @@ pub(crate) struct Relaxation {
     pub(crate) aim: Aim,
     // By what the choice of columns to split by is swayed.
     pub(crate) sway: u64,
+    // Where the last walk ended: the value of each column; and what walks took, in numbers touched.
+    walked: Vec<f64>,
+    pub(crate) work_of_walks: u64,
     // How multipliers come to whole factors.
     pub(crate) scale: Scale,
     // The id of the next line to be looked at.
@@ -89,6 +95,8 @@ impl Relaxation {
             shares: vec![in alloc; 1.0; columns]?,
             aim: Aim::new(alloc),
             sway: 0,
+            walked: vec![in alloc; 0.0; columns]?,
+            work_of_walks: 0,
             scale: Scale::new(),
             next_line: (problem.rows().len() as u64).saturating_add(1),
             held_from: 0,
@@ -118,6 +126,7 @@ impl Relaxation {
     pub(crate) fn begin_again(&mut self, problem: &PbProblem, end: u64) -> Result<(), NoMemory> {
         let mut again = Relaxation::new(self.alloc, problem)?;
         again.own_work = self.work();
+        again.work_of_walks = self.work_of_walks;
         again.held_from = again.next_line;
         again.held_to = end;
         again.next_line = again.next_line.max(end);
@@ -192,6 +201,46 @@ impl Relaxation {
             self.is_whole = false;
         }
         Ok(())
+    }
+
+    // A model that keeps to the limits, which a walk meets in so much work: the best by the aim of those that it met.
+    pub(crate) fn walk(
+        &mut self,
+        limits: &[Limit],
+        most: u64,
+    ) -> Result<Option<Items<Lit>>, NoMemory> {
+        let matrix = self.rows_to_walk_by(limits)?;
+        let gain = self.aim.step.max(1e-6);
+        let mut walk = Walk::new(self.alloc, matrix, gain, self.walked.as_slice(), most)?;
+        walk.search()?;
+        self.work_of_walks = self.work_of_walks.saturating_add(walk.work);
+        self.walked = walk.values()?;
+        match &walk.best {
+            Some(is_one) => Ok(Some(literals_of(self.alloc, is_one.as_slice())?)),
+            None => Ok(None),
+        }
+    }
+
+    // The problem's rows, the limits, and last the aim's costs with their signs changed.
+    fn rows_to_walk_by(&self, limits: &[Limit]) -> Result<Matrix, NoMemory> {
+        let mut matrix = self.matrix.copy()?;
+        for limit in limits {
+            if let Some(objective) = self.objectives.get(limit.objective) {
+                let most = nearest_i64_to_f64(limit.most) - objective.constant;
+                matrix.add_most(objective.terms.as_slice(), most)?;
+            }
+        }
+        let mut costs = Vec::new(self.alloc);
+        for (column, coefficient) in self.aim.costs.iter().enumerate() {
+            if *coefficient != 0.0 {
+                costs.push(Term {
+                    column,
+                    coefficient: *coefficient,
+                })?;
+            }
+        }
+        matrix.add_most(costs.as_slice(), f64::INFINITY)?;
+        Ok(matrix)
     }
 
     // The least work that a question is worth.

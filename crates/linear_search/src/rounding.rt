@@ -65,6 +65,35 @@ impl Matrix {
         Ok(())
     }
 
+    // A copy of the rows.
+    pub(crate) fn copy(&self) -> Result<Matrix, NoMemory> {
+        let mut copy = Matrix::new(self.alloc, self.columns())?;
+        for row in 0..self.rows() {
+            let range = Range {
+                lower: self.least(row),
+                upper: f64::INFINITY,
+            };
+            copy.add(self.row(row), range)?;
+        }
+        Ok(copy)
+    }
+
+    // Adds a row: terms that are at most this.
+    pub(crate) fn add_most(&mut self, terms: &[Term], most: f64) -> Result<(), NoMemory> {
+        let mut opposite = Vec::with_capacity(self.alloc, terms.len())?;
+        for term in terms {
+            opposite.push(Term {
+                column: term.column,
+                coefficient: -term.coefficient,
+            })?;
+        }
+        let range = Range {
+            lower: -most,
+            upper: f64::INFINITY,
+        };
+        self.add(opposite.as_slice(), range)
+    }
+
     // The point that values round to, where those above the threshold are 1, mended and improved; none where rows stay broken.
     pub(crate) fn rounded(
         &self,
@@ -87,7 +116,46 @@ impl Matrix {
         Ok(Some(point))
     }
 
-    fn point(&self, values: &[f64], threshold: f64) -> Result<Point, NoMemory> {
+    // How many rows there are.
+    pub(crate) fn rows(&self) -> usize {
+        self.rows.len()
+    }
+
+    // How many columns there are.
+    pub(crate) fn columns(&self) -> usize {
+        self.columns.len()
+    }
+
+    // The terms of a row.
+    pub(crate) fn row(&self, row: usize) -> &[Term] {
+        terms_at(self.rows.as_slice(), row)
+    }
+
+    // The rows of a column, each as a term.
+    pub(crate) fn column(&self, column: usize) -> &[Term] {
+        terms_at(self.columns.as_slice(), column)
+    }
+
+    // What a row is at least.
+    pub(crate) fn least(&self, row: usize) -> f64 {
+        number_at(self.least.as_slice(), row)
+    }
+
+    // Changes what a row is at least.
+    pub(crate) fn set_least(&mut self, row: usize, least: f64) {
+        if let Some(place) = self.least.get_mut(row) {
+            *place = least;
+        }
+    }
+
+    // What a row lacks that comes to this sum; 0 where it holds.
+    pub(crate) fn lack(&self, row: usize, sum: f64) -> f64 {
+        let lack = self.least(row) - sum;
+        if lack > NEARLY { lack } else { 0.0 }
+    }
+
+    // The point where the columns are 1 whose values are above the threshold.
+    pub(crate) fn point(&self, values: &[f64], threshold: f64) -> Result<Point, NoMemory> {
         let mut point = Point {
             is_one: vec![in self.alloc; false; self.columns.len()]?,
             sums: vec![in self.alloc; 0.0; self.rows.len()]?,
@@ -101,7 +169,7 @@ impl Matrix {
     }
 
     // Changes a column's value, and the sums of its rows.
-    fn flip(&self, point: &mut Point, column: usize) {
+    pub(crate) fn flip(&self, point: &mut Point, column: usize) {
         let Some(place) = point.is_one.get_mut(column) else {
             return;
         };
@@ -116,7 +184,7 @@ impl Matrix {
         }
     }
 
-    fn is_broken(&self, point: &Point, row: usize) -> bool {
+    pub(crate) fn is_broken(&self, point: &Point, row: usize) -> bool {
         match (point.sums.get(row), self.least.get(row)) {
             (Some(sum), Some(least)) => *sum < *least - NEARLY,
             _ => false,
@@ -190,11 +258,7 @@ impl Matrix {
 
     // Whether all rows hold where a column's value is changed.
     fn may_flip(&self, point: &Point, column: usize) -> bool {
-        let step = if point.is_one.get(column) == Some(&true) {
-            -1.0
-        } else {
-            1.0
-        };
+        let step = point.step_of(column);
         let Some(terms) = self.columns.get(column) else {
             return false;
         };
@@ -206,6 +270,20 @@ impl Matrix {
 }
 
 impl Point {
+    // What a row comes to.
+    pub(crate) fn sum_at(&self, row: usize) -> f64 {
+        number_at(self.sums.as_slice(), row)
+    }
+
+    // By what a column's value would change.
+    pub(crate) fn step_of(&self, column: usize) -> f64 {
+        if self.is_one.get(column) == Some(&true) {
+            -1.0
+        } else {
+            1.0
+        }
+    }
+
     // The sum of terms at the point.
     pub(crate) fn sum_of(&self, terms: &[Term]) -> f64 {
         let mut sum = 0.0;
@@ -235,8 +313,16 @@ impl Point {
     }
 }
 
+// The terms at a place, and none past the end.
+fn terms_at(lists: &[Vec<Term>], at: usize) -> &[Term] {
+    match lists.get(at) {
+        Some(terms) => terms.as_slice(),
+        None => &[],
+    }
+}
+
 // The number at a place, and 0 past the end.
-fn number_at(numbers: &[f64], at: usize) -> f64 {
+pub(crate) fn number_at(numbers: &[f64], at: usize) -> f64 {
     match numbers.get(at) {
         Some(number) => *number,
         None => 0.0,

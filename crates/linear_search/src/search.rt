@@ -4,14 +4,14 @@ ghost use Rattle.linear_search.specs.Relaxations.{IsPaid};
 ghost use Rattle.linear_search.specs.Replies.{IsKeptWhereFound};
 
 use crate::exploring::Found;
-use crate::limits::{FIRST_STAKE, MOST_STAKE};
-use crate::question::Question;
+use crate::limits::{FIRST_STAKE, LEAST_PASSES_OF_A_WALK, MOST_STAKE, PASSES_OF_A_WALK};
+use crate::question::{Limit, Question};
 use crate::relaxation::Relaxation;
 use crate::target::Target;
 use crate::tree::Tree;
 use pb_lin::PbProblem;
 use proof_rules::ProofState;
-use scut_base::NoMemory;
+use scut_base::{Items, Lit, NoMemory};
 use std::alloc::Global;
 use std::marker::Model;
 
@@ -27,6 +27,8 @@ pub struct LinearSearch {
     purse: u64,
     // How many quarters of the purse the next question may spend.
     stake: u64,
+    // How many passes over rows and columns the next walk may take.
+    walk: u64,
 }
 
 impl Model for LinearSearch {
@@ -59,6 +61,7 @@ impl LinearSearch {
             constraints: problem.rows().len(),
             purse,
             stake: FIRST_STAKE,
+            walk: PASSES_OF_A_WALK,
         })
     }
 
@@ -113,6 +116,35 @@ impl LinearSearch {
     /// Whether no question can be answered now: the purse has nothing left for a question, or the relaxation is too large.
     pub fn is_spent(&self) -> bool {
         !self.relaxation.is_whole || self.purse < self.relaxation.least_stake()
+    }
+
+    /// The work that walks took so far, in numbers touched; `work` doesn't count it.
+    pub fn work_of_walks(&self) -> u64 {
+        self.relaxation.work_of_walks
+    }
+
+    /// Whether a walk can be begun now: the relaxation isn't too large, and the last walks didn't all find nothing.
+    pub fn may_walk(&self) -> bool {
+        self.relaxation.is_whole && self.walk >= LEAST_PASSES_OF_A_WALK
+    }
+
+    /// Literals of what may be a model that keeps to the limits, where a walk over whole values meets one: the best by the
+    /// target of those that it meets. Nothing of the purse is lost. A walk that finds nothing halves what the next may
+    /// take, until none is begun.
+    pub fn walk(&mut self, limits: &[Limit], target: Target) -> Result<Option<Items<Lit>>, NoMemory>
+        ensures { self.new ≡ self.old }
+    {
+        if !self.may_walk() {
+            return Ok(None);
+        }
+        self.relaxation.aim_at(target)?;
+        let most = self.relaxation.passes(self.walk);
+        let found = self.relaxation.walk(limits, most)?;
+        self.walk = match &found {
+            Some(_) => PASSES_OF_A_WALK,
+            None => self.walk / 2,
+        };
+        Ok(found)
     }
 
     // Searches for the best values within the limits where the assumptions are true, in a new tree or in that of the last

@@ -4,6 +4,9 @@ use linear_program::Range;
 use scut_base::NoMemory;
 use std::alloc::Global;
 
+// Without costs bounds are 0 or, where nothing is left, infinite: any step tells these apart.
+const STEP_WITHOUT_COSTS: f64 = 1.0;
+
 /// What a question wants least, among all models within its limits.
 #[derive(Clone, Copy, Debug)]
 pub enum Target {
@@ -58,11 +61,12 @@ impl Aim {
 // The least sum of all objectives.
 fn least_sum(alloc: Global, columns: usize, objectives: &[Objective]) -> Result<Aim, NoMemory> {
     let mut weights = Vec::new(alloc);
-    let mut step = f64::INFINITY;
-    for objective in objectives {
+    let mut step = STEP_WITHOUT_COSTS;
+    for (place, objective) in objectives.iter().enumerate() {
         let weight = 1000.0 / (1.0 + width_of(&objective.range));
         weights.push(weight)?;
-        step = step.min(0.99 * weight * objective.divisor);
+        let least = 0.99 * weight * objective.divisor;
+        step = if place == 0 { least } else { step.min(least) };
     }
     let costs = costs_by(alloc, columns, objectives, weights.as_slice())?;
     let main = costs_by(alloc, columns, objectives, weights.as_slice())?;

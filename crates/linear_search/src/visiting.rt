@@ -8,6 +8,7 @@ use linear_lines::{Multiplier, infeasible_leaf};
 use linear_program::Answer;
 use proof_rules::ProofState;
 use scut_base::{Items, Lit, NoMemory};
+use std::alloc::Global;
 use std::num::{nearest_i64_to_f64, nearest_u64_to_f64};
 
 impl Relaxation {
@@ -157,7 +158,7 @@ impl Relaxation {
             let costs = self.aim.costs.as_slice();
             if let Some(point) = self.matrix.rounded(values, costs, threshold)? {
                 if self.keeps(question, &point) {
-                    let lits = self.literals_at(&point)?;
+                    let lits = literals_of(self.alloc, point.is_one.as_slice())?;
                     tree.offer(lits, point.cost_by(self.aim.main.as_slice()));
                 }
             }
@@ -184,16 +185,6 @@ impl Relaxation {
             }
             None => false,
         }
-    }
-
-    fn literals_at(&self, point: &Point) -> Result<Items<Lit>, NoMemory> {
-        let mut lits = Items::with_capacity(self.alloc, point.is_one.len())?;
-        for (column, is_one) in point.is_one.iter().enumerate() {
-            if let Some(lit) = literal_of(column, if *is_one { 1.0 } else { 0.0 }) {
-                lits.push(lit)?;
-            }
-        }
-        Ok(lits)
     }
 
     // A node of which nothing is known is split by the first variable that is open.
@@ -350,6 +341,17 @@ fn add_limit(
         }
     }
     Ok(())
+}
+
+// The literals that are true where these columns are 1.
+pub(crate) fn literals_of(alloc: Global, is_one: &[bool]) -> Result<Items<Lit>, NoMemory> {
+    let mut lits = Items::with_capacity(alloc, is_one.len())?;
+    for (column, is_one) in is_one.iter().enumerate() {
+        if let Some(lit) = literal_of(column, if *is_one { 1.0 } else { 0.0 }) {
+            lits.push(lit)?;
+        }
+    }
+    Ok(lits)
 }
 
 // The literal of a column at the nearer end.

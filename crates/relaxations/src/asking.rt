@@ -1,9 +1,11 @@
 // Questions to the relaxations.
-ghost use Rattle.std.specs.Prelude.{◌≡◌, IfOk};
+ghost use Rattle.std.specs.Prelude.{◌≡◌, IfOk, IfSome};
+ghost use Rattle.pb_lin.specs.Problem.{IsProblemModel};
 ghost use Rattle.sum_outputs.specs.Adding.{IsReady, IsRecorded};
 ghost use Rattle.relaxations.specs.Told.{IsTold};
 
 use crate::defined_outputs::{DefinedOutput, DefinedOutputs, Standing};
+use crate::limits::PART_OF_WALKS;
 use front_set::CostVec;
 use linear_search::{Limit, LinearSearch, Reply, Target, model_of};
 use pb_lin::PbProblem;
@@ -18,8 +20,10 @@ use sum_outputs::in_memory;
 pub(crate) enum Told {
     // Nothing keeps to the limits.
     Closed,
-    // This model does.
+    // This model does, and of such models it has the least cost by the target, as far as the relaxation tells.
     Model(Assignment),
+    // This model does; others may cost less.
+    Met(Assignment),
     // It isn't known.
     Unknown,
 }
@@ -102,7 +106,13 @@ impl<'a> Asking<'a> {
         self.linear.work() <= self.most
     }
 
-    // The same; where it tells, as much may be lost on further questions as this one has cost.
+    // Whether a walk may be begun.
+    pub(crate) fn may_walk(&self) -> bool {
+        self.linear.may_walk() && self.linear.work_of_walks() <= self.most / PART_OF_WALKS
+    }
+
+    // The same as `ask`; where the relaxation tells, as much may be lost on further questions as this one has cost. Where it doesn't,
+    // or may not be asked, a walk may meet a model.
     pub(crate) fn ask_and_earn<R: Recorder>(
         &mut self,
         rec: &mut R,
@@ -115,13 +125,41 @@ impl<'a> Asking<'a> {
         ensures recorded { IsRecorded (R.seen rec.old) (R.seen rec.new) result }
         ensures told { IfOk result (IsTold problem.now) }
     {
+        if !self.may_ask() {
+            let met = in_memory(self.walk(problem, limits, target))?;
+            return Ok(met);
+        }
         let before = self.linear.work();
         let told = self.ask(rec, problem, limits, target)?;
-        if !matches!(told, Told::Unknown) {
-            let spent = self.linear.work().saturating_sub(before);
-            self.linear.earn(spent);
+        if let Told::Unknown = told {
+            let met = in_memory(self.walk(problem, limits, target))?;
+            return Ok(met);
         }
+        let spent = self.linear.work().saturating_sub(before);
+        self.linear.earn(spent);
         Ok(told)
+    }
+
+    // A model whose costs are at most the limits, where a walk meets one: the best by the target of those that it meets.
+    fn walk(
+        &mut self,
+        problem: &PbProblem,
+        limits: &CostVec,
+        target: Target,
+    ) -> Result<Told, NoMemory>
+        ensures told { IfOk result (IsTold problem.now) }
+    {
+        if !self.may_walk() {
+            return Ok(Told::Unknown);
+        }
+        let asked = bare_limits(self.alloc, limits)?;
+        let Some(lits) = self.linear.walk(asked.as_slice(), target)? else {
+            return Ok(Told::Unknown);
+        };
+        match model_within(self.alloc, problem, limits, lits.as_slice())? {
+            Some(model) => Ok(Told::Met(model)),
+            None => Ok(Told::Unknown),
+        }
     }
 
     // The same where the last question was about the limits around these: it goes on in that question's tree. Costs an output
@@ -343,7 +381,23 @@ fn joined(alloc: Global, some: &Items<Lit>, others: &Items<Lit>) -> Result<Items
     Ok(lits)
 }
 
-// What a proposed model tells: it is one only where its costs are at most the limits.
+// Limits without the lines of their outputs, of the objectives that have one.
+fn bare_limits(alloc: Global, limits: &CostVec) -> Result<Items<Limit>, NoMemory> {
+    let mut asked = Items::new(alloc);
+    for (objective, most) in limits.as_slice().iter().enumerate() {
+        if *most < i64::MAX {
+            asked.push(Limit {
+                objective,
+                most: *most,
+                upper_line: 0,
+                reform_line: 0,
+            })?;
+        }
+    }
+    Ok(asked)
+}
+
+// What a proposed model tells.
 fn told_of(
     alloc: Global,
     problem: &PbProblem,
@@ -352,12 +406,27 @@ fn told_of(
 ) -> Result<Told, NoMemory>
     ensures told { IfOk result (IsTold problem.now) }
 {
+    match model_within(alloc, problem, limits, lits)? {
+        Some(model) => Ok(Told::Model(model)),
+        None => Ok(Told::Unknown),
+    }
+}
+
+// The model that these literals make, where it is one whose costs are at most the limits.
+fn model_within(
+    alloc: Global,
+    problem: &PbProblem,
+    limits: &CostVec,
+    lits: &[Lit],
+) -> Result<Option<Assignment>, NoMemory>
+    ensures model { IfOk result (λ found. IfSome found (IsProblemModel problem.now)) }
+{
     let Some(model) = model_of(alloc, problem, lits)? else {
-        return Ok(Told::Unknown);
+        return Ok(None);
     };
     let costs = costs_at(alloc, problem, &model)?;
     if costs.len() == limits.len() && costs.weakly_dominates(limits) {
-        return Ok(Told::Model(model));
+        return Ok(Some(model));
     }
-    Ok(Told::Unknown)
+    Ok(None)
 }

@@ -164,7 +164,8 @@ fn ask_all<R: Recorder>(
     Ok(false)
 }
 
-// Asks the next box, as far as the relaxation may be asked and a box may tell something; answers whether to go on.
+// Asks the next box, as far as the relaxation may be asked or walks may be begun, and a box may tell something; answers whether
+// to go on.
 fn ask_next<R: Recorder>(
     asking: &mut Asking<'_>,
     boxes: &mut OpenBoxes,
@@ -180,7 +181,7 @@ fn ask_next<R: Recorder>(
     ensures goes_on { GoesOn (R.seen rec.old) (R.seen rec.new) }
     ensures board { KeepsBoard board.old board.new }
 {
-    if !asking.may_ask() {
+    if !asking.may_ask() && !asking.may_walk() {
         return Ok(false);
     }
     left.try_again(asking.linear.purse());
@@ -320,8 +321,11 @@ fn go_on<R: Recorder>(
             board,
             pending,
             limits,
-            next.target,
+            Some(next.target),
             model,
+        ),
+        Told::Met(model) => take(
+            asking, boxes, rec, bounds, board, pending, limits, None, model,
         ),
         Told::Unknown => {
             in_memory(left.keep(asking.alloc, limits, next.target))?;
@@ -331,7 +335,7 @@ fn go_on<R: Recorder>(
 }
 
 // Takes a model that was found within limits, takes what it is below out of the boxes, and closes what is below it by the
-// target; answers whether it could be logged.
+// target that it is the best by, if it is; answers whether it could be logged.
 fn take<R: Recorder>(
     asking: &mut Asking<'_>,
     boxes: &mut OpenBoxes,
@@ -340,7 +344,7 @@ fn take<R: Recorder>(
     board: &mut Board<'_>,
     pending: &mut Items<Assignment>,
     limits: &CostVec,
-    target: Target,
+    target: Option<Target>,
     model: &Assignment,
 ) -> Result<bool, RecordFault>
     requires good { IsGoodBut (R.seen rec.old) bounds.now board.old pending.old }
@@ -366,14 +370,14 @@ fn close_below<R: Recorder>(
     rec: &mut R,
     problem: &PbProblem,
     limits: &CostVec,
-    target: Target,
+    target: Option<Target>,
     costs: &CostVec,
 ) -> Result<(), RecordFault>
     requires ready { IsReady (R.seen rec.old) }
     requires problem { (R.seen rec.old).problem ≡ problem.now }
     ensures recorded { IsRecorded (R.seen rec.old) (R.seen rec.new) result }
 {
-    let Target::Objective(objective) = target else {
+    let Some(Target::Objective(objective)) = target else {
         return Ok(());
     };
     let Some(below) = in_memory(less_in(asking.alloc, limits, costs, objective))? else {

@@ -16,6 +16,9 @@ pub(crate) const MOST_QUESTIONS: usize = 1_000_000;
 // Where rows have lines besides, relaxations are asked with them and then without them, by this part of the purse each.
 pub(crate) const PARTS_WITH_AND_WITHOUT: u64 = 2;
 
+// Walks may take this part of all the work that relaxations may: they meet models, and prove nothing (walks).
+pub(crate) const PART_OF_WALKS: u64 = 4;
+
 // Boxes that stayed open are asked again when the purse has more than so many times what it had (first-sought).
 pub(crate) const TIMES_TO_TRY_AGAIN: u64 = 2;
 
