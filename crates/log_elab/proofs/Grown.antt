@@ -11,7 +11,7 @@ use Rattle.pb_lin.specs.Constraint.{ConstraintValue, IsMerged, UpTo, slack}
 use Rattle.pb_lin.specs.Propagation.{is_forced}
 use Rattle.hint_rup.specs.Propagation.{forced, Conflicts}
 use Rattle.hint_rup.proofs.Conflict.{conflicts_none, conflicts_here, conflicts_later, conflicts_cases}
-use Rattle.cdcl_analysis.proofs.Rows.{forced_true, more_forced as more_known}
+use Rattle.cdcl_state.proofs.Rows.{forced_true, more_forced as more_known}
 use Rattle.log_elab.proofs.Inside.{Values, IsInside, truth_inside, slack_less, false_violates, open_forced, forced_inside}
 
 -- terms of distinct variables from 1 to n

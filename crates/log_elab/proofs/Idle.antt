@@ -15,7 +15,7 @@ use Rattle.hint_rup.specs.Propagation.{with_true, forced, Conflicts}
 use Rattle.hint_rup.proofs.ForcedLiterals.{with_all}
 use Rattle.hint_rup.proofs.Conflict.{conflicts_here, conflicts_later, conflicts_cases}
 use Rattle.log_elab.proofs.Inside.{Values, truth_inside, forced_inside}
-use Rattle.cdcl_analysis.proofs.Rows.{forced_true}
+use Rattle.cdcl_state.proofs.Rows.{forced_true}
 use Rattle.log_elab.proofs.Grown.{IsPlain, Agrees, agrees_all, more_forced, length_forced, conflicts_grown}
 
 -- a place that was open is open, or has the value that every term sets there

@@ -25,7 +25,7 @@ use Rattle.proof_laws.specs.State.{StateValue, IsState}
 use Rattle.proof_laws.specs.WellFormed.{IsHint}
 use Rattle.proof_laws.specs.Refusal.{given_in, rup_fault, IsHintsFault}
 use Rattle.proof_laws.specs.declared.why.Why.TheVariants.{RupOpen}
-use Rattle.cdcl_analysis.proofs.Rows.{forced_true}
+use Rattle.cdcl_state.proofs.Rows.{forced_true}
 use Rattle.log_elab.specs.Spelling.{same_hint, told}
 use Rattle.log_elab.proofs.Inside.{Values, IsInside, truth_inside, lt_test, forced_inside}
 use Rattle.log_elab.proofs.Grown.{IsPlain, more_forced, length_forced, conflicts_grown}
