@@ -12,7 +12,7 @@ use Rattle.clause_prop.proofs.Assigned.{length-assigned}
 use Rattle.cdcl_state.specs.Searching.{SearchValue}
 use Rattle.log_elab.specs.Elaborating.{HasClosed}
 use Rattle.cdcl_trail.proofs.Stores.{get_other}
-use Rattle.clause_watch.proofs.WatchHold.{get_removed, get_kept}
+use Rattle.watch_prop.proofs.WatchHold.{get_removed, get_kept}
 use Rattle.log_elab.proofs.Closed.{negation_upto}
 
 pub taken_upto : (n : ℕ) (c d : ConstraintValue) → d ≡ negation c → UpTo n c → UpTo n d
