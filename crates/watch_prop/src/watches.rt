@@ -283,8 +283,7 @@ impl Watches {
         free_place(&self.slots.lits(slot), trail)
     }
 
-    // The first place from one on whose blocker isn't true, or the end of the list. Most visits end
-    // here.
+    // The first place from one on whose blocker isn't true, or the end of the list. Most visits end here.
     fn skip(&self, trail: &Trail, lit: Lit, at: usize) -> usize
         requires looking { IsAt self.now trail.now lit at }
         ensures looking { IsAt self.now trail.now lit result }
