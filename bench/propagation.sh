@@ -14,7 +14,7 @@ trap 'rm -rf "$work"' EXIT
 
 # The program is a crate of its own, with the fixture of the tests and its proofs. The gate allows no such files outside
 # of crates, so here each has one suffix more.
-libraries="scut_base pb_lin clause_prop clause_watch slack_counter watch_prop"
+libraries="scut_base pb_lin clause_prop watch_prop"
 git clone -q "$root" "$work/clone"
 for name in $libraries; do
     if [ -d "$root/crates/$name/out" ]; then cp -a "$root/crates/$name/out" "$work/clone/crates/$name/"; fi

@@ -23,8 +23,8 @@ use Rattle.cdcl_trail.proofs.Places.{at_push}
 use Rattle.cdcl_trail.proofs.Pushes.{cut_whole}
 use Rattle.cdcl_trail.proofs.Ranks.{push_raises}
 use Rattle.cdcl_trail.proofs.Truths.{false_before, open_before}
-use Rattle.cdcl_analysis.specs.Analysis.{IsDecided, IsForcedFalse}
-use Rattle.cdcl_analysis.proofs.TrailSteps.{IsBefore, false_before as found_false, whole_cut}
+use Rattle.cdcl_state.specs.Analysis.{IsDecided, IsForcedFalse}
+use Rattle.cdcl_state.proofs.TrailSteps.{IsBefore, false_before as found_false, whole_cut}
 use Rattle.cdcl_laws.specs.StoredLines.{IsStored}
 use Rattle.cdcl_state.specs.Searching.{SearchValue}
 use Rattle.cdcl_core.specs.Ledgers.{left}

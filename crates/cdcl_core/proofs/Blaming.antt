@@ -15,9 +15,9 @@ use Rattle.oracle.specs.Solving.{IsClauseAgainst, IsCore, Reaches}
 use Rattle.clause_prop.specs.Steps.{TrailValue}
 use Rattle.cdcl_trail.specs.SearchTrail.{IsSearchTrail}
 use Rattle.cdcl_trail.proofs.Truths.{var_within}
-use Rattle.cdcl_analysis.specs.Analysis.{IsBlame, IsDecided, IsForcedFalse}
-use Rattle.cdcl_analysis.specs.declared.lesson.Blame.{Blame}
-use Rattle.cdcl_analysis.proofs.TrailSteps.{opposite_twice}
+use Rattle.cdcl_state.specs.Analysis.{IsBlame, IsDecided, IsForcedFalse}
+use Rattle.cdcl_state.specs.declared.lesson.Blame.{Blame}
+use Rattle.cdcl_state.proofs.TrailSteps.{opposite_twice}
 use Rattle.cdcl_core.proofs.NamedLines.{clause_tested}
 
 -- ---- the clause is over the trail's variables

@@ -15,8 +15,8 @@ use Rattle.oracle.specs.declared.fault.OracleFault.TheVariants.{Spent, Failed, F
 use Rattle.clause_prop.specs.Steps.{TrailValue}
 use Rattle.cdcl_trail.specs.SearchTrail.{IsSearchTrail}
 use Rattle.cdcl_trail.specs.Learning.{AreHints}
-use Rattle.cdcl_analysis.specs.Analysis.{IsLesson}
-use Rattle.cdcl_analysis.specs.declared.lesson.Lesson.{Lesson}
+use Rattle.cdcl_state.specs.Analysis.{IsLesson}
+use Rattle.cdcl_state.specs.declared.lesson.Lesson.{Lesson}
 use Rattle.cdcl_state.specs.Searching.{SearchValue, IsBackTo}
 use Rattle.cdcl_core.specs.Work.{SolverValue, IsDone, IsWorking, Stops}
 use Rattle.proof_rules.specs.Recording.{Snapshot}

@@ -15,7 +15,7 @@ use Rattle.scut_base.specs.Literal.{Literal}
 use Rattle.scut_base.specs.Assignment.{partial_truth}
 use Rattle.clause_prop.specs.Steps.{TrailValue, AreSteps, partial}
 use Rattle.clause_prop.specs.declared.step.Step.{Step}
-use Rattle.cdcl_analysis.proofs.TrailSteps.{no_step, place_same, step_same}
+use Rattle.cdcl_state.proofs.TrailSteps.{no_step, place_same, step_same}
 use Rattle.cdcl_state.specs.Searching.{IsLevelOf}
 use Rattle.cdcl_core.specs.Levels.{AreLevels, IsLevelCount}
 

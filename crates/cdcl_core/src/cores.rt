@@ -6,14 +6,13 @@ ghost use Rattle.proof_laws.specs.Steps.{clause};
 ghost use Rattle.clause_prop.specs.Propagating.{IsConflict};
 ghost use Rattle.cdcl_trail.specs.SearchTrail.{IsUndecided};
 ghost use Rattle.cdcl_trail.specs.Learning.{AreHints};
-ghost use Rattle.cdcl_analysis.specs.Analysis.{IsDecided, IsForcedFalse};
+ghost use Rattle.cdcl_state.specs.Analysis.{IsDecided, IsForcedFalse};
 ghost use Rattle.oracle.specs.Solving.{IsCore};
 ghost use Rattle.cdcl_core.specs.Work.{Ends, ImpliesOnly, IsOfCore, IsWorking, Reached, StepsFrom};
 
 use crate::Solver;
 use crate::recording::record_made;
-use cdcl_analysis::Blame;
-use cdcl_state::Search;
+use cdcl_state::{Blame, Search};
 use clause_prop::Propagator;
 use hint_rup::Hint;
 use oracle::{Core, OracleFault};

@@ -1,7 +1,7 @@
 // What a search learns from a conflict.
 ghost use Rattle.std.specs.Prelude.{◌≡◌, ◌<◌, ◌≤◌, ◌^◌, OnOk};
 ghost use Rattle.cdcl_trail.specs.Rank.{rank};
-ghost use Rattle.cdcl_analysis.specs.Analysis.{IsLesson};
+ghost use Rattle.cdcl_state.specs.Analysis.{IsLesson};
 ghost use Rattle.oracle.specs.declared.fault.OracleFault.TheVariants.{Spent, Full};
 ghost use Rattle.cdcl_core.specs.Ledgers.{EndsLearned};
 ghost use Rattle.cdcl_core.specs.Work.{Ends, IsWorking, KeepsLed, LearnsAlone, StepsFrom};
@@ -10,7 +10,7 @@ ghost use Rattle.cdcl_core.specs.Learnable.{IsForcedBySome, IsLearnable, MayLear
 use crate::Solver;
 use crate::distance::block_distance;
 use crate::recording::{learned_goal, record};
-use cdcl_analysis::Lesson;
+use cdcl_state::Lesson;
 use clause_prop::Propagator;
 use oracle::OracleFault;
 use pb_lin::Constraint;

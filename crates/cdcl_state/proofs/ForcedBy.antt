@@ -17,7 +17,7 @@ use Rattle.clause_prop.specs.Steps.{TrailValue, AreSteps, IsPlaceOf, partial, cu
 use Rattle.clause_prop.specs.declared.step.Step.{Step}
 use Rattle.cdcl_trail.specs.SearchTrail.{AreLines, IsSearchTrail, IsStepAt}
 use Rattle.cdcl_trail.proofs.Places.{all_places, at_front}
-use Rattle.cdcl_analysis.proofs.TrailSteps.{no_step, place_same}
+use Rattle.cdcl_state.proofs.TrailSteps.{no_step, place_same}
 use Rattle.cdcl_state.specs.Searching.{IsNotForcedBefore}
 
 module _ (t : TrailValue) (end id : ℕ) (l : Literal) (are : AreSteps t.vars t.steps) where

@@ -13,7 +13,7 @@ use Rattle.cdcl_trail.specs.SearchTrail.{AreLines, IsSearchTrail}
 use Rattle.cdcl_trail.proofs.Stores.{get_other}
 use Rattle.cdcl_trail.proofs.Pushes.{last_low}
 use Rattle.cdcl_trail.proofs.Counts.{length_within}
-use Rattle.cdcl_order.specs.Order.{OrderValue}
+use Rattle.cdcl_state.specs.Order.{OrderValue}
 use Rattle.cdcl_state.specs.Searching.{SearchValue, IsOrderFor, IsSearch}
 
 -- ---- the lines

@@ -11,7 +11,7 @@ use Rattle.clause_prop.proofs.Assigned.{assigned-found}
 use Rattle.cdcl_trail.specs.SearchTrail.{IsStepAt}
 use Rattle.cdcl_trail.proofs.Places.{slice_get-take}
 use Rattle.cdcl_trail.proofs.Truths.{var_within, open_apart, steps_front}
-use Rattle.cdcl_order.specs.Order.{OrderValue, IsOpenVar}
+use Rattle.cdcl_state.specs.Order.{OrderValue, IsOpenVar}
 use Rattle.cdcl_state.specs.Searching.{IsOrderFor}
 
 -- the variables of the steps from `keep` on, up to the place, wait too

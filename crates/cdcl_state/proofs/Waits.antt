@@ -14,7 +14,7 @@ use Rattle.clause_prop.specs.Propagating.{Extends}
 use Rattle.clause_prop.specs.declared.step.Step.{Step}
 use Rattle.clause_prop.proofs.Assigned.{Values, assigned-push, length-assigned}
 use Rattle.cdcl_trail.proofs.Wider.{assigned-wider, truth_wider}
-use Rattle.cdcl_order.specs.Order.{IsGrown, IsOpenVar, OrderValue, OtherOpenWait, SameOrder}
+use Rattle.cdcl_state.specs.Order.{IsGrown, IsOpenVar, OrderValue, OtherOpenWait, SameOrder}
 use Rattle.cdcl_state.specs.Searching.{IsOrderFor}
 
 -- a variable is open where the table has nothing for it

@@ -1,5 +1,10 @@
+pub use Rattle.clause_prop.specs.Steps
 pub use Rattle.cdcl_trail.specs.SearchTrail
 pub use Rattle.cdcl_trail.specs.Learning
 pub use Rattle.cdcl_trail.specs.Rank
-pub use Rattle.cdcl_analysis.specs.Analysis
+pub mod Order
+pub mod Heap
+pub mod Walking
+pub mod Minimising
+pub mod Analysis
 pub mod Searching

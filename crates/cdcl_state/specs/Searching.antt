@@ -7,7 +7,7 @@ use Rattle.clause_prop.specs.Steps.{TrailValue, cut}
 use Rattle.clause_prop.specs.declared.step.Step.{Step}
 use Rattle.cdcl_trail.specs.SearchTrail.{AreLines, IsSearchTrail, IsStepAt, IsUpTo}
 use Rattle.cdcl_trail.specs.Learning.{IsAsserting}
-use Rattle.cdcl_order.specs.Order.{OrderValue, AllOpenWait}
+use Rattle.cdcl_state.specs.Order.{OrderValue, AllOpenWait}
 
 -- the lines of a search, and its trail
 pub record SearchValue : Type 0 where

@@ -10,13 +10,14 @@ ghost use Rattle.clause_prop.specs.Steps.{TrailValue, partial, cut, last_level, 
 ghost use Rattle.clause_prop.specs.Propagating.{Extends, IsConflict, IsClosedFor};
 ghost use Rattle.cdcl_trail.specs.SearchTrail.{IsSearchTrail, IsUndecided, IsFull, IsOfSteps, decision};
 ghost use Rattle.cdcl_trail.specs.Learning.{AreHints, asserted};
-ghost use Rattle.cdcl_analysis.specs.Analysis.{IsLesson, IsBlame, IsForcedFalse};
+ghost use Rattle.cdcl_state.specs.Analysis.{IsLesson, IsBlame, IsForcedFalse};
 ghost use Rattle.cdcl_state.specs.Searching.{no_lines, IsBackTo, IsLevelOf, IsReadyToLearn};
 
+use crate::lesson::{Blame, Lesson};
+use crate::order::VariableOrder;
 use crate::steps::{assignment_of, first_forced, push_decision};
 use crate::waiting::{bump_all, put_back};
-use cdcl_analysis::{Blame, Lesson, Walk};
-use cdcl_order::VariableOrder;
+use crate::walk::Walk;
 use cdcl_trail::{
     added_line_keeps_search, closed_full_trail_is_a_model, cut_keeps_search, decision_keeps_search,
     dropped_line_keeps_search, empty_trail_is_search, learning_keeps_search,

@@ -1,10 +1,10 @@
 // The variables that wait to be decided.
 ghost use Rattle.std.specs.Prelude.{◌≡◌, ◌<◌, ◌≤◌, length, All};
 ghost use Rattle.clause_prop.specs.Steps.{cut};
-ghost use Rattle.cdcl_order.specs.Order.{SameWait};
+ghost use Rattle.cdcl_state.specs.Order.{SameWait};
 ghost use Rattle.cdcl_state.specs.Searching.{IsOrderFor};
 
-use cdcl_order::VariableOrder;
+use crate::order::VariableOrder;
 use clause_prop::Trail;
 use scut_base::Lit;
 

@@ -20,9 +20,9 @@ use Rattle.log_checker.specs.declared.fault.CheckFault.TheVariants.{ListRefused}
 use Rattle.log_checker.specs.declared.fault.ListWhy.{ListWhy}
 use Rattle.log_checker.proofs.Faults.{ended_has_no_fault}
 use Rattle.log_checker.proofs.ListLaws.{right_has_no_fault}
-use Rattle.models_text.specs.ModelsText.{models_text}
-use Rattle.models_text.specs.declared.reps.Reps.{Reps}
-use Rattle.models_text.proofs.Texts.{one_text_of, right_everywhere}
+use Rattle.front_text.specs.ModelsText.{models_text}
+use Rattle.front_text.specs.declared.reps.Reps.{Reps}
+use Rattle.front_text.proofs.ModelsTexts.{one_text_of, right_everywhere}
 use Rattle.pb_lin.specs.Problem.{ProblemValue}
 use Rattle.proof_laws.specs.declared.why.Why.{Why}
 use Rattle.representatives.specs.Bounded.{IsBounded, IsListingLog}

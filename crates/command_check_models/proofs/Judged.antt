@@ -9,7 +9,7 @@ use Rattle.instance.specs.ParetoFront.{problem_vector}
 use Rattle.instance.specs.Shape.{InstanceValue}
 use Rattle.log_checker.specs.Accepted.{IsEndedProof}
 use Rattle.log_checker.specs.LogFaults.{IsLogFault, IsWholeFault}
-use Rattle.models_text.specs.declared.reps.Reps.{Reps}
+use Rattle.front_text.specs.declared.reps.Reps.{Reps}
 use Rattle.pb_lin.specs.Problem.{ProblemValue}
 use Rattle.representatives.specs.Bounded.{IsBounded, IsListingLog}
 use Rattle.representatives.specs.Laws.{AreGiven, EndedLogListsAll}

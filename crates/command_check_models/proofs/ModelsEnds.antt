@@ -5,7 +5,7 @@ use Rattle.scut_base.specs.Files.{Files, followed, IsPartlyFollowed}
 use Rattle.scut_base.specs.World.{World}
 use Rattle.front_set.specs.declared.entry.Entry.{Entry}
 use Rattle.instance.specs.Shape.{InstanceValue}
-use Rattle.models_text.specs.declared.reps.Reps.{Reps}
+use Rattle.front_text.specs.declared.reps.Reps.{Reps}
 use Rattle.pb_lin.specs.Problem.{ProblemValue}
 use Rattle.representatives.specs.declared.fault.RepsWhy.{RepsWhy}
 use Rattle.representatives.specs.declared.fault.RepsWhy.TheVariants.{Syntax, Count, NotModel, Costs, Repeated, Log}

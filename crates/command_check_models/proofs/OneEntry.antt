@@ -6,7 +6,7 @@ use Rattle.scut_base.specs.Files.{Files}
 use Rattle.scut_base.specs.World.{World}
 use Rattle.front_set.specs.declared.entry.Entry.{Entry}
 use Rattle.instance.specs.Shape.{InstanceValue}
-use Rattle.models_text.specs.declared.reps.Reps.{Reps}
+use Rattle.front_text.specs.declared.reps.Reps.{Reps}
 use Rattle.pb_lin.specs.Problem.{ProblemValue}
 use Rattle.command_base.specs.Views.{OnlyReads}
 use Rattle.command_base.proofs.Answered.{rose_at_last}

@@ -4,7 +4,7 @@ use Rattle.std.proofs.Common.{sym, ◌∙◌, ap, subst, arith}
 use Rattle.scut_base.specs.Files.{Files}
 use Rattle.front_set.specs.declared.entry.Entry.{Entry}
 use Rattle.instance.specs.Shape.{InstanceValue}
-use Rattle.models_text.specs.declared.reps.Reps.{Reps}
+use Rattle.front_text.specs.declared.reps.Reps.{Reps}
 use Rattle.pb_lin.specs.Problem.{ProblemValue}
 use Rattle.command_check_models.specs.Entries.{AreLogsTakenFrom, AreRightFrom, IsLogTaken, IsRightEntry}
 use Rattle.command_check_models.specs.Words.{ModelsAsked}

@@ -5,9 +5,9 @@ use Rattle.front_set.specs.declared.entry.Entry.{Entry}
 use Rattle.instance.specs.ParetoFront.{problem_vector}
 use Rattle.instance.specs.Shape.{InstanceValue}
 use Rattle.log_checker.specs.LogFaults.{IsLogFault, IsWholeFault}
-use Rattle.models_text.specs.ModelsText.{models_text}
-use Rattle.models_text.specs.Spelling.{IsSyntaxAt}
-use Rattle.models_text.specs.declared.reps.Reps.{Reps}
+use Rattle.front_text.specs.ModelsText.{models_text}
+use Rattle.front_text.specs.ModelsSpelling.{IsSyntaxAt}
+use Rattle.front_text.specs.declared.reps.Reps.{Reps}
 use Rattle.pb_lin.specs.Problem.{ProblemValue}
 use Rattle.proof_laws.specs.declared.why.Why.{Why}
 use Rattle.representatives.specs.Bounded.{IsBounded, IsListingLog}

@@ -7,9 +7,9 @@ use Rattle.instance.specs.ParetoFront.{IsProblemVector}
 use Rattle.instance.specs.Shape.{InstanceValue, IsWithinLimits}
 use Rattle.instance.specs.declared.fault.InstanceLimit.TheVariants.{Bytes}
 use Rattle.instance_normal.specs.NormalForm.{IsNormalFormOf}
-use Rattle.models_text.specs.ModelsText.{models_text}
-use Rattle.models_text.specs.Spelling.{IsSyntaxAt}
-use Rattle.models_text.specs.declared.reps.Reps.{Reps}
+use Rattle.front_text.specs.ModelsText.{models_text}
+use Rattle.front_text.specs.ModelsSpelling.{IsSyntaxAt}
+use Rattle.front_text.specs.declared.reps.Reps.{Reps}
 use Rattle.pb_lin.specs.Problem.{ProblemValue}
 use Rattle.representatives.specs.declared.fault.RepsWhy.{RepsWhy}
 use Rattle.representatives.specs.declared.fault.RepsWhy.TheVariants.{Syntax, Count, Log}

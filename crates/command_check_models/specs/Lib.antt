@@ -2,7 +2,7 @@ pub use Rattle.front_set.specs.ListText
 pub use Rattle.instance.specs.ParetoFront
 pub use Rattle.log_checker.specs.Accepted
 pub use Rattle.log_checker.specs.LogFaults
-pub use Rattle.models_text.specs.ModelsText
+pub use Rattle.front_text.specs.ModelsText
 pub use Rattle.representatives.specs.Representatives
 pub use Rattle.representatives.specs.Bounded
 pub use Rattle.representatives.specs.Judged

@@ -10,8 +10,8 @@ use Rattle.instance_normal.specs.NormalForm.{IsNormalFormOf}
 use Rattle.log_checker.specs.declared.fault.CheckFault.TheVariants.{ListRefused}
 use Rattle.log_checker.specs.Accepted.{IsRightList}
 use Rattle.log_checker.specs.ListFaults.{IsListFault}
-use Rattle.models_text.specs.ModelsText.{models_text}
-use Rattle.models_text.specs.declared.reps.Reps.{Reps}
+use Rattle.front_text.specs.ModelsText.{models_text}
+use Rattle.front_text.specs.declared.reps.Reps.{Reps}
 use Rattle.pb_lin.specs.Problem.{ProblemValue}
 use Rattle.representatives.specs.declared.fault.RepsWhy.{RepsWhy}
 use Rattle.command_base.specs.Answering.{Call, Completes, Runs, reading, reading_each, saying}

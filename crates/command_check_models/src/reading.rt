@@ -1,13 +1,13 @@
 // Reading the text of all models.
 ghost use Rattle.std.specs.Prelude.{◌≡◌, IfOk, IfErr};
-ghost use Rattle.models_text.specs.ModelsText.{models_text};
+ghost use Rattle.front_text.specs.ModelsText.{models_text};
 ghost use Rattle.command_base.specs.Views.{OnlyReads};
 ghost use Rattle.command_check_models.specs.Judging.{IsModelsText, IsReadingStop, IsTextStop};
 
 use crate::files::models_name;
 use crate::stop::ModelsStop;
 use command_base::read_whole;
-use models_text::{ModelsFault, Reps, read_models};
+use front_text::{ModelsFault, Reps, read_models};
 use representatives::RepsWhy;
 use scut_base::{Items, Shelf, ShelfFault};
 use std::alloc::Global;

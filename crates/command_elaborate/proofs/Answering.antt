@@ -9,11 +9,11 @@ use Rattle.proof_laws.specs.declared.line.Line.{Line}
 use Rattle.proof_laws.specs.declared.line.Line.TheVariants.{Rup, Learn}
 use Rattle.proof_laws.specs.declared.why.Why.{Why}
 use Rattle.proof_laws.proofs.Replays.{replay_lines}
-use Rattle.log_elab.specs.Loose.{IsElaborated}
-use Rattle.log_elab.specs.Reasons.{Elaborates, Elaboration, IsAdded, IsLooseReason}
-use Rattle.log_elab.specs.declared.fault.ElabFault.{ElabFault}
-use Rattle.log_elab.specs.declared.fault.ElabFault.TheVariants.{Refused, NoMemory}
-use Rattle.log_elab.proofs.Lists.{elaborations_law, goes_on_law}
+use Rattle.command_elaborate.specs.Loose.{IsElaborated}
+use Rattle.command_elaborate.specs.Reasons.{Elaborates, Elaboration, IsAdded, IsLooseReason}
+use Rattle.command_elaborate.specs.declared.fault.ElabFault.{ElabFault}
+use Rattle.command_elaborate.specs.declared.fault.ElabFault.TheVariants.{Refused, NoMemory}
+use Rattle.command_elaborate.proofs.Lists.{elaborations_law, goes_on_law}
 use Rattle.command_base.specs.declared.log_file.LineFault.{LineFault}
 use Rattle.command_base.specs.declared.log_file.LineFault.TheVariants.{Refused as RefusedAt}
 use Rattle.command_elaborate.specs.Elaborating.{HasAnswered, Refuses, line_answer}

@@ -14,8 +14,8 @@ use Rattle.proof_text.specs.LogText.{BeginsWith, IsSyntaxAt, SpellsLog}
 use Rattle.proof_text.specs.Versions.{after_lines}
 use Rattle.proof_text.proofs.Logs.{GoesOn, begins_align, never_unfinished, never_wrong, whole_some}
 use Rattle.log_checker.specs.declared.fault.CheckFault.TheVariants.{Refused as LineRefused}
-use Rattle.log_elab.specs.Reasons.{Elaborates}
-use Rattle.log_elab.proofs.Lists.{elaborations_law, goes_on_law}
+use Rattle.command_elaborate.specs.Reasons.{Elaborates}
+use Rattle.command_elaborate.proofs.Lists.{elaborations_law, goes_on_law}
 use Rattle.command_base.specs.Answering.{Answered}
 use Rattle.command_base.specs.Inputs.{IsInput}
 use Rattle.command_base.specs.InstanceFile.{IsTextOf}

@@ -11,8 +11,8 @@ use Rattle.proof_laws.specs.declared.line.Line.{Line}
 use Rattle.proof_laws.specs.declared.why.Why.{Why}
 use Rattle.proof_lines.specs.declared.spelling.Spelling.TheVariants.{Plain}
 use Rattle.log_checker.specs.declared.fault.CheckFault.TheVariants.{Refused as LineRefused}
-use Rattle.log_elab.specs.Loose.{IsLooselyRefused}
-use Rattle.log_elab.specs.Reasons.{Elaborates, Elaboration}
+use Rattle.command_elaborate.specs.Loose.{IsLooselyRefused}
+use Rattle.command_elaborate.specs.Reasons.{Elaborates, Elaboration}
 use Rattle.command_base.specs.Answering.{Answered, appending, beginning, reading}
 use Rattle.command_base.specs.Inputs.{IsInput}
 use Rattle.command_base.specs.LogLines.{IsLargeAfter, IsLogOf, IsWrongAfter, before_limit}

@@ -17,9 +17,9 @@ use Rattle.proof_text.specs.LogText.{SpellsLog}
 use Rattle.proof_text.specs.Versions.{AllFit, log_text}
 use Rattle.proof_text.proofs.Logs.{printed_spells, spelled_once}
 use Rattle.log_checker.specs.Accepted.{IsAccepted, IsCovered, problem_vectors}
-use Rattle.log_elab.specs.Loose.{IsLooseReplay}
-use Rattle.log_elab.specs.Reasons.{Elaborates}
-use Rattle.log_elab.proofs.Lists.{elaborations_law}
+use Rattle.command_elaborate.specs.Loose.{IsLooseReplay}
+use Rattle.command_elaborate.specs.Reasons.{Elaborates}
+use Rattle.command_elaborate.proofs.Lists.{elaborations_law}
 use Rattle.command_elaborate.specs.LooselyAccepted.{IsLooselyAccepted, IsAcceptedElaborated, LooselyAcceptedWhereElaborated}
 
 all_fit : (lines : List Line) → AllFit Plain lines

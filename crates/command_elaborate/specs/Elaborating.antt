@@ -3,10 +3,10 @@ use Rattle.std.specs.Prelude.{ℕ, List, None, Result, Ok, Err}
 use Rattle.proof_laws.specs.State.{start}
 use Rattle.proof_laws.specs.declared.line.Line.{Line}
 use Rattle.proof_laws.specs.declared.why.Why.{Why}
-use Rattle.log_elab.specs.Loose.{IsLooselyRefused}
-use Rattle.log_elab.specs.Reasons.{Elaborates, Elaboration}
-use Rattle.log_elab.specs.declared.fault.ElabFault.{ElabFault}
-use Rattle.log_elab.specs.declared.fault.ElabFault.TheVariants.{Refused as LineRefused, NoMemory as ElabMemory}
+use Rattle.command_elaborate.specs.Loose.{IsLooselyRefused}
+use Rattle.command_elaborate.specs.Reasons.{Elaborates, Elaboration}
+use Rattle.command_elaborate.specs.declared.fault.ElabFault.{ElabFault}
+use Rattle.command_elaborate.specs.declared.fault.ElabFault.TheVariants.{Refused as LineRefused, NoMemory as ElabMemory}
 use Rattle.command_base.specs.declared.log_file.LineFault.{LineFault}
 use Rattle.command_base.specs.declared.log_file.LineFault.TheVariants.{Refused, NoMemory}
 

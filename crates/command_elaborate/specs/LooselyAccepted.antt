@@ -12,8 +12,8 @@ use Rattle.proof_lines.specs.declared.spelling.Spelling.TheVariants.{Plain}
 use Rattle.proof_text.specs.LogText.{SpellsLog}
 use Rattle.proof_text.specs.Versions.{log_text}
 use Rattle.log_checker.specs.Accepted.{IsAccepted, IsCovered, IsRightList, problem_vectors}
-use Rattle.log_elab.specs.Loose.{IsLooseReplay}
-use Rattle.log_elab.specs.Reasons.{Elaborates}
+use Rattle.command_elaborate.specs.Loose.{IsLooseReplay}
+use Rattle.command_elaborate.specs.Reasons.{Elaborates}
 
 -- the bytes spell lines that are loosely legal, each where it stands, and lead to an end; and each logged vector is covered
 pub record IsLooseEndedProof (p : ProblemValue) (vectors : List (List ℤ)) (log : List ℕ) : Type 0 where

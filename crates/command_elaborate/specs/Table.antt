@@ -14,8 +14,8 @@ use Rattle.proof_lines.specs.declared.spelling.Spelling.TheVariants.{Plain}
 use Rattle.proof_text.specs.LogText.{BeginsWith, SpellsLog}
 use Rattle.proof_text.specs.Versions.{log_text}
 use Rattle.log_checker.specs.declared.fault.CheckFault.TheVariants.{Refused as LineRefused}
-use Rattle.log_elab.specs.Loose.{IsLooselyRefused, IsLooseReplay}
-use Rattle.log_elab.specs.Reasons.{Elaborates}
+use Rattle.command_elaborate.specs.Loose.{IsLooselyRefused, IsLooseReplay}
+use Rattle.command_elaborate.specs.Reasons.{Elaborates}
 use Rattle.command_base.specs.Answering.{Call, Completes, Runs, appending, beginning, reading, saying}
 use Rattle.command_base.specs.Causes.{HasText, IsRefused}
 use Rattle.command_base.specs.InputTable.{InputTable}

@@ -2,7 +2,12 @@
 //! version 1, over the instance in the file IN. Each implied or learned line without hints is given those that it needs.
 //!
 //! Its public contract: what it answers goes by its table (`ElaborateTable`), and what its words ask for is `elaborate_asked`.
-//! NEW is begun when IN was accepted, and each line is written as it was answered; the first that is refused ends it.
+//! NEW is begun when IN was accepted, and each line is written as it was answered; the first that is refused ends it. A line
+//! is answered, by one that is legal by the rule book, exactly where it is loosely legal, and else the reason is named; laws
+//! say the same of whole lists of lines. No order of propagation shows in it.
+//!
+//! Begin here, with the words and `run`, or with `elaborator`, which finds hints: a proof that is stepped line by line. What
+//! it does with a line is in `adding`, the search for hints in `finding`.
 #![tactic(auto)]
 
 ghost use Rattle.std.specs.Prelude.{◌≡◌, [], true};
@@ -12,14 +17,26 @@ ghost use Rattle.command_elaborate.specs.Elaborating.{HasAnswered};
 ghost use Rattle.command_elaborate.specs.Table.{ElaborateRuns};
 ghost use Rattle.command_elaborate.specs.Words.{elaborate_of};
 
-mod elaborating;
-mod laws;
+mod adding;
+mod elaborator;
+mod fault;
+mod finding;
+mod hint_laws;
+mod hints;
+mod log_elaborator;
+mod log_laws;
+mod refuting;
+mod taking;
 
-use crate::elaborating::LogElaborator;
+use crate::log_elaborator::LogElaborator;
 use command_base::{
     Command, FileNames, Format, Input, Status, read_files, read_input, rewrite_log, say,
 };
-pub use laws::loosely_accepted_where_elaborated;
+pub use hint_laws::{
+    elaborated_lines_replay_loosely, elaboration_goes_on, elaborations_replay,
+    hints_conflict_by_propagation, line_is_judged_loosely_once,
+};
+pub use log_laws::loosely_accepted_where_elaborated;
 use proof_text::Spelling;
 use scut_base::{NoMemory, Shelf};
 use std::alloc::Global;

@@ -8,7 +8,7 @@ use Rattle.scut_base.specs.declared.shelf.ShelfFault.{ShelfFault}
 use Rattle.scut_base.specs.declared.shelf.ShelfFault.TheVariants.{Failed}
 use Rattle.instance.specs.Shape.{InstanceValue}
 use Rattle.mcnf_reader.specs.Grammar.{Spells}
-use Rattle.gen_instance.specs.Printed.{AllOccur, mcnf_text}
+use Rattle.command_gen.specs.Printed.{AllOccur, mcnf_text}
 use Rattle.command_base.specs.Answering.{Answered, OwnRose, appending, beginning}
 use Rattle.command_base.specs.InstanceFile.{IsTextOf}
 use Rattle.command_base.specs.Messages.{said_of}

@@ -1,3 +1,14 @@
+pub mod OneMore
+pub mod PrintedWords
+pub mod Lines
+pub mod Statements
+pub mod Objectives
+pub mod Spelled
+pub mod Drawing
+pub mod Within
+pub mod Occurring
+pub mod Plain
+pub mod Short
 pub mod NumbersWithin
 pub mod GenEnds
 pub mod Completing

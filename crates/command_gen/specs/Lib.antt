@@ -1,9 +1,11 @@
 pub use Rattle.instance.specs.Shape
-pub use Rattle.gen_instance.specs.Generated
-pub use Rattle.gen_instance.specs.Printed
+pub use Rattle.mcnf_reader.specs.Grammar
 pub use Rattle.command_base.specs.Answering
 pub use Rattle.command_base.specs.Messages
 pub use Rattle.command_base.specs.Views
+pub mod Draws
+pub mod Generated
+pub mod Printed
 pub mod Origin
 pub mod Words
 pub mod Table

@@ -3,8 +3,8 @@ use Rattle.std.specs.Prelude.{ℕ, ◌≤◌, ◌-◌, ◌^◌, ◌&&◌, not, n
 use Rattle.std.specs.Option.{option_and_then, option_map}
 use Rattle.scut_base.specs.Number.{is_natural, natural_value}
 use Rattle.instance.specs.Shape.{InstanceValue}
-use Rattle.gen_instance.specs.Generated.{generated}
-use Rattle.gen_instance.specs.Printed.{mcnf_text}
+use Rattle.command_gen.specs.Generated.{generated}
+use Rattle.command_gen.specs.Printed.{mcnf_text}
 
 pub record OriginValue : Type 0 where
   pub number : ℕ

@@ -2,7 +2,11 @@
 //! instance file of hard and soft clauses in the file OUT.
 //!
 //! Its public contract: what it answers goes by its table (`GenTable`), and what its words ask for is `gen_asked`. The same
-//! words make the same file.
+//! words make the same file: `make` answers the instance whose clauses and weights are drawn as `generated` says, and
+//! `print_mcnf` the text of an instance's statements, which spells it by the grammar of instance files.
+//!
+//! Begin here, with the words and `run`. What an instance is made from is in `origin`, how it is drawn in `making` and
+//! `draws`, and its text in `printing`.
 #![tactic(auto)]
 
 ghost use Rattle.std.specs.Prelude.{◌≡◌, IfOk, IsErrOf, OnErr, OnOk, option_map};
@@ -15,11 +19,14 @@ ghost use Rattle.command_gen.specs.Origin.{instance_from, text_from};
 ghost use Rattle.command_gen.specs.Table.{GenRuns};
 ghost use Rattle.command_gen.specs.Words.{asked, gen_app, gen_of_rows, gen_sizes};
 
+mod draws;
+mod making;
 mod origin;
+mod printing;
 
+use crate::printing::print_mcnf;
 use clap::ArgMatches;
 use command_base::{Command, Status, file, read_by, say, value, with_arg};
-use gen_instance::print_mcnf;
 pub use origin::Origin;
 use scut_base::{NoMemory, Shelf, ShelfFault};
 use std::alloc::Global;

@@ -1,10 +1,10 @@
 // What an instance is made from.
 ghost use Rattle.std.specs.Prelude.{◌≡◌, ◌<◌, ◌≤◌, ◌^◌, length, IfOk};
 ghost use Rattle.std.specs.Option.{ForSome};
-ghost use Rattle.gen_instance.specs.Printed.{AllOccur, IsPlain, mcnf_text};
+ghost use Rattle.command_gen.specs.Printed.{AllOccur, IsPlain, mcnf_text};
 ghost use Rattle.command_gen.specs.Origin.{instance_from, number_within, origin_of};
 
-use gen_instance::make;
+use crate::making::make;
 use instance::Instance;
 use scut_base::{NoMemory, read_u64};
 use std::alloc::Global;

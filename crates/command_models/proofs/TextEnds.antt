@@ -6,8 +6,8 @@ use Rattle.scut_base.specs.Files.{Files, IsPrefixOf, IsTouched, with_file}
 use Rattle.scut_base.specs.World.{World}
 use Rattle.front_set.specs.declared.entry.Entry.{Entry}
 use Rattle.instance.specs.Shape.{InstanceValue}
-use Rattle.models_text.specs.ModelsText.{models_text}
-use Rattle.models_text.specs.declared.reps.Reps.{Reps}
+use Rattle.front_text.specs.ModelsText.{models_text}
+use Rattle.front_text.specs.declared.reps.Reps.{Reps}
 use Rattle.pb_lin.specs.Problem.{ProblemValue}
 use Rattle.proof_rules.specs.declared.recorder.RecordFault.{RecordFault}
 use Rattle.proof_rules.specs.declared.recorder.RecordFault.TheVariants.{Failed, Full, NoMemory}

@@ -6,8 +6,8 @@ use Rattle.scut_base.specs.Files.{Files, content, with_file, IsPrefixOf, IsTold,
 use Rattle.front_set.specs.declared.entry.Entry.{Entry}
 use Rattle.instance.specs.ParetoFront.{problem_vector}
 use Rattle.instance.specs.Shape.{InstanceValue}
-use Rattle.models_text.specs.ModelsText.{models_text}
-use Rattle.models_text.specs.declared.reps.Reps.{Reps}
+use Rattle.front_text.specs.ModelsText.{models_text}
+use Rattle.front_text.specs.declared.reps.Reps.{Reps}
 use Rattle.pb_lin.specs.Problem.{ProblemValue}
 use Rattle.representatives.specs.Bounded.{IsListingLog}
 use Rattle.representatives.specs.Representatives.{AreReps}

@@ -1,6 +1,6 @@
 pub use Rattle.front_set.specs.ListText
 pub use Rattle.instance.specs.ParetoFront
-pub use Rattle.models_text.specs.ModelsText
+pub use Rattle.front_text.specs.ModelsText
 pub use Rattle.representatives.specs.Representatives
 pub use Rattle.representatives.specs.Bounded
 pub use Rattle.representative_search.specs.Gathered

@@ -8,8 +8,8 @@ use Rattle.front_text.specs.Spelling.{Spells}
 use Rattle.instance.specs.ParetoFront.{problem_vector}
 use Rattle.instance.specs.Shape.{InstanceValue}
 use Rattle.log_checker.specs.Accepted.{IsRightList}
-use Rattle.models_text.specs.ModelsText.{models_text}
-use Rattle.models_text.specs.declared.reps.Reps.{Reps}
+use Rattle.front_text.specs.ModelsText.{models_text}
+use Rattle.front_text.specs.declared.reps.Reps.{Reps}
 use Rattle.pb_lin.specs.Problem.{ProblemValue}
 use Rattle.proof_laws.specs.Replay.{IsReplay}
 use Rattle.proof_laws.specs.State.{StateValue}

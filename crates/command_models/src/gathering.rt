@@ -7,8 +7,8 @@ ghost use Rattle.command_models.specs.Gathering.{AreGathered, IsEntryGathered, I
 
 use command_check_models::{ModelsRequest, log_name};
 use front_set::Entry;
+use front_text::Reps;
 use instance::Instance;
-use models_text::Reps;
 use pb_lin::PbProblem;
 use proof_rules::RecordFault;
 use representative_search::gather;

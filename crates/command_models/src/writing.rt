@@ -2,7 +2,7 @@
 ghost use Rattle.std.specs.Prelude.{◌≡◌, IfErr, IsErrOf, OnErr, OnOk};
 ghost use Rattle.scut_base.specs.Faults.{NoneFell, WritingFailed};
 ghost use Rattle.scut_base.specs.Files.{IsPrefixOf, IsTouched, with_file};
-ghost use Rattle.models_text.specs.ModelsText.{models_text};
+ghost use Rattle.front_text.specs.ModelsText.{models_text};
 ghost use Rattle.command_check_models.specs.Entries.{IsPosed};
 ghost use Rattle.command_check_models.specs.Words.{models_name};
 ghost use Rattle.command_models.specs.Gathering.{IsWritingStop};
@@ -12,8 +12,8 @@ use crate::gathering::gather_all;
 use command_base::write_lines;
 use command_check_models::{ModelsRequest, models_name};
 use front_set::Entry;
+use front_text::{Reps, print_models};
 use instance::Instance;
-use models_text::{Reps, print_models};
 use pb_lin::PbProblem;
 use proof_rules::RecordFault;
 use scut_base::{Items, Shelf, ShelfFault};

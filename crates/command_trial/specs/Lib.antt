@@ -1,7 +1,7 @@
 pub use Rattle.front_set.specs.ListText
 pub use Rattle.instance.specs.ParetoFront
 pub use Rattle.log_checker.specs.Accepted
-pub use Rattle.gen_instance.specs.Generated
+pub use Rattle.command_gen.specs.Generated
 pub use Rattle.command_base.specs.Answering
 pub use Rattle.command_base.specs.Messages
 pub use Rattle.command_base.specs.Views

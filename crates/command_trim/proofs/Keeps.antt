@@ -18,7 +18,7 @@ use Rattle.proof_text.proofs.Logs.{body, lines_whole, spelled_once, spelled_whol
 use Rattle.log_checker.specs.Accepted.{IsEndedProof}
 use Rattle.log_checker.proofs.Answering.{end_syntax, syntax_refused}
 use Rattle.log_checker.proofs.Faults.{no_whole_fault}
-use Rattle.log_trim.specs.Marks.{made_by}
+use Rattle.command_trim.specs.Marks.{made_by}
 use Rattle.command_base.specs.Causes.{HasText}
 use Rattle.command_base.specs.Feeding.{IsTaken}
 use Rattle.command_base.specs.Taking.{RefusesNone}

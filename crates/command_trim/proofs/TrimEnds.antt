@@ -16,7 +16,7 @@ use Rattle.proof_lines.specs.declared.spelling.Spelling.TheVariants.{Plain}
 use Rattle.proof_text.specs.Versions.{log_text}
 use Rattle.log_checker.specs.Accepted.{IsAccepted, problem_vectors}
 use Rattle.log_checker.specs.declared.fault.CheckFault.TheVariants.{Refused as LineRefused}
-use Rattle.log_trim.specs.Trimmed.{trimmed}
+use Rattle.command_trim.specs.Trimmed.{trimmed}
 use Rattle.command_base.specs.Answering.{Answered, OwnRose, appending, beginning, reading}
 use Rattle.command_base.specs.Inputs.{IsListed}
 use Rattle.command_base.specs.Judging.{JudgedBy}

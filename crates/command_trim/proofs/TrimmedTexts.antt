@@ -10,7 +10,7 @@ use Rattle.proof_lines.specs.declared.spelling.Spelling.TheVariants.{Plain}
 use Rattle.proof_text.specs.Versions.{AllFit, log_text}
 use Rattle.proof_text.proofs.Logs.{printed_spells}
 use Rattle.log_checker.specs.Accepted.{IsAccepted, IsCovered, problem_vectors}
-use Rattle.log_trim.proofs.Kept.{trimmed_law}
+use Rattle.command_trim.proofs.Kept.{trimmed_law}
 use Rattle.command_trim.specs.TrimmedText.{TrimmedTextsAreAccepted, trimmed_of}
 
 pub texts_accepted : TrimmedTextsAreAccepted

@@ -14,7 +14,7 @@ use Rattle.proof_text.specs.declared.fault.TextFault.TheVariants.{Syntax as Synt
 use Rattle.log_checker.specs.Accepted.{IsEndedProof, problem_vectors}
 use Rattle.log_checker.specs.Judging.{IsUnderway}
 use Rattle.log_checker.specs.LogFaults.{IsLogFault, IsWholeFault}
-use Rattle.log_trim.specs.Marks.{made_by}
+use Rattle.command_trim.specs.Marks.{made_by}
 use Rattle.command_base.specs.Causes.{HasText}
 use Rattle.command_base.specs.Inputs.{IsListed}
 use Rattle.command_base.specs.Judging.{JudgedBy}

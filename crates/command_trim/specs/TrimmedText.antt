@@ -6,7 +6,7 @@ use Rattle.proof_lines.specs.declared.spelling.Spelling.TheVariants.{Plain}
 use Rattle.proof_text.specs.LogText.{SpellsLog}
 use Rattle.proof_text.specs.Versions.{log_text}
 use Rattle.log_checker.specs.Accepted.{IsAccepted}
-use Rattle.log_trim.specs.Trimmed.{trimmed}
+use Rattle.command_trim.specs.Trimmed.{trimmed}
 
 -- the lines of an accepted log, trimmed over the instance's normal form
 abbrev pub trimmed_of : (i : InstanceValue) (list log : List ℕ) → IsAccepted i list log → List Line

@@ -3,7 +3,12 @@
 //!
 //! Its public contract: what it answers goes by its table (`TrimTable`), and what its words ask for is `trim_asked`. NEW is
 //! begun when list and log were accepted. The law `trimmed_texts_are_accepted` says that each text of the trimmed lines is
-//! accepted for the same list.
+//! accepted for the same list. The trimmed lines are exactly `trimmed`, which is defined on lists of lines; the law
+//! `trimmed_proof_replays` says that those of a proof are a proof, which has ended where the old one has, and logs none but its
+//! vectors; the law `trimmed_lines_come_of_old`, that they are some of the old lines in their order, under new ids.
+//!
+//! Begin here, with the words and `run`. The log is judged and kept in `keeping`, and trimmed in `trimming`: `needing` says
+//! which lines are needed, `renamed` has what is left of each under new ids; `trimming_laws` has what trimming keeps.
 #![tactic(auto)]
 
 ghost use Rattle.std.specs.Prelude.{◌≡◌, length, option_map};
@@ -15,21 +20,33 @@ ghost use Rattle.command_trim.specs.Keeping.{IsProved};
 ghost use Rattle.command_trim.specs.Table.{IsTextOf, TrimRuns};
 ghost use Rattle.command_trim.specs.Words.{asked, trim_of};
 
+mod ids;
 mod keeping;
-mod laws;
 mod log_file;
+mod marks;
+mod needing;
+mod renamed;
+mod renames;
+mod text_laws;
+mod trimming;
+mod trimming_laws;
 mod writing;
 
 use crate::log_file::proved_lines;
+use crate::trimming::trim;
 use crate::writing::write_log;
 use command_base::{
     Command, FileNames, Format, Input, Listed, Status, read_files, read_listed, say,
 };
-pub use laws::trimmed_texts_are_accepted;
-use log_trim::trim;
 use proof_laws::Line;
 use scut_base::{NoMemory, Shelf};
 use std::alloc::Global;
+pub use text_laws::trimmed_texts_are_accepted;
+pub use trimming_laws::{
+    goals_are_simulated, hints_are_simulated, legal_lines_are_simulated, lines_are_carried,
+    requirements_are_simulated, tokens_are_simulated, trimmed_lines_come_of_old,
+    trimmed_proof_replays,
+};
 
 /// The command `trim`, with its files.
 #[derive(Clone, Copy, Debug)]

@@ -7,3 +7,6 @@ pub mod Models
 pub mod Entries
 pub mod Heads
 pub mod Texts
+pub mod ModelsHeads
+pub mod ModelsEntries
+pub mod ModelsTexts

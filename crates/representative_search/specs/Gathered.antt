@@ -5,7 +5,7 @@ use Rattle.scut_base.specs.Files.{Files, with_file}
 use Rattle.scut_base.specs.World.{World}
 use Rattle.instance.specs.ParetoFront.{problem_vector}
 use Rattle.instance.specs.Shape.{InstanceValue}
-use Rattle.models_text.specs.declared.reps.Reps.{Reps}
+use Rattle.front_text.specs.declared.reps.Reps.{Reps}
 use Rattle.pb_lin.specs.Problem.{ProblemValue}
 use Rattle.proof_rules.specs.declared.recorder.RecordFault.{RecordFault}
 use Rattle.proof_rules.specs.declared.recorder.RecordFault.TheVariants.{Failed, Full, NoMemory}

@@ -8,8 +8,8 @@ ghost use Rattle.representative_search.specs.Seeking.{LeavesLog};
 
 use crate::seeking::seek_model;
 use front_set::CostVec;
+use front_text::Reps;
 use instance::Instance;
-use models_text::Reps;
 use pb_lin::PbProblem;
 use proof_rules::RecordFault;
 use representatives::{bounded_model_serves, bounded_problem, ended_log_lists_all};

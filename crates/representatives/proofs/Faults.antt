@@ -7,7 +7,7 @@ use Rattle.std.proofs.lemmas.List.Elements.{All-head}
 use Rattle.scut_base.proofs.Lists.{head_same, tail_same}
 use Rattle.instance.specs.Shape.{InstanceValue}
 use Rattle.instance_normal.proofs.Members.{all_split}
-use Rattle.models_text.specs.declared.reps.Reps.{Reps}
+use Rattle.front_text.specs.declared.reps.Reps.{Reps}
 use Rattle.representatives.specs.Judged.{HasWrongCount, HasWrongModel, IsModelFault, IsRepsFault}
 use Rattle.representatives.specs.Laws.{NoFaultWhereServing, OneRepsFault}
 use Rattle.representatives.specs.Representatives.{AreDifferent, Serves}

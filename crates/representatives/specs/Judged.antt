@@ -3,7 +3,7 @@ use Rattle.std.specs.Prelude.{◌≡◌, ◌≢◌, ◌≤◌, ℕ, Bool, MatchB
 use Rattle.instance.specs.Shape.{InstanceValue}
 use Rattle.instance.specs.Meaning.{IsModel, costs_of}
 use Rattle.instance.specs.ParetoFront.{WeaklyDominates}
-use Rattle.models_text.specs.declared.reps.Reps.{Reps}
+use Rattle.front_text.specs.declared.reps.Reps.{Reps}
 use Rattle.representatives.specs.Representatives.{AreDifferent, Serves}
 use Rattle.representatives.specs.declared.fault.RepsFault.{RepsFault}
 use Rattle.representatives.specs.declared.fault.RepsFault.TheVariants.{Refused, NoMemory}

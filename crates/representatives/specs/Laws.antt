@@ -5,7 +5,7 @@ use Rattle.instance.specs.Meaning.{costs_of}
 use Rattle.instance.specs.ParetoFront.{IsFront, IsProblemVector, problem_vector}
 use Rattle.instance.specs.Shape.{InstanceValue, IsWithinLimits}
 use Rattle.instance_normal.specs.NormalForm.{IsNormalFormOf}
-use Rattle.models_text.specs.declared.reps.Reps.{Reps}
+use Rattle.front_text.specs.declared.reps.Reps.{Reps}
 use Rattle.pb_lin.specs.Problem.{ProblemValue, IsProblemModel}
 use Rattle.representatives.specs.Bounded.{IsBounded, IsListingLog}
 use Rattle.representatives.specs.Judged.{IsRepsFault}

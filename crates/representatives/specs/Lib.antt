@@ -1,7 +1,7 @@
 pub use Rattle.instance.specs.ParetoFront
 pub use Rattle.instance_normal.specs.NormalForm
 pub use Rattle.log_checker.specs.Accepted
-pub use Rattle.models_text.specs.ModelsText
+pub use Rattle.front_text.specs.ModelsText
 pub mod Representatives
 pub mod Bounded
 pub mod Judged

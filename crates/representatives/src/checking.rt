@@ -6,9 +6,9 @@ ghost use Rattle.representatives.specs.Representatives.{AreDifferent, AreServing
 
 use crate::{RepsFault, RepsWhy};
 use front_set::CostVec;
+use front_text::Reps;
 use instance::Instance;
 use log_checker::weakly_dominates;
-use models_text::Reps;
 use scut_base::{Assignment, Items, NoMemory};
 use std::alloc::Global;
 use std::collections::BTreeSet;

@@ -1,8 +1,8 @@
 -- When a propagator of both kinds of lines is in step with a store and a trail.
 use Rattle.pb_lin.specs.LineMap.{LineMap}
 use Rattle.clause_prop.specs.Steps.{TrailValue}
-use Rattle.clause_watch.specs.Watches.{AreWatches}
-use Rattle.slack_counter.specs.Counted.{AreCounters}
+use Rattle.watch_prop.specs.Watches.{AreWatches}
+use Rattle.watch_prop.specs.Counted.{AreCounters}
 use Rattle.watch_prop.specs.declared.watch_prop.WatchProp.{WatchProp}
 
 -- the watches are in step, and the counters are

@@ -1,3 +1,12 @@
 pub use Rattle.clause_prop.specs.Steps
 pub use Rattle.clause_prop.specs.Propagating
+pub use Rattle.clause_prop.specs.LineKinds
+pub mod Codes
+pub mod Slot
+pub mod SlotTable
+pub mod Watching
+pub mod Words
+pub mod Watches
+pub mod Counting
+pub mod Counted
 pub mod Joined

@@ -8,10 +8,12 @@ ghost use Rattle.clause_prop.specs.Propagating.{Extends, IsConflict, IsClosedFor
 ghost use Rattle.clause_prop.specs.LineKinds.{IsClosedForWatched, IsClosedForCounted};
 ghost use Rattle.watch_prop.specs.Joined.{AreInStep};
 
+use crate::counters::{Counters, longer_trail_keeps_counters, more_variables_keep_counters};
+use crate::watches::{
+    Watches, is_watched, longer_trail_keeps_watches, more_variables_keep_watches,
+};
 use clause_prop::{ClauseStore, Propagator, Trail};
-use clause_watch::{Watches, is_watched, longer_trail_keeps_watches, more_variables_keep_watches};
 use scut_base::NoMemory;
-use slack_counter::{Counters, longer_trail_keeps_counters, more_variables_keep_counters};
 use std::alloc::Global;
 
 /// Watches two literals of each clause of two literals or more, and keeps of each other line the sum of the

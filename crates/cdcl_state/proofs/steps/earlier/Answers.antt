@@ -1,7 +1,7 @@
 use Rattle.std.proofs.Common.{arith, ap, ◌∙◌, refl}
 use Rattle.clause_prop.specs.declared.step.Step.{Step}
-use Rattle.cdcl_analysis.proofs.Marking.{place_within}
-use Rattle.cdcl_analysis.proofs.TrailSteps.{step_same}
+use Rattle.cdcl_state.proofs.Marking.{place_within}
+use Rattle.cdcl_state.proofs.TrailSteps.{step_same}
 use Rattle.cdcl_state.proofs.ForcedBy.{open_other, place_other}
 use Rattle.cdcl_state.proofs.steps.earlier.Goals as goal
 use Rattle.cdcl_state.proofs.steps.earlier.Goals.{then-at-place-via-then-at-place, then-at-place-via-else-at-place+then-step_at-id}

@@ -3,7 +3,7 @@ use Rattle.std.proofs.Common.{arith}
 use Rattle.std.proofs.lemmas.List.Elements.{All-map}
 use Rattle.scut_base.specs.Literal.{Literal}
 use Rattle.pb_lin.specs.Constraint.{literals}
-use Rattle.cdcl_analysis.proofs.Marking.{read_one}
+use Rattle.cdcl_state.proofs.Marking.{read_one}
 use Rattle.cdcl_state.proofs.ForcedBy.{other_all, other_step}
 use Rattle.cdcl_state.proofs.steps.first_forced.Goals as goal
 

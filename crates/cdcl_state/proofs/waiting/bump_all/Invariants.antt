@@ -1,5 +1,5 @@
 use Rattle.std.proofs.Common.{◌≡◌, length}
-use Rattle.cdcl_order.specs.Order.{SameWait}
+use Rattle.cdcl_state.specs.Order.{SameWait}
 use Rattle.cdcl_state.proofs.waiting.bump_all.Given as goal
 
 abbrev pub invariant-loop-lit : goal.invariant-loop-lit

@@ -5,7 +5,7 @@ use Rattle.scut_base.proofs.FileLaws.{appended_by, on_err_anyway, there_by}
 use Rattle.proof_lines.specs.LineText.{printed}
 use Rattle.proof_text.specs.Recorders.{IsPutPartly}
 use Rattle.proof_text.specs.Writing.{WriterValue, writer_after}
-use Rattle.command_trim.proofs.Written.{header_partly, next_partly, text_more}
+use Rattle.command_trim.proofs.WrittenLines.{header_partly, next_partly, text_more}
 use Rattle.command_trim.proofs.writing.write_log.Goals as goal
 
 pub returns-in_err-writer-clause-partly : goal.returns-in_err-writer-clause-partly

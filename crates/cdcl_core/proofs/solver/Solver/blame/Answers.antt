@@ -4,7 +4,7 @@ use Rattle.pb_lin.specs.Constraint.{opposite}
 use Rattle.oracle.specs.Solving.{IsClauseAgainst}
 use Rattle.proof_laws.specs.Steps.{clause}
 use Rattle.clause_prop.specs.Steps.{TrailValue}
-use Rattle.cdcl_analysis.specs.Analysis.{IsForcedFalse}
+use Rattle.cdcl_state.specs.Analysis.{IsForcedFalse}
 use Rattle.cdcl_state.specs.Searching.{SearchValue}
 use Rattle.cdcl_core.proofs.NamedLines.{trail_inside}
 use Rattle.cdcl_core.proofs.Working.{implies_unchanged, steps_none}

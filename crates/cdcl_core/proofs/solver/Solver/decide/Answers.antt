@@ -2,7 +2,7 @@ use Rattle.std.proofs.Common.{◌≡◌, ◌⊎◌, All, inl, inr, ap, refl, sym
 use Rattle.scut_base.specs.Literal.{Literal}
 use Rattle.clause_prop.specs.Steps.{TrailValue}
 use Rattle.oracle.specs.Solving.{AreAssumptions}
-use Rattle.cdcl_analysis.specs.Analysis.{IsDecided}
+use Rattle.cdcl_state.specs.Analysis.{IsDecided}
 use Rattle.cdcl_core.specs.Work.{IsLed}
 use Rattle.cdcl_core.proofs.NamedLines.{trail_inside}
 use Rattle.cdcl_core.proofs.Working.{done_working, implies_unchanged, steps_none, working_searched}

@@ -1,6 +1,6 @@
 use Rattle.std.proofs.Common.{◌<◌, sym, subst, refl}
 use Rattle.cdcl_trail.specs.Rank.{rank}
-use Rattle.cdcl_analysis.specs.Analysis.{IsLesson}
+use Rattle.cdcl_state.specs.Analysis.{IsLesson}
 use Rattle.cdcl_core.specs.Work.{SolverValue, IsLed, KeepsLed}
 use Rattle.cdcl_core.specs.Learnable.{IsForcedBySome}
 use Rattle.cdcl_core.proofs.LearnedStep.{rises, led_after}

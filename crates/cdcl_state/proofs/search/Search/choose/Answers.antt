@@ -2,7 +2,7 @@ use Rattle.std.proofs.Common.{length, refl, sym, ◌∙◌, subst, ap}
 use Rattle.clause_prop.specs.Steps.{TrailValue, with_step}
 use Rattle.clause_prop.specs.Propagating.{IsClosedFor}
 use Rattle.cdcl_trail.specs.SearchTrail.{decision}
-use Rattle.cdcl_order.specs.Order.{Weights}
+use Rattle.cdcl_state.specs.Order.{Weights}
 use Rattle.cdcl_state.specs.Searching.{SearchValue}
 use Rattle.cdcl_state.proofs.InStep.{changed, level_small}
 use Rattle.cdcl_state.proofs.Waits.{order_decided}

@@ -1,7 +1,7 @@
 use Rattle.std.proofs.Common.{length, ap}
 use Rattle.pb_lin.specs.LineMap.{LineMap}
 use Rattle.clause_prop.specs.Steps.{TrailValue}
-use Rattle.cdcl_order.specs.Order.{OrderValue}
+use Rattle.cdcl_state.specs.Order.{OrderValue}
 use Rattle.cdcl_state.proofs.InStep.{begun}
 use Rattle.cdcl_state.proofs.search.Search.new.Goals as goal
 

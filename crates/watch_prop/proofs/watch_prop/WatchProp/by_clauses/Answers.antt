@@ -1,4 +1,4 @@
-use Rattle.slack_counter.proofs.CounterLaws.{counters_extended}
+use Rattle.watch_prop.proofs.CounterLaws.{counters_extended}
 use Rattle.watch_prop.proofs.watch_prop.WatchProp.by_clauses.Goals as goal
 
 pub returns-clause-in_step : goal.returns-clause-in_step

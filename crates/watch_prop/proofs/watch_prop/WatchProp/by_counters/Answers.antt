@@ -1,4 +1,4 @@
-use Rattle.clause_watch.proofs.WatchVisits.{watches_extended}
+use Rattle.watch_prop.proofs.WatchVisits.{watches_extended}
 use Rattle.watch_prop.proofs.watch_prop.WatchProp.by_counters.Goals as goal
 
 pub returns-clause-in_step : goal.returns-clause-in_step

@@ -1,7 +1,7 @@
 use Rattle.std.proofs.Common.{◌∙◌, sym}
-use Rattle.clause_watch.specs.Watches.{AreWatches}
-use Rattle.clause_watch.proofs.WatchHold.{hold_same, same_watched_added}
-use Rattle.slack_counter.proofs.CounterLaws.{counters_watched}
+use Rattle.watch_prop.specs.Watches.{AreWatches}
+use Rattle.watch_prop.proofs.WatchHold.{hold_same, same_watched_added}
+use Rattle.watch_prop.proofs.CounterLaws.{counters_watched}
 use Rattle.watch_prop.proofs.Results.{on_ok}
 use Rattle.watch_prop.proofs.watch_prop.WatchPropPropagator.added.Goals as goal
 

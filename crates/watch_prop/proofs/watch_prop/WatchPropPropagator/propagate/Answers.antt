@@ -1,7 +1,7 @@
 use Rattle.std.proofs.Common.{subst, sym, arith}
 use Rattle.clause_prop.specs.LineKinds.{IsClosedForWatched}
 use Rattle.clause_prop.proofs.Extensions.{extends_none, extends_twice, extends_same}
-use Rattle.clause_watch.proofs.WatchHold.{closed_by_kinds}
+use Rattle.watch_prop.proofs.WatchHold.{closed_by_kinds}
 use Rattle.watch_prop.proofs.Results.{where_none}
 use Rattle.watch_prop.proofs.watch_prop.WatchPropPropagator.propagate.Goals as goal
 

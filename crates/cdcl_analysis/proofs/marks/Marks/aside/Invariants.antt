@@ -1,6 +1,0 @@
-use Rattle.std.proofs.Common.{take}
-use Rattle.cdcl_analysis.specs.Walking.{AreAside}
-use Rattle.cdcl_analysis.proofs.marks.Marks.aside.Given as goal
-
-abbrev pub invariant-loop-place : goal.invariant-loop-place
-invariant-loop-place l = AreAside l.trail l.reach l.self.on.items (take l.place-index l.self.places) l.lits.items

@@ -1,8 +1,0 @@
-use Rattle.cdcl_order.proofs.HeapSteps.{IsRising}
-use Rattle.cdcl_order.proofs.heap.VariableHeap.sift_up.Given as goal
-
-abbrev pub invariant-loop-above : goal.invariant-loop-above
-invariant-loop-above l = IsRising l.fn.self l.self l.at
-
-abbrev pub decreases-loop-above : goal.decreases-loop-above
-decreases-loop-above l = l.at

@@ -1,9 +1,0 @@
-pub mod WatchedLines
-pub mod WatchLists
-pub mod WatchWords
-pub mod WatchSteps
-pub mod WatchKept
-pub mod WatchSlots
-pub mod WatchHold
-pub mod WatchVisits
-pub mod WatchTaken

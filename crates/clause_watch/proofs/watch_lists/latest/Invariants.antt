@@ -1,9 +1,0 @@
-use Rattle.std.proofs.Common.{◌<◌, ◌≤◌, length}
-use Rattle.clause_watch.proofs.watch_lists.latest.Given as goal
-
-abbrev pub invariant-loop-place : goal.invariant-loop-place
-invariant-loop-place l = record {
-  from : l.front ≤ l.best;
-  within : l.best < length l.clause;
-  next : l.front ≤ l.place;
-}

@@ -1,9 +1,0 @@
-pub use Rattle.clause_prop.specs.Steps
-pub use Rattle.clause_prop.specs.Propagating
-pub use Rattle.clause_prop.specs.LineKinds
-pub mod Codes
-pub mod Slot
-pub mod SlotTable
-pub mod Watching
-pub mod Words
-pub mod Watches

@@ -1,5 +1,0 @@
-use Rattle.command_trim.proofs.TrimmedTexts.{texts_accepted}
-use Rattle.command_trim.proofs.laws.trimmed_texts_are_accepted.Goals as goal
-
-pub returns : goal.returns
-returns c = texts_accepted

@@ -1,5 +1,0 @@
-use Rattle.log_trim.proofs.Subsequence.{trimmed_come}
-use Rattle.log_trim.proofs.laws.trimmed_lines_come_of_old.Goals as goal
-
-pub returns : goal.returns
-returns c = trimmed_come

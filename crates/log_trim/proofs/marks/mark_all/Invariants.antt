@@ -1,6 +1,0 @@
-use Rattle.std.proofs.Common.{◌≡◌, fold, take}
-use Rattle.log_trim.specs.Marks.{marked}
-use Rattle.log_trim.proofs.marks.mark_all.Given as goal
-
-abbrev pub invariant-loop-id : goal.invariant-loop-id
-invariant-loop-id l = l.marks ≡ fold (marked l.rows) l.fn.marks (take l.id-index l.ids)

@@ -1,7 +1,0 @@
-use Rattle.std.proofs.Common.{◌≡◌, map, take}
-use Rattle.log_trim.specs.Renames.{renaming}
-use Rattle.log_trim.specs.Trimmed.{id_or_same}
-use Rattle.log_trim.proofs.renamed.ids_or_same.Given as goal
-
-abbrev pub invariant-loop-id : goal.invariant-loop-id
-invariant-loop-id l = l.new ≡ map (id_or_same (renaming l.renames)) (take l.id-index l.ids)

@@ -1,7 +1,0 @@
-use Rattle.std.proofs.Common.{◌≡◌, ◌++◌, take, length}
-use Rattle.std.specs.List.{flat_map}
-use Rattle.models_text.specs.ModelsText.{head_line, entry_text}
-use Rattle.models_text.proofs.print.print_models.Given as goal
-
-abbrev pub invariant-loop-reps : goal.invariant-loop-reps
-invariant-loop-reps l = l.text.items ≡ head_line (length l.entries) ++ flat_map entry_text (take l.reps-index l.entries)

@@ -1,9 +1,0 @@
-pub mod CounterForcing
-pub mod CounterLists
-pub mod CounterVisits
-pub mod CounterTrails
-pub mod CounterKeeps
-pub mod CounterChanges
-pub mod CounterLooks
-pub mod CounterStored
-pub mod CounterLaws
