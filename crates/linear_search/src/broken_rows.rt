@@ -37,7 +37,8 @@ impl BrokenRows {
     }
 
     fn add(&mut self, row: usize) -> Result<(), NoMemory> {
-        self.put(row, Some(self.rows.len()));
+        let place = self.rows.len();
+        self.put(row, Some(place));
         self.rows.push(row)?;
         Ok(())
     }

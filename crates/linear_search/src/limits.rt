@@ -107,10 +107,11 @@ pub(crate) const FEW_VISITS: u64 = 4;
 // ---- walks (walks)
 
 // A walk may take so many passes over rows and columns: a tenth of a second on 3,500 rows, in which a roster's costs come to within
-// a twentieth of the least. One that finds nothing halves what the next may take, down to the other number.
+// a twentieth of the least.
 pub(crate) const PASSES_OF_A_WALK: u64 = 2000;
 
-pub(crate) const LEAST_PASSES_OF_A_WALK: u64 = 200;
+// No walk is begun any more after so many that found nothing, one after another: what is left is out of their reach.
+pub(crate) const MOST_FAILED_WALKS: u64 = 8;
 
 // From a model on it takes so many times the work, and this much, to a better one, or it ends: a small problem's walks soon stand
 // at the best that they meet.

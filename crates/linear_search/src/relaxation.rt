@@ -203,6 +203,18 @@ impl Relaxation {
         Ok(())
     }
 
+    // Whether no limit is below all that its objective can cost.
+    pub(crate) fn may_keep(&self, limits: &[Limit]) -> bool {
+        limits.iter().all(|limit| {
+            match self.objectives.get(limit.objective) {
+                Some(objective) => {
+                    objective.range.lower <= nearest_i64_to_f64(limit.most) - objective.constant
+                }
+                None => true,
+            }
+        })
+    }
+
     // A model that keeps to the limits, which a walk meets in so much work: the best by the aim of those that it met.
     pub(crate) fn walk(
         &mut self,

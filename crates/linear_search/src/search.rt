@@ -4,7 +4,7 @@ ghost use Rattle.linear_search.specs.Relaxations.{IsPaid};
 ghost use Rattle.linear_search.specs.Replies.{IsKeptWhereFound};
 
 use crate::exploring::Found;
-use crate::limits::{FIRST_STAKE, LEAST_PASSES_OF_A_WALK, MOST_STAKE, PASSES_OF_A_WALK};
+use crate::limits::{FIRST_STAKE, MOST_FAILED_WALKS, MOST_STAKE, PASSES_OF_A_WALK};
 use crate::question::{Limit, Question};
 use crate::relaxation::Relaxation;
 use crate::target::Target;
@@ -27,8 +27,8 @@ pub struct LinearSearch {
     purse: u64,
     // How many quarters of the purse the next question may spend.
     stake: u64,
-    // How many passes over rows and columns the next walk may take.
-    walk: u64,
+    // How many walks found nothing since the last one that did.
+    failed_walks: u64,
 }
 
 impl Model for LinearSearch {
@@ -61,7 +61,7 @@ impl LinearSearch {
             constraints: problem.rows().len(),
             purse,
             stake: FIRST_STAKE,
-            walk: PASSES_OF_A_WALK,
+            failed_walks: 0,
         })
     }
 
@@ -123,26 +123,25 @@ impl LinearSearch {
         self.relaxation.work_of_walks
     }
 
-    /// Whether a walk can be begun now: the relaxation isn't too large, and the last walks didn't all find nothing.
+    /// Whether a walk can be begun now: the relaxation isn't too large, and the last eight walks didn't all find nothing.
     pub fn may_walk(&self) -> bool {
-        self.relaxation.is_whole && self.walk >= LEAST_PASSES_OF_A_WALK
+        self.relaxation.is_whole && self.failed_walks < MOST_FAILED_WALKS
     }
 
     /// Literals of what may be a model that keeps to the limits, where a walk over whole values meets one: the best by the
-    /// target of those that it meets. Nothing of the purse is lost. A walk that finds nothing halves what the next may
-    /// take, until none is begun.
+    /// target of those that it meets. Nothing of the purse is lost.
     pub fn walk(&mut self, limits: &[Limit], target: Target) -> Result<Option<Items<Lit>>, NoMemory>
         ensures { self.new ≡ self.old }
     {
-        if !self.may_walk() {
+        if !self.may_walk() || !self.relaxation.may_keep(limits) {
             return Ok(None);
         }
         self.relaxation.aim_at(target)?;
-        let most = self.relaxation.passes(self.walk);
+        let most = self.relaxation.passes(PASSES_OF_A_WALK);
         let found = self.relaxation.walk(limits, most)?;
-        self.walk = match &found {
-            Some(_) => PASSES_OF_A_WALK,
-            None => self.walk / 2,
+        self.failed_walks = match &found {
+            Some(_) => 0,
+            None => self.failed_walks.saturating_add(1),
         };
         Ok(found)
     }

@@ -123,11 +123,13 @@ impl Walk {
 
     // Changes the best column of a broken row, if there is one. Where nothing gets better by it, broken rows weigh more.
     fn mend_one(&mut self) -> Result<(), NoMemory> {
-        let place = self.draw(self.broken.rows().len());
+        let count = self.broken.rows().len();
+        let place = self.draw(count);
         let Some(row) = self.broken.rows().get(place).copied() else {
             return Ok(());
         };
-        let from = self.draw(self.matrix.row(row).len());
+        let length = self.matrix.row(row).len();
+        let from = self.draw(length);
         let Some(change) = self.best_change(row, from) else {
             return Ok(());
         };

@@ -1,7 +1,7 @@
 // How much work relaxations may do, in numbers touched (DECISIONS, purse).
 use crate::limits::{
-    FIRST_WORK, FIRST_WORK_OF_CLAUSES, MOST_WORK, PART_WITHOUT_OBJECTIVES, PASSES_A_ROW,
-    WORK_OF_A_LINE,
+    FIRST_WORK, FIRST_WORK_OF_CLAUSES, MOST_WORK, PART_OF_WALKS, PART_WITHOUT_OBJECTIVES,
+    PASSES_A_ROW, WORK_OF_A_LINE,
 };
 use pb_lin::{Constraint, CostRow, PbProblem};
 
@@ -53,6 +53,15 @@ fn wants_more_than_one(row: &Constraint) -> bool {
         }
     }
     false
+}
+
+// What walks may take, where relaxations may take so much: nothing where no row counts, since a search by clauses finds models at
+// once there.
+pub(crate) fn allowance_of_walks(problem: &PbProblem, most: u64) -> u64 {
+    if rows_that_count(problem) == 0 {
+        return 0;
+    }
+    most / PART_OF_WALKS
 }
 
 // What may be lost on questions that stay open.

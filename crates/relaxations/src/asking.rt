@@ -5,7 +5,6 @@ ghost use Rattle.sum_outputs.specs.Adding.{IsReady, IsRecorded};
 ghost use Rattle.relaxations.specs.Told.{IsTold};
 
 use crate::defined_outputs::{DefinedOutput, DefinedOutputs, Standing};
-use crate::limits::PART_OF_WALKS;
 use front_set::CostVec;
 use linear_search::{Limit, LinearSearch, Reply, Target, model_of};
 use pb_lin::PbProblem;
@@ -33,8 +32,9 @@ pub(crate) enum Told {
 pub(crate) struct Asking<'a> {
     pub(crate) alloc: Global,
     pub(crate) linear: &'a mut LinearSearch,
-    // How much work it may do in all.
+    // How much work it may do in all, and how much walks may.
     pub(crate) most: u64,
+    pub(crate) most_of_walks: u64,
     pub(crate) defined: DefinedOutputs,
 }
 
@@ -102,13 +102,18 @@ impl<'a> Asking<'a> {
     }
 
     // Whether the relaxation may be asked once more.
-    pub(crate) fn may_ask(&self) -> bool {
+    fn may_ask(&self) -> bool {
         self.linear.work() <= self.most
     }
 
     // Whether a walk may be begun.
-    pub(crate) fn may_walk(&self) -> bool {
-        self.linear.may_walk() && self.linear.work_of_walks() <= self.most / PART_OF_WALKS
+    fn may_walk(&self) -> bool {
+        self.linear.may_walk() && self.linear.work_of_walks() < self.most_of_walks
+    }
+
+    // Whether anything may be asked once more: the relaxation, or for a model that a walk meets.
+    pub(crate) fn may_go_on(&self) -> bool {
+        self.may_ask() || self.may_walk()
     }
 
     // The same as `ask`; where the relaxation tells, as much may be lost on further questions as this one has cost. Where it doesn't,

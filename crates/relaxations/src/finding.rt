@@ -181,7 +181,7 @@ fn ask_next<R: Recorder>(
     ensures goes_on { GoesOn (R.seen rec.old) (R.seen rec.new) }
     ensures board { KeepsBoard board.old board.new }
 {
-    if !asking.may_ask() && !asking.may_walk() {
+    if !asking.may_go_on() {
         return Ok(false);
     }
     left.try_again(asking.linear.purse());

@@ -6,6 +6,7 @@ ghost use Rattle.search_base.specs.Pending.{AreOwnTerms, IsGoodBut};
 ghost use Rattle.search_base.specs.Turns.{IsEndLine, IsInOrder, IsSearchFault};
 ghost use Rattle.relaxations.specs.Ending.{IsKeptEnd};
 
+use crate::allowance::allowance_of_walks;
 use crate::asking::Asking;
 use crate::defined_outputs::DefinedOutputs;
 use crate::ending::{end_line, tie_bounds};
@@ -58,6 +59,7 @@ pub(crate) fn linear_front<O: Oracle>(
         alloc,
         linear,
         most,
+        most_of_walks: allowance_of_walks(board.problem(), most),
         defined,
     };
     let mut pending = Items::new(alloc);
