@@ -1,14 +1,14 @@
 -- Tokens that push, multiply and add lead to the sum.
-use Rattle.std.specs.Prelude.{◌≡◌, ℕ, ◌+◌, ◌*◌, ◌<◌, ◌≤◌, ◌^◌, Bool, true, false, if◌then◌else◌, nat_lt, int_lt, unsigned_abs, List, [], ◌∷◌, ℤ, pos, Option, Some, None, Err, MatchOption, refl}
+use Rattle.std.specs.Prelude.{◌≡◌, ℕ, ◌+◌, ◌*◌, ◌≤◌, ◌^◌, Bool, false, if◌then◌else◌, nat_lt, int_lt, unsigned_abs, List, [], ◌∷◌, ℤ, pos, Option, Some, None, Err, MatchOption, refl}
 use Rattle.std.specs.FinMap.{get}
-use Rattle.std.proofs.Common.{◌∙◌, ap, sym, subst, arith, length, get_or, drop}
-use Rattle.std.proofs.lemmas.List.{drop-drop, length-drop}
+use Rattle.std.proofs.Common.{◌∙◌, ap, sym, subst, arith, get_or, drop}
+use Rattle.std.proofs.lemmas.List.{drop-drop}
 use Rattle.std.proofs.lemmas.Bool.Decides.{nat_tests}
-use Rattle.pb_lin.specs.Constraint.{ConstraintValue, size, total}
+use Rattle.pb_lin.specs.Constraint.{ConstraintValue, size}
 use Rattle.pb_lin.specs.Given.{Given}
 use Rattle.cutting_planes.specs.Rules.{IsSum, multiplied}
 use Rattle.cutting_planes.specs.Stack.{size_fault, named_fault, token_fault, IsPushed, IsStep, Answer, IsValueOn}
-use Rattle.cutting_planes.specs.Additions.{Pushes, IsAddition, IsAddend, IsSummed}
+use Rattle.cutting_planes.specs.Additions.{Pushes, IsAddition, IsAddend}
 use Rattle.cutting_planes.specs.Runs.{LeadsTo}
 use Rattle.cutting_planes.specs.declared.token.PolToken.{PolToken}
 use Rattle.cutting_planes.specs.declared.token.PolToken.TheVariants.{Id, Axiom, Negated, Denied, Add, Mul, Div, Saturate, Weaken}

@@ -1,11 +1,9 @@
 -- Slots of a sum: terms with coefficient 0 are none of it, and terms are added in place.
-use Rattle.std.specs.Prelude.{◌≡◌, ℕ, ◌+◌, ◌-◌, ◌*◌, ◌<◌, ◌≤◌, ◌^◌, ◌==◌, Bool, true, false, not, cond, List, [], ◌∷◌, ◌++◌, Option, Some, None, IfSome, All, AllPairs, map, refl, slice_get, sum_by}
-use Rattle.std.specs.List.{filter}
-use Rattle.std.proofs.Common.{◌∙◌, ap, sym, subst, arith, zero, suc, length, get_or, set, take, drop}
+use Rattle.std.specs.Prelude.{◌≡◌, ℕ, ◌+◌, ◌-◌, ◌*◌, ◌<◌, ◌≤◌, ◌^◌, ◌==◌, Bool, true, false, not, cond, List, [], ◌∷◌, ◌++◌, Option, Some, None, IfSome, All, map, refl, slice_get, sum_by}
+use Rattle.std.proofs.Common.{◌∙◌, ap, sym, subst, arith, zero, suc, length, get_or, set, take}
 use Rattle.std.proofs.lemmas.List.{get_or-map, length-map, length-set, take_more}
 use Rattle.std.proofs.lemmas.Option.{slice_get_within, get_or_from_slice_get}
 use Rattle.std.proofs.lemmas.List.Elements.{All-nil, All-cons, All-head, All-tail, All-push, All-set, All-weaker, All-filter}
-use Rattle.std.proofs.lemmas.List.Filters.{sum_by-filter_both}
 use Rattle.std.proofs.lemmas.List.Kept.{AllPairs-filter}
 use Rattle.std.proofs.lemmas.List.Quantifiers.{all_pairs_push}
 use Rattle.std.proofs.lemmas.List.Sums.{sum_by-append, sum_by-cons, sum_by_push, sum_by-set, sum_by-take-le}
@@ -56,9 +54,9 @@ positive_step : (t : Literal × ℕ) (ts : Terms) (b : Bool) → (t.1 == 0) ≡ 
 positive_step t ts true e all = all
 positive_step t ts false e all = All-cons (λ u. 0 < u.1) t ts (above_zero t.1 e) all
 
-nonzero_positive : (ts : Terms) → All (λ t. 0 < t.1) (nonzero ts)
-nonzero_positive [] = All-nil (λ t. 0 < t.1)
-nonzero_positive (t ∷ ts) = positive_step t (nonzero ts) (t.1 == 0) refl (nonzero_positive ts)
+positive_nonzero : (ts : Terms) → All (λ t. 0 < t.1) (nonzero ts)
+positive_nonzero [] = All-nil (λ t. 0 < t.1)
+positive_nonzero (t ∷ ts) = positive_step t (nonzero ts) (t.1 == 0) refl (positive_nonzero ts)
 
 pub nonzero_empty : (ts : Terms) → All (λ t. t.1 ≡ 0) ts → nonzero ts ≡ []
 nonzero_empty [] all = refl
@@ -98,7 +96,7 @@ slots_set ts k y slots short same = record {
 pub normal_slots : (ts : Terms) (sum degree : ℕ) → AreCounted ts sum degree → IsNormal (nonzero ts) degree
 normal_slots ts sum degree counted = record {
   merged = record {
-    positive = nonzero_positive ts;
+    positive = positive_nonzero ts;
     from_one = All-filter (λ t. not (t.1 == 0)) (λ t. 0 < t.0.var) ts counted.slots.from_one;
     rising = AllPairs-filter (λ s t. s.0.var < t.0.var) (λ t. not (t.1 == 0)) ts counted.slots.rising;
   };

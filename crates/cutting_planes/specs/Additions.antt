@@ -1,5 +1,5 @@
 -- Tokens that push, multiply and add; nothing of it has to be believed.
-use Rattle.std.specs.Prelude.{◌≡◌, ℕ, ◌<◌, ◌≤◌, int_lt, unsigned_abs, false, List, [], ◌∷◌, length, slice_index_or, ℤ, pos, Some}
+use Rattle.std.specs.Prelude.{◌≡◌, ℕ, ◌<◌, ◌≤◌, int_lt, unsigned_abs, false, List, ◌∷◌, length, slice_index_or, pos, Some}
 use Rattle.std.specs.FinMap.{get}
 use Rattle.pb_lin.specs.Constraint.{ConstraintValue}
 use Rattle.pb_lin.specs.Given.{Given}

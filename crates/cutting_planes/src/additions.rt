@@ -23,8 +23,8 @@ struct Addend<'a> {
     tokens: usize,
 }
 
-// Makes the additions at the head of the tokens together, and gives how many tokens that are: 0 where
-// they are few, or the first can't be made. Those of lines with many terms may be left for later.
+// Makes additions at the head of the tokens together, and gives how many tokens these are: 0 where they
+// are few, or a line of theirs isn't short beside the topmost, or the first can't be made.
 pub(crate) fn add_run<'a>(
     alloc: Global,
     stack: &mut ConstraintStack<'a>,
@@ -38,13 +38,14 @@ pub(crate) fn add_run<'a>(
     ensures leads { IfOk result (λ n. LeadsTo (given_of lines.now negated.entry denied.entry)
         tokens.now stack.old n stack.new) }
 {
-    if !are_many(tokens) {
+    let longest = stack.top_len() / LEAST_ADDITIONS;
+    if !are_many(tokens, longest, lines, negated, denied) {
         return Ok(0);
     }
     let Some(top) = stack.pop() else {
         return Ok(0);
     };
-    match run_sum(alloc, &top, tokens, lines, negated, denied)? {
+    match run_sum(alloc, &top, tokens, longest, lines, negated, denied)? {
         Some((sum, added)) => {
             stack.push(Operand::made(sum.into_wide()))?;
             Ok(added)
@@ -62,6 +63,7 @@ fn run_sum(
     alloc: Global,
     top: &Operand,
     tokens: &[PolToken],
+    longest: usize,
     lines: &Lines,
     negated: Option<&Constraint>,
     denied: Option<&Constraint>,
@@ -71,10 +73,10 @@ fn run_sum(
 {
     let mut literals = top.to_literals(alloc)?;
     let room = GATHERED_TERMS.max(top.len());
-    let end = gather(&mut literals, room, tokens, lines, negated, denied)?;
+    let end = gather(&mut literals, room, tokens, longest, lines, negated, denied)?;
     literals.sort_unstable();
     match RunningSum::of(alloc, top, &literals)? {
-        Some(start) => Ok(summed(start, tokens, end, lines, negated, denied)),
+        Some(start) => Ok(summed(start, tokens, end, longest, lines, negated, denied)),
         None => Ok(None),
     }
 }
@@ -85,6 +87,7 @@ fn gather(
     literals: &mut Vec<Lit>,
     room: usize,
     tokens: &[PolToken],
+    longest: usize,
     lines: &Lines,
     negated: Option<&Constraint>,
     denied: Option<&Constraint>,
@@ -92,7 +95,7 @@ fn gather(
     ensures { IfOk result (λ end. end ≤ length tokens.now) }
 {
     let (mut end, mut left) = (0, room);
-    while let Some(next) = next_addend(&tokens[end..], lines, negated, denied) {
+    while let Some(next) = next_addend(&tokens[end..], longest, lines, negated, denied) {
         let more = next.constraint.literals();
         if more.len() > left {
             break;
@@ -110,6 +113,7 @@ fn summed(
     start: RunningSum,
     tokens: &[PolToken],
     end: usize,
+    longest: usize,
     lines: &Lines,
     negated: Option<&Constraint>,
     denied: Option<&Constraint>,
@@ -119,7 +123,7 @@ fn summed(
 {
     let (mut sum, mut at) = (start, 0);
     while at < end {
-        let Some(next) = next_addend(&tokens[at..], lines, negated, denied) else {
+        let Some(next) = next_addend(&tokens[at..], longest, lines, negated, denied) else {
             break;
         };
         if !fits(&sum, &next) {
@@ -143,22 +147,32 @@ fn fits(sum: &RunningSum, next: &Addend) -> bool
     is_product_small(size, next.factor) && size * next.factor <= SIZE_LIMIT - sum.size()
 }
 
-// Whether enough additions stand at the head of the tokens to be made together.
-fn are_many(tokens: &[PolToken]) -> bool {
+// Whether enough additions of lines with at most so many terms stand at the head of the tokens.
+fn are_many(
+    tokens: &[PolToken],
+    longest: usize,
+    lines: &Lines,
+    negated: Option<&Constraint>,
+    denied: Option<&Constraint>,
+) -> bool {
+    if longest == 0 || tokens.len() < 2 * LEAST_ADDITIONS {
+        return false;
+    }
     let mut at = 0;
     for _ in 0..LEAST_ADDITIONS {
-        let Some((_, applied)) = times_added(&tokens[at..]) else {
+        let Some(next) = next_addend(&tokens[at..], longest, lines, negated, denied) else {
             return false;
         };
-        at += applied;
+        at += next.tokens;
     }
     true
 }
 
-// What the first tokens add to the topmost, where they push a constraint that is there, multiply it by
-// a factor from 1 on or don't, and add.
+// What the first tokens add to the topmost, where they push a constraint that is there and has at most
+// so many terms, multiply it by a factor from 1 on or don't, and add.
 fn next_addend<'a>(
     tokens: &[PolToken],
+    longest: usize,
     lines: &'a Lines,
     negated: Option<&'a Constraint>,
     denied: Option<&'a Constraint>,
@@ -170,6 +184,9 @@ fn next_addend<'a>(
 {
     let (factor, applied) = times_added(tokens)?;
     let constraint = pushed(tokens[0], lines, negated, denied)?;
+    if constraint.len() > longest {
+        return None;
+    }
     Some(Addend {
         constraint,
         factor,

@@ -12,7 +12,7 @@ use std::alloc::Global;
 use std::marker::Model;
 
 // A constraint with a slot for each variable that may come, so that a term is added by a search, and
-// none is moved.
+// none is moved: a sparse accumulator (Gilbert, Moler and Schreiber 1992).
 #[derive(Debug, Drop)]
 pub(crate) struct RunningSum {
     slots: Vec<(Lit, u128)>,

@@ -1,6 +1,4 @@
-use Rattle.std.proofs.Common.{◌+◌, ◌*◌, ◌≤◌, take, arith}
-use Rattle.pb_lin.specs.Constraint.{total}
-use Rattle.cutting_planes.specs.Rules.{multiplied}
+use Rattle.std.proofs.Common.{arith}
 use Rattle.cutting_planes.proofs.SlotTerms.{multiple_total, multiple_small, multiple_more}
 use Rattle.cutting_planes.proofs.slots.add_multiple.Goals as goal
 

@@ -1,6 +1,5 @@
-use Rattle.std.proofs.Common.{◌≡◌, ◌∙◌, ◌+◌, ◌-◌, ◌*◌, ◌≤◌, ◌^◌, ap, take_at, arith}
+use Rattle.std.proofs.Common.{◌≡◌, ◌∙◌, ◌+◌, ◌-◌, ◌*◌, ap, take_at, arith}
 use Rattle.pb_lin.specs.Constraint.{total}
-use Rattle.cutting_planes.specs.Rules.{multiplied}
 use Rattle.cutting_planes.proofs.SlotTerms.{plus_small, plus_counted, plus_sum}
 use Rattle.cutting_planes.proofs.running_sum.RunningSum.plus.Goals as goal
 
