@@ -1,12 +1,12 @@
 // Additions at the head of the tokens, made together.
-ghost use Rattle.std.specs.Prelude.{◌≡◌, ℕ, ◌+◌, ◌*◌, ◌<◌, ◌≤◌, ◌^◌, ◌↔◌, IsTrue, IfOk, IfSome, length, slice_index_or};
+ghost use Rattle.std.specs.Prelude.{◌≡◌, ◌+◌, ◌*◌, ◌<◌, ◌≤◌, ◌^◌, ◌↔◌, IsTrue, IfOk, IfSome, length};
 ghost use Rattle.pb_lin.specs.Constraint.{size};
 ghost use Rattle.pb_lin.specs.Given.{given_of};
 ghost use Rattle.cutting_planes.specs.Additions.{IsAddend, IsAddition, IsSummed, Pushes};
 ghost use Rattle.cutting_planes.specs.Runs.{LeadsTo};
 
 use crate::PolToken;
-use crate::limits::{GATHERED_TERMS, LEAST_ADDITIONS};
+use crate::limits::{GATHERED_TERMS, LEAST_ADDITIONS, LEAST_RATIO};
 use crate::operand::Operand;
 use crate::running_sum::RunningSum;
 use crate::scale::is_product_small;
@@ -38,7 +38,7 @@ pub(crate) fn add_run<'a>(
     ensures leads { IfOk result (λ n. LeadsTo (given_of lines.now negated.entry denied.entry)
         tokens.now stack.old n stack.new) }
 {
-    let longest = stack.top_len() / LEAST_ADDITIONS;
+    let longest = stack.top_len() / LEAST_RATIO;
     if !are_many(tokens, longest, lines, negated, denied) {
         return Ok(0);
     }
