@@ -5,3 +5,5 @@ pub mod Truth
 pub mod Runs
 pub mod Within
 pub mod OneValue
+pub mod SlotTerms
+pub mod AdditionRuns

@@ -12,7 +12,7 @@ use Rattle.cutting_planes.specs.declared.token.PolToken.TheVariants.{Id, Axiom, 
 use Rattle.cutting_planes.specs.declared.fault.PolFault.{PolFault}
 
 -- two constraints have one sum
-same_sum : (r s p q : ConstraintValue) → IsSum r p q → IsSum s p q → r ≡ s
+pub same_sum : (r s p q : ConstraintValue) → IsSum r p q → IsSum s p q → r ≡ s
 same_sum r s p q one other =
     equal_from r s one.normal other.normal one.cancelled other.cancelled (λ a. let here = one.same a in let there = other.same a in omega arith)
     (λ e. let left = one.degree in let right = other.degree in omega arith)

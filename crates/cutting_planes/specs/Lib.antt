@@ -5,4 +5,6 @@ pub mod Rules
 pub mod Stack
 pub mod Applied
 pub mod Runs
+pub mod Slots
+pub mod Additions
 pub mod Held

@@ -18,6 +18,9 @@ use std::alloc::Global;
 /// passes together and a binary search each. A constraint that is named is pushed by reference, which
 /// takes no memory for its terms, and copied once a token changes it, which `Mul(1)` and `Add` of `0 >= 0`
 /// don't; `Add` makes one new constraint of two, and the other operations change the topmost in place.
+/// Where 16 or more additions of lines follow one another, each pushed, multiplied or not, and added, and
+/// of at most a 16th of the topmost's terms, they are made in place as well: together they cost a sort of
+/// the lines' terms and the topmost's, and a binary search each.
 ///
 /// The first token that fails decides: `NoSuchId(id)` where no line has this id, and `NoSuchId(0)` where
 /// `negated` or `denied` isn't given; `Stack` where a token finds too few constraints, which is judged

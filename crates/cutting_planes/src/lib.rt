@@ -5,10 +5,14 @@
 //! knows no proof and keeps no state.
 #![tactic(auto)]
 
+mod additions;
 mod evaluation;
 mod fault;
+mod limits;
 mod operand;
+mod running_sum;
 mod scale;
+mod slots;
 mod stack;
 mod steps;
 mod sum;

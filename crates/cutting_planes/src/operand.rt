@@ -1,7 +1,7 @@
 // Constraints on the stack, lent or made.
-ghost use Rattle.std.specs.Prelude.{◌≡◌, ◌*◌, ◌+◌, ◌↔◌, [], None, IfOk, OnOk, IfErr, IsTrue, unsigned_abs};
+ghost use Rattle.std.specs.Prelude.{◌≡◌, ◌*◌, ◌+◌, ◌<◌, ◌↔◌, [], None, Some, IfOk, OnOk, IfErr, IsTrue, length, slice_get, unsigned_abs};
 ghost use Rattle.scut_base.specs.Fault.{IsFaultOr};
-ghost use Rattle.pb_lin.specs.Constraint.{IsNormal, size};
+ghost use Rattle.pb_lin.specs.Constraint.{IsNormal, literals, size};
 ghost use Rattle.cutting_planes.specs.Rules.{IsSum, multiplied};
 ghost use Rattle.cutting_planes.specs.Stack.{factor_fault, size_fault};
 
@@ -10,7 +10,7 @@ use crate::scale::multiplied;
 use crate::sum::sum;
 use crate::wide::WideConstraint;
 use pb_lin::Constraint;
-use scut_base::{Duplicate, NoMemory};
+use scut_base::{Duplicate, Lit, NoMemory};
 use std::alloc::Global;
 use std::marker::Model;
 
@@ -75,15 +75,68 @@ impl<'a> Operand<'a> {
         }
     }
 
+    // The number of terms.
+    pub(crate) fn len(&self) -> usize
+        ensures value { result ≡ length self.now.terms }
+        ensures normal { IsNormal self.now.terms self.now.degree }
+    {
+        match &self.holding {
+            Holding::Lent(c) => c.len(),
+            Holding::Made(c) => c.len(),
+        }
+    }
+
+    // The term at a place, counted from 0; their variables rise.
+    pub(crate) fn term(&self, at: usize) -> (Lit, u128)
+        requires { at < length self.now.terms }
+        ensures { slice_get self.now.terms at ≡ Some result }
+    {
+        match &self.holding {
+            Holding::Lent(c) => c.term(at),
+            Holding::Made(c) => c.term(at),
+        }
+    }
+
+    // The literals, in rising order of variables. Takes 8 bytes each.
+    pub(crate) fn to_literals(&self, alloc: Global) -> Result<Vec<Lit>, NoMemory>
+        ensures { IfOk result (λ found. found.items ≡ literals self.now.terms) }
+    {
+        let mut literals = Vec::with_capacity(alloc, self.len())?;
+        for at in 0..self.len() {
+            let (lit, _) = self.term(at);
+            literals.push(lit)?;
+        }
+        Ok(literals)
+    }
+
+    // The degree.
+    pub(crate) fn degree(&self) -> u128
+        ensures value { result ≡ self.now.degree }
+        ensures normal { IsNormal self.now.terms self.now.degree }
+    {
+        match &self.holding {
+            Holding::Lent(c) => c.degree(),
+            Holding::Made(c) => c.degree(),
+        }
+    }
+
+    // The coefficients and the degree, summed: at most 2^100. Costs one pass at most.
+    pub(crate) fn size(&self) -> u128
+        ensures value { result ≡ size self.now }
+        ensures normal { IsNormal self.now.terms self.now.degree }
+    {
+        match &self.holding {
+            Holding::Lent(c) => c.size(),
+            Holding::Made(c) => c.size(),
+        }
+    }
+
     // Whether it is `0 >= 0`. Takes constant time.
     fn is_nothing(&self) -> bool
         ensures value { IsTrue result ↔ ((self.now.terms ≡ []) × (self.now.degree ≡ 0)) }
         ensures normal { IsNormal self.now.terms self.now.degree }
     {
-        match &self.holding {
-            Holding::Lent(c) => c.len() == 0 && c.degree() == 0,
-            Holding::Made(c) => c.len() == 0 && c.degree() == 0,
-        }
+        self.len() == 0 && self.degree() == 0
     }
 
     // The constraint multiplied. By 1 it is itself, and isn't copied.

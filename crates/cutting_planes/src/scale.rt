@@ -81,7 +81,7 @@ fn factor_of(k: i128) -> Result<u128, PolFault>
 }
 
 // Whether a constraint of this size may be multiplied by the factor.
-fn is_product_small(size: u128, factor: u128) -> bool
+pub(crate) fn is_product_small(size: u128, factor: u128) -> bool
     ensures { IsTrue result ↔ (size * factor ≤ 2 ^ 100) }
 {
     match size.checked_mul(factor) {

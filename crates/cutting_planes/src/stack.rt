@@ -48,6 +48,14 @@ impl<'a> ConstraintStack<'a> {
         self.constraints.pop()
     }
 
+    // The number of the topmost's terms, and 0 where the stack is empty.
+    pub(crate) fn top_len(&self) -> usize {
+        match self.constraints.last() {
+            Some(c) => c.len(),
+            None => 0,
+        }
+    }
+
     // What is left, if it is one constraint.
     pub(crate) fn into_answer(mut self, alloc: Global) -> Result<Constraint, PolFault>
         ensures { (result ≡ Err PolFault.NoMemory) ⊎ (result ≡ final_answer self.entry) }

@@ -4,6 +4,7 @@ ghost use Rattle.pb_lin.specs.Given.{Given, given_of};
 ghost use Rattle.cutting_planes.specs.Applied.{IsApplied, IsPushedIfNamed};
 ghost use Rattle.cutting_planes.specs.Runs.{IsBegun, IsRunApplied, IsWeakening};
 
+use crate::additions::add_run;
 use crate::operand::Operand;
 use crate::scale::{divided, saturated};
 use crate::stack::ConstraintStack;
@@ -14,7 +15,7 @@ use pb_lin::{Constraint, Lines};
 use scut_base::Lit;
 use std::alloc::Global;
 
-// Applies the first token, or as many as weaken at the head, and gives their number.
+// Applies the first token, or as many as weaken or add at the head, and gives their number.
 pub(crate) fn apply_first<'a>(
     alloc: Global,
     stack: &mut ConstraintStack<'a>,
@@ -31,6 +32,10 @@ pub(crate) fn apply_first<'a>(
     if run > 0 {
         weaken(alloc, stack, &tokens[..run])?;
         return Ok(run);
+    }
+    let added = add_run(alloc, stack, tokens, lines, negated, denied)?;
+    if added > 0 {
+        return Ok(added);
     }
     apply(alloc, stack, tokens[0], lines, negated, denied)?;
     Ok(1)

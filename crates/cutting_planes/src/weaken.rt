@@ -74,7 +74,7 @@ fn weakened_variable(token: PolToken) -> u64
 }
 
 // The place of the term of a variable, which may be near.
-fn place_of(terms: &[(Lit, u128)], var: u64, near: usize) -> Option<usize>
+pub(crate) fn place_of(terms: &[(Lit, u128)], var: u64, near: usize) -> Option<usize>
     requires { AllPairs (λ s t. s.0.var < t.0.var) terms.now }
     ensures { MatchOption result
         (All (λ t. t.0.var ≢ var) terms.now)
@@ -100,7 +100,7 @@ fn least_place(terms: &[(Lit, u128)], var: u64) -> usize
 }
 
 // The terms whose coefficients aren't 0.
-fn nonzero_terms(terms: Vec<(Lit, u128)>) -> Items<(Lit, u128)>
+pub(crate) fn nonzero_terms(terms: Vec<(Lit, u128)>) -> Items<(Lit, u128)>
     ensures { result ≡ nonzero terms.items }
 {
     let mut terms = terms;
