@@ -61,7 +61,8 @@ impl LinearBoxes {
         self.linear.is_spent() || self.linear.work() > self.allowance
     }
 
-    // What they tell of the front before a search's first turn: `linear_front`.
+    // What they tell of the front before a search's first turn: `linear_front`. Lines that there are by then, as those that put
+    // alike things in order, are taken up whether or not that is worth it: what is proposed later is refused where it breaks them.
     pub(crate) fn begin<O: Oracle>(
         &mut self,
         oracle: &mut O,
@@ -76,6 +77,7 @@ impl LinearBoxes {
         ensures goes_on { GoesOn (O.seen oracle.old) (O.seen oracle.new) }
         ensures board { KeepsBoard board.old board.new }
     {
+        self.linear.take_up(oracle.state())?;
         let (linear, most) = (&mut self.linear, self.allowance);
         linear_front(
             self.alloc,
