@@ -102,7 +102,7 @@ impl<'a> Asking<'a> {
     }
 
     // Whether the relaxation may be asked once more.
-    fn may_ask(&self) -> bool {
+    pub(crate) fn may_ask(&self) -> bool {
         self.linear.work() <= self.most
     }
 
@@ -111,13 +111,8 @@ impl<'a> Asking<'a> {
         self.linear.may_walk() && self.linear.work_of_walks() < self.most_of_walks
     }
 
-    // Whether anything may be asked once more: the relaxation, or for a model that a walk meets.
-    pub(crate) fn may_go_on(&self) -> bool {
-        self.may_ask() || self.may_walk()
-    }
-
     // The same as `ask`; where the relaxation tells, as much may be lost on further questions as this one has cost. Where it doesn't,
-    // or may not be asked, a walk may meet a model.
+    // a walk may meet a model.
     pub(crate) fn ask_and_earn<R: Recorder>(
         &mut self,
         rec: &mut R,
@@ -130,19 +125,18 @@ impl<'a> Asking<'a> {
         ensures recorded { IsRecorded (R.seen rec.old) (R.seen rec.new) result }
         ensures told { IfOk result (IsTold problem.now) }
     {
-        if !self.may_ask() {
-            let met = in_memory(self.walk(problem, limits, target))?;
-            return Ok(met);
-        }
         let before = self.linear.work();
-        let told = self.ask(rec, problem, limits, target)?;
-        if let Told::Unknown = told {
-            let met = in_memory(self.walk(problem, limits, target))?;
-            return Ok(met);
+        match self.ask(rec, problem, limits, target)? {
+            Told::Unknown => {
+                let met = in_memory(self.walk(problem, limits, target))?;
+                Ok(met)
+            }
+            told => {
+                let spent = self.linear.work().saturating_sub(before);
+                self.linear.earn(spent);
+                Ok(told)
+            }
         }
-        let spent = self.linear.work().saturating_sub(before);
-        self.linear.earn(spent);
-        Ok(told)
     }
 
     // A model whose costs are at most the limits, where a walk meets one: the best by the target of those that it meets.
@@ -167,7 +161,7 @@ impl<'a> Asking<'a> {
         }
     }
 
-    // The same where the last question was about the limits around these: it goes on in that question's tree. Costs an output
+    // As `ask`, where the last question was about the limits around these: it goes on in that question's tree. Costs an output
     // for each objective, and what `LinearSearch::ask_further` does.
     pub(crate) fn ask_below<R: Recorder>(
         &mut self,

@@ -164,8 +164,7 @@ fn ask_all<R: Recorder>(
     Ok(false)
 }
 
-// Asks the next box, as far as the relaxation may be asked or walks may be begun, and a box may tell something; answers whether
-// to go on.
+// Asks the next box, as far as the relaxation may be asked and a box may tell something; answers whether to go on.
 fn ask_next<R: Recorder>(
     asking: &mut Asking<'_>,
     boxes: &mut OpenBoxes,
@@ -181,7 +180,7 @@ fn ask_next<R: Recorder>(
     ensures goes_on { GoesOn (R.seen rec.old) (R.seen rec.new) }
     ensures board { KeepsBoard board.old board.new }
 {
-    if !asking.may_go_on() {
+    if !asking.may_ask() {
         return Ok(false);
     }
     left.try_again(asking.linear.purse());
