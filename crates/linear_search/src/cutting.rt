@@ -1,17 +1,19 @@
 // Rounds of cuts at the root of a question's tree.
 use crate::limits::{
-    CUTS_OF_A_ROUND, FEW_VISITS, FIRST_ROUNDS, LATER_ROUNDS, LEAST_GAIN, LEAST_SHARE,
+    CUTS_OF_A_ROUND, FEW_VISITS, FIRST_ROUNDS, LARGE_ROOT, LATER_ROUNDS, LEAST_GAIN, LEAST_SHARE,
     MOST_CUT_ENTRIES, MOST_FAILED, MOST_IDLE, MOST_PIVOTS, MOST_SIZE_OF_CUTS, MOST_STALLED,
-    NODES_BEFORE_CUTS, PASSES_OF_CUTS, SLACK,
+    NODES_BEFORE_CUTS, PASSES_OF_CUTS, ROOTS_OF_CUTS, SLACK,
 };
 use crate::question::Question;
 use crate::relaxation::{Relaxation, Row, float_of, sum_of_line};
+use crate::target::Target;
 use crate::tree::Tree;
 use cutting_planes::PolToken;
 use linear_cuts::{Cut, Padding, Separation};
 use linear_program::{Answer, Basis, Range};
 use proof_rules::ProofState;
 use scut_base::{Items, Lit, NoMemory};
+use std::alloc::Global;
 
 // The rounds of cuts of a question: the bounds before them and with them, and the basis and the rows before them.
 #[derive(Debug, Drop)]
@@ -25,8 +27,8 @@ pub(crate) struct Rounds {
 // How cuts have served so far.
 #[derive(Debug, Drop)]
 pub(crate) struct Service {
-    // Whether there were rounds before.
-    has_begun: bool,
+    // The targets of which there were rounds before.
+    begun: Vec<Target>,
     // How many questions they helped with, and with how many they didn't.
     helped: u64,
     failed: u64,
@@ -37,9 +39,9 @@ pub(crate) struct Service {
 }
 
 impl Service {
-    pub(crate) fn new() -> Service {
+    pub(crate) fn new(alloc: Global) -> Service {
         Service {
-            has_begun: false,
+            begun: Vec::new(alloc),
             helped: 0,
             failed: 0,
             open: None,
@@ -58,8 +60,9 @@ impl Relaxation {
         tree: &mut Tree,
         most: u64,
     ) -> Result<bool, NoMemory> {
-        let mut allowance = self.passes(PASSES_OF_CUTS);
-        if self.service.helped == 0 {
+        let of_roots = self.root_work.saturating_mul(ROOTS_OF_CUTS);
+        let mut allowance = self.passes(PASSES_OF_CUTS).max(of_roots);
+        if self.service.helped == 0 && self.root_work < LARGE_ROOT {
             let began = self.work();
             if !self.split_nodes(state, question, tree, most, NODES_BEFORE_CUTS)? {
                 return Ok(false);
@@ -85,7 +88,7 @@ impl Relaxation {
         let basis = self.program.basis()?;
         let first = self.rows.len();
         let after = self.cut_in_rounds(state, tree, &mut separation, most)?;
-        self.service.has_begun = true;
+        self.note_begun()?;
         let rounds = Rounds {
             before,
             after,
@@ -167,12 +170,20 @@ impl Relaxation {
         Ok(bound)
     }
 
+    // The first rounds of a target are more than later ones.
     fn rounds(&self) -> u32 {
-        if self.service.has_begun {
+        if self.service.begun.contains(&self.target) {
             LATER_ROUNDS
         } else {
             FIRST_ROUNDS
         }
+    }
+
+    fn note_begun(&mut self) -> Result<(), NoMemory> {
+        if !self.service.begun.contains(&self.target) {
+            self.service.begun.push(self.target)?;
+        }
+        Ok(())
     }
 
     // Adds the cuts of the present point; answers whether there are any.
@@ -319,6 +330,9 @@ impl Relaxation {
 
     // Drops rows that are marked, if the program can, and answers which stay.
     fn drop_rows(&mut self, is_dropped: &[bool]) -> Result<Vec<usize>, NoMemory> {
+        if let Some(first) = is_dropped.iter().position(|is_dropped| *is_dropped) {
+            self.roots.forget_over(first);
+        }
         let staying = self.program.drop_rows(0, is_dropped)?;
         let mut rows = Vec::with_capacity(self.alloc, staying.len())?;
         for row in staying.iter() {

@@ -1,5 +1,7 @@
 // The search through the tree, the node of least bound first.
-use crate::limits::{MOST_NODES, NODES_OF_ATTEMPTS, PASSES_MORE, TIMES_MORE};
+use crate::limits::{
+    MOST_NODES, NODES_OF_ATTEMPTS, PASSES_MORE, PASSES_OF_A_WALK, SHARE_OF_WALKS, TIMES_MORE,
+};
 use crate::nodes::Node;
 use crate::question::Question;
 use crate::relaxation::{Relaxation, column_of};
@@ -56,13 +58,24 @@ impl Relaxation {
     ) -> Result<(), NoMemory> {
         let mut best = None;
         std::mem::swap(&mut best, &mut tree.best);
-        self.begin_at_root(state, question, tree)?;
+        self.begin_with_root(state, question, tree)?;
         tree.best = best;
-        Ok(())
+        self.visit_root(state, question, tree)
     }
 
     // Begins a tree with its root alone, which is visited.
-    pub(crate) fn begin_at_root(
+    fn begin_at_root(
+        &mut self,
+        state: &ProofState,
+        question: &Question<'_>,
+        tree: &mut Tree,
+    ) -> Result<(), NoMemory> {
+        self.begin_with_root(state, question, tree)?;
+        self.visit_root(state, question, tree)
+    }
+
+    // Begins a tree with its root alone.
+    fn begin_with_root(
         &mut self,
         state: &ProofState,
         question: &Question<'_>,
@@ -70,7 +83,20 @@ impl Relaxation {
     ) -> Result<(), NoMemory> {
         self.begin(question, tree);
         tree.begin(state.vars(), self.least_sum(), self.aim.step.max(1e-6))?;
+        let first_walk = self.passes(PASSES_OF_A_WALK * SHARE_OF_WALKS);
+        tree.next_walk = self.work().saturating_add(first_walk);
+        Ok(())
+    }
+
+    // Visits the root.
+    fn visit_root(
+        &mut self,
+        state: &ProofState,
+        question: &Question<'_>,
+        tree: &mut Tree,
+    ) -> Result<(), NoMemory> {
         self.visit(state, question, tree, 0)?;
+        self.roots.keep(&self.program)?;
         tree.push_if_open(0)
     }
 

@@ -1,6 +1,6 @@
 //! Questions whether literals can be true together, answered by a search over linear relaxations (branch and
 //! bound, Land and Doig 1960) whose leaves and inner nodes are lines, each judged before it is recorded. The root of a tree that
-//! has grown gets cuts (Crowder, Johnson and Padberg 1983). Where a search finds nothing, a walk over whole values may meet a model.
+//! has grown gets cuts (Crowder, Johnson and Padberg 1983). From a node's values a walk over whole ones may meet a model.
 //!
 //! Its public contract: `LinearSearch::ask` answers some of the assumptions with a live clause by which they
 //! can't all be true, as an oracle does; or literals that may be a model; or neither. It adds only constraints that
@@ -10,6 +10,7 @@
 mod asking;
 mod broken_rows;
 mod closing;
+mod counting;
 mod cuts;
 mod cutting;
 mod exploring;
@@ -19,6 +20,7 @@ mod nodes;
 mod question;
 mod relaxation;
 mod reply;
+mod roots;
 mod rounding;
 mod scale;
 mod search;
@@ -28,6 +30,7 @@ mod visiting;
 mod walking;
 mod writing;
 
+pub use counting::wants_more_than_one;
 pub use model::model_of;
 pub use question::Limit;
 pub use reply::Reply;

@@ -70,17 +70,23 @@ pub(crate) const MOST_CUT_ENTRIES: usize = 400_000;
 // Nor where those that were made have more terms than this together: 24 bytes each.
 pub(crate) const MOST_SIZE_OF_CUTS: usize = 1_000_000;
 
-// So many rounds of so many cuts at most at the root of the first question's tree, where all that cuts can bring is still to be
-// had; and of later ones, which begin with the cuts of those before.
+// So many rounds of so many cuts at most at the root of the first question's tree of each target, where all that cuts can bring is
+// still to be had; and of later ones, which begin with the cuts of those before.
 pub(crate) const FIRST_ROUNDS: u32 = 15;
 
 pub(crate) const LATER_ROUNDS: u32 = 4;
 
 pub(crate) const CUTS_OF_A_ROUND: usize = 20;
 
-// The rounds end after this much work, as passes over rows and columns; and before cuts have helped, after as much as the tree took
-// so far, so that they cost no more than it.
+// The rounds end after this much work, as passes over rows and columns, or as so many programs like the root's where that is more;
+// and before cuts have helped, after as much as the tree took so far, so that they cost no more than it.
 pub(crate) const PASSES_OF_CUTS: u64 = 20_000;
+
+pub(crate) const ROOTS_OF_CUTS: u64 = 10;
+
+// Where the root's program takes more than this, some hundredths of a second, cuts are sought before anything is split: forty nodes
+// take longer than rounds of cuts there.
+pub(crate) const LARGE_ROOT: u64 = 20_000_000;
 
 // They end where so many, one after another, raised the bound by less than this part: what comes then is too little.
 pub(crate) const LEAST_GAIN: f64 = 1e-4;
@@ -106,12 +112,14 @@ pub(crate) const FEW_VISITS: u64 = 4;
 
 // ---- walks (walks)
 
-// A walk may take so many passes over rows and columns: a tenth of a second on 3,500 rows, in which a roster's costs come to within
-// a twentieth of the least.
+// A walk may take so many passes over rows and columns: a tenth of a second on 3,500 rows.
 pub(crate) const PASSES_OF_A_WALK: u64 = 2000;
 
-// No walk is begun any more after so many that found nothing, one after another: what is left is out of their reach.
-pub(crate) const MOST_FAILED_WALKS: u64 = 8;
+// The first one is begun after so many times that work. Walks take one part in so many of all work, half of that after each one that
+// found nothing, and so on so many times.
+pub(crate) const SHARE_OF_WALKS: u64 = 8;
+
+pub(crate) const MOST_HALVINGS: u64 = 10;
 
 // From a model on it takes so many times the work, and this much, to a better one, or it ends: a small problem's walks soon stand
 // at the best that they meet.

@@ -1,12 +1,15 @@
 // The linear relaxation of a problem.
+use crate::counting::wants_more_than_one;
 use crate::cuts::Cuts;
 use crate::cutting::Service;
-use crate::limits::{LEAST_PASSES, MOST_SIZE_OF_LINE};
+use crate::limits::{
+    LEAST_PASSES, MOST_HALVINGS, MOST_PIVOTS, MOST_SIZE_OF_LINE, PASSES_OF_A_WALK, SHARE_OF_WALKS,
+};
 use crate::question::Limit;
+use crate::roots::Roots;
 use crate::rounding::Matrix;
 use crate::scale::Scale;
 use crate::target::{Aim, Target};
-use crate::visiting::literals_of;
 use crate::walking::Walk;
 use linear_program::{LinearProgram, MOST_ENTRIES, MOST_ROWS, Range, Term};
 use pb_lin::{Constraint, CostRow, PbProblem};
@@ -58,12 +61,16 @@ pub(crate) struct Relaxation {
     // Of each column, how many rows name it, and what share it has of all costs.
     pub(crate) uses: Vec<f64>,
     pub(crate) shares: Vec<f64>,
+    pub(crate) target: Target,
     pub(crate) aim: Aim,
     // By what the choice of columns to split by is swayed.
     pub(crate) sway: u64,
-    // Where the last walk ended: the value of each column; and what walks took, in numbers touched.
-    walked: Vec<f64>,
-    pub(crate) work_of_walks: u64,
+    // Whether some row isn't met by each of its literals, and how many walks found nothing since the last one that did.
+    pub(crate) counts: bool,
+    failed_walks: u64,
+    pub(crate) roots: Roots,
+    // What the linear program without limits took, in numbers touched.
+    pub(crate) root_work: u64,
     // How multipliers come to whole factors.
     pub(crate) scale: Scale,
     // The id of the next line to be looked at.
@@ -80,23 +87,28 @@ impl Relaxation {
     pub(crate) fn new(alloc: Global, problem: &PbProblem) -> Result<Relaxation, NoMemory> {
         let is_whole = has_room(problem);
         let columns = if is_whole { problem.vars() as usize } else { 0 };
+        let program = LinearProgram::new(alloc, columns)?;
+        let roots = Roots::new(alloc, &program)?;
         let mut relaxation = Relaxation {
             alloc,
-            program: LinearProgram::new(alloc, columns)?,
+            program,
             is_whole,
             columns,
             rows: Vec::new(alloc),
             matrix: Matrix::new(alloc, columns)?,
             objectives: Vec::new(alloc),
             cuts: Cuts::new(alloc),
-            service: Service::new(),
+            service: Service::new(alloc),
             entries: 0,
             uses: vec![in alloc; 1.0; columns]?,
             shares: vec![in alloc; 1.0; columns]?,
+            target: Target::Sum,
             aim: Aim::new(alloc),
             sway: 0,
-            walked: vec![in alloc; 0.0; columns]?,
-            work_of_walks: 0,
+            counts: problem.rows().iter().any(wants_more_than_one),
+            failed_walks: 0,
+            roots,
+            root_work: 0,
             scale: Scale::new(),
             next_line: (problem.rows().len() as u64).saturating_add(1),
             held_from: 0,
@@ -126,7 +138,8 @@ impl Relaxation {
     pub(crate) fn begin_again(&mut self, problem: &PbProblem, end: u64) -> Result<(), NoMemory> {
         let mut again = Relaxation::new(self.alloc, problem)?;
         again.own_work = self.work();
-        again.work_of_walks = self.work_of_walks;
+        again.failed_walks = self.failed_walks;
+        again.root_work = self.root_work;
         again.held_from = again.next_line;
         again.held_to = end;
         again.next_line = again.next_line.max(end);
@@ -215,22 +228,35 @@ impl Relaxation {
         })
     }
 
-    // A model that keeps to the limits, which a walk meets in so much work: the best by the aim of those that it met.
+    // The best by the aim of the models within the limits that a walk from these values meets, each column's value; none where it meets
+    // none.
     pub(crate) fn walk(
         &mut self,
         limits: &[Limit],
-        most: u64,
-    ) -> Result<Option<Items<Lit>>, NoMemory> {
+        values: &[f64],
+    ) -> Result<Option<Vec<f64>>, NoMemory> {
         let matrix = self.rows_to_walk_by(limits)?;
         let gain = self.aim.step.max(1e-6);
-        let mut walk = Walk::new(self.alloc, matrix, gain, self.walked.as_slice(), most)?;
+        let most = self.passes(PASSES_OF_A_WALK);
+        let mut walk = Walk::new(self.alloc, matrix, gain, values, most)?;
         walk.search()?;
-        self.work_of_walks = self.work_of_walks.saturating_add(walk.work);
-        self.walked = walk.values()?;
-        match &walk.best {
-            Some(is_one) => Ok(Some(literals_of(self.alloc, is_one.as_slice())?)),
-            None => Ok(None),
-        }
+        self.own_work = self.own_work.saturating_add(walk.work);
+        self.failed_walks = match &walk.best {
+            Some(_) => 0,
+            None => self.failed_walks.saturating_add(1),
+        };
+        let mut best = None;
+        std::mem::swap(&mut best, &mut walk.best);
+        Ok(best)
+    }
+
+    // At how much work the next walk is begun, where the last one began at this: walks take a share of all work, half as much after each
+    // that found nothing.
+    pub(crate) fn next_walk(&self, began: u64) -> u64 {
+        let now = self.work();
+        let taken = now.saturating_sub(began);
+        let times = SHARE_OF_WALKS << self.failed_walks.min(MOST_HALVINGS);
+        now.saturating_add(taken.saturating_mul(times))
     }
 
     // The problem's rows, the limits, and last the aim's costs with their signs changed.
@@ -280,7 +306,17 @@ impl Relaxation {
     pub(crate) fn aim_at(&mut self, target: Target) -> Result<(), NoMemory> {
         self.aim = Aim::of(self.alloc, target, self.columns, self.objectives.as_slice())?;
         self.program.set_costs(self.aim.costs.as_slice());
-        Ok(())
+        self.target = target;
+        self.roots.go_to(target, &mut self.program)
+    }
+
+    // Solves for the least sum with no column fixed.
+    pub(crate) fn solve_root(&mut self) -> Result<(), NoMemory> {
+        let before = self.work();
+        self.aim_at(Target::Sum)?;
+        self.program.solve(f64::INFINITY, MOST_PIVOTS)?;
+        self.root_work = self.work().saturating_sub(before);
+        self.roots.keep(&self.program)
     }
 
     // Fixes the column of a literal so that it is true.

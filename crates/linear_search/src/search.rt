@@ -4,14 +4,14 @@ ghost use Rattle.linear_search.specs.Relaxations.{IsPaid};
 ghost use Rattle.linear_search.specs.Replies.{IsKeptWhereFound};
 
 use crate::exploring::Found;
-use crate::limits::{FIRST_STAKE, MOST_FAILED_WALKS, MOST_STAKE, PASSES_OF_A_WALK};
-use crate::question::{Limit, Question};
+use crate::limits::{FIRST_STAKE, MOST_STAKE};
+use crate::question::Question;
 use crate::relaxation::Relaxation;
 use crate::target::Target;
 use crate::tree::Tree;
 use pb_lin::PbProblem;
 use proof_rules::ProofState;
-use scut_base::{Items, Lit, NoMemory};
+use scut_base::NoMemory;
 use std::alloc::Global;
 use std::marker::Model;
 
@@ -27,8 +27,6 @@ pub struct LinearSearch {
     purse: u64,
     // How many quarters of the purse the next question may spend.
     stake: u64,
-    // How many walks found nothing since the last one that did.
-    failed_walks: u64,
 }
 
 impl Model for LinearSearch {
@@ -61,7 +59,6 @@ impl LinearSearch {
             constraints: problem.rows().len(),
             purse,
             stake: FIRST_STAKE,
-            failed_walks: 0,
         })
     }
 
@@ -113,37 +110,21 @@ impl LinearSearch {
         self.relaxation.work()
     }
 
+    /// Solves the relaxation for the least sum, and answers what that took, in numbers touched.
+    pub fn root_work(&mut self) -> Result<u64, NoMemory>
+        ensures { self.new ≡ self.old }
+    {
+        if !self.relaxation.is_whole {
+            return Ok(0);
+        }
+        let before = self.relaxation.work();
+        self.relaxation.solve_root()?;
+        Ok(self.relaxation.work().saturating_sub(before))
+    }
+
     /// Whether no question can be answered now: the purse has nothing left for a question, or the relaxation is too large.
     pub fn is_spent(&self) -> bool {
         !self.relaxation.is_whole || self.purse < self.relaxation.least_stake()
-    }
-
-    /// The work that walks took so far, in numbers touched; `work` doesn't count it.
-    pub fn work_of_walks(&self) -> u64 {
-        self.relaxation.work_of_walks
-    }
-
-    /// Whether a walk can be begun now: the relaxation isn't too large, and the last eight walks didn't all find nothing.
-    pub fn may_walk(&self) -> bool {
-        self.relaxation.is_whole && self.failed_walks < MOST_FAILED_WALKS
-    }
-
-    /// Literals of what may be a model that keeps to the limits, where a walk over whole values meets one: the best by the
-    /// target of those that it meets. Nothing of the purse is lost.
-    pub fn walk(&mut self, limits: &[Limit], target: Target) -> Result<Option<Items<Lit>>, NoMemory>
-        ensures { self.new ≡ self.old }
-    {
-        if !self.may_walk() || !self.relaxation.may_keep(limits) {
-            return Ok(None);
-        }
-        self.relaxation.aim_at(target)?;
-        let most = self.relaxation.passes(PASSES_OF_A_WALK);
-        let found = self.relaxation.walk(limits, most)?;
-        self.failed_walks = match &found {
-            Some(_) => 0,
-            None => self.failed_walks.saturating_add(1),
-        };
-        Ok(found)
     }
 
     // Searches for the best values within the limits where the assumptions are true, in a new tree or in that of the last

@@ -8,7 +8,7 @@ use std::alloc::Global;
 const STEP_WITHOUT_COSTS: f64 = 1.0;
 
 /// What a question wants least, among all models within its limits.
-#[derive(Clone, Copy, Debug)]
+#[derive(Clone, Copy, Debug, PartialEq, Eq)]
 pub enum Target {
     /// The sum of all costs, each by the width of its range.
     Sum,

@@ -77,6 +77,8 @@ pub(crate) struct Tree {
     pub(crate) best: Option<Best>,
     // How many nodes were visited.
     pub(crate) visits: u64,
+    // At how much work the next walk is begun.
+    pub(crate) next_walk: u64,
     // What bounds are counted from, and in which unit they are told apart.
     pub(crate) least: f64,
     pub(crate) unit: f64,
@@ -97,6 +99,7 @@ impl Tree {
             fixed: Partial::new(alloc, 0)?,
             best: None,
             visits: 0,
+            next_walk: 0,
             least: 0.0,
             unit: 1.0,
         })

@@ -142,6 +142,9 @@ impl Relaxation {
             self.count_passes(PASSES_OF_ROUNDING);
             self.round(question, tree, values)?;
         }
+        if split.is_some() && self.is_time_to_walk(tree) {
+            self.walk_from(question, tree, values)?;
+        }
         let kept = self.kept_now(split.is_some())?;
         tree.note(at, bound, split, kept);
         Ok(())
@@ -161,6 +164,31 @@ impl Relaxation {
                     let lits = literals_of(self.alloc, point.is_one.as_slice())?;
                     tree.offer(lits, point.cost_by(self.aim.main.as_slice()));
                 }
+            }
+        }
+        Ok(())
+    }
+
+    // Whether rows count, no model is known, and enough was done since the last walk.
+    fn is_time_to_walk(&self, tree: &Tree) -> bool {
+        self.counts && tree.best.is_none() && tree.next_walk <= self.work()
+    }
+
+    // Offers the model that a walk from these values meets, if it keeps to what is asked.
+    fn walk_from(
+        &mut self,
+        question: &Question<'_>,
+        tree: &mut Tree,
+        values: &[f64],
+    ) -> Result<(), NoMemory> {
+        let began = self.work();
+        let found = self.walk(question.limits, values)?;
+        tree.next_walk = self.next_walk(began);
+        if let Some(values) = found {
+            let point = self.matrix.point(values.as_slice(), 0.5)?;
+            if self.keeps(question, &point) {
+                let lits = literals_of(self.alloc, point.is_one.as_slice())?;
+                tree.offer(lits, point.cost_by(self.aim.main.as_slice()));
             }
         }
         Ok(())
@@ -344,7 +372,7 @@ fn add_limit(
 }
 
 // The literals that are true where these columns are 1.
-pub(crate) fn literals_of(alloc: Global, is_one: &[bool]) -> Result<Items<Lit>, NoMemory> {
+fn literals_of(alloc: Global, is_one: &[bool]) -> Result<Items<Lit>, NoMemory> {
     let mut lits = Items::with_capacity(alloc, is_one.len())?;
     for (column, is_one) in is_one.iter().enumerate() {
         if let Some(lit) = literal_of(column, if *is_one { 1.0 } else { 0.0 }) {

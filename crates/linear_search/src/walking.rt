@@ -24,7 +24,7 @@ pub(crate) struct Walk {
     draws: u64,
     // By how much a model has to be better.
     gain: f64,
-    pub(crate) best: Option<Vec<bool>>,
+    pub(crate) best: Option<Vec<f64>>,
     // What was done, at which work it ends, and at which it does where no better model comes, in numbers touched.
     pub(crate) work: u64,
     most: u64,
@@ -96,8 +96,8 @@ impl Walk {
         Ok(())
     }
 
-    // Where the walk stands.
-    pub(crate) fn values(&self) -> Result<Vec<f64>, NoMemory> {
+    // The values of the point where the walk stands.
+    fn values(&self) -> Result<Vec<f64>, NoMemory> {
         let mut values = Vec::with_capacity(self.alloc, self.matrix.columns())?;
         for is_one in self.point.is_one.iter() {
             values.push(if *is_one { 1.0 } else { 0.0 })?;
@@ -108,7 +108,7 @@ impl Walk {
     // Keeps the point, which breaks no row, and asks for a better one; answers whether there may be one. The walk ends soon where
     // no better one comes.
     fn take_model(&mut self) -> Result<bool, NoMemory> {
-        self.best = Some(Vec::from_slice(self.alloc, self.point.is_one.as_slice())?);
+        self.best = Some(self.values()?);
         let times = self.work.saturating_mul(TIMES_TO_BETTER);
         self.enough = times.saturating_add(LEAST_TO_BETTER);
         let target = self.matrix.rows().saturating_sub(1);
@@ -149,6 +149,7 @@ impl Walk {
             if tried >= CHANGES_TRIED {
                 break;
             }
+            self.work = self.work.saturating_add(1);
             let place = from.saturating_add(offset) % count;
             let Some(term) = self.matrix.row(row).get(place).copied() else {
                 continue;

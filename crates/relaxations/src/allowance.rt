@@ -1,9 +1,10 @@
 // How much work relaxations may do, in numbers touched (DECISIONS, purse).
 use crate::limits::{
-    FIRST_WORK, FIRST_WORK_OF_CLAUSES, MOST_WORK, PART_OF_WALKS, PART_WITHOUT_OBJECTIVES,
-    PASSES_A_ROW, WORK_OF_A_LINE,
+    FIRST_WORK, FIRST_WORK_OF_CLAUSES, MOST_WORK, PART_WITHOUT_OBJECTIVES, PASSES_A_ROW,
+    ROOTS_IN_PURSE, WORK_OF_A_LINE,
 };
-use pb_lin::{Constraint, CostRow, PbProblem};
+use linear_search::wants_more_than_one;
+use pb_lin::{CostRow, PbProblem};
 
 // What all questions may take together before the first clause is learned.
 pub(crate) fn first_allowance(problem: &PbProblem) -> u64 {
@@ -45,28 +46,17 @@ fn rows_that_count(problem: &PbProblem) -> u64 {
     count
 }
 
-// Whether some literal of a row doesn't meet it by itself.
-fn wants_more_than_one(row: &Constraint) -> bool {
-    for at in 0..row.len() {
-        if row.term(at).1 < row.degree() {
-            return true;
-        }
-    }
-    false
-}
-
-// What walks may take, where relaxations may take so much: nothing where no row counts, since a search by clauses finds models at
-// once there.
-pub(crate) fn allowance_of_walks(problem: &PbProblem, most: u64) -> u64 {
-    if rows_that_count(problem) == 0 {
-        return 0;
-    }
-    most / PART_OF_WALKS
-}
-
 // What may be lost on questions that stay open.
 pub(crate) fn first_purse(problem: &PbProblem) -> u64 {
     first_allowance(problem).min(FIRST_WORK)
+}
+
+// What may be lost on them where the root's program took so much work: enough for trees of programs as large, where rows count.
+pub(crate) fn purse_by_root(problem: &PbProblem, purse: u64, root: u64, most: u64) -> u64 {
+    if rows_that_count(problem) == 0 {
+        return purse;
+    }
+    purse.max(root.saturating_mul(ROOTS_IN_PURSE)).min(most)
 }
 
 // The pairs of outputs of two children, node by node, as if all weights were alike.

@@ -21,8 +21,6 @@ pub(crate) enum Told {
     Closed,
     // This model does, and of such models it has the least cost by the target, as far as the relaxation tells.
     Model(Assignment),
-    // This model does; others may cost less.
-    Met(Assignment),
     // It isn't known.
     Unknown,
 }
@@ -32,9 +30,8 @@ pub(crate) enum Told {
 pub(crate) struct Asking<'a> {
     pub(crate) alloc: Global,
     pub(crate) linear: &'a mut LinearSearch,
-    // How much work it may do in all, and how much walks may.
+    // How much work it may do in all.
     pub(crate) most: u64,
-    pub(crate) most_of_walks: u64,
     pub(crate) defined: DefinedOutputs,
 }
 
@@ -106,13 +103,7 @@ impl<'a> Asking<'a> {
         self.linear.work() <= self.most
     }
 
-    // Whether a walk may be begun.
-    fn may_walk(&self) -> bool {
-        self.linear.may_walk() && self.linear.work_of_walks() < self.most_of_walks
-    }
-
-    // The same as `ask`; where the relaxation tells, as much may be lost on further questions as this one has cost. Where it doesn't,
-    // a walk may meet a model.
+    // The same as `ask`; where the relaxation tells, as much may be lost on further questions as this one has cost.
     pub(crate) fn ask_and_earn<R: Recorder>(
         &mut self,
         rec: &mut R,
@@ -126,39 +117,12 @@ impl<'a> Asking<'a> {
         ensures told { IfOk result (IsTold problem.now) }
     {
         let before = self.linear.work();
-        match self.ask(rec, problem, limits, target)? {
-            Told::Unknown => {
-                let met = in_memory(self.walk(problem, limits, target))?;
-                Ok(met)
-            }
-            told => {
-                let spent = self.linear.work().saturating_sub(before);
-                self.linear.earn(spent);
-                Ok(told)
-            }
+        let told = self.ask(rec, problem, limits, target)?;
+        if !matches!(told, Told::Unknown) {
+            let spent = self.linear.work().saturating_sub(before);
+            self.linear.earn(spent);
         }
-    }
-
-    // A model whose costs are at most the limits, where a walk meets one: the best by the target of those that it meets.
-    fn walk(
-        &mut self,
-        problem: &PbProblem,
-        limits: &CostVec,
-        target: Target,
-    ) -> Result<Told, NoMemory>
-        ensures told { IfOk result (IsTold problem.now) }
-    {
-        if !self.may_walk() {
-            return Ok(Told::Unknown);
-        }
-        let asked = bare_limits(self.alloc, limits)?;
-        let Some(lits) = self.linear.walk(asked.as_slice(), target)? else {
-            return Ok(Told::Unknown);
-        };
-        match model_within(self.alloc, problem, limits, lits.as_slice())? {
-            Some(model) => Ok(Told::Met(model)),
-            None => Ok(Told::Unknown),
-        }
+        Ok(told)
     }
 
     // As `ask`, where the last question was about the limits around these: it goes on in that question's tree. Costs an output
@@ -378,22 +342,6 @@ fn joined(alloc: Global, some: &Items<Lit>, others: &Items<Lit>) -> Result<Items
         }
     }
     Ok(lits)
-}
-
-// Limits without the lines of their outputs, of the objectives that have one.
-fn bare_limits(alloc: Global, limits: &CostVec) -> Result<Items<Limit>, NoMemory> {
-    let mut asked = Items::new(alloc);
-    for (objective, most) in limits.as_slice().iter().enumerate() {
-        if *most < i64::MAX {
-            asked.push(Limit {
-                objective,
-                most: *most,
-                upper_line: 0,
-                reform_line: 0,
-            })?;
-        }
-    }
-    Ok(asked)
 }
 
 // What a proposed model tells.

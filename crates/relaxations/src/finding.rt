@@ -320,11 +320,8 @@ fn go_on<R: Recorder>(
             board,
             pending,
             limits,
-            Some(next.target),
+            next.target,
             model,
-        ),
-        Told::Met(model) => take(
-            asking, boxes, rec, bounds, board, pending, limits, None, model,
         ),
         Told::Unknown => {
             in_memory(left.keep(asking.alloc, limits, next.target))?;
@@ -334,7 +331,7 @@ fn go_on<R: Recorder>(
 }
 
 // Takes a model that was found within limits, takes what it is below out of the boxes, and closes what is below it by the
-// target that it is the best by, if it is; answers whether it could be logged.
+// target; answers whether it could be logged.
 fn take<R: Recorder>(
     asking: &mut Asking<'_>,
     boxes: &mut OpenBoxes,
@@ -343,7 +340,7 @@ fn take<R: Recorder>(
     board: &mut Board<'_>,
     pending: &mut Items<Assignment>,
     limits: &CostVec,
-    target: Option<Target>,
+    target: Target,
     model: &Assignment,
 ) -> Result<bool, RecordFault>
     requires good { IsGoodBut (R.seen rec.old) bounds.now board.old pending.old }
@@ -369,14 +366,14 @@ fn close_below<R: Recorder>(
     rec: &mut R,
     problem: &PbProblem,
     limits: &CostVec,
-    target: Option<Target>,
+    target: Target,
     costs: &CostVec,
 ) -> Result<(), RecordFault>
     requires ready { IsReady (R.seen rec.old) }
     requires problem { (R.seen rec.old).problem ≡ problem.now }
     ensures recorded { IsRecorded (R.seen rec.old) (R.seen rec.new) result }
 {
-    let Some(Target::Objective(objective)) = target else {
+    let Target::Objective(objective) = target else {
         return Ok(());
     };
     let Some(below) = in_memory(less_in(asking.alloc, limits, costs, objective))? else {

@@ -16,9 +16,6 @@ pub(crate) const MOST_QUESTIONS: usize = 1_000_000;
 // Where rows have lines besides, relaxations are asked with them and then without them, by this part of the purse each.
 pub(crate) const PARTS_WITH_AND_WITHOUT: u64 = 2;
 
-// Walks may take this part of all the work that relaxations may: they meet models, and prove nothing (walks).
-pub(crate) const PART_OF_WALKS: u64 = 4;
-
 // Boxes that stayed open are asked again when the purse has more than so many times what it had (first-sought).
 pub(crate) const TIMES_TO_TRY_AGAIN: u64 = 2;
 
@@ -59,6 +56,9 @@ pub(crate) const WORK_OF_A_LINE: u64 = 5_000;
 // some for each, and search by clauses takes long over them too. Clauses don't count: where they did, searches of circuits and of
 // rules took thrice as long.
 pub(crate) const PASSES_A_ROW: u64 = 100;
+
+// Where rows count as much may be lost as so many programs like the root's take: trees of large programs need more than small ones.
+pub(crate) const ROOTS_IN_PURSE: u64 = 30;
 
 // Nobody waits for more, where it tells nothing.
 pub(crate) const MOST_WORK: u64 = 30_000_000_000;

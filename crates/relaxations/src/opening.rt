@@ -6,7 +6,7 @@ ghost use Rattle.search_base.specs.Pending.{AreOwnTerms, IsGoodBut};
 ghost use Rattle.search_base.specs.Turns.{IsEndLine, IsInOrder, IsSearchFault};
 ghost use Rattle.relaxations.specs.Ending.{IsKeptEnd};
 
-use crate::allowance::allowance_of_walks;
+use crate::allowance::purse_by_root;
 use crate::asking::Asking;
 use crate::defined_outputs::DefinedOutputs;
 use crate::ending::{end_line, tie_bounds};
@@ -54,12 +54,13 @@ pub(crate) fn linear_front<O: Oracle>(
     if !may_tell(linear, bounds, board.problem()) {
         return Ok(None);
     }
+    let root = linear.root_work()?;
+    linear.set_purse(purse_by_root(board.problem(), linear.purse(), root, most));
     let defined = DefinedOutputs::new(alloc, board.problem().costs().len())?;
     let mut asking = Asking {
         alloc,
         linear,
         most,
-        most_of_walks: allowance_of_walks(board.problem(), most),
         defined,
     };
     let mut pending = Items::new(alloc);
