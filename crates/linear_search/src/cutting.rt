@@ -6,14 +6,12 @@ use crate::limits::{
 };
 use crate::question::Question;
 use crate::relaxation::{Relaxation, Row, float_of, sum_of_line};
-use crate::target::Target;
 use crate::tree::Tree;
 use cutting_planes::PolToken;
 use linear_cuts::{Cut, Padding, Separation};
 use linear_program::{Answer, Basis, Range};
 use proof_rules::ProofState;
 use scut_base::{Items, Lit, NoMemory};
-use std::alloc::Global;
 
 // The rounds of cuts of a question: the bounds before them and with them, and the basis and the rows before them.
 #[derive(Debug, Drop)]
@@ -27,8 +25,8 @@ pub(crate) struct Rounds {
 // How cuts have served so far.
 #[derive(Debug, Drop)]
 pub(crate) struct Service {
-    // The targets of which there were rounds before.
-    begun: Vec<Target>,
+    // Whether there were rounds before.
+    has_begun: bool,
     // How many questions they helped with, and with how many they didn't.
     helped: u64,
     failed: u64,
@@ -39,9 +37,9 @@ pub(crate) struct Service {
 }
 
 impl Service {
-    pub(crate) fn new(alloc: Global) -> Service {
+    pub(crate) fn new() -> Service {
         Service {
-            begun: Vec::new(alloc),
+            has_begun: false,
             helped: 0,
             failed: 0,
             open: None,
@@ -62,7 +60,7 @@ impl Relaxation {
     ) -> Result<bool, NoMemory> {
         let of_roots = self.root_work.saturating_mul(ROOTS_OF_CUTS);
         let mut allowance = self.passes(PASSES_OF_CUTS).max(of_roots);
-        if self.service.helped == 0 && self.root_work < LARGE_ROOT {
+        if self.service.helped == 0 && !self.is_root_large() {
             let began = self.work();
             if !self.split_nodes(state, question, tree, most, NODES_BEFORE_CUTS)? {
                 return Ok(false);
@@ -88,7 +86,7 @@ impl Relaxation {
         let basis = self.program.basis()?;
         let first = self.rows.len();
         let after = self.cut_in_rounds(state, tree, &mut separation, most)?;
-        self.note_begun()?;
+        self.service.has_begun = true;
         let rounds = Rounds {
             before,
             after,
@@ -170,20 +168,17 @@ impl Relaxation {
         Ok(bound)
     }
 
-    // The first rounds of a target are more than later ones.
     fn rounds(&self) -> u32 {
-        if self.service.begun.contains(&self.target) {
+        if self.service.has_begun && !self.is_root_large() {
             LATER_ROUNDS
         } else {
             FIRST_ROUNDS
         }
     }
 
-    fn note_begun(&mut self) -> Result<(), NoMemory> {
-        if !self.service.begun.contains(&self.target) {
-            self.service.begun.push(self.target)?;
-        }
-        Ok(())
+    // Whether rounds of cuts take less than some dozen nodes.
+    fn is_root_large(&self) -> bool {
+        self.root_work >= LARGE_ROOT
     }
 
     // Adds the cuts of the present point; answers whether there are any.

@@ -70,8 +70,8 @@ pub(crate) const MOST_CUT_ENTRIES: usize = 400_000;
 // Nor where those that were made have more terms than this together: 24 bytes each.
 pub(crate) const MOST_SIZE_OF_CUTS: usize = 1_000_000;
 
-// So many rounds of so many cuts at most at the root of the first question's tree of each target, where all that cuts can bring is
-// still to be had; and of later ones, which begin with the cuts of those before.
+// So many rounds of so many cuts at most at the root of the first question's tree, where all that cuts can bring is still to be had,
+// and of each where programs are large; and of others, which begin with the cuts of those before.
 pub(crate) const FIRST_ROUNDS: u32 = 15;
 
 pub(crate) const LATER_ROUNDS: u32 = 4;

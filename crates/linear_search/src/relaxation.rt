@@ -61,7 +61,6 @@ pub(crate) struct Relaxation {
     // Of each column, how many rows name it, and what share it has of all costs.
     pub(crate) uses: Vec<f64>,
     pub(crate) shares: Vec<f64>,
-    pub(crate) target: Target,
     pub(crate) aim: Aim,
     // By what the choice of columns to split by is swayed.
     pub(crate) sway: u64,
@@ -98,11 +97,10 @@ impl Relaxation {
             matrix: Matrix::new(alloc, columns)?,
             objectives: Vec::new(alloc),
             cuts: Cuts::new(alloc),
-            service: Service::new(alloc),
+            service: Service::new(),
             entries: 0,
             uses: vec![in alloc; 1.0; columns]?,
             shares: vec![in alloc; 1.0; columns]?,
-            target: Target::Sum,
             aim: Aim::new(alloc),
             sway: 0,
             counts: problem.rows().iter().any(wants_more_than_one),
@@ -216,18 +214,6 @@ impl Relaxation {
         Ok(())
     }
 
-    // Whether no limit is below all that its objective can cost.
-    pub(crate) fn may_keep(&self, limits: &[Limit]) -> bool {
-        limits.iter().all(|limit| {
-            match self.objectives.get(limit.objective) {
-                Some(objective) => {
-                    objective.range.lower <= nearest_i64_to_f64(limit.most) - objective.constant
-                }
-                None => true,
-            }
-        })
-    }
-
     // The best by the aim of the models within the limits that a walk from these values meets, each column's value; none where it meets
     // none.
     pub(crate) fn walk(
@@ -306,7 +292,6 @@ impl Relaxation {
     pub(crate) fn aim_at(&mut self, target: Target) -> Result<(), NoMemory> {
         self.aim = Aim::of(self.alloc, target, self.columns, self.objectives.as_slice())?;
         self.program.set_costs(self.aim.costs.as_slice());
-        self.target = target;
         self.roots.go_to(target, &mut self.program)
     }
 
