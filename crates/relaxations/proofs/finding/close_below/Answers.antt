@@ -19,8 +19,3 @@ pub returns-in_default-2 : goal.returns-in_default-2
 returns-in_default-2 g c =
     let a = let R = g.R.Recorder in R.seen c.args.rec.now in
     record { recorded = recorded_ok a a tt (continues_again a) c.requires.ready.whole }
-
-pub returns-in_default-3 : goal.returns-in_default-3
-returns-in_default-3 g c =
-    let a = let R = g.R.Recorder in R.seen c.args.rec.now in
-    record { recorded = recorded_ok a a tt (continues_again a) c.requires.ready.whole }

@@ -8,6 +8,9 @@ use Rattle.relaxations.proofs.opening.linear_front.Goals as goal
 pub returns-then-not-may_tell-clause-goes_on : goal.returns-then-not-may_tell-clause-goes_on
 returns-then-not-may_tell-clause-goes_on g c = let R = g.O.Recorder in goes_again (R.seen c.args.oracle.now)
 
+pub returns-in_err-root-clause-goes_on : goal.returns-in_err-root-clause-goes_on
+returns-in_err-root-clause-goes_on g c = let R = g.O.Recorder in goes_again (R.seen c.args.oracle.now)
+
 pub returns-in_err-defined-clause-goes_on : goal.returns-in_err-defined-clause-goes_on
 returns-in_err-defined-clause-goes_on g c = let R = g.O.Recorder in goes_again (R.seen c.args.oracle.now)
 
