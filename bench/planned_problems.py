@@ -1,9 +1,10 @@
-"""Problems as planners model them, with rows that count: rosters of people and of nurses, rosters with skills each day, facilities, projects
-within budgets, knapsacks, assignments, coverings, and sums that overlap. Each is made from a seed, the same on every machine and by every
-Python.
+"""Problems as planners model them, with rows that count: rosters of people and of nurses, rosters with skills each day, towns with links,
+facilities, projects within budgets, knapsacks, assignments, coverings, and sums that overlap. Each is made from a seed, the same on every
+machine and by every Python.
 
 usage: bench/planned --instances FOLDER     writes them all
 """
+import math
 from typing import Callable, Dict, List, Sequence
 
 from alike_problems import Numbers, Problem, Terms, each
@@ -125,6 +126,34 @@ def skills(people: int, days: int, shifts: int, kinds: int, seed: int) -> Proble
     return made
 
 
+def towns(count: int, seed: int) -> Problem:
+    """Each town wants two links, by fibre or by radio, out of those to its four nearest and from whom it is near. Costs: money, outages."""
+    numbers, made = Numbers(seed), Problem(2)
+    places = [(numbers.below(100), numbers.below(100)) for _ in range(count)]
+
+    def length(one: int, other: int) -> int:
+        (left, top), (right, bottom) = places[one], places[other]
+        return math.isqrt((left - right) ** 2 + (top - bottom) ** 2)
+
+    pairs = set()
+    for town in range(count):
+        others = sorted((other for other in range(count) if other != town), key=lambda other: (length(town, other), other))
+        pairs.update((min(town, other), max(town, other)) for other in others[:4])
+    links: List[List[int]] = [[] for _ in range(count)]
+    for one, other in sorted(pairs):
+        fibre, radio = made.some(2)
+        made.at_most(each([fibre, radio]), 1)
+        made.cost(0, (3 * length(one, other) + 10) // 10, fibre)
+        made.cost(0, (length(one, other) + 8) // 10, radio)
+        made.cost(1, 1, fibre)
+        made.cost(1, 2 + length(one, other) // 10, radio)
+        for town in (one, other):
+            links[town] += [fibre, radio]
+    for chosen in links:
+        made.at_least(each(chosen), 2)
+    return made
+
+
 def facilities(sites: int, clients: int, seed: int) -> Problem:
     """Each client is served by one of the five sites nearest to it, if that is open and large enough. Costs: ways, openings."""
     numbers, made, near = Numbers(seed), Problem(2), 5
@@ -227,7 +256,11 @@ PROBLEMS: Dict[str, Callable[[], Problem]] = {
     'nurses-15-4': lambda: nurses(15, 4, 4),
     'skills-12-14': lambda: skills(12, 14, 2, 3, 2),
     'skills-20-14': lambda: skills(20, 14, 3, 3, 3),
+    'skills-24-21': lambda: skills(24, 21, 3, 3, 5),
     'skills-40-28': lambda: skills(40, 28, 3, 4, 4),
+    'towns-30': lambda: towns(30, 1),
+    'towns-50': lambda: towns(50, 1),
+    'towns-80': lambda: towns(80, 1),
     'facilities-10-36': lambda: facilities(10, 36, 1),
     'facilities-16-60': lambda: facilities(16, 60, 1),
     'projects-60': lambda: projects(60, 11),
