@@ -51,12 +51,13 @@ pub(crate) fn first_purse(problem: &PbProblem) -> u64 {
     first_allowance(problem).min(FIRST_WORK)
 }
 
-// What may be lost on them where the root's program took so much work: enough for trees of programs as large, where rows count.
+// What may be lost on them where the root's program took so much work: enough for trees of programs as large, by the share of rows that
+// count.
 pub(crate) fn purse_by_root(problem: &PbProblem, purse: u64, root: u64, most: u64) -> u64 {
-    if rows_that_count(problem) == 0 {
-        return purse;
-    }
-    purse.max(root.saturating_mul(ROOTS_IN_PURSE)).min(most)
+    let rows = problem.rows().len() as u64;
+    let roots = root.saturating_mul(ROOTS_IN_PURSE);
+    let counting = roots.saturating_mul(rows_that_count(problem));
+    purse.max(counting.checked_div(rows).unwrap_or(0)).min(most)
 }
 
 // The pairs of outputs of two children, node by node, as if all weights were alike.

@@ -57,7 +57,8 @@ pub(crate) const WORK_OF_A_LINE: u64 = 5_000;
 // rules took thrice as long.
 pub(crate) const PASSES_A_ROW: u64 = 100;
 
-// Where rows count as much may be lost as so many programs like the root's take: trees of large programs need more than small ones.
+// Where all rows count as much may be lost as so many programs like the root's take, and else that share of it: trees of large programs
+// need more than small ones, but where most rows are clauses they tell little.
 pub(crate) const ROOTS_IN_PURSE: u64 = 30;
 
 // Nobody waits for more, where it tells nothing.
