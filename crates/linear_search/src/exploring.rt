@@ -58,8 +58,10 @@ impl Relaxation {
     ) -> Result<(), NoMemory> {
         let mut best = None;
         std::mem::swap(&mut best, &mut tree.best);
+        let is_met = tree.is_met;
         self.begin_with_root(state, question, tree)?;
         tree.best = best;
+        tree.is_met = is_met;
         self.visit_root(state, question, tree)
     }
 

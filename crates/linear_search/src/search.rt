@@ -168,13 +168,16 @@ impl LinearSearch {
         }
     }
 
-    // Pays for a question that stays open, and halves what the next may spend; one that was answered doubles that.
+    // Pays for a question that stays open, and halves what the next may spend, as does one whose model a walk met, since that says
+    // nothing of trees; one that was answered otherwise doubles it.
     fn settle(&mut self, found: &Found, spent: u64)
         ensures paid { IsPaid self.old self.new }
         ensures kept { IsKeptWhereFound self.old self.new found.now }
     {
         if let Found::Nothing = found {
             self.purse = purse_after(self.purse, spent);
+            self.stake = (self.stake / 2).max(1);
+        } else if self.tree.is_met {
             self.stake = (self.stake / 2).max(1);
         } else {
             self.stake = (self.stake.saturating_mul(2)).min(MOST_STAKE);

@@ -75,6 +75,8 @@ pub(crate) struct Tree {
     pub(crate) fixed: Partial,
     // The best model so far.
     pub(crate) best: Option<Best>,
+    // Whether a walk met it, and no node had a better one.
+    pub(crate) is_met: bool,
     // How many nodes were visited.
     pub(crate) visits: u64,
     // At how much work the next walk is begun.
@@ -98,6 +100,7 @@ impl Tree {
             path: Vec::new(alloc),
             fixed: Partial::new(alloc, 0)?,
             best: None,
+            is_met: false,
             visits: 0,
             next_walk: 0,
             least: 0.0,
@@ -114,6 +117,7 @@ impl Tree {
         self.queue.clear();
         self.next = None;
         self.best = None;
+        self.is_met = false;
         self.visits = 0;
         self.least = least;
         self.unit = unit;
@@ -348,6 +352,7 @@ impl Tree {
         };
         if is_better {
             self.best = Some(Best { lits, value });
+            self.is_met = false;
         }
     }
 

@@ -189,6 +189,7 @@ impl Relaxation {
             if self.keeps(question, &point) {
                 let lits = literals_of(self.alloc, point.is_one.as_slice())?;
                 tree.offer(lits, point.cost_by(self.aim.main.as_slice()));
+                tree.is_met = true;
             }
         }
         Ok(())
