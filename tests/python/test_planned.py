@@ -9,10 +9,10 @@ from setting import PROGRAM, ROOT, InFolder
 
 sys.path.insert(0, os.path.join(ROOT, 'bench'))
 
-from planned_problems import PROBLEMS, assignment, covering, facilities, knapsack, nurses, overlaps, projects, roster, skills  # noqa: E402
+from planned_problems import PROBLEMS, assignment, covering, facilities, knapsack, nurses, overlaps, projects, roster, skills, towns  # noqa: E402
 
 COMMAND = os.path.join(ROOT, 'bench', 'planned')
-DIGEST = 'fe1014e37de80251bf730e561ef473c21162fa6406040aedc3aafb11b8a80dc2'
+DIGEST = '765222891d1a78dfc703aae65a193ca811fcd8f14c58a195a15908bd1260b9b9'
 
 
 class Planned(InFolder):
@@ -27,7 +27,8 @@ class Planned(InFolder):
         self.assertEqual(hashlib.sha256(''.join(make().text() for make in PROBLEMS.values()).encode()).hexdigest(), DIGEST)
 
     def test_small_problems_have_the_front_of_all_assignments(self):
-        for problem in (facilities(5, 2, 2), projects(14, 3), knapsack(12, 1), assignment(4, 1), covering(8, 12, 1), overlaps(14, 6, 3, 1)):
+        for problem in (facilities(5, 2, 2), projects(14, 3), knapsack(12, 1), assignment(4, 1), covering(8, 12, 1), overlaps(14, 6, 3, 1),
+                        towns(4, 1)):
             self.write('a.opb', problem.text())
             found = self.front('solve', 'a.log')
             self.assertEqual(found, self.front('front'))
