@@ -32,7 +32,8 @@ impl Relaxation {
     ) -> Result<Found, NoMemory> {
         self.take_back_cuts()?;
         self.sway = 0;
-        self.begin_at_root(state, question, tree)?;
+        self.begin_with_root(state, question, tree)?;
+        self.visit_root(state, question, tree)?;
         if self.may_cut() && !self.begin_with_cuts(state, question, tree, most)? {
             return found_in(tree);
         }
@@ -56,23 +57,10 @@ impl Relaxation {
         question: &Question<'_>,
         tree: &mut Tree,
     ) -> Result<(), NoMemory> {
-        let mut best = None;
-        std::mem::swap(&mut best, &mut tree.best);
-        let is_met = tree.is_met;
+        let (best, is_met) = (tree.best.take(), tree.is_met);
         self.begin_with_root(state, question, tree)?;
         tree.best = best;
         tree.is_met = is_met;
-        self.visit_root(state, question, tree)
-    }
-
-    // Begins a tree with its root alone, which is visited.
-    fn begin_at_root(
-        &mut self,
-        state: &ProofState,
-        question: &Question<'_>,
-        tree: &mut Tree,
-    ) -> Result<(), NoMemory> {
-        self.begin_with_root(state, question, tree)?;
         self.visit_root(state, question, tree)
     }
 

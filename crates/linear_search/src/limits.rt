@@ -33,6 +33,9 @@ pub(crate) const NO_MULTIPLIER: f64 = 1e-11;
 // costs are whole.
 pub(crate) const PARTS_OF_A_STEP: f64 = 4.0;
 
+// Without costs bounds are 0 or, where nothing is left, infinite: any step tells these apart.
+pub(crate) const STEP_WITHOUT_COSTS: f64 = 1.0;
+
 // Where no model is known a search goes on below a node as long as its bound is within this share of the least open one, or
 // within what a better model lacks: flat bounds tell nothing.
 pub(crate) const PLUNGE: f64 = 0.02;
@@ -41,6 +44,12 @@ pub(crate) const PLUNGE: f64 = 0.02;
 pub(crate) const ROUND_ABOVE: usize = 3;
 
 pub(crate) const ROUND_EACH: u64 = 16;
+
+// From where on a value is rounded up: each gives a point of its own.
+pub(crate) const THRESHOLDS: [f64; 4] = [0.02, 0.2, 0.4, 0.6];
+
+// A row or a limit isn't broken where it lacks no more than this.
+pub(crate) const NEARLY: f64 = 1e-6;
 
 // Where the least sum is sought, and no proof of it is wanted, the search for a better model than the first may take so many
 // times the work of that, and this many passes over rows and columns.

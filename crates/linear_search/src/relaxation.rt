@@ -231,9 +231,7 @@ impl Relaxation {
             Some(_) => 0,
             None => self.failed_walks.saturating_add(1),
         };
-        let mut best = None;
-        std::mem::swap(&mut best, &mut walk.best);
-        Ok(best)
+        Ok(walk.best.take())
     }
 
     // At how much work the next walk is begun, where the last one began at this: walks take a share of all work, half as much after each

@@ -1,15 +1,10 @@
 // Models by rounding: the values of a relaxation's point are rounded, rows that break are mended, and costs that needn't be are
 // saved (DECISIONS, rounding).
+use crate::limits::NEARLY;
 use linear_program::{Range, Term};
 use scut_base::{Lit, NoMemory};
 use std::alloc::Global;
 use std::cmp::OrderedFloat;
-
-// A row or a limit isn't broken where it lacks no more than this.
-const NEARLY: f64 = 1e-6;
-
-// From where on a value is rounded up: each gives a point of its own.
-pub(crate) const THRESHOLDS: [f64; 4] = [0.02, 0.2, 0.4, 0.6];
 
 // The rows over columns, and the same by columns: there a term's column is the row.
 #[derive(Debug, Drop)]

@@ -114,12 +114,10 @@ impl LinearSearch {
     pub fn root_work(&mut self) -> Result<u64, NoMemory>
         ensures { self.new ≡ self.old }
     {
-        if !self.relaxation.is_whole {
-            return Ok(0);
+        if self.relaxation.is_whole {
+            self.relaxation.solve_root()?;
         }
-        let before = self.relaxation.work();
-        self.relaxation.solve_root()?;
-        Ok(self.relaxation.work().saturating_sub(before))
+        Ok(self.relaxation.root_work)
     }
 
     /// Whether no question can be answered now: the purse has nothing left for a question, or the relaxation is too large.

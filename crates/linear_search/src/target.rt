@@ -1,11 +1,9 @@
 // What a question wants least.
+use crate::limits::STEP_WITHOUT_COSTS;
 use crate::relaxation::Objective;
 use linear_program::Range;
 use scut_base::NoMemory;
 use std::alloc::Global;
-
-// Without costs bounds are 0 or, where nothing is left, infinite: any step tells these apart.
-const STEP_WITHOUT_COSTS: f64 = 1.0;
 
 /// What a question wants least, among all models within its limits.
 #[derive(Clone, Copy, Debug, PartialEq, Eq)]

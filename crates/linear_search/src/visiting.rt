@@ -1,8 +1,10 @@
 // One node of the tree (DECISIONS, branching).
-use crate::limits::{MOST_PIVOTS, NO_MULTIPLIER, PASSES_OF_A_VISIT, PASSES_OF_ROUNDING, WHOLE};
+use crate::limits::{
+    MOST_PIVOTS, NO_MULTIPLIER, PASSES_OF_A_VISIT, PASSES_OF_ROUNDING, THRESHOLDS, WHOLE,
+};
 use crate::question::{Limit, Question, limit_of};
 use crate::relaxation::{Relaxation, Row};
-use crate::rounding::{Point, THRESHOLDS};
+use crate::rounding::Point;
 use crate::tree::{Kept, RowMultiplier, Tree};
 use linear_lines::{Multiplier, infeasible_leaf};
 use linear_program::Answer;
