@@ -11,6 +11,7 @@
 
 mod aims;
 mod allowance;
+mod arranging;
 mod asking;
 mod below;
 mod box_parts;

@@ -7,6 +7,7 @@ ghost use Rattle.relaxations.specs.Telling.{IsGoodWithSome, SeeksOn, Tells, Tell
 ghost use Rattle.relaxations.specs.Wanting.{IsOf, TellsOf};
 
 use crate::allowance::{first_allowance, first_purse};
+use crate::arranging::Arranger;
 use crate::limits::{MOST_BOXES, MOST_PARTS, WORK_OF_A_CLAUSE};
 use crate::open_boxes::OpenBoxes;
 use crate::opening::linear_front;
@@ -26,6 +27,7 @@ use std::alloc::Global;
 pub(crate) struct LinearBoxes {
     alloc: Global,
     linear: LinearSearch,
+    arranger: Arranger,
     boxes: OpenBoxes,
     // Limits to which nothing that is left keeps. None is below another.
     settled: Vec<CostVec>,
@@ -40,6 +42,7 @@ impl LinearBoxes {
         Ok(LinearBoxes {
             alloc,
             linear: LinearSearch::new(alloc, problem, first_purse(problem))?,
+            arranger: Arranger::new(),
             boxes: OpenBoxes::new(alloc, problem.costs().len())?,
             settled: Vec::new(alloc),
             allowance: first_allowance(problem),
@@ -197,6 +200,7 @@ impl LinearBoxes {
             oracle,
             bounds,
             &mut self.linear,
+            &mut self.arranger,
             problem,
             limits,
         )

@@ -5,6 +5,7 @@ ghost use Rattle.relaxations.specs.Questions.{IsQuestion};
 ghost use Rattle.relaxations.specs.Telling.{IsGoodWithSome, SeeksOn, Tells};
 
 use crate::Below;
+use crate::arranging::Arranger;
 use crate::extending::extended;
 use crate::question::{Question, questioned};
 use crate::seeking::told_by_core;
@@ -22,7 +23,8 @@ use std::alloc::Global;
 use totalizer::own_lines_stay;
 
 // What `oracle_below` asks, of linear relaxations of the problem: `Some` is an answer as `oracle_below` gives it, and `None`
-// says that it isn't known. The oracle isn't asked: a model that a relaxation proposes is tried on all that is live. Where the bounds alone tell, nothing is asked. A limit of
+// says that it isn't known. The oracle isn't asked: a model that a relaxation proposes is tried on all that is live, and where it
+// is refused, once more with its parts in order. Where the bounds alone tell, nothing is asked. A limit of
 // `i64::MAX` is none. After `Spent` it may be asked again.
 //
 // Costs a bound for each objective, what `LinearSearch::ask` does, and passes over live lines where a model is proposed.
@@ -31,6 +33,7 @@ pub(crate) fn linear_below<O: Oracle>(
     oracle: &mut O,
     bounds: &mut Bounds,
     linear: &mut LinearSearch,
+    arranger: &mut Arranger,
     problem: &PbProblem,
     limits: &CostVec,
 ) -> Result<Option<Below>, OracleFault>
@@ -43,7 +46,9 @@ pub(crate) fn linear_below<O: Oracle>(
     bounding_stays_good();
     turn_lines_join();
     let question = questioned(alloc, oracle, bounds, limits)?;
-    ask_linear(alloc, oracle, bounds, linear, problem, limits, &question)
+    ask_linear(
+        alloc, oracle, bounds, linear, arranger, problem, limits, &question,
+    )
 }
 
 // The same, where the bounds have been asked for.
@@ -52,6 +57,7 @@ fn ask_linear<O: Oracle>(
     oracle: &mut O,
     bounds: &Bounds,
     linear: &mut LinearSearch,
+    arranger: &mut Arranger,
     problem: &PbProblem,
     limits: &CostVec,
     question: &Question,
@@ -87,15 +93,39 @@ fn ask_linear<O: Oracle>(
             Ok(Some(below))
         }
         Reply::Model(model) => {
-            let below = propose(alloc, oracle, problem, limits, model.as_slice())?;
+            let below = propose(alloc, oracle, arranger, problem, limits, model.as_slice())?;
             Ok(below)
         }
         Reply::Unknown => Ok(None),
     }
 }
 
-// The model that these literals make, where all that is live holds in it and its costs are at most the limits.
+// The model that these literals make, or that they make once they are in order, where all that is live holds in it and its
+// costs are at most the limits.
 fn propose<O: Oracle>(
+    alloc: Global,
+    oracle: &O,
+    arranger: &mut Arranger,
+    problem: &PbProblem,
+    limits: &CostVec,
+    lits: &[Lit],
+) -> Result<Option<Below>, NoMemory>
+    requires problem { (O.seen oracle.now).problem ≡ problem.now }
+    requires count { length limits.now ≡ length (O.seen oracle.now).problem.costs }
+    ensures tells { IfOk result (λ below. IfSome below (Tells (O.seen oracle.now) limits.now)) }
+{
+    let found = tried(alloc, oracle, problem, limits, lits)?;
+    if found.is_some() {
+        return Ok(found);
+    }
+    match arranger.arranged(alloc, oracle.state(), problem, lits)? {
+        Some(arranged) => tried(alloc, oracle, problem, limits, arranged.as_slice()),
+        None => Ok(None),
+    }
+}
+
+// The model that these literals make, where all that is live holds in it and its costs are at most the limits.
+fn tried<O: Oracle>(
     alloc: Global,
     oracle: &O,
     problem: &PbProblem,

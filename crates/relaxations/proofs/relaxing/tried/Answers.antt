@@ -6,7 +6,7 @@ use Rattle.proof_rules.specs.Recording.{Snapshot}
 use Rattle.oracle.specs.Solving.{IsAnswer}
 use Rattle.oracle.specs.declared.answer.Answer.TheVariants.{Sat}
 use Rattle.relaxations.proofs.Proposals.{as_long, long_model, model_within}
-use Rattle.relaxations.proofs.relaxing.propose.Goals as goal
+use Rattle.relaxations.proofs.relaxing.tried.Goals as goal
 
 answered : (a : Snapshot) (p : ProblemValue) → a.problem ≡ p → (lits : List Literal) (x : List Bool)
     → IsAnswer p a.lines lits (Sat x) → IsAnswer a.problem a.lines lits (Sat x)
