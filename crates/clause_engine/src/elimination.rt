@@ -257,6 +257,9 @@ impl Engine {
         let Some((resolvent, literals)) = round.resolvents.get(number) else {
             return Ok(());
         };
+        if self.is_there(&round.occurrences, literals) {
+            return Ok(());
+        }
         let record = self.derive_resolvent(resolvent.first, resolvent.second, literals)?;
         let mut literals = Vec::from_slice(self.alloc, literals)?;
         let before = self.clauses.len();
@@ -272,6 +275,21 @@ impl Engine {
         Ok(())
     }
 
+    // Whether a clause has just these literals: gates that became equal have the same clauses.
+    fn is_there(&mut self, occurrences: &Occurrences, literals: &[Literal]) -> bool {
+        for at in occurrences.shortest(literals) {
+            self.ticks = self.ticks.wrapping_add(1);
+            let codes = self.arena.codes(*at);
+            if codes.len() == literals.len()
+                && !self.arena.standing(*at).is_dropped
+                && literals.iter().all(|lit| codes.contains(&lit.code()))
+            {
+                return true;
+            }
+        }
+        false
+    }
+
     // The record of a resolvent. It stands on units where a literal of the clauses is false.
     fn derive_resolvent(
         &mut self,
@@ -280,18 +298,24 @@ impl Engine {
         literals: &[Literal],
     ) -> Result<u32, NoMemory> {
         let mut hints = Vec::new(self.alloc);
-        let codes = self.arena.codes(first).iter();
-        for code in codes.chain(self.arena.codes(second).iter()) {
+        self.push_roots(first, &mut hints)?;
+        self.push_roots(second, &mut hints)?;
+        hints.push(Hint::Record(self.arena.record(first)))?;
+        hints.push(Hint::Record(self.arena.record(second)))?;
+        self.records
+            .derive(literals, hints.as_slice(), self.trail.roots())
+    }
+
+    // Adds the variables of a clause's false literals to hints, once each.
+    pub(crate) fn push_roots(&self, at: u32, hints: &mut Vec<Hint>) -> Result<(), NoMemory> {
+        for code in self.arena.codes(at) {
             let lit = Literal::of_code(*code);
             let hint = Hint::Root(lit.var());
             if self.trail.is_false(lit) && !hints.as_slice().contains(&hint) {
                 hints.push(hint)?;
             }
         }
-        hints.push(Hint::Record(self.arena.record(first)))?;
-        hints.push(Hint::Record(self.arena.record(second)))?;
-        self.records
-            .derive(literals, hints.as_slice(), self.trail.roots())
+        Ok(())
     }
 
     // Drops learned clauses with variables that were eliminated.

@@ -9,6 +9,7 @@ use crate::engine::Engine;
 use crate::limits::WATCHES_PER_TICK;
 use crate::literals::Literal;
 use crate::records::Hint;
+use crate::trail::Truth;
 use scut_base::NoMemory;
 
 // Which literals are equivalent, and why.
@@ -24,6 +25,7 @@ struct Equivalences {
 impl Engine {
     // Puts one of equivalent literals in the place of the others, up to so many ticks.
     pub(crate) fn substitute_equivalent(&mut self, end: u64) -> Result<(), NoMemory> {
+        self.shorten_all()?;
         if !self.has_pairs() {
             return Ok(());
         }
@@ -41,6 +43,57 @@ impl Engine {
             self.substitute(&mut round, &equivalences, *lit)?;
         }
         self.end_round()
+    }
+
+    // Makes clauses binary that have two literals besides those that are false at level 0: gates with a constant input
+    // are equivalent to the other one.
+    fn shorten_all(&mut self) -> Result<(), NoMemory> {
+        for number in 0..self.clauses.len() {
+            let at = self.clauses.get(number).copied().unwrap_or(0);
+            self.shorten(at)?;
+        }
+        for number in 0..self.learned.len() {
+            let at = self.learned.get(number).copied().unwrap_or(0);
+            self.shorten(at)?;
+        }
+        Ok(())
+    }
+
+    fn shorten(&mut self, at: u32) -> Result<(), NoMemory> {
+        let Some(pair) = self.open_pair(at) else {
+            return Ok(());
+        };
+        let mut hints = Vec::new(self.alloc);
+        self.push_roots(at, &mut hints)?;
+        hints.push(Hint::Record(self.arena.record(at)))?;
+        let roots = self.trail.roots();
+        let record = self.records.derive(&pair, hints.as_slice(), roots)?;
+        let standing = self.arena.standing(at);
+        self.drop_clause(at);
+        self.attach(&pair, standing, record)?;
+        Ok(())
+    }
+
+    // The two literals of a longer clause that aren't assigned, where all others are false.
+    fn open_pair(&self, at: u32) -> Option<[Literal; 2]> {
+        let codes = self.arena.codes(at);
+        if codes.len() < 3 {
+            return None;
+        }
+        let mut pair = [Literal::of_code(0); 2];
+        let mut open = 0usize;
+        for code in codes {
+            let lit = Literal::of_code(*code);
+            match self.trail.value(lit) {
+                Truth::True => return None,
+                Truth::False => {}
+                Truth::Open => {
+                    *pair.get_mut(open)? = lit;
+                    open = open.wrapping_add(1);
+                }
+            }
+        }
+        if open == 2 { Some(pair) } else { None }
     }
 
     // Whether there is a binary clause.
