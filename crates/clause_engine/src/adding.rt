@@ -1,6 +1,6 @@
 // Taking up clauses and rows.
 
-use crate::arena::Standing;
+use crate::arena::{Standing, TAKEN_UP};
 use crate::engine::Engine;
 use crate::limits::{MOST_COEFFICIENTS, MOST_LINES};
 use crate::literals::Literal;
@@ -108,13 +108,7 @@ impl Engine {
         record: u32,
         open: usize,
     ) -> Result<(), NoMemory> {
-        let standing = Standing {
-            is_learned: false,
-            is_dropped: false,
-            used: 0,
-            glue: 0,
-        };
-        let at = self.attach(literals, standing, record)?;
+        let at = self.attach(literals, TAKEN_UP, record)?;
         match literals.first() {
             Some(first) if open == 1 => self.trail.push(*first, Reason::Clause(at)),
             _ if open == 0 => self.close_at_root(Reason::Clause(at)),

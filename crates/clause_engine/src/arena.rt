@@ -31,6 +31,14 @@ pub(crate) struct Standing {
     pub(crate) glue: u32,
 }
 
+// How a clause stands that isn't learned.
+pub(crate) const TAKEN_UP: Standing = Standing {
+    is_learned: false,
+    is_dropped: false,
+    used: 0,
+    glue: 0,
+};
+
 impl Standing {
     fn of_word(word: u32) -> Standing {
         Standing {

@@ -4,7 +4,7 @@
 use crate::arena::Standing;
 use crate::aside::Role;
 use crate::engine::Engine;
-use crate::limits::MOST_PAIRS;
+use crate::limits::{MOST_PAIRS, MOST_RESOLVENT};
 use crate::literals::Literal;
 use crate::occurrences::Occurrences;
 use crate::records::Hint;
@@ -14,15 +14,25 @@ use scut_base::NoMemory;
 
 // What a round of elimination works with.
 #[derive(Debug, Drop)]
-struct Round {
-    occurrences: Occurrences,
-    resolvents: Resolvents,
+pub(crate) struct Round {
+    pub(crate) occurrences: Occurrences,
+    pub(crate) resolvents: Resolvents,
     // The clauses of the variable that is tried, and those of its negation.
-    positive: Vec<u32>,
-    negative: Vec<u32>,
-    // By how many the clauses may become more.
-    growth: usize,
+    pub(crate) positive: Vec<u32>,
+    pub(crate) negative: Vec<u32>,
 }
+
+// How many resolvents a variable may leave, and of how many literals.
+#[derive(Clone, Copy, Debug)]
+pub(crate) struct Bounds {
+    most: usize,
+    longest: usize,
+}
+
+pub(crate) const NO_BOUNDS: Bounds = Bounds {
+    most: usize::MAX,
+    longest: usize::MAX,
+};
 
 impl Engine {
     // A round of elimination, if there are more, and ticks for it.
@@ -33,37 +43,55 @@ impl Engine {
         };
         let began = self.ticks;
         let room = self.rounds.room(began);
-        let size = self.watches.len().saturating_add(self.clauses.len());
-        if size as u64 > room {
+        let size = self.round_size();
+        if size > room {
             return Ok(());
         }
-        self.ticks = began.saturating_add(size as u64);
+        self.ticks = began.saturating_add(size);
         self.eliminate(growth, began.saturating_add(room))?;
         self.rounds.note_ticks(self.ticks.saturating_sub(began));
         Ok(())
     }
 
+    // How many ticks it takes to note where literals stand.
+    pub(crate) fn round_size(&self) -> u64 {
+        self.watches.len().saturating_add(self.clauses.len()) as u64
+    }
+
     // A round up to so many ticks.
     fn eliminate(&mut self, growth: usize, end: u64) -> Result<(), NoMemory> {
         self.backtrack(0)?;
+        self.substitute_equivalent(end)?;
+        let mut round = self.begin_round()?;
+        self.note_candidates(&mut round)?;
+        self.try_all(&mut round, growth, end)?;
+        self.end_round()
+    }
+
+    // Nothing is eliminated yet; it's known in which clauses literals stand.
+    pub(crate) fn begin_round(&self) -> Result<Round, NoMemory> {
         let literals = self.watches.len();
         let mut round = Round {
             occurrences: Occurrences::new(self.alloc, literals)?,
             resolvents: Resolvents::new(self.alloc, literals)?,
             positive: Vec::new(self.alloc),
             negative: Vec::new(self.alloc),
-            growth,
         };
-        self.note_occurrences(&mut round)?;
-        self.note_candidates(&mut round)?;
-        self.try_all(&mut round, end)?;
+        for at in self.clauses.iter() {
+            round.occurrences.add(*at, self.arena.codes(*at))?;
+        }
+        Ok(round)
+    }
+
+    // Takes the clauses out that went with variables.
+    pub(crate) fn end_round(&mut self) -> Result<(), NoMemory> {
         self.drop_eliminated();
         self.keep_reasons();
         self.move_together()
     }
 
     // Tries variables until there are none more, or no ticks.
-    fn try_all(&mut self, round: &mut Round, end: u64) -> Result<(), NoMemory> {
+    fn try_all(&mut self, round: &mut Round, growth: usize, end: u64) -> Result<(), NoMemory> {
         for _turn in 0..u64::MAX {
             if self.empty.is_some() || self.ticks >= end {
                 return Ok(());
@@ -71,17 +99,10 @@ impl Engine {
             let Some(var) = round.occurrences.take() else {
                 break;
             };
-            self.try_variable(round, var)?;
+            self.try_variable(round, var, growth)?;
         }
         self.rounds.note_end();
         self.aside.forget_tries();
-        Ok(())
-    }
-
-    fn note_occurrences(&mut self, round: &mut Round) -> Result<(), NoMemory> {
-        for at in self.clauses.iter() {
-            round.occurrences.add(*at, self.arena.codes(*at))?;
-        }
         Ok(())
     }
 
@@ -99,23 +120,31 @@ impl Engine {
     }
 
     // Eliminates a variable, if it has few clauses, and few resolvents.
-    fn try_variable(&mut self, round: &mut Round, var: u32) -> Result<(), NoMemory> {
+    fn try_variable(&mut self, round: &mut Round, var: u32, growth: usize) -> Result<(), NoMemory> {
         let lit = Literal::new(var, false);
         if !self.may_go(var) {
             return Ok(());
         }
         self.aside.set_role(var, Role::Tried);
-        self.take_live(round.occurrences.list(lit), &mut round.positive)?;
-        self.take_live(round.occurrences.list(lit.not()), &mut round.negative)?;
+        self.take_clauses(round, lit)?;
         round.occurrences.set(lit, round.positive.as_slice())?;
         round.occurrences.set(lit.not(), round.negative.as_slice())?;
         let pairs = round.positive.len().saturating_mul(round.negative.len());
         let count = round.positive.len().saturating_add(round.negative.len());
-        let most = count.saturating_add(round.growth);
-        if pairs <= MOST_PAIRS && self.resolve_all(round, var, most)? {
+        let bounds = Bounds {
+            most: count.saturating_add(growth),
+            longest: MOST_RESOLVENT,
+        };
+        if pairs <= MOST_PAIRS && self.resolve_all(round, var, bounds)? {
             self.eliminate_variable(round, lit)?;
         }
         Ok(())
+    }
+
+    // Takes the clauses of a literal and those of its negation.
+    pub(crate) fn take_clauses(&mut self, round: &mut Round, lit: Literal) -> Result<(), NoMemory> {
+        self.take_live(round.occurrences.list(lit), &mut round.positive)?;
+        self.take_live(round.occurrences.list(lit.not()), &mut round.negative)
     }
 
     // Takes the clauses of a list that weren't dropped and aren't true.
@@ -130,15 +159,17 @@ impl Engine {
         Ok(())
     }
 
-    // Finds the resolvents; `false` where they are more than these, or one is too long.
-    fn resolve_all(&mut self, round: &mut Round, var: u32, most: usize) -> Result<bool, NoMemory> {
+    // Finds the resolvents; `false` where they aren't within the bounds.
+    fn resolve_all(
+        &mut self,
+        round: &mut Round,
+        var: u32,
+        bounds: Bounds,
+    ) -> Result<bool, NoMemory> {
         round.resolvents.clear();
-        for at in 0..round.positive.len() {
-            let first = round.positive.get(at).copied().unwrap_or(0);
-            round.resolvents.mark(self.arena.codes(first), true);
-            let fits = self.resolve_with(round, var, first, most)?;
-            round.resolvents.mark(self.arena.codes(first), false);
-            if !fits {
+        for first in round.positive.iter() {
+            let seconds = round.negative.as_slice();
+            if !self.resolve_with(&mut round.resolvents, var, *first, seconds, bounds)? {
                 return Ok(false);
             }
         }
@@ -146,29 +177,31 @@ impl Engine {
     }
 
     // Finds those of one clause.
-    fn resolve_with(
+    pub(crate) fn resolve_with(
         &mut self,
-        round: &mut Round,
+        resolvents: &mut Resolvents,
         var: u32,
         first: u32,
-        most: usize,
+        seconds: &[u32],
+        bounds: Bounds,
     ) -> Result<bool, NoMemory> {
-        for second in round.negative.iter() {
+        let mut fits = true;
+        resolvents.mark(self.arena.codes(first), true);
+        for second in seconds {
             self.ticks = self.ticks.wrapping_add(1);
-            let fits = round
-                .resolvents
-                .resolve(&self.arena, &self.trail, var, first, *second)?;
-            if !fits || round.resolvents.len() > most {
-                return Ok(false);
+            let length = resolvents.resolve(&self.arena, &self.trail, var, first, *second)?;
+            fits = length <= bounds.longest && resolvents.len() <= bounds.most;
+            if !fits {
+                break;
             }
         }
-        Ok(true)
+        resolvents.mark(self.arena.codes(first), false);
+        Ok(fits)
     }
 
     // Puts the clauses of a variable aside, and its resolvents in their place.
     fn eliminate_variable(&mut self, round: &mut Round, lit: Literal) -> Result<(), NoMemory> {
-        self.aside.set_role(lit.var(), Role::Eliminated);
-        self.queue.leave(lit.var());
+        self.leave(lit.var());
         // The fewer clauses are kept last: they tell what the variable is.
         if round.positive.len() <= round.negative.len() {
             self.put_aside(round.negative.as_slice(), lit.not())?;
@@ -179,20 +212,31 @@ impl Engine {
             self.put_aside(round.negative.as_slice(), lit.not())?;
             self.aside.keep(lit, &[], 0)?;
         }
-        for number in 0..round.resolvents.len() {
-            self.add_resolvent(round, number)?;
-        }
-        self.touch(round)
+        self.add_resolvents(round)
+    }
+
+    // A variable is eliminated from now on.
+    pub(crate) fn leave(&mut self, var: u32) {
+        self.aside.set_role(var, Role::Eliminated);
+        self.queue.leave(var);
     }
 
     // Keeps clauses aside, and drops them.
-    fn put_aside(&mut self, places: &[u32], own: Literal) -> Result<(), NoMemory> {
+    pub(crate) fn put_aside(&mut self, places: &[u32], own: Literal) -> Result<(), NoMemory> {
         for at in places {
             let record = self.arena.record(*at);
             self.aside.keep(own, self.arena.codes(*at), record)?;
             self.drop_clause(*at);
         }
         Ok(())
+    }
+
+    // Adds the resolvents of the variable that was eliminated.
+    pub(crate) fn add_resolvents(&mut self, round: &mut Round) -> Result<(), NoMemory> {
+        for number in 0..round.resolvents.len() {
+            self.add_resolvent(round, number)?;
+        }
+        self.touch(round)
     }
 
     // The variables of the clauses that were dropped are worth a try again.
@@ -213,6 +257,9 @@ impl Engine {
         let Some((resolvent, literals)) = round.resolvents.get(number) else {
             return Ok(());
         };
+        if self.is_there(&round.occurrences, literals) {
+            return Ok(());
+        }
         let record = self.derive_resolvent(resolvent.first, resolvent.second, literals)?;
         let mut literals = Vec::from_slice(self.alloc, literals)?;
         let before = self.clauses.len();
@@ -228,6 +275,21 @@ impl Engine {
         Ok(())
     }
 
+    // Whether a clause has just these literals: gates that became equal have the same clauses.
+    fn is_there(&mut self, occurrences: &Occurrences, literals: &[Literal]) -> bool {
+        for at in occurrences.shortest(literals) {
+            self.ticks = self.ticks.wrapping_add(1);
+            let codes = self.arena.codes(*at);
+            if codes.len() == literals.len()
+                && !self.arena.standing(*at).is_dropped
+                && literals.iter().all(|lit| codes.contains(&lit.code()))
+            {
+                return true;
+            }
+        }
+        false
+    }
+
     // The record of a resolvent. It stands on units where a literal of the clauses is false.
     fn derive_resolvent(
         &mut self,
@@ -236,18 +298,24 @@ impl Engine {
         literals: &[Literal],
     ) -> Result<u32, NoMemory> {
         let mut hints = Vec::new(self.alloc);
-        let codes = self.arena.codes(first).iter();
-        for code in codes.chain(self.arena.codes(second).iter()) {
+        self.push_roots(first, &mut hints)?;
+        self.push_roots(second, &mut hints)?;
+        hints.push(Hint::Record(self.arena.record(first)))?;
+        hints.push(Hint::Record(self.arena.record(second)))?;
+        self.records
+            .derive(literals, hints.as_slice(), self.trail.roots())
+    }
+
+    // Adds the variables of a clause's false literals to hints, once each.
+    pub(crate) fn push_roots(&self, at: u32, hints: &mut Vec<Hint>) -> Result<(), NoMemory> {
+        for code in self.arena.codes(at) {
             let lit = Literal::of_code(*code);
             let hint = Hint::Root(lit.var());
             if self.trail.is_false(lit) && !hints.as_slice().contains(&hint) {
                 hints.push(hint)?;
             }
         }
-        hints.push(Hint::Record(self.arena.record(first)))?;
-        hints.push(Hint::Record(self.arena.record(second)))?;
-        self.records
-            .derive(literals, hints.as_slice(), self.trail.roots())
+        Ok(())
     }
 
     // Drops learned clauses with variables that were eliminated.

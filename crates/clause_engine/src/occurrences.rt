@@ -55,6 +55,18 @@ impl Occurrences {
         }
     }
 
+    // The shortest list of one of these literals.
+    pub(crate) fn shortest(&self, literals: &[Literal]) -> &[u32] {
+        let mut shortest: Option<&[u32]> = None;
+        for lit in literals {
+            let list = self.list(*lit);
+            if shortest.is_none_or(|best| list.len() < best.len()) {
+                shortest = Some(list);
+            }
+        }
+        shortest.unwrap_or(&[])
+    }
+
     // A variable is to be tried.
     pub(crate) fn put(&mut self, var: u32) -> Result<(), NoMemory> {
         let lit = Literal::new(var, false);

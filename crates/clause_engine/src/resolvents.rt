@@ -1,7 +1,6 @@
 // The resolvents of a variable's clauses.
 
 use crate::arena::Arena;
-use crate::limits::MOST_RESOLVENT;
 use crate::literals::Literal;
 use crate::trail::Trail;
 use scut_base::NoMemory;
@@ -66,8 +65,8 @@ impl Resolvents {
         self.marks.get(code as usize).copied().unwrap_or(false)
     }
 
-    // Adds the resolvent of the first clause, which is marked, and a second one, if it says something. `false` where
-    // it is too long.
+    // Adds the resolvent of the first clause, which is marked, and a second one, if it says something. Tells how many
+    // literals it has.
     pub(crate) fn resolve(
         &mut self,
         arena: &Arena,
@@ -75,21 +74,21 @@ impl Resolvents {
         var: u32,
         first: u32,
         second: u32,
-    ) -> Result<bool, NoMemory> {
+    ) -> Result<usize, NoMemory> {
         let is_own = |code: u32| code / 2 == var;
         let codes = arena.codes(second);
         if codes
             .iter()
             .any(|code| !is_own(*code) && self.is_marked(*code ^ 1))
         {
-            return Ok(true);
+            return Ok(0);
         }
         let start = self.literals.len();
         self.add_open(trail, arena.codes(first), var)?;
         self.add_new(trail, codes, var)?;
         let end = self.literals.len();
         self.list.push(Resolvent { first, second, end })?;
-        Ok(end.saturating_sub(start) <= MOST_RESOLVENT)
+        Ok(end.saturating_sub(start))
     }
 
     // Adds the literals of the first clause that aren't false.

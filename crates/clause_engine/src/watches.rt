@@ -78,6 +78,14 @@ impl Watches {
         Ok(())
     }
 
+    // The clauses that watch a literal.
+    pub(crate) fn list(&self, lit: Literal) -> &[Watch] {
+        match self.lists.get(lit.index()) {
+            Some(list) => list.as_slice(),
+            None => &[],
+        }
+    }
+
     // Takes the list of a literal out, which is to be put back.
     pub(crate) fn take(&mut self, index: usize) -> Vec<Watch> {
         match self.lists.get_mut(index) {
