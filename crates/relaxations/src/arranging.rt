@@ -9,8 +9,6 @@ use std::alloc::Global;
 // Puts in order what is alike in proposals. It is looked for once, where a proposal is to be put in order.
 #[derive(Drop)]
 pub(crate) struct Arranger {
-    // Whether a line was live above the problem's rows before the first turn: else nothing was put in order.
-    may_serve: bool,
     // Nothing where it wasn't looked for yet.
     orders: Option<Orders>,
 }
@@ -18,27 +16,20 @@ pub(crate) struct Arranger {
 impl Arranger {
     // Nothing was looked for yet. Takes no memory.
     pub(crate) fn new() -> Arranger {
-        Arranger {
-            may_serve: false,
-            orders: None,
-        }
-    }
-
-    // Notes, before the first turn, whether there are lines that may put things in order.
-    pub(crate) fn begin(&mut self, state: &ProofState, problem: &PbProblem) {
-        let rows = problem.rows().len() as u64;
-        self.may_serve = state.live().next_above(rows).is_some();
+        Arranger { orders: None }
     }
 
     // A refused proposal's literals with whole parts exchanged, so that they keep the lines by which parts are in order; `None`
-    // where they are in order already, or nothing was put in order. Costs `Orders::of` the first time, and `Orders::arranged`.
+    // where they are in order already, or where no line is live above the problem's rows. Costs `Orders::of` the first time, and
+    // `Orders::arranged`.
     pub(crate) fn arranged(
         &mut self,
         alloc: Global,
+        state: &ProofState,
         problem: &PbProblem,
         lits: &[Lit],
     ) -> Result<Option<Items<Lit>>, NoMemory> {
-        if !self.may_serve {
+        if !has_lines_above(problem, state) {
             return Ok(None);
         }
         let orders = match self.orders.take() {
@@ -49,4 +40,12 @@ impl Arranger {
         self.orders = Some(orders);
         arranged
     }
+}
+
+// Whether a line is live above the problem's rows.
+fn has_lines_above(problem: &PbProblem, state: &ProofState) -> bool {
+    state
+        .live()
+        .next_above(problem.rows().len() as u64)
+        .is_some()
 }

@@ -80,7 +80,6 @@ impl LinearBoxes {
         ensures goes_on { GoesOn (O.seen oracle.old) (O.seen oracle.new) }
         ensures board { KeepsBoard board.old board.new }
     {
-        self.arranger.begin(oracle.state(), board.problem());
         self.linear.take_up(oracle.state())?;
         let (linear, most) = (&mut self.linear, self.allowance);
         linear_front(

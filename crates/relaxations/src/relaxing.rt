@@ -118,7 +118,7 @@ fn propose<O: Oracle>(
     if found.is_some() {
         return Ok(found);
     }
-    match arranger.arranged(alloc, problem, lits)? {
+    match arranger.arranged(alloc, oracle.state(), problem, lits)? {
         Some(arranged) => tried(alloc, oracle, problem, limits, arranged.as_slice()),
         None => Ok(None),
     }
