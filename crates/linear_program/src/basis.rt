@@ -1,6 +1,6 @@
 // Bases that are kept and come back.
 
-use crate::etas::Moment;
+use crate::factors::Moment;
 use crate::simplex::{Basic, Simplex};
 use crate::variables::{Standing, end_of};
 use scut_base::NoMemory;
@@ -15,7 +15,7 @@ pub struct Basis {
     pub(crate) basic: Vec<Weighted>,
     // By variable.
     pub(crate) is_at_upper: Vec<bool>,
-    // When the etas were those of this basis, if they were.
+    // When the factors were those of this basis, if they were.
     pub(crate) moment: Option<Moment>,
 }
 
@@ -34,7 +34,7 @@ impl Simplex {
             moment: if self.is_stale {
                 None
             } else {
-                Some(self.etas.moment())
+                Some(self.factors.moment())
             },
         })
     }
@@ -62,14 +62,14 @@ impl Simplex {
         Ok(sides)
     }
 
-    // Puts a basis of this shape, or of the rows before some, in the place of the present one, and notes when the etas are its.
+    // Puts a basis of this shape, or of the rows before some, in the place of the present one, and notes when the factors are its.
     pub(crate) fn restore(&mut self, basis: &mut Basis) -> Result<(), NoMemory> {
         if basis.columns != self.columns || basis.basic.len() > self.basics.len() {
             return Ok(());
         }
         let is_whole = basis.basic.len() == self.basics.len();
         let goes_back = match basis.moment {
-            Some(moment) => is_whole && !self.is_stale && self.etas.cut_back(moment),
+            Some(moment) => is_whole && !self.is_stale && self.factors.cut_back(moment),
             None => false,
         };
         self.are_costs_new = true;

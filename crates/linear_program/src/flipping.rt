@@ -1,37 +1,41 @@
 // Variables that go to their other end before a pivot.
 
-use crate::numbers::{add_multiple, add_number};
 use crate::simplex::Simplex;
 use crate::variables::end_of;
+use scut_base::NoMemory;
 
 impl Simplex {
     // Puts the variables that flip at their other ends, and moves the values of the basis along.
-    pub(crate) fn flip(&mut self) {
+    pub(crate) fn flip(&mut self) -> Result<(), NoMemory> {
         if self.candidates.flips.is_empty() {
-            return;
+            return Ok(());
         }
-        self.take_flips();
-        let touched = self.etas.forward(&mut self.edge_column);
+        self.take_flips()?;
+        let touched = self.factors.forward(&mut self.edge_column)?;
         self.count(touched);
-        for (basic, by) in self.basics.iter_mut().zip(self.edge_column.as_slice()) {
-            basic.value += *by;
+        for place in self.edge_column.listed() {
+            if let Some(basic) = self.basics.get_mut(*place) {
+                basic.value += self.edge_column.number(*place);
+            }
         }
+        Ok(())
     }
 
-    // Puts the variables at their other ends, and what that makes of the rows into a column.
-    fn take_flips(&mut self) {
-        self.edge_column.fill(0.0);
+    // Puts the variables at their other ends, and what that makes of the rows into a column, with its sign changed.
+    fn take_flips(&mut self) -> Result<(), NoMemory> {
+        self.edge_column.clear();
         for at in self.candidates.flips.iter() {
             if let Some(variable) = self.variables.get_mut(*at) {
                 let from = variable.end();
                 variable.standing = end_of(!variable.is_at_upper());
                 let by = variable.end() - from;
                 if *at < self.columns {
-                    add_multiple(&mut self.edge_column, self.matrix.column(*at), -by);
+                    self.edge_column.add_multiple(self.matrix.column(*at), by)?;
                 } else {
-                    add_number(&mut self.edge_column, *at - self.columns, by);
+                    self.edge_column.add(*at - self.columns, -by)?;
                 }
             }
         }
+        Ok(())
     }
 }

@@ -6,19 +6,21 @@
 //! he makes of them. The same calls in the same order give the same answers: there is no clock in it, and no
 //! random source. The crate knows no constraint and no proof.
 //!
-//! Sources: the product form of the inverse (Dantzig and Orchard-Hays 1954), dual steepest edge (Forrest and
+//! Sources: triangular factors with changes in middle product form (Huangfu and Hall 2015), dual steepest edge (Forrest and
 //! Goldfarb 1992), bound flipping (Maros 2003), ratios within a tolerance (Harris 1973), and how they go together
 //! (Koberstein 2005).
 #![tactic(auto)]
 
 mod basis;
 mod dropping;
-mod etas;
+mod factors;
 mod flipping;
 mod limits;
+mod lists;
 mod matrix;
 mod numbers;
 mod ordering;
+mod passing;
 mod pivoting;
 mod pricing;
 mod program;

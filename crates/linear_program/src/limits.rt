@@ -19,8 +19,10 @@ pub(crate) const NO_COST: f64 = 1e-9;
 pub(crate) const NO_COEFFICIENT: f64 = 1e-7;
 // Of a row of the inverse, a number of at most this size is 0.
 pub(crate) const NO_MULTIPLIER: f64 = 1e-13;
-// Of an eta, a number of at most this size is left out.
-pub(crate) const NO_ETA: f64 = 1e-12;
+// Of a factor, a number of at most this size is left out.
+pub(crate) const NO_ENTRY: f64 = 1e-14;
+// In a solve, a number of at most this size is what roundings have left of 0.
+pub(crate) const NO_NUMBER: f64 = 1e-14;
 // Ratios are about the same where they differ by at most this cost over the coefficient (Harris 1973): far less than what
 // perturbs costs, or ties that this has broken are ties again, and a roster takes ten times the pivots.
 pub(crate) const HARRIS: f64 = 1e-11;
@@ -36,16 +38,10 @@ pub(crate) const NO_PIVOT: f64 = 1e-9;
 pub(crate) const LONE_PART: f64 = 0.01;
 // Where there is a choice, the shortest row is, among the places of at least this part (threshold pivoting).
 pub(crate) const CHOSEN_PART: f64 = 0.1;
-// After so many pivots the inverse is built anew, since roundings add up and etas get many.
-pub(crate) const REBUILD_AFTER: usize = 100;
-// It is also built anew where etas have more numbers than this many times those of the last building,
-pub(crate) const GROWN_TIMES: usize = 3;
-// and this many for each row, since each pivot passes over all rows anyway,
-pub(crate) const GROWN_PER_ROW: usize = 20;
-// and these, which cost nothing.
-pub(crate) const GROWN_ANYWAY: usize = 10_000;
-// The places of a sparse list are sorted where they are fewer than one in so many; else a walk over all of them takes less.
-pub(crate) const SORTED_BELOW: usize = 16;
+// After so many pivots the factors are built anew, since roundings add up,
+pub(crate) const MOST_CHANGES: usize = 100;
+// or as soon as changes have cost as much as that: a pivot solves three or four times.
+pub(crate) const LOAD_OF_A_CHANGE: usize = 3;
 // A steepest-edge weight is at least this: below it roundings decide.
 pub(crate) const LEAST_WEIGHT: f64 = 1e-4;
 // The square of a row of the inverse is at least this.

@@ -1,5 +1,5 @@
-// In which order the columns of a basis come into its inverse: rows with one column first, columns with one row
-// last, and what is left by the count of its rows (Orchard-Hays 1968; Maros 2003).
+// In which order the columns of a basis come into its factors: columns with one row, then those alone in a row, and
+// what is left by the count of its rows (Orchard-Hays 1968; Maros 2003).
 
 use crate::limits::{CHOSEN_PART, LONE_PART, NO_PIVOT};
 use crate::matrix::{Entry, Matrix};
@@ -46,7 +46,7 @@ pub(crate) struct Order {
     lone_rows: Vec<usize>,
     lone_columns: Vec<usize>,
     pub(crate) first: Vec<Pair>,
-    // Those that come in last, in reverse.
+    // Those of which each has just one row that none before it has.
     pub(crate) last: Vec<Pair>,
     // The columns between, with their counts.
     pub(crate) middle: Vec<(usize, usize)>,
@@ -232,7 +232,12 @@ impl Order {
         Some(entry.place)
     }
 
-    fn is_free_row(&self, row: usize) -> bool {
+    // Whether the row's place is for a column, and whether none has taken it.
+    pub(crate) fn is_open_row(&self, row: usize) -> bool {
+        self.rows.get(row).is_some_and(|state| state.is_open)
+    }
+
+    pub(crate) fn is_free_row(&self, row: usize) -> bool {
         self.rows.get(row).is_some_and(|state| state.is_free)
     }
 

@@ -1,7 +1,6 @@
 // Pivots: values, reduced costs, weights and the inverse after one variable has come in for another.
 
 use crate::limits::{AGREEMENT, LEAST_SQUARE, LEAST_WEIGHT, NO_PIVOT};
-use crate::numbers::{number_at, sum_of_squares};
 use crate::pricing::Leaving;
 use crate::simplex::{Basic, Simplex};
 use crate::variables::{Standing, Variable, end_of};
@@ -32,24 +31,28 @@ struct Step {
 impl Simplex {
     // The column of the variable that enters, as the basis tells it, by place.
     pub(crate) fn take_pivot_column(&mut self, entering: usize) -> Result<(), NoMemory> {
-        self.pivot_column.clear();
-        if entering < self.columns {
-            self.pivot_column
-                .add_multiple(self.matrix.column(entering), -1.0)?;
-        } else {
-            self.pivot_column.add(entering - self.columns, 1.0)?;
-        }
-        let touched = self.etas.forward_sparse(&mut self.pivot_column)?;
+        self.load_column(entering)?;
+        let touched = self.factors.forward_keeping(&mut self.pivot_column)?;
         self.count(touched);
-        self.pivot_column.order();
         Ok(())
+    }
+
+    // The column of a variable with its sign changed, by row.
+    pub(crate) fn load_column(&mut self, variable: usize) -> Result<(), NoMemory> {
+        self.pivot_column.clear();
+        if variable < self.columns {
+            self.pivot_column
+                .add_multiple(self.matrix.column(variable), -1.0)
+        } else {
+            self.pivot_column.add(variable - self.columns, 1.0)
+        }
     }
 
     // Whether the pivot is the same in its row and in its column.
     pub(crate) fn agreement(&self, place: usize, entering: usize) -> Agreement {
         let by_row = self.pivot_row.number(entering);
         let by_column = self.pivot_column.number(place);
-        if (by_row - by_column).abs() > AGREEMENT * (1.0 + by_row.abs()) && self.etas.has_grown() {
+        if (by_row - by_column).abs() > AGREEMENT * (1.0 + by_row.abs()) && self.factors.has_changed() {
             Agreement::Bad
         } else if by_column.abs() < NO_PIVOT {
             Agreement::Zero
@@ -62,37 +65,42 @@ impl Simplex {
     pub(crate) fn pivot(&mut self, leaving: &Leaving, entering: usize) -> Result<(), NoMemory> {
         // Should memory be refused, the inverse doesn't belong to the basis.
         self.is_stale = true;
-        self.flip();
+        self.flip()?;
         let pivot = self.pivot_column.number(leaving.place);
         let step = Step {
             place: leaving.place,
             pivot,
             by: (self.value_at(leaving.place) - leaving.end) / pivot,
-            square: sum_of_squares(self.inverse_row.as_slice()).max(LEAST_SQUARE),
+            square: self.inverse_row.sum_of_squares().max(LEAST_SQUARE),
         };
-        self.take_edge_column();
+        self.take_edge_column()?;
         self.move_basics(&step);
         self.change_costs(leaving, entering, pivot);
         self.exchange(leaving, entering, &step);
         let touched = self.basics.len().saturating_mul(4);
         self.count(touched);
-        self.etas.push(&self.pivot_column, leaving.place)?;
+        self.factors.change(leaving.place, pivot)?;
         self.is_stale = false;
         Ok(())
     }
 
     // The row of the inverse as the basis tells it.
-    fn take_edge_column(&mut self) {
-        copy_numbers(&mut self.edge_column, self.inverse_row.as_slice());
-        let touched = self.etas.forward(&mut self.edge_column);
+    fn take_edge_column(&mut self) -> Result<(), NoMemory> {
+        self.edge_column.clear();
+        for row in self.inverse_row.listed() {
+            self.edge_column
+                .add(*row, -self.inverse_row.number(*row))?;
+        }
+        let touched = self.factors.forward(&mut self.edge_column)?;
         self.count(touched);
+        Ok(())
     }
 
     // The values of the basis and its weights after the pivot.
     fn move_basics(&mut self, step: &Step) {
         for place in self.pivot_column.listed() {
             let number = self.pivot_column.number(*place);
-            let edge = number_at(self.edge_column.as_slice(), *place);
+            let edge = self.edge_column.number(*place);
             match self.basics.get_mut(*place) {
                 Some(basic) if number != 0.0 => {
                     basic.value -= number * step.by;
@@ -168,10 +176,4 @@ fn reweigh(variable: &mut Variable, part: f64, edge: f64, square: f64) {
     let weight = variable.weight - 2.0 * part * edge + part * part * square;
     let least = LEAST_WEIGHT * (part * part).max(1.0);
     variable.weight = weight.max(least);
-}
-
-fn copy_numbers(numbers: &mut [f64], from: &[f64]) {
-    for (number, other) in numbers.iter_mut().zip(from) {
-        *number = *other;
-    }
 }

@@ -1,7 +1,6 @@
 // Which variable leaves the basis, by dual steepest edge (Forrest and Goldfarb 1992), and its rows.
 
 use crate::limits::NO_MULTIPLIER;
-use crate::numbers::put_number;
 use crate::simplex::{Basic, Simplex};
 use crate::variables::Variable;
 use scut_base::NoMemory;
@@ -47,25 +46,26 @@ impl Simplex {
     }
 
     // The row of the inverse at a place.
-    pub(crate) fn take_inverse_row(&mut self, place: usize) {
-        self.inverse_row.fill(0.0);
-        put_number(&mut self.inverse_row, place, 1.0);
-        let touched = self.etas.backward(&mut self.inverse_row);
+    pub(crate) fn take_inverse_row(&mut self, place: usize) -> Result<(), NoMemory> {
+        self.inverse_row.clear();
+        self.inverse_row.add(place, -1.0)?;
+        let touched = self.factors.backward(&mut self.inverse_row)?;
         self.count(touched);
+        Ok(())
     }
 
     // The row of the inverse at the place of a column; `false` where the column isn't in the basis, or there's no inverse of it.
-    pub(crate) fn take_table_row(&mut self, column: usize) -> bool {
+    pub(crate) fn take_table_row(&mut self, column: usize) -> Result<bool, NoMemory> {
         let place = match self.variables.get(column) {
             Some(variable) => variable.place(),
             None => None,
         };
         match place {
             Some(place) if !self.is_stale => {
-                self.take_inverse_row(place);
-                true
+                self.take_inverse_row(place)?;
+                Ok(true)
             }
-            _ => false,
+            _ => Ok(false),
         }
     }
 
@@ -73,12 +73,13 @@ impl Simplex {
     pub(crate) fn take_pivot_row(&mut self) -> Result<(), NoMemory> {
         self.pivot_row.clear();
         let mut touched: usize = 0;
-        for (row, multiplier) in self.inverse_row.iter().enumerate() {
+        for row in self.inverse_row.listed() {
+            let multiplier = self.inverse_row.number(*row);
             if multiplier.abs() > NO_MULTIPLIER {
-                let entries = self.matrix.row(row);
-                self.pivot_row.add_multiple(entries, *multiplier)?;
+                let entries = self.matrix.row(*row);
+                self.pivot_row.add_multiple(entries, multiplier)?;
                 self.pivot_row
-                    .add(self.columns.saturating_add(row), -*multiplier)?;
+                    .add(self.columns.saturating_add(*row), -multiplier)?;
                 touched = touched.saturating_add(entries.len());
             }
         }

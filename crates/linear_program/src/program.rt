@@ -131,7 +131,7 @@ impl LinearProgram {
         ensures same { self.new ≡ self.old }
         ensures shaped { IfOk result (λ row. IfSome row (λ ys. length ys.items ≡ self.old.rows)) }
     {
-        if column >= self.columns || !self.simplex.take_table_row(column) {
+        if column >= self.columns || !self.simplex.take_table_row(column)? {
             return Ok(None);
         }
         let mut multipliers = vec![in self.alloc; 0.0; self.rows]?;

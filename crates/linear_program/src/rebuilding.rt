@@ -1,47 +1,77 @@
-// The inverse built anew.
+// The factors of the basis built anew.
 
-use crate::limits::NO_PIVOT;
 use crate::ordering::Pair;
 use crate::simplex::Simplex;
 use crate::variables::{Standing, end_of};
 use scut_base::NoMemory;
 
 impl Simplex {
-    // Builds the inverse of the basis anew. A column that has no place leaves the basis, and a row whose place no
+    // Builds the factors of the basis anew. A column that has no place leaves the basis, and a row whose place no
     // column takes comes in by its activity. After `NoMemory` the basis is what it was.
     pub(crate) fn rebuild(&mut self) -> Result<(), NoMemory> {
         self.is_stale = true;
         self.resize()?;
         self.order.find(&self.matrix, self.basics.as_slice())?;
-        self.etas.clear();
-        self.enter_first()?;
-        self.enter_middle()?;
-        self.enter_last()?;
-        self.etas.note_built();
-        self.place();
+        let before = self.work;
+        self.factor()?;
         self.count_matrix();
+        let work = self.work.saturating_sub(before);
+        self.factors.end_building(work as usize)?;
+        self.place();
         self.is_stale = false;
-        self.reduce();
+        self.reduce()?;
         self.settle();
-        self.evaluate();
-        Ok(())
+        self.evaluate()
     }
 
     // Makes the lists of a pivot as long as they have to be.
     fn resize(&mut self) -> Result<(), NoMemory> {
         let places = self.basics.len();
-        self.inverse_row.resize(places, 0.0)?;
-        self.edge_column.resize(places, 0.0)?;
+        self.inverse_row.resize(places)?;
+        self.edge_column.resize(places)?;
         self.pivot_column.resize(places)?;
         self.pivot_row.resize(self.variables.len())
     }
 
-    // The columns that are alone in a row: no eta before changes them.
+    // Columns with one row come first, since the lower factor has nothing of them, then those alone in a row, which nothing
+    // changes, and then all others.
+    fn factor(&mut self) -> Result<(), NoMemory> {
+        self.factors.clear(self.basics.len())?;
+        self.open_places();
+        self.enter_last()?;
+        self.enter_first()?;
+        self.enter_middle()?;
+        self.enter_activities()?;
+        let touched = self.factors.size();
+        self.count(touched);
+        Ok(())
+    }
+
+    // The places that are for columns.
+    fn open_places(&mut self) {
+        for row in 0..self.basics.len() {
+            if self.order.is_open_row(row) {
+                self.factors.open(row);
+            }
+        }
+    }
+
+    fn enter_last(&mut self) -> Result<(), NoMemory> {
+        for at in 0..self.order.last.len() {
+            if let Some(pair) = self.order.last.get(at).copied() {
+                self.load_column(pair.column)?;
+                self.enter(pair)?;
+            }
+        }
+        Ok(())
+    }
+
     fn enter_first(&mut self) -> Result<(), NoMemory> {
-        for pair in self.order.first.iter() {
-            self.etas
-                .push_sparse(self.matrix.column(pair.column), pair.row)?;
-            put_variable(&mut self.order.variables, *pair);
+        for at in 0..self.order.first.len() {
+            if let Some(pair) = self.order.first.get(at).copied() {
+                self.load_column(pair.column)?;
+                self.enter(pair)?;
+            }
         }
         Ok(())
     }
@@ -49,7 +79,9 @@ impl Simplex {
     fn enter_middle(&mut self) -> Result<(), NoMemory> {
         for at in 0..self.order.middle.len() {
             if let Some(column) = self.order.middle_column(at) {
-                self.take_pivot_column(column)?;
+                self.load_column(column)?;
+                let touched = self.factors.pass_lower(&mut self.pivot_column)?;
+                self.count(touched);
                 if let Some(row) = self.order.row_for(&self.pivot_column) {
                     let pair = Pair { column, row };
                     self.order.take_middle(&self.matrix, pair);
@@ -60,14 +92,11 @@ impl Simplex {
         Ok(())
     }
 
-    fn enter_last(&mut self) -> Result<(), NoMemory> {
-        for _pair in 0..self.order.last.len() {
-            if let Some(pair) = self.order.last.pop() {
-                self.take_pivot_column(pair.column)?;
-                let pivot = self.pivot_column.number(pair.row);
-                if pivot.abs() >= NO_PIVOT {
-                    self.enter(pair)?;
-                }
+    // The places that no column has taken.
+    fn enter_activities(&mut self) -> Result<(), NoMemory> {
+        for row in 0..self.basics.len() {
+            if self.order.is_free_row(row) {
+                self.factors.enter_activity(row)?;
             }
         }
         Ok(())
@@ -75,7 +104,7 @@ impl Simplex {
 
     // The column that has been taken comes in at a place.
     fn enter(&mut self, pair: Pair) -> Result<(), NoMemory> {
-        self.etas.push(&self.pivot_column, pair.row)?;
+        self.factors.enter(&self.pivot_column, pair.row)?;
         put_variable(&mut self.order.variables, pair);
         Ok(())
     }

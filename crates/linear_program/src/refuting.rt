@@ -20,12 +20,9 @@ impl Simplex {
 
     // The multipliers of the row of the pivot, for the rows as they were given.
     pub(crate) fn put_multipliers(&self, multipliers: &mut [f64], sign: f64) {
-        for (row, (multiplier, number)) in multipliers
-            .iter_mut()
-            .zip(self.inverse_row.as_slice())
-            .enumerate()
-        {
-            *multiplier = -sign * *number * self.matrix.scale(row);
+        for row in self.inverse_row.listed() {
+            let number = self.inverse_row.number(*row);
+            put_number(multipliers, *row, -sign * number * self.matrix.scale(*row));
         }
     }
 

@@ -1,9 +1,9 @@
 // The state of the simplex method, and what follows from its basis.
 
-use crate::etas::Etas;
+use crate::factors::Factors;
 use crate::limits::{CROSSED, FIRST_OF_SEQUENCE, NO_COST, SPREAD, SPREAD_WITHOUT_COSTS};
 use crate::matrix::{Entry, Matrix};
-use crate::numbers::{add_multiple, add_number, number_at, product};
+use crate::numbers::number_at;
 use crate::ordering::Order;
 use crate::ratios::Candidates;
 use crate::sparse_numbers::SparseNumbers;
@@ -30,17 +30,17 @@ pub(crate) struct Simplex {
     pub(crate) costs: Vec<f64>,
     // By place; there are as many places as rows.
     pub(crate) basics: Vec<Basic>,
-    pub(crate) etas: Etas,
-    // Whether etas don't belong to the basis, and whether reduced costs don't.
+    pub(crate) factors: Factors,
+    // Whether factors don't belong to the basis, and whether reduced costs don't.
     pub(crate) is_stale: bool,
     pub(crate) are_costs_new: bool,
     // Numbers touched so far.
     pub(crate) work: u64,
     // Of the pivot that is made: its row of the inverse, its row, its column, and that row of the inverse as a column.
-    pub(crate) inverse_row: Vec<f64>,
+    pub(crate) inverse_row: SparseNumbers,
     pub(crate) pivot_row: SparseNumbers,
     pub(crate) pivot_column: SparseNumbers,
-    pub(crate) edge_column: Vec<f64>,
+    pub(crate) edge_column: SparseNumbers,
     pub(crate) candidates: Candidates,
     // For a rebuilding.
     pub(crate) order: Order,
@@ -55,14 +55,14 @@ impl Simplex {
             variables: vec![in alloc; Variable::of_column(); columns]?,
             costs: vec![in alloc; 0.0; columns]?,
             basics: Vec::new(alloc),
-            etas: Etas::new(alloc),
+            factors: Factors::new(alloc),
             is_stale: true,
             are_costs_new: true,
             work: 0,
-            inverse_row: Vec::new(alloc),
+            inverse_row: SparseNumbers::new(alloc),
             pivot_row: SparseNumbers::new(alloc),
             pivot_column: SparseNumbers::new(alloc),
-            edge_column: Vec::new(alloc),
+            edge_column: SparseNumbers::new(alloc),
             candidates: Candidates::new(alloc),
             order: Order::new(alloc),
         })
@@ -141,31 +141,35 @@ impl Simplex {
     }
 
     // The reduced costs of the basis.
-    pub(crate) fn reduce(&mut self) {
-        self.take_dual_row();
+    pub(crate) fn reduce(&mut self) -> Result<(), NoMemory> {
+        self.take_dual_row()?;
         for (at, variable) in self.variables.iter_mut().enumerate() {
             variable.reduced_cost = if variable.is_basic() {
                 0.0
             } else if at < self.columns {
-                variable.cost - product(self.inverse_row.as_slice(), self.matrix.column(at))
+                variable.cost - self.inverse_row.product(self.matrix.column(at))
             } else {
-                number_at(self.inverse_row.as_slice(), at - self.columns)
+                self.inverse_row.number(at - self.columns)
             };
         }
         self.are_costs_new = false;
         self.count_matrix();
+        Ok(())
     }
 
     // The costs of the basis times its inverse.
-    fn take_dual_row(&mut self) {
-        for (number, basic) in self.inverse_row.iter_mut().zip(self.basics.as_slice()) {
-            *number = match self.variables.get(basic.variable) {
-                Some(variable) => variable.cost,
-                None => 0.0,
-            };
+    fn take_dual_row(&mut self) -> Result<(), NoMemory> {
+        self.inverse_row.clear();
+        for (place, basic) in self.basics.iter().enumerate() {
+            if let Some(variable) = self.variables.get(basic.variable) {
+                if variable.cost != 0.0 {
+                    self.inverse_row.add(place, -variable.cost)?;
+                }
+            }
         }
-        let touched = self.etas.backward(&mut self.inverse_row);
+        let touched = self.factors.backward(&mut self.inverse_row)?;
         self.count(touched);
+        Ok(())
     }
 
     // Each variable outside of the basis goes to the end that its reduced cost tells.
@@ -180,29 +184,31 @@ impl Simplex {
     }
 
     // The values of the basis.
-    pub(crate) fn evaluate(&mut self) {
-        self.take_ends();
-        let touched = self.etas.forward(&mut self.edge_column);
+    pub(crate) fn evaluate(&mut self) -> Result<(), NoMemory> {
+        self.take_ends()?;
+        let touched = self.factors.forward(&mut self.edge_column)?;
         self.count(touched);
         self.count_matrix();
-        for (basic, value) in self.basics.iter_mut().zip(self.edge_column.as_slice()) {
-            basic.value = *value;
+        for (place, basic) in self.basics.iter_mut().enumerate() {
+            basic.value = self.edge_column.number(place);
         }
+        Ok(())
     }
 
-    // What the variables outside of the basis make of the rows where they stand.
-    fn take_ends(&mut self) {
-        self.edge_column.fill(0.0);
+    // What the variables outside of the basis make of the rows where they stand, with its sign changed.
+    fn take_ends(&mut self) -> Result<(), NoMemory> {
+        self.edge_column.clear();
         for (at, variable) in self.variables.iter().enumerate() {
             let end = variable.end();
             if !variable.is_basic() && end != 0.0 {
                 if at < self.columns {
-                    add_multiple(&mut self.edge_column, self.matrix.column(at), -end);
+                    self.edge_column.add_multiple(self.matrix.column(at), end)?;
                 } else {
-                    add_number(&mut self.edge_column, at - self.columns, end);
+                    self.edge_column.add(at - self.columns, -end)?;
                 }
             }
         }
+        Ok(())
     }
 
     // A pass over the coefficients.

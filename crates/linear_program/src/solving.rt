@@ -140,21 +140,20 @@ impl Simplex {
             return self.rebuild();
         }
         if self.are_costs_new {
-            self.reduce();
+            self.reduce()?;
         }
         self.settle();
-        self.evaluate();
-        Ok(())
+        self.evaluate()
     }
 
     fn step(&mut self) -> Result<Step, NoMemory> {
-        if self.etas.is_long(self.basics.len()) {
+        if self.factors.is_long() {
             self.rebuild()?;
         }
         let Some(leaving) = self.leaving() else {
             return Ok(Step::Optimal);
         };
-        self.take_inverse_row(leaving.place);
+        self.take_inverse_row(leaving.place)?;
         self.take_pivot_row()?;
         match self.entering(&leaving)? {
             Some(entering) => self.try_pivot(&leaving, entering),
@@ -177,7 +176,7 @@ impl Simplex {
 
     // Builds the inverse anew, if that may mend what went wrong.
     fn retry(&mut self) -> Result<Step, NoMemory> {
-        if !self.etas.has_grown() {
+        if !self.factors.has_changed() {
             return Ok(Step::Stuck);
         }
         self.rebuild()?;

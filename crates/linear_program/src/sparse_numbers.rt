@@ -1,6 +1,6 @@
 // A sparse list of numbers by place, which is cleared in the time of what was put in.
 
-use crate::limits::SORTED_BELOW;
+use crate::limits::NO_NUMBER;
 use crate::matrix::Entry;
 use scut_base::NoMemory;
 use std::alloc::Global;
@@ -19,7 +19,7 @@ const EMPTY: Slot = Slot {
 #[derive(Debug, Drop)]
 pub(crate) struct SparseNumbers {
     slots: Vec<Slot>,
-    // The places whose slot is listed, in the order in which they came, or sorted by `order`.
+    // The places whose slot is listed, in the order in which they came.
     listed: Vec<usize>,
 }
 
@@ -57,6 +57,11 @@ impl SparseNumbers {
         self.listed.as_slice()
     }
 
+    // The place that is listed so many after the first.
+    pub(crate) fn listed_at(&self, at: usize) -> usize {
+        self.listed.get(at).copied().unwrap_or(usize::MAX)
+    }
+
     pub(crate) fn number(&self, place: usize) -> f64 {
         match self.slots.get(place) {
             Some(slot) => slot.number,
@@ -76,6 +81,53 @@ impl SparseNumbers {
         Ok(())
     }
 
+    // The number at a place, if it isn't tiny; a tiny one becomes 0.
+    pub(crate) fn significant(&mut self, place: usize) -> Option<f64> {
+        let slot = self.slots.get_mut(place)?;
+        if slot.number.abs() > NO_NUMBER {
+            return Some(slot.number);
+        }
+        slot.number = 0.0;
+        None
+    }
+
+    // Makes a list the entries of all numbers that aren't tiny, times a factor.
+    pub(crate) fn put_entries(
+        &self,
+        factor: f64,
+        entries: &mut Vec<Entry>,
+    ) -> Result<(), NoMemory> {
+        entries.clear();
+        for place in self.listed.iter() {
+            let number = self.number(*place);
+            if number.abs() > NO_NUMBER {
+                entries.push(Entry {
+                    place: *place,
+                    number: number * factor,
+                })?;
+            }
+        }
+        Ok(())
+    }
+
+    // The sum of products with a list of entries.
+    pub(crate) fn product(&self, entries: &[Entry]) -> f64 {
+        let mut sum = 0.0;
+        for entry in entries {
+            sum += entry.number * self.number(entry.place);
+        }
+        sum
+    }
+
+    pub(crate) fn sum_of_squares(&self) -> f64 {
+        let mut sum = 0.0;
+        for place in self.listed.iter() {
+            let number = self.number(*place);
+            sum += number * number;
+        }
+        sum
+    }
+
     // Puts another number where one is listed.
     pub(crate) fn replace(&mut self, place: usize, number: f64) {
         if let Some(slot) = self.slots.get_mut(place) {
@@ -91,22 +143,5 @@ impl SparseNumbers {
             self.add(entry.place, entry.number * factor)?;
         }
         Ok(())
-    }
-
-    // Lists the places from the least to the greatest, so that sums and choices over them don't depend on how they came.
-    pub(crate) fn order(&mut self) {
-        if self.listed.len() < self.slots.len() / SORTED_BELOW {
-            self.listed.sort_unstable();
-        } else {
-            self.list_by_place();
-        }
-    }
-
-    fn list_by_place(&mut self) {
-        let slots = self.slots.iter().enumerate();
-        let filled = slots.filter(|(_, slot)| slot.is_listed);
-        for (listed, (place, _)) in self.listed.iter_mut().zip(filled) {
-            *listed = place;
-        }
     }
 }
