@@ -262,16 +262,14 @@ impl Factors {
 
     // The column of the upper factor at a place, with its sign changed.
     fn push_without(&mut self, place: usize) -> Result<(), NoMemory> {
+        let number = -self.diagonal(place);
         for entry in self.upper.list(place) {
             self.entries.push(Entry {
                 place: entry.place,
                 number: -entry.number,
             })?;
         }
-        self.entries.push(Entry {
-            place,
-            number: -self.diagonal(place),
-        })?;
+        self.entries.push(Entry { place, number })?;
         Ok(())
     }
 

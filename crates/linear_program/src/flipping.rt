@@ -1,5 +1,7 @@
 // Variables that go to their other end before a pivot.
 
+use crate::numbers::put_number;
+use crate::pricing::slope_of;
 use crate::simplex::Simplex;
 use crate::variables::end_of;
 use scut_base::NoMemory;
@@ -16,6 +18,10 @@ impl Simplex {
         for place in self.edge_column.listed() {
             if let Some(basic) = self.basics.get_mut(*place) {
                 basic.value += self.edge_column.number(*place);
+                if let Some(variable) = self.variables.get(basic.variable) {
+                    let slope = slope_of(variable, basic.value);
+                    put_number(self.slopes.as_mut_slice(), *place, slope);
+                }
             }
         }
         Ok(())

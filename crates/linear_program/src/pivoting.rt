@@ -1,7 +1,8 @@
 // Pivots: values, reduced costs, weights and the inverse after one variable has come in for another.
 
 use crate::limits::{AGREEMENT, LEAST_SQUARE, LEAST_WEIGHT, NO_PIVOT};
-use crate::pricing::Leaving;
+use crate::numbers::{put_flag, put_number};
+use crate::pricing::{Leaving, slope_of};
 use crate::simplex::{Basic, Simplex};
 use crate::variables::{Standing, Variable, end_of};
 use scut_base::NoMemory;
@@ -107,6 +108,8 @@ impl Simplex {
                     if *place != step.place {
                         if let Some(variable) = self.variables.get_mut(basic.variable) {
                             reweigh(variable, number / step.pivot, edge, step.square);
+                            let slope = slope_of(variable, basic.value);
+                            put_number(self.slopes.as_mut_slice(), *place, slope);
                         }
                     }
                 }
@@ -149,11 +152,15 @@ impl Simplex {
             value = variable.end() + step.by;
             variable.standing = Standing::Basic(step.place);
             variable.weight = (step.square / (step.pivot * step.pivot)).max(LEAST_WEIGHT);
+            let slope = slope_of(variable, value);
+            put_number(self.slopes.as_mut_slice(), step.place, slope);
         }
         if let Some(variable) = self.variables.get_mut(leaving.variable) {
             variable.standing = end_of(!leaving.is_below);
             variable.weight = 1.0;
         }
+        put_flag(self.is_basic.as_mut_slice(), entering, true);
+        put_flag(self.is_basic.as_mut_slice(), leaving.variable, false);
         if let Some(basic) = self.basics.get_mut(step.place) {
             *basic = Basic {
                 variable: entering,

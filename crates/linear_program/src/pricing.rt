@@ -16,6 +16,22 @@ pub(crate) struct Leaving {
     pub(crate) end: f64,
 }
 
+// Of which variables the row of the pivot is wanted.
+#[derive(Clone, Copy, Debug)]
+pub(crate) enum Part {
+    OutsideOfTheBasis,
+    Whole,
+}
+
+impl Part {
+    fn has(self, is_basic: &[bool], variable: usize) -> bool {
+        match self {
+            Part::OutsideOfTheBasis => !matches!(is_basic.get(variable), Some(true)),
+            Part::Whole => true,
+        }
+    }
+}
+
 impl Leaving {
     // 1 where it has to rise, -1 where it has to fall.
     pub(crate) fn sign(&self) -> f64 {
@@ -26,23 +42,29 @@ impl Leaving {
 impl Simplex {
     // The variable whose excess is the largest along its edge, if one is outside of its range.
     pub(crate) fn leaving(&mut self) -> Option<Leaving> {
-        let places = self.basics.len();
+        let places = self.slopes.len();
         self.count(places);
-        let mut steepest = None;
         let mut most = 0.0;
-        for (place, basic) in self.basics.iter().enumerate() {
-            if let Some(variable) = self.variables.get(basic.variable) {
-                let excess = excess_of(variable, basic.value);
-                if excess > variable.tolerance {
-                    let slope = excess * excess / variable.weight;
-                    if slope > most {
-                        most = slope;
-                        steepest = Some(leaving_at(place, basic, variable));
-                    }
-                }
+        let mut steepest = None;
+        for (place, slope) in self.slopes.iter().enumerate() {
+            if *slope > most {
+                most = *slope;
+                steepest = Some(place);
             }
         }
-        steepest
+        let place = steepest?;
+        let basic = self.basics.get(place)?;
+        Some(leaving_at(place, basic, self.variables.get(basic.variable)?))
+    }
+
+    // The slopes of all places.
+    pub(crate) fn grade(&mut self) {
+        for (slope, basic) in self.slopes.iter_mut().zip(self.basics.as_slice()) {
+            *slope = match self.variables.get(basic.variable) {
+                Some(variable) => slope_of(variable, basic.value),
+                None => 0.0,
+            };
+        }
     }
 
     // The row of the inverse at a place.
@@ -69,22 +91,38 @@ impl Simplex {
         }
     }
 
-    // The row of the pivot, by that of the inverse.
-    pub(crate) fn take_pivot_row(&mut self) -> Result<(), NoMemory> {
+    // The row of the pivot, by that of the inverse; where a basic variable stands it is 0 or the pivot's own.
+    pub(crate) fn take_pivot_row(&mut self, part: Part) -> Result<(), NoMemory> {
         self.pivot_row.clear();
         let mut touched: usize = 0;
         for row in self.inverse_row.listed() {
             let multiplier = self.inverse_row.number(*row);
             if multiplier.abs() > NO_MULTIPLIER {
                 let entries = self.matrix.row(*row);
-                self.pivot_row.add_multiple(entries, multiplier)?;
-                self.pivot_row
-                    .add(self.columns.saturating_add(*row), -multiplier)?;
+                for entry in entries {
+                    if part.has(self.is_basic.as_slice(), entry.place) {
+                        self.pivot_row.add(entry.place, entry.number * multiplier)?;
+                    }
+                }
+                let activity = self.columns.saturating_add(*row);
+                if part.has(self.is_basic.as_slice(), activity) {
+                    self.pivot_row.add(activity, -multiplier)?;
+                }
                 touched = touched.saturating_add(entries.len());
             }
         }
         self.count(touched);
         Ok(())
+    }
+}
+
+// The square of how far a value is outside of the range along its edge, and 0 where it's inside.
+pub(crate) fn slope_of(variable: &Variable, value: f64) -> f64 {
+    let excess = excess_of(variable, value);
+    if excess > variable.tolerance {
+        excess * excess / variable.weight
+    } else {
+        0.0
     }
 }
 

@@ -27,6 +27,8 @@ impl Simplex {
     // Makes the lists of a pivot as long as they have to be.
     fn resize(&mut self) -> Result<(), NoMemory> {
         let places = self.basics.len();
+        self.slopes.resize(places, 0.0)?;
+        self.is_basic.resize(self.variables.len(), false)?;
         self.inverse_row.resize(places)?;
         self.edge_column.resize(places)?;
         self.pivot_column.resize(places)?;

@@ -30,6 +30,10 @@ pub(crate) struct Simplex {
     pub(crate) costs: Vec<f64>,
     // By place; there are as many places as rows.
     pub(crate) basics: Vec<Basic>,
+    // By place: the square of how far the value is outside of its range, over the weight.
+    pub(crate) slopes: Vec<f64>,
+    // By variable.
+    pub(crate) is_basic: Vec<bool>,
     pub(crate) factors: Factors,
     // Whether factors don't belong to the basis, and whether reduced costs don't.
     pub(crate) is_stale: bool,
@@ -55,6 +59,8 @@ impl Simplex {
             variables: vec![in alloc; Variable::of_column(); columns]?,
             costs: vec![in alloc; 0.0; columns]?,
             basics: Vec::new(alloc),
+            slopes: Vec::new(alloc),
+            is_basic: Vec::new(alloc),
             factors: Factors::new(alloc),
             is_stale: true,
             are_costs_new: true,
@@ -174,7 +180,8 @@ impl Simplex {
 
     // Each variable outside of the basis goes to the end that its reduced cost tells.
     pub(crate) fn settle(&mut self) {
-        for variable in self.variables.iter_mut() {
+        for (variable, is_basic) in self.variables.iter_mut().zip(self.is_basic.iter_mut()) {
+            *is_basic = variable.is_basic();
             if variable.reduced_cost > NO_COST {
                 variable.put_at(false);
             } else if variable.reduced_cost < -NO_COST {
@@ -192,6 +199,7 @@ impl Simplex {
         for (place, basic) in self.basics.iter_mut().enumerate() {
             basic.value = self.edge_column.number(place);
         }
+        self.grade();
         Ok(())
     }
 

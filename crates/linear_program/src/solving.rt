@@ -5,7 +5,7 @@ ghost use Rattle.linear_program.specs.Shape.{IsShapedFor, IsSolvedWithin};
 use crate::LinearProgram;
 use crate::limits::STOP_EVERY;
 use crate::pivoting::Agreement;
-use crate::pricing::Leaving;
+use crate::pricing::{Leaving, Part};
 use crate::simplex::Simplex;
 use scut_base::NoMemory;
 
@@ -154,11 +154,20 @@ impl Simplex {
             return Ok(Step::Optimal);
         };
         self.take_inverse_row(leaving.place)?;
-        self.take_pivot_row()?;
+        self.take_pivot_row(Part::OutsideOfTheBasis)?;
         match self.entering(&leaving)? {
             Some(entering) => self.try_pivot(&leaving, entering),
-            None if self.is_refuted(leaving.sign()) => Ok(Step::Infeasible(leaving.sign())),
-            None => self.retry(),
+            None => self.try_to_refute(leaving.sign()),
+        }
+    }
+
+    // The row of the pivot refutes all values, if it does so as a sum of rows as given.
+    fn try_to_refute(&mut self, sign: f64) -> Result<Step, NoMemory> {
+        self.take_pivot_row(Part::Whole)?;
+        if self.is_refuted(sign) {
+            Ok(Step::Infeasible(sign))
+        } else {
+            self.retry()
         }
     }
 
