@@ -45,7 +45,7 @@ pub(crate) struct Change {
     column: usize,
     end: usize,
     // What all changes up to this one have cost, in numbers touched.
-    load: usize,
+    load: u64,
     // No other change or building ever has this number.
     serial: u64,
 }
@@ -73,8 +73,8 @@ pub(crate) struct Factors {
     // The row that was solved for last as the upper factor leaves it, and the column as the upper factor gets it.
     half_row: Vec<Entry>,
     half_column: Vec<Entry>,
-    // How many numbers were touched in the building, its serial number, and the next one.
-    built_work: usize,
+    // How many numbers were touched for the building, its serial number, and the next one.
+    built_work: u64,
     built_serial: u64,
     next_serial: u64,
 }
@@ -163,13 +163,17 @@ impl Factors {
         Ok(())
     }
 
-    // Ends a building that has touched so many numbers.
-    pub(crate) fn end_building(&mut self, work: usize) -> Result<(), NoMemory> {
+    // All columns are in.
+    pub(crate) fn end_building(&mut self) -> Result<(), NoMemory> {
         self.lower_rows.turn(&self.lower)?;
         self.upper_rows.turn(&self.upper)?;
-        self.built_work = work;
         self.built_serial = self.take_serial();
         Ok(())
+    }
+
+    // The building, with what follows from it, has touched so many numbers.
+    pub(crate) fn note_work(&mut self, work: u64) {
+        self.built_work = work;
     }
 
     fn take_serial(&mut self) -> u64 {
@@ -254,7 +258,7 @@ impl Factors {
             row,
             column,
             end,
-            load: before.saturating_add(end.saturating_mul(LOAD_OF_A_CHANGE)),
+            load: before.saturating_add(LOAD_OF_A_CHANGE.saturating_mul(end as u64)),
             serial,
         })?;
         Ok(())

@@ -75,10 +75,12 @@ impl Factors {
         self.keep_row(row)?;
         let changes = self.pass_changes_back(row)?;
         let lower = self.pass_lower_rows(row)?;
-        Ok(activities
-            .saturating_add(upper)
-            .saturating_add(changes)
-            .saturating_add(lower))
+        Ok(
+            activities
+                .saturating_add(upper)
+                .saturating_add(changes)
+                .saturating_add(lower),
+        )
     }
 
     // The places of activities, which the upper factor has first.

@@ -53,7 +53,9 @@ impl Simplex {
     pub(crate) fn agreement(&self, place: usize, entering: usize) -> Agreement {
         let by_row = self.pivot_row.number(entering);
         let by_column = self.pivot_column.number(place);
-        if (by_row - by_column).abs() > AGREEMENT * (1.0 + by_row.abs()) && self.factors.has_changed() {
+        if (by_row - by_column).abs() > AGREEMENT * (1.0 + by_row.abs())
+            && self.factors.has_changed()
+        {
             Agreement::Bad
         } else if by_column.abs() < NO_PIVOT {
             Agreement::Zero
@@ -89,8 +91,7 @@ impl Simplex {
     fn take_edge_column(&mut self) -> Result<(), NoMemory> {
         self.edge_column.clear();
         for row in self.inverse_row.listed() {
-            self.edge_column
-                .add(*row, -self.inverse_row.number(*row))?;
+            self.edge_column.add(*row, -self.inverse_row.number(*row))?;
         }
         let touched = self.factors.forward(&mut self.edge_column)?;
         self.count(touched);

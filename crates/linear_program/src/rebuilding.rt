@@ -15,13 +15,13 @@ impl Simplex {
         let before = self.work;
         self.factor()?;
         self.count_matrix();
-        let work = self.work.saturating_sub(before);
-        self.factors.end_building(work as usize)?;
         self.place();
         self.is_stale = false;
         self.reduce()?;
         self.settle();
-        self.evaluate()
+        self.evaluate()?;
+        self.factors.note_work(self.work.saturating_sub(before));
+        Ok(())
     }
 
     // Makes the lists of a pivot as long as they have to be.
@@ -44,6 +44,7 @@ impl Simplex {
         self.enter_first()?;
         self.enter_middle()?;
         self.enter_activities()?;
+        self.factors.end_building()?;
         let touched = self.factors.size();
         self.count(touched);
         Ok(())
