@@ -2,8 +2,9 @@
 // numbers that meet one other than 0. What pivots have changed since stands between the two, in product form (Huangfu and Hall
 // 2015: the middle product form), so that an earlier moment comes back where the list of changes is cut.
 //
-// The basis is taken with its sign changed: the column of a row's activity is that of the identity. No factor keeps such a
-// column: the activities come first, and only their rows of the upper factor have numbers, those of the other columns.
+// The basis is taken with its sign changed: the column of a row's activity is that of the identity. So the factors are those of
+// the other columns in the other rows alone, and what these columns have in the rows of activities, the outer block, stands
+// beside them as it is.
 
 use crate::limits::{LOAD_OF_A_CHANGE, MOST_CHANGES, NO_ENTRY, NO_NUMBER};
 use crate::lists::Lists;
@@ -19,19 +20,26 @@ pub(crate) struct Pivot {
     pub(crate) number: f64,
 }
 
-// What stands at a place.
+// What stands at a place, as the factors are built.
+#[derive(Clone, Copy, Debug)]
+enum State {
+    // The activity of its row.
+    Activity,
+    // Nothing yet.
+    Open,
+    // A column, which is in the order of the factors.
+    Passed,
+}
+
 #[derive(Clone, Copy, Debug)]
 struct Place {
-    // Whether it's that of an activity or has its pivot, as the factors are built.
-    is_passed: bool,
-    // Whether it's in the order of the factors, and its number on the diagonal.
-    is_ordered: bool,
+    state: State,
+    // The number on the diagonal.
     diagonal: f64,
 }
 
 const ACTIVITY: Place = Place {
-    is_passed: true,
-    is_ordered: false,
+    state: State::Activity,
     diagonal: 1.0,
 };
 
@@ -68,6 +76,8 @@ pub(crate) struct Factors {
     pub(crate) lower_rows: Lists,
     pub(crate) upper: Lists,
     pub(crate) upper_rows: Lists,
+    pub(crate) outer: Lists,
+    pub(crate) outer_rows: Lists,
     pub(crate) changes: Vec<Change>,
     entries: Vec<Entry>,
     // The row that was solved for last as the upper factor leaves it, and the column as the upper factor gets it.
@@ -89,6 +99,8 @@ impl Factors {
             lower_rows: Lists::new(alloc),
             upper: Lists::new(alloc),
             upper_rows: Lists::new(alloc),
+            outer: Lists::new(alloc),
+            outer_rows: Lists::new(alloc),
             changes: Vec::new(alloc),
             entries: Vec::new(alloc),
             half_row: Vec::new(alloc),
@@ -108,13 +120,14 @@ impl Factors {
         self.places.clear();
         self.places.resize(places, ACTIVITY)?;
         self.lower.clear(places)?;
+        self.outer.clear(places)?;
         self.upper.clear(places)
     }
 
     // The place is for a column.
     pub(crate) fn open(&mut self, place: usize) {
         if let Some(own) = self.places.get_mut(place) {
-            own.is_passed = false;
+            own.state = State::Open;
         }
     }
 
@@ -128,21 +141,29 @@ impl Factors {
             }
         }
         self.upper.close(place);
+        self.outer.close(place);
         if self.lower.close(place) {
             self.lower_places.push(place)?;
         }
         self.pass(place, pivot)
     }
 
-    // A number of the column that is entered: above the diagonal, or below it, in pivots.
+    // A number of the column that is entered: of the outer block, above the diagonal, or below it, in pivots.
     fn push(&mut self, place: usize, number: f64, pivot: f64) -> Result<(), NoMemory> {
-        if self.places.get(place).is_some_and(|own| own.is_passed) {
-            self.upper.push(Entry { place, number })
-        } else {
-            self.lower.push(Entry {
+        match self.state_of(place) {
+            State::Activity => self.outer.push(Entry { place, number }),
+            State::Passed => self.upper.push(Entry { place, number }),
+            State::Open => self.lower.push(Entry {
                 place,
                 number: number / pivot,
-            })
+            }),
+        }
+    }
+
+    fn state_of(&self, place: usize) -> State {
+        match self.places.get(place) {
+            Some(own) => own.state,
+            None => State::Activity,
         }
     }
 
@@ -154,8 +175,7 @@ impl Factors {
     fn pass(&mut self, place: usize, number: f64) -> Result<(), NoMemory> {
         if let Some(own) = self.places.get_mut(place) {
             *own = Place {
-                is_passed: true,
-                is_ordered: true,
+                state: State::Passed,
                 diagonal: number,
             };
         }
@@ -167,6 +187,7 @@ impl Factors {
     pub(crate) fn end_building(&mut self) -> Result<(), NoMemory> {
         self.lower_rows.turn(&self.lower)?;
         self.upper_rows.turn(&self.upper)?;
+        self.outer_rows.turn(&self.outer)?;
         self.built_serial = self.take_serial();
         Ok(())
     }
@@ -187,6 +208,7 @@ impl Factors {
         self.lower
             .entries()
             .saturating_add(self.upper.entries())
+            .saturating_add(self.outer.entries())
             .saturating_add(self.order.len())
     }
 
@@ -267,12 +289,8 @@ impl Factors {
     // The column of the upper factor at a place, with its sign changed.
     fn push_without(&mut self, place: usize) -> Result<(), NoMemory> {
         let number = -self.diagonal(place);
-        for entry in self.upper.list(place) {
-            self.entries.push(Entry {
-                place: entry.place,
-                number: -entry.number,
-            })?;
-        }
+        push_negated(&mut self.entries, self.upper.list(place))?;
+        push_negated(&mut self.entries, self.outer.list(place))?;
         self.entries.push(Entry { place, number })?;
         Ok(())
     }
@@ -286,7 +304,7 @@ impl Factors {
 
     // Whether the place is that of an activity which the factors don't keep.
     pub(crate) fn is_activity(&self, place: usize) -> bool {
-        self.places.get(place).is_some_and(|own| !own.is_ordered)
+        matches!(self.state_of(place), State::Activity)
     }
 
     // The row of a change, and its column.
@@ -313,4 +331,14 @@ impl Factors {
     pub(crate) fn keep_column(&mut self, column: &SparseNumbers) -> Result<(), NoMemory> {
         column.put_entries(1.0, &mut self.half_column)
     }
+}
+
+fn push_negated(entries: &mut Vec<Entry>, added: &[Entry]) -> Result<(), NoMemory> {
+    for entry in added {
+        entries.push(Entry {
+            place: entry.place,
+            number: -entry.number,
+        })?;
+    }
+    Ok(())
 }

@@ -8,6 +8,24 @@ use scut_base::NoMemory;
 impl Factors {
     // Makes a column, given with its sign changed, what the basis tells of it, and says how many numbers were touched.
     pub(crate) fn forward(&self, column: &mut SparseNumbers) -> Result<usize, NoMemory> {
+        let inner = self.forward_inside(column)?;
+        let outer = self.pass_outer(column)?;
+        Ok(inner.saturating_add(outer))
+    }
+
+    // The same where only those numbers are wanted that stand where another column has some.
+    pub(crate) fn forward_at(
+        &self,
+        column: &mut SparseNumbers,
+        wanted: &SparseNumbers,
+    ) -> Result<usize, NoMemory> {
+        let inner = self.forward_inside(column)?;
+        let outer = self.pass_outer_at(column, wanted)?;
+        Ok(inner.saturating_add(outer))
+    }
+
+    // What the factors make of a column, without the outer block.
+    fn forward_inside(&self, column: &mut SparseNumbers) -> Result<usize, NoMemory> {
         let lower = self.pass_lower(column)?;
         let changes = self.pass_changes(column)?;
         let upper = self.pass_upper(column)?;
@@ -23,7 +41,11 @@ impl Factors {
         let changes = self.pass_changes(column)?;
         self.keep_column(column)?;
         let upper = self.pass_upper(column)?;
-        Ok(lower.saturating_add(changes).saturating_add(upper))
+        let outer = self.pass_outer(column)?;
+        Ok(lower
+            .saturating_add(changes)
+            .saturating_add(upper)
+            .saturating_add(outer))
     }
 
     // A column by the lower factor alone.
@@ -68,6 +90,37 @@ impl Factors {
         Ok(touched)
     }
 
+    // The outer block, by the columns that have a number.
+    fn pass_outer(&self, column: &mut SparseNumbers) -> Result<usize, NoMemory> {
+        let mut touched = self.order.len();
+        for pivot in self.order.iter() {
+            if let Some(number) = column.significant(pivot.place) {
+                let entries = self.outer.list(pivot.place);
+                column.add_multiple(entries, -number)?;
+                touched = touched.saturating_add(entries.len());
+            }
+        }
+        Ok(touched)
+    }
+
+    // The outer block, by the rows that are wanted.
+    fn pass_outer_at(
+        &self,
+        column: &mut SparseNumbers,
+        wanted: &SparseNumbers,
+    ) -> Result<usize, NoMemory> {
+        let mut touched = wanted.listed().len();
+        for place in wanted.listed() {
+            if self.is_activity(*place) && wanted.number(*place).abs() > NO_NUMBER {
+                let entries = self.outer_rows.list(*place);
+                let sum = column.product(entries);
+                column.add(*place, -sum)?;
+                touched = touched.saturating_add(entries.len());
+            }
+        }
+        Ok(touched)
+    }
+
     // As `forward`, with a row from the other side.
     pub(crate) fn backward(&mut self, row: &mut SparseNumbers) -> Result<usize, NoMemory> {
         let activities = self.pass_activities(row)?;
@@ -83,7 +136,7 @@ impl Factors {
         )
     }
 
-    // The places of activities, which the upper factor has first.
+    // The outer block from the other side, by the activities that have a number.
     fn pass_activities(&self, row: &mut SparseNumbers) -> Result<usize, NoMemory> {
         let count = row.listed().len();
         let mut touched = count;
@@ -91,7 +144,7 @@ impl Factors {
             let place = row.listed_at(at);
             if self.is_activity(place) {
                 let number = row.number(place);
-                let entries = self.upper_rows.list(place);
+                let entries = self.outer_rows.list(place);
                 row.add_multiple(entries, -number)?;
                 touched = touched.saturating_add(entries.len());
             }

@@ -1,6 +1,6 @@
 // Pivots: values, reduced costs, weights and the inverse after one variable has come in for another.
 
-use crate::limits::{AGREEMENT, LEAST_SQUARE, LEAST_WEIGHT, NO_PIVOT};
+use crate::limits::{AGREEMENT, LEAST_SQUARE, LEAST_WEIGHT, NO_NUMBER, NO_PIVOT};
 use crate::numbers::{put_flag, put_number};
 use crate::pricing::{Leaving, slope_of};
 use crate::simplex::{Basic, Simplex};
@@ -87,13 +87,15 @@ impl Simplex {
         Ok(())
     }
 
-    // The row of the inverse as the basis tells it.
+    // The row of the inverse as the basis tells it, where the pivot's column has numbers.
     fn take_edge_column(&mut self) -> Result<(), NoMemory> {
         self.edge_column.clear();
         for row in self.inverse_row.listed() {
             self.edge_column.add(*row, -self.inverse_row.number(*row))?;
         }
-        let touched = self.factors.forward(&mut self.edge_column)?;
+        let touched = self
+            .factors
+            .forward_at(&mut self.edge_column, &self.pivot_column)?;
         self.count(touched);
         Ok(())
     }
@@ -104,7 +106,7 @@ impl Simplex {
             let number = self.pivot_column.number(*place);
             let edge = self.edge_column.number(*place);
             match self.basics.get_mut(*place) {
-                Some(basic) if number != 0.0 => {
+                Some(basic) if number.abs() > NO_NUMBER => {
                     basic.value -= number * step.by;
                     if *place != step.place {
                         if let Some(variable) = self.variables.get_mut(basic.variable) {
