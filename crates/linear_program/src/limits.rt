@@ -23,6 +23,8 @@ pub(crate) const NO_MULTIPLIER: f64 = 1e-13;
 pub(crate) const NO_ENTRY: f64 = 1e-14;
 // In a solve, a number of at most this size is what roundings have left of 0.
 pub(crate) const NO_NUMBER: f64 = 1e-14;
+// What stands for 0 where a sparse list names the place: far less than any rounding.
+pub(crate) const LISTED_ZERO: f64 = 1e-50;
 // Ratios are about the same where they differ by at most this cost over the coefficient (Harris 1973): far less than what
 // perturbs costs, or ties that this has broken are ties again, and a roster takes ten times the pivots.
 pub(crate) const HARRIS: f64 = 1e-11;

@@ -42,10 +42,12 @@ impl Factors {
         self.keep_column(column)?;
         let upper = self.pass_upper(column)?;
         let outer = self.pass_outer(column)?;
-        Ok(lower
-            .saturating_add(changes)
-            .saturating_add(upper)
-            .saturating_add(outer))
+        Ok(
+            lower
+                .saturating_add(changes)
+                .saturating_add(upper)
+                .saturating_add(outer),
+        )
     }
 
     // A column by the lower factor alone.

@@ -1,32 +1,22 @@
 // A sparse list of numbers by place, which is cleared in the time of what was put in.
 
-use crate::limits::NO_NUMBER;
+use crate::limits::{LISTED_ZERO, NO_NUMBER};
 use crate::matrix::Entry;
 use scut_base::NoMemory;
 use std::alloc::Global;
 
-#[derive(Clone, Copy, Debug)]
-struct Slot {
-    number: f64,
-    is_listed: bool,
-}
-
-const EMPTY: Slot = Slot {
-    number: 0.0,
-    is_listed: false,
-};
-
 #[derive(Debug, Drop)]
 pub(crate) struct SparseNumbers {
-    slots: Vec<Slot>,
-    // The places whose slot is listed, in the order in which they came.
+    // By place: 0 where the place isn't listed, and only there.
+    numbers: Vec<f64>,
+    // The places in the order in which they came.
     listed: Vec<usize>,
 }
 
 impl SparseNumbers {
     pub(crate) fn new(alloc: Global) -> SparseNumbers {
         SparseNumbers {
-            slots: Vec::new(alloc),
+            numbers: Vec::new(alloc),
             listed: Vec::new(alloc),
         }
     }
@@ -34,19 +24,19 @@ impl SparseNumbers {
     // Empty, for so many places.
     pub(crate) fn resize(&mut self, places: usize) -> Result<(), NoMemory> {
         self.clear();
-        self.slots.resize(places, EMPTY)?;
+        self.numbers.resize(places, 0.0)?;
         Ok(())
     }
 
     // How many places there are, with numbers or without.
     pub(crate) fn places(&self) -> usize {
-        self.slots.len()
+        self.numbers.len()
     }
 
     pub(crate) fn clear(&mut self) {
         for place in self.listed.iter() {
-            if let Some(slot) = self.slots.get_mut(*place) {
-                *slot = EMPTY;
+            if let Some(number) = self.numbers.get_mut(*place) {
+                *number = 0.0;
             }
         }
         self.listed.clear();
@@ -63,32 +53,31 @@ impl SparseNumbers {
     }
 
     pub(crate) fn number(&self, place: usize) -> f64 {
-        match self.slots.get(place) {
-            Some(slot) => slot.number,
+        match self.numbers.get(place) {
+            Some(number) => *number,
             None => 0.0,
         }
     }
 
     // Adds to the number at a place.
     pub(crate) fn add(&mut self, place: usize, number: f64) -> Result<(), NoMemory> {
-        if let Some(slot) = self.slots.get_mut(place) {
-            if !slot.is_listed {
+        if let Some(own) = self.numbers.get_mut(place) {
+            if *own == 0.0 {
                 self.listed.push(place)?;
-                slot.is_listed = true;
             }
-            slot.number += number;
+            *own = listed_number(*own + number);
         }
         Ok(())
     }
 
-    // The number at a place, if it isn't tiny; a tiny one becomes 0.
-    pub(crate) fn significant(&mut self, place: usize) -> Option<f64> {
-        let slot = self.slots.get_mut(place)?;
-        if slot.number.abs() > NO_NUMBER {
-            return Some(slot.number);
+    // The number at a place, if it isn't tiny.
+    pub(crate) fn significant(&self, place: usize) -> Option<f64> {
+        let number = self.number(place);
+        if number.abs() > NO_NUMBER {
+            Some(number)
+        } else {
+            None
         }
-        slot.number = 0.0;
-        None
     }
 
     // Makes a list the entries of all numbers that aren't tiny, times a factor.
@@ -130,9 +119,9 @@ impl SparseNumbers {
 
     // Puts another number where one is listed.
     pub(crate) fn replace(&mut self, place: usize, number: f64) {
-        if let Some(slot) = self.slots.get_mut(place) {
-            if slot.is_listed {
-                slot.number = number;
+        if let Some(own) = self.numbers.get_mut(place) {
+            if *own != 0.0 {
+                *own = listed_number(number);
             }
         }
     }
@@ -144,4 +133,9 @@ impl SparseNumbers {
         }
         Ok(())
     }
+}
+
+// What stands for a number where its place is listed.
+fn listed_number(number: f64) -> f64 {
+    if number == 0.0 { LISTED_ZERO } else { number }
 }
