@@ -2,7 +2,7 @@
 
 /// How many numbers other than 0 all rows have together at most: with both orders, 128 MB.
 pub const MOST_ENTRIES: usize = 4_000_000;
-/// How many rows there are at most: each pivot passes over all of them about ten times.
+/// How many rows there are at most: each pivot passes over all of them at least once.
 pub const MOST_ROWS: usize = 20_000;
 
 // A variable is outside of its range from this much on.

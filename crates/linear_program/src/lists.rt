@@ -88,11 +88,16 @@ impl Lists {
         self.count(from.entries.as_slice());
         self.make_room();
         for (place, span) in from.spans.iter().enumerate() {
-            for entry in from.entries_of(*span) {
-                self.put(entry.place, place, entry.number);
-            }
+            self.put_list(place, from.entries_of(*span));
         }
         Ok(())
+    }
+
+    // Adds the numbers of a list, each at the end of the list of its own place.
+    fn put_list(&mut self, place: usize, entries: &[Entry]) {
+        for entry in entries {
+            self.put(entry.place, place, entry.number);
+        }
     }
 
     // The spans begin at 0, and are as long as their lists will be.

@@ -1,4 +1,4 @@
-// Pivots: values, reduced costs, weights and the inverse after one variable has come in for another.
+// Pivots: values, reduced costs, weights and the factors after one variable has come in for another.
 
 use crate::limits::{AGREEMENT, LEAST_SQUARE, LEAST_WEIGHT, NO_NUMBER, NO_PIVOT};
 use crate::numbers::{put_flag, put_number};
@@ -11,7 +11,7 @@ use scut_base::NoMemory;
 #[derive(Clone, Copy, Debug)]
 pub(crate) enum Agreement {
     Good,
-    // The inverse has to be built anew.
+    // The factors have to be built anew.
     Bad,
     // There's no pivot.
     Zero,
@@ -66,7 +66,7 @@ impl Simplex {
 
     // Puts a variable into the basis for the one that leaves, which then stands at the end that it was beyond.
     pub(crate) fn pivot(&mut self, leaving: &Leaving, entering: usize) -> Result<(), NoMemory> {
-        // Should memory be refused, the inverse doesn't belong to the basis.
+        // Should memory be refused, the factors don't belong to the basis.
         self.is_stale = true;
         self.flip()?;
         let pivot = self.pivot_column.number(leaving.place);

@@ -1,7 +1,9 @@
 // Which variable leaves the basis, by dual steepest edge (Forrest and Goldfarb 1992), and its rows.
 
 use crate::limits::NO_MULTIPLIER;
+use crate::matrix::Entry;
 use crate::simplex::{Basic, Simplex};
+use crate::sparse_numbers::SparseNumbers;
 use crate::variables::Variable;
 use scut_base::NoMemory;
 
@@ -23,12 +25,40 @@ pub(crate) enum Part {
     Whole,
 }
 
-impl Part {
-    fn has(self, is_basic: &[bool], variable: usize) -> bool {
-        match self {
-            Part::OutsideOfTheBasis => !matches!(is_basic.get(variable), Some(true)),
+// The variables of a part.
+#[derive(Clone, Copy, Debug)]
+struct Wanted<'a> {
+    part: Part,
+    is_basic: &'a [bool],
+}
+
+impl Wanted<'_> {
+    fn has(&self, variable: usize) -> bool {
+        match self.part {
+            Part::OutsideOfTheBasis => !matches!(self.is_basic.get(variable), Some(true)),
             Part::Whole => true,
         }
+    }
+
+    // Adds to the number of a variable, if that is wanted.
+    fn add(&self, row: &mut SparseNumbers, variable: usize, number: f64) -> Result<(), NoMemory> {
+        if self.has(variable) {
+            row.add(variable, number)?;
+        }
+        Ok(())
+    }
+
+    // Adds a multiple of a list of entries, where those are wanted.
+    fn add_multiple(
+        &self,
+        row: &mut SparseNumbers,
+        entries: &[Entry],
+        factor: f64,
+    ) -> Result<(), NoMemory> {
+        for entry in entries {
+            self.add(row, entry.place, entry.number * factor)?;
+        }
+        Ok(())
     }
 }
 
@@ -91,7 +121,8 @@ impl Simplex {
         }
     }
 
-    // The row of the pivot, by that of the inverse; where a basic variable stands it is 0 or the pivot's own.
+    // The row of the pivot, by that of the inverse. Of a variable in the basis it has 0, but for roundings, or 1 where that
+    // leaves: most pivots need neither.
     pub(crate) fn take_pivot_row(&mut self, part: Part) -> Result<(), NoMemory> {
         self.pivot_row.clear();
         let mut touched: usize = 0;
@@ -99,15 +130,13 @@ impl Simplex {
             let multiplier = self.inverse_row.number(*row);
             if multiplier.abs() > NO_MULTIPLIER {
                 let entries = self.matrix.row(*row);
-                for entry in entries {
-                    if part.has(self.is_basic.as_slice(), entry.place) {
-                        self.pivot_row.add(entry.place, entry.number * multiplier)?;
-                    }
-                }
+                let wanted = Wanted {
+                    part,
+                    is_basic: self.is_basic.as_slice(),
+                };
+                wanted.add_multiple(&mut self.pivot_row, entries, multiplier)?;
                 let activity = self.columns.saturating_add(*row);
-                if part.has(self.is_basic.as_slice(), activity) {
-                    self.pivot_row.add(activity, -multiplier)?;
-                }
+                wanted.add(&mut self.pivot_row, activity, -multiplier)?;
                 touched = touched.saturating_add(entries.len());
             }
         }

@@ -146,7 +146,7 @@ impl LinearProgram {
     }
 
     /// Makes a basis that `basis` of this very program has answered the present one. Where it's an earlier moment of
-    /// the present list of etas, the list is cut back; else it's built anew, and the basis notes that, so that going
+    /// the present factors, their list of changes is cut back; else they are built anew, and the basis notes that, so that going
     /// back to it once more is cheap. Rows that have come since then come into it by their own activities. One of another shape changes nothing; one of another program
     /// of this shape isn't told apart, and may make answers wrong. `sum` and `duals` speak of the basis after the
     /// next `solve`.
@@ -169,7 +169,7 @@ impl LinearProgram {
         Ok(staying)
     }
 
-    /// Has the inverse built anew at the next `solve`.
+    /// Has the factors of the basis built anew at the next `solve`.
     pub fn rebuild(&mut self) -> Result<(), NoMemory>
         ensures { self.new ≡ self.old }
     {
@@ -177,8 +177,7 @@ impl LinearProgram {
         Ok(())
     }
 
-    /// How many numbers have been touched so far: those of etas and of rows, and passes over places, as one of which
-    /// each sparse column counts.
+    /// How many numbers have been touched so far: those of factors and of rows, and passes over places.
     pub fn work(&self) -> u64 {
         self.simplex.work
     }

@@ -134,7 +134,7 @@ impl LinearProgram {
 }
 
 impl Simplex {
-    // The inverse, reduced costs and values of the basis, as ranges and costs are now.
+    // The factors, reduced costs and values of the basis, as ranges and costs are now.
     fn begin(&mut self) -> Result<(), NoMemory> {
         if self.is_stale {
             return self.rebuild();
@@ -183,7 +183,7 @@ impl Simplex {
         }
     }
 
-    // Builds the inverse anew, if that may mend what went wrong.
+    // Builds the factors anew, if that may mend what went wrong.
     fn retry(&mut self) -> Result<Step, NoMemory> {
         if !self.factors.has_changed() {
             return Ok(Step::Stuck);

@@ -28,11 +28,6 @@ impl SparseNumbers {
         Ok(())
     }
 
-    // How many places there are, with numbers or without.
-    pub(crate) fn places(&self) -> usize {
-        self.numbers.len()
-    }
-
     pub(crate) fn clear(&mut self) {
         for place in self.listed.iter() {
             if let Some(number) = self.numbers.get_mut(*place) {
