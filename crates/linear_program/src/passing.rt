@@ -94,10 +94,12 @@ impl Factors {
 
     // The outer block, by the columns that have a number.
     fn pass_outer(&self, column: &mut SparseNumbers) -> Result<usize, NoMemory> {
-        let mut touched = self.order.len();
-        for pivot in self.order.iter() {
-            if let Some(number) = column.significant(pivot.place) {
-                let entries = self.outer.list(pivot.place);
+        let count = column.listed().len();
+        let mut touched = count;
+        for at in 0..count {
+            let place = column.listed_at(at);
+            if let Some(number) = column.significant(place) {
+                let entries = self.outer.list(place);
                 column.add_multiple(entries, -number)?;
                 touched = touched.saturating_add(entries.len());
             }
