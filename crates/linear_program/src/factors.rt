@@ -261,13 +261,9 @@ impl Factors {
     // `backward`, where the pivot is this.
     pub(crate) fn change(&mut self, place: usize, pivot: f64) -> Result<(), NoMemory> {
         let row = self.entries.len();
-        for entry in self.half_row.iter() {
-            self.entries.push(*entry)?;
-        }
+        push_multiple(&mut self.entries, self.half_row.as_slice(), 1.0)?;
         let column = self.entries.len();
-        for entry in self.half_column.iter() {
-            self.entries.push(*entry)?;
-        }
+        push_multiple(&mut self.entries, self.half_column.as_slice(), 1.0)?;
         self.push_without(place)?;
         let before = match self.changes.last() {
             Some(change) => change.load,
@@ -289,8 +285,8 @@ impl Factors {
     // The column of the upper factor at a place, with its sign changed.
     fn push_without(&mut self, place: usize) -> Result<(), NoMemory> {
         let number = -self.diagonal(place);
-        push_negated(&mut self.entries, self.upper.list(place))?;
-        push_negated(&mut self.entries, self.outer.list(place))?;
+        push_multiple(&mut self.entries, self.upper.list(place), -1.0)?;
+        push_multiple(&mut self.entries, self.outer.list(place), -1.0)?;
         self.entries.push(Entry { place, number })?;
         Ok(())
     }
@@ -333,11 +329,11 @@ impl Factors {
     }
 }
 
-fn push_negated(entries: &mut Vec<Entry>, added: &[Entry]) -> Result<(), NoMemory> {
+fn push_multiple(entries: &mut Vec<Entry>, added: &[Entry], factor: f64) -> Result<(), NoMemory> {
     for entry in added {
         entries.push(Entry {
             place: entry.place,
-            number: -entry.number,
+            number: entry.number * factor,
         })?;
     }
     Ok(())
