@@ -14,7 +14,7 @@ impl Simplex {
         }
         self.take_flips()?;
         let touched = self.factors.forward(&mut self.edge_column)?;
-        self.count(touched);
+        self.count_reached(touched);
         for place in self.edge_column.listed() {
             if let Some(basic) = self.basics.get_mut(*place) {
                 basic.value += self.edge_column.number(*place);

@@ -34,7 +34,7 @@ impl Simplex {
     pub(crate) fn take_pivot_column(&mut self, entering: usize) -> Result<(), NoMemory> {
         self.load_column(entering)?;
         let touched = self.factors.forward_keeping(&mut self.pivot_column)?;
-        self.count(touched);
+        self.count_reached(touched);
         Ok(())
     }
 
@@ -96,7 +96,7 @@ impl Simplex {
         let touched = self
             .factors
             .forward_at(&mut self.edge_column, &self.pivot_column)?;
-        self.count(touched);
+        self.count_reached(touched);
         Ok(())
     }
 

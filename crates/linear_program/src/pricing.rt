@@ -102,7 +102,7 @@ impl Simplex {
         self.inverse_row.clear();
         self.inverse_row.add(place, -1.0)?;
         let touched = self.factors.backward(&mut self.inverse_row)?;
-        self.count(touched);
+        self.count_reached(touched);
         Ok(())
     }
 

@@ -177,7 +177,8 @@ impl LinearProgram {
         Ok(())
     }
 
-    /// How many numbers have been touched so far: those of factors and of rows, and passes over places.
+    /// How much has been done so far, in numbers passed over: one that a solve by the factors reaches counts as several, since
+    /// it takes as long.
     pub fn work(&self) -> u64 {
         self.simplex.work
     }

@@ -84,7 +84,7 @@ impl Simplex {
             if let Some(column) = self.order.middle_column(at) {
                 self.load_column(column)?;
                 let touched = self.factors.pass_lower(&mut self.pivot_column)?;
-                self.count(touched);
+                self.count_reached(touched);
                 if let Some(row) = self.order.row_for(&self.pivot_column) {
                     let pair = Pair { column, row };
                     self.order.take_middle(&self.matrix, pair);

@@ -1,7 +1,9 @@
 // The state of the simplex method, and what follows from its basis.
 
 use crate::factors::Factors;
-use crate::limits::{CROSSED, FIRST_OF_SEQUENCE, NO_COST, SPREAD, SPREAD_WITHOUT_COSTS};
+use crate::limits::{
+    CROSSED, FIRST_OF_SEQUENCE, NO_COST, SPREAD, SPREAD_WITHOUT_COSTS, TIMES_PASSED,
+};
 use crate::matrix::{Entry, Matrix};
 use crate::numbers::number_at;
 use crate::ordering::Order;
@@ -146,6 +148,11 @@ impl Simplex {
         self.work = self.work.saturating_add(touched as u64);
     }
 
+    // Counts numbers that a solve by the factors reached.
+    pub(crate) fn count_reached(&mut self, reached: usize) {
+        self.count(reached.saturating_mul(TIMES_PASSED));
+    }
+
     // The reduced costs of the basis.
     pub(crate) fn reduce(&mut self) -> Result<(), NoMemory> {
         self.take_dual_row()?;
@@ -174,7 +181,7 @@ impl Simplex {
             }
         }
         let touched = self.factors.backward(&mut self.inverse_row)?;
-        self.count(touched);
+        self.count_reached(touched);
         Ok(())
     }
 
@@ -194,7 +201,7 @@ impl Simplex {
     pub(crate) fn evaluate(&mut self) -> Result<(), NoMemory> {
         self.take_ends()?;
         let touched = self.factors.forward(&mut self.edge_column)?;
-        self.count(touched);
+        self.count_reached(touched);
         self.count_matrix();
         for (place, basic) in self.basics.iter_mut().enumerate() {
             basic.value = self.edge_column.number(place);
