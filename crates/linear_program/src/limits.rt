@@ -40,12 +40,12 @@ pub(crate) const NO_PIVOT: f64 = 1e-9;
 pub(crate) const LONE_PART: f64 = 0.01;
 // Where there is a choice, the shortest row is, among the places of at least this part (threshold pivoting).
 pub(crate) const CHOSEN_PART: f64 = 0.1;
+// A number that is reached by its place takes as long as so many that are passed over in order.
+pub(crate) const TIMES_PASSED: u64 = 4;
 // After so many pivots the factors are built anew, since roundings add up,
 pub(crate) const MOST_CHANGES: usize = 100;
-// or as soon as changes have cost as much as that. A pivot solves three or four times, and reaches about half of a change's numbers each time.
-pub(crate) const LOAD_OF_A_CHANGE: u64 = 6;
-// A number that is reached by its place takes as long as so many that are passed over in order.
-pub(crate) const TIMES_PASSED: usize = 3;
+// or as soon as changes have cost as much as that: in a pivot each of their numbers is reached about twice.
+pub(crate) const LOAD_OF_A_CHANGE: u64 = 2 * TIMES_PASSED;
 // A steepest-edge weight is at least this: below it roundings decide.
 pub(crate) const LEAST_WEIGHT: f64 = 1e-4;
 // The square of a row of the inverse is at least this.

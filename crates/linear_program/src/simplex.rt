@@ -150,7 +150,8 @@ impl Simplex {
 
     // Counts numbers that a solve by the factors reached.
     pub(crate) fn count_reached(&mut self, reached: usize) {
-        self.count(reached.saturating_mul(TIMES_PASSED));
+        let passed = (reached as u64).saturating_mul(TIMES_PASSED);
+        self.work = self.work.saturating_add(passed);
     }
 
     // The reduced costs of the basis.
