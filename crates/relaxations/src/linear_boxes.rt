@@ -17,6 +17,7 @@ use front_set::CostVec;
 use linear_search::LinearSearch;
 use oracle::{Oracle, OracleFault};
 use pb_lin::PbProblem;
+use proof_rules::ProofState;
 use scut_base::{Items, NoMemory};
 use search_base::{Board, Bounds};
 use std::alloc::Global;
@@ -31,6 +32,8 @@ pub(crate) struct LinearBoxes {
     boxes: OpenBoxes,
     // Limits to which nothing that is left keeps. None is below another.
     settled: Vec<CostVec>,
+    // Whether anything was asked.
+    has_begun: bool,
     // How much work they may do in all, and how many learned clauses they have earned by.
     allowance: u64,
     learned: u64,
@@ -45,6 +48,7 @@ impl LinearBoxes {
             arranger: Arranger::new(),
             boxes: OpenBoxes::new(alloc, problem.costs().len())?,
             settled: Vec::new(alloc),
+            has_begun: false,
             allowance: first_allowance(problem),
             learned: 0,
         })
@@ -64,8 +68,17 @@ impl LinearBoxes {
         self.linear.is_spent() || self.linear.work() > self.allowance
     }
 
-    // What they tell of the front before a search's first turn: `linear_front`. Lines that there are by then, as those that put
-    // alike things in order, are taken up whether or not that is worth it: what is proposed later is refused where it breaks them.
+    // Takes up the lines that there are before anything is asked, as those that put alike things in order: what is proposed later is
+    // refused where it breaks them.
+    fn take_up_first(&mut self, state: &ProofState) -> Result<(), NoMemory> {
+        if self.has_begun {
+            return Ok(());
+        }
+        self.has_begun = true;
+        self.linear.take_up(state)
+    }
+
+    // What they tell of the front before a search's first turn: `linear_front`.
     pub(crate) fn begin<O: Oracle>(
         &mut self,
         oracle: &mut O,
@@ -80,7 +93,7 @@ impl LinearBoxes {
         ensures goes_on { GoesOn (O.seen oracle.old) (O.seen oracle.new) }
         ensures board { KeepsBoard board.old board.new }
     {
-        self.linear.take_up(oracle.state())?;
+        self.take_up_first(oracle.state())?;
         let (linear, most) = (&mut self.linear, self.allowance);
         linear_front(
             self.alloc,
@@ -118,6 +131,7 @@ impl LinearBoxes {
         ensures tells { IfOk result (λ below. IfSome below (TellsOf (O.seen oracle.new) wanted.now)) }
         ensures seeks { SeeksOn (O.seen oracle.old) (O.seen oracle.new) bounds.old bounds.new result }
     {
+        self.take_up_first(oracle.state())?;
         if self.is_spent() {
             return Ok(None);
         }
