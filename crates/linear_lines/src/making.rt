@@ -1,15 +1,13 @@
 // Constraints that tokens make of the live lines.
-ghost use Rattle.std.specs.Prelude.{◌≡◌, ◌∷◌, [], IfOk, MatchOption};
+ghost use Rattle.std.specs.Prelude.{IfOk, MatchOption};
 ghost use Rattle.sum_outputs.specs.Laws.{AreTokensOf};
-ghost use Rattle.cutting_planes.specs.declared.token.PolToken.{PolToken};
-ghost use Rattle.cutting_planes.specs.declared.token.PolToken.TheVariants.{Id, Add, Saturate};
 ghost use Rattle.linear_lines.specs.Stating.{MakesClause, MakesNoClause, MakesNone};
 
 use crate::spelling::are_spelled;
 use cutting_planes::{PolFault, PolToken, evaluate, one_value};
 use pb_lin::Constraint;
 use proof_rules::ProofState;
-use scut_base::{Items, NoMemory};
+use scut_base::NoMemory;
 use std::alloc::Global;
 
 // The clause that the tokens make of the live lines, if they make one. Costs their evaluation.
@@ -46,17 +44,4 @@ pub(crate) fn made_of(
         Err(PolFault::NoMemory) => Err(NoMemory),
         Err(_) => Ok(None),
     }
-}
-
-/// The tokens `ID ID + s`, by which two clauses that clash in one variable make their resolvent (Robinson
-/// 1965): the clashing literals cancel, and what both have is saturated.
-pub fn resolvent_tokens(alloc: Global, first: u64, second: u64) -> Result<Items<PolToken>, NoMemory>
-    ensures { IfOk result (λ tokens. tokens ≡ Id first ∷ Id second ∷ Add ∷ Saturate ∷ []) }
-{
-    let mut tokens = Items::with_capacity(alloc, 4)?;
-    tokens.push(PolToken::Id(first))?;
-    tokens.push(PolToken::Id(second))?;
-    tokens.push(PolToken::Add)?;
-    tokens.push(PolToken::Saturate)?;
-    Ok(tokens)
 }

@@ -4,8 +4,8 @@ use Rattle.scut_base.specs.Literal.{Literal}
 use Rattle.proof_rules.specs.Recording.{Snapshot}
 use Rattle.oracle.specs.Solving.{AreAssumptions, IsCore, Reaches}
 use Rattle.linear_search.specs.Relaxations.{Relaxation}
-use Rattle.linear_search.specs.declared.exploring.Found.{Found}
-use Rattle.linear_search.specs.declared.exploring.Found.TheVariants.{Nothing}
+use Rattle.branch_and_bound.specs.declared.exploring.Found.{Found}
+use Rattle.branch_and_bound.specs.declared.exploring.Found.TheVariants.{Nothing}
 use Rattle.linear_search.specs.declared.reply.Reply.{Reply}
 use Rattle.linear_search.specs.declared.reply.Reply.TheVariants.{Closed, Model, Unknown}
 

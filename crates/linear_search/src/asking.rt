@@ -9,13 +9,9 @@ ghost use Rattle.linear_search.specs.Replies.{IsKeptWhereAnswered, IsReply, IsRe
 
 use crate::Reply;
 use crate::closing::may_be_assumed;
-use crate::cuts::Cuts;
-use crate::exploring::Found;
-use crate::nodes::Node;
-use crate::question::{Limit, Question};
 use crate::search::LinearSearch;
-use crate::target::Target;
 use crate::writing::write_tree;
+use branch_and_bound::{BranchAndBound, Found, Limit, Node, Question, Target};
 use oracle::core_of;
 use pb_lin::PbProblem;
 use proof_rules::{RecordFault, Recorder};
@@ -44,15 +40,8 @@ impl LinearSearch {
         ensures kept { IfOk result (IsKeptWhereAnswered self.old self.new) }
     {
         let question = Question { assumed, limits };
-        let found = in_memory(self.search(rec.state(), &question, Some(target)))?;
-        reply_of(
-            self.alloc,
-            rec,
-            problem,
-            found,
-            assumed,
-            &mut self.relaxation.cuts,
-        )
+        let found = in_memory(self.explore(rec.state(), &question, Some(target)))?;
+        reply_of(self.alloc, rec, problem, found, assumed, &mut self.search)
     }
 
     /// The same, in the tree of the last question: its open nodes are taken up again. It serves where nothing is allowed
@@ -72,15 +61,8 @@ impl LinearSearch {
         ensures kept { IfOk result (IsKeptWhereAnswered self.old self.new) }
     {
         let question = Question { assumed, limits };
-        let found = in_memory(self.search(rec.state(), &question, None))?;
-        reply_of(
-            self.alloc,
-            rec,
-            problem,
-            found,
-            assumed,
-            &mut self.relaxation.cuts,
-        )
+        let found = in_memory(self.explore(rec.state(), &question, None))?;
+        reply_of(self.alloc, rec, problem, found, assumed, &mut self.search)
     }
 }
 
@@ -91,7 +73,7 @@ fn reply_of<R: Recorder>(
     problem: &PbProblem,
     found: Found,
     assumed: &[Lit],
-    cuts: &mut Cuts,
+    search: &mut BranchAndBound,
 ) -> Result<Reply, RecordFault>
     requires ready { IsReady (R.seen rec.old) }
     requires problem { (R.seen rec.old).problem ≡ problem.now }
@@ -100,7 +82,7 @@ fn reply_of<R: Recorder>(
     ensures of_found { IfOk result (IsReplyTo found) }
 {
     match found {
-        Found::Closed(nodes) => close(alloc, rec, problem, nodes.as_slice(), assumed, cuts),
+        Found::Closed(nodes) => close(alloc, rec, problem, nodes.as_slice(), assumed, search),
         Found::Model(lits) => Ok(proposal(rec, lits)),
         Found::Nothing => Ok(Reply::Unknown),
     }
@@ -124,14 +106,14 @@ fn close<R: Recorder>(
     problem: &PbProblem,
     nodes: &[Node],
     assumed: &[Lit],
-    cuts: &mut Cuts,
+    search: &mut BranchAndBound,
 ) -> Result<Reply, RecordFault>
     requires ready { IsReady (R.seen rec.old) }
     requires problem { (R.seen rec.old).problem ≡ problem.now }
     ensures recorded { IsAdded IsConservative (R.seen rec.old) (R.seen rec.new) result }
     ensures reply { IfOk result (IsReply (R.seen rec.new) assumed.now) }
 {
-    let Some(line) = write_tree(alloc, rec, problem, nodes, cuts)? else {
+    let Some(line) = write_tree(alloc, rec, problem, nodes, search)? else {
         return Ok(Reply::Unknown);
     };
     match in_memory(core_of(alloc, line.id, line.clause.literals(), assumed))? {

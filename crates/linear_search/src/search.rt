@@ -3,12 +3,8 @@ ghost use Rattle.std.specs.Prelude.{◌≡◌, ◌+◌, ◌-◌, ◌/◌, ◌^�
 ghost use Rattle.linear_search.specs.Relaxations.{IsPaid};
 ghost use Rattle.linear_search.specs.Replies.{IsKeptWhereFound};
 
-use crate::exploring::Found;
 use crate::limits::{FIRST_STAKE, MOST_STAKE};
-use crate::question::Question;
-use crate::relaxation::Relaxation;
-use crate::target::Target;
-use crate::tree::Tree;
+use branch_and_bound::{BranchAndBound, Found, LiveLines, Question, Target};
 use pb_lin::PbProblem;
 use proof_rules::ProofState;
 use scut_base::NoMemory;
@@ -19,8 +15,7 @@ use std::marker::Model;
 #[derive(Debug, Drop)]
 pub struct LinearSearch {
     pub(crate) alloc: Global,
-    pub(crate) relaxation: Relaxation,
-    tree: Tree,
+    pub(crate) search: BranchAndBound,
     columns: usize,
     constraints: usize,
     // What may be lost on questions that stay open, in numbers touched.
@@ -53,8 +48,7 @@ impl LinearSearch {
     {
         Ok(LinearSearch {
             alloc,
-            relaxation: Relaxation::new(alloc, problem)?,
-            tree: Tree::new(alloc)?,
+            search: BranchAndBound::new(alloc, problem)?,
             columns: problem.vars() as usize,
             constraints: problem.rows().len(),
             purse,
@@ -66,22 +60,21 @@ impl LinearSearch {
     pub fn take_up(&mut self, state: &ProofState) -> Result<(), NoMemory>
         ensures { self.new ≡ self.old }
     {
-        self.relaxation.take_up(state)
+        self.search.take_up(&live_lines(state))
     }
 
     /// Forgets all lines above the problem's rows, and passes by those below this id from now on: `take_up_held` takes them up.
     pub fn leave_out(&mut self, problem: &PbProblem, end: u64) -> Result<(), NoMemory>
         ensures { self.new ≡ self.old }
     {
-        self.tree = Tree::new(self.alloc)?;
-        self.relaxation.begin_again(problem, end)
+        self.search.leave_out(problem, end)
     }
 
     /// Takes up the lines that it left alone, as `take_up` does.
     pub fn take_up_held(&mut self, state: &ProofState) -> Result<(), NoMemory>
         ensures { self.new ≡ self.old }
     {
-        self.relaxation.take_up_held(state)
+        self.search.take_up_held(&live_lines(state))
     }
 
     /// Changes the purse to this.
@@ -107,27 +100,24 @@ impl LinearSearch {
 
     /// The work that was done so far, in numbers touched.
     pub fn work(&self) -> u64 {
-        self.relaxation.work()
+        self.search.work()
     }
 
     /// Solves the relaxation for the least sum, and answers what that took, in numbers touched.
     pub fn root_work(&mut self) -> Result<u64, NoMemory>
         ensures { self.new ≡ self.old }
     {
-        if self.relaxation.is_whole {
-            self.relaxation.solve_root()?;
-        }
-        Ok(self.relaxation.root_work)
+        self.search.root_work()
     }
 
     /// Whether no question can be answered now: the purse has nothing left for a question, or the relaxation is too large.
     pub fn is_spent(&self) -> bool {
-        !self.relaxation.is_whole || self.purse < self.relaxation.least_stake()
+        !self.search.is_whole() || self.purse < self.search.least_stake()
     }
 
     // Searches for the best values within the limits where the assumptions are true, in a new tree or in that of the last
     // question. What it spends is lost only where it finds nothing, and then at most a quarter of the purse.
-    pub(crate) fn search(
+    pub(crate) fn explore(
         &mut self,
         state: &ProofState,
         question: &Question<'_>,
@@ -139,31 +129,13 @@ impl LinearSearch {
         if self.is_spent() {
             return Ok(Found::Nothing);
         }
-        let before = self.relaxation.work();
+        let before = self.search.work();
         let most = before.saturating_add(self.stake.saturating_mul(self.purse / 4));
-        let found = self.explore(state, question, target, most)?;
-        let spent = self.relaxation.work().saturating_sub(before);
+        let live = live_lines(state);
+        let found = self.search.explore(&live, question, target, most)?;
+        let spent = self.search.work().saturating_sub(before);
         self.settle(&found, spent);
         Ok(found)
-    }
-
-    fn explore(
-        &mut self,
-        state: &ProofState,
-        question: &Question<'_>,
-        target: Option<Target>,
-        most: u64,
-    ) -> Result<Found, NoMemory>
-        ensures { self.new ≡ self.old }
-    {
-        let tree = &mut self.tree;
-        match target {
-            Some(target) => {
-                self.relaxation.aim_at(target)?;
-                self.relaxation.explore_anew(state, question, tree, most)
-            }
-            None => self.relaxation.explore_further(state, question, tree, most),
-        }
     }
 
     // Pays for a question that stays open, and halves what the next may spend, as does one whose model a walk met, since that says
@@ -175,11 +147,20 @@ impl LinearSearch {
         if let Found::Nothing = found {
             self.purse = purse_after(self.purse, spent);
             self.stake = (self.stake / 2).max(1);
-        } else if self.tree.is_met {
+        } else if self.search.is_met() {
             self.stake = (self.stake / 2).max(1);
         } else {
             self.stake = (self.stake.saturating_mul(2)).min(MOST_STAKE);
         }
+    }
+}
+
+// The lines that a search stands on.
+fn live_lines(state: &ProofState) -> LiveLines<'_> {
+    LiveLines {
+        vars: state.vars(),
+        lines: state.live(),
+        next_id: state.next_id(),
     }
 }
 

@@ -3,7 +3,7 @@ use crate::limits::{
     FIRST_WORK, FIRST_WORK_OF_CLAUSES, MOST_WORK, PART_WITHOUT_OBJECTIVES, PASSES_A_ROW,
     ROOTS_IN_PURSE, WORK_OF_A_LINE,
 };
-use linear_search::wants_more_than_one;
+use branch_and_bound::wants_more_than_one;
 use pb_lin::{CostRow, PbProblem};
 
 // What all questions may take together before the first clause is learned.

@@ -5,8 +5,9 @@ ghost use Rattle.sum_outputs.specs.Adding.{IsReady, IsRecorded};
 ghost use Rattle.relaxations.specs.Told.{IsTold};
 
 use crate::defined_outputs::{DefinedOutput, DefinedOutputs, Standing};
+use branch_and_bound::{Limit, Target};
 use front_set::CostVec;
-use linear_search::{Limit, LinearSearch, Reply, Target, model_of};
+use linear_search::{LinearSearch, Reply, model_of};
 use pb_lin::PbProblem;
 use proof_rules::{RecordFault, Recorder};
 use scut_base::{Assignment, Items, Lit, NoMemory};

@@ -5,7 +5,8 @@ ghost use Rattle.linear_search.specs.Replies.{IsReply};
 ghost use Rattle.representative_search.specs.Seeking.{IsRelaxed, IsSought, Leaves, LeavesLog, WhereKnown};
 
 use crate::ending::end_proof;
-use linear_search::{LinearSearch, Reply, Target, model_of};
+use branch_and_bound::Target;
+use linear_search::{LinearSearch, Reply, model_of};
 use pb_lin::PbProblem;
 use proof_rules::{RecordFault, Recorder};
 use proof_text::FileRecorder;

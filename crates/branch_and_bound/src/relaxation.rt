@@ -5,6 +5,7 @@ use crate::cutting::Service;
 use crate::limits::{
     LEAST_PASSES, MOST_HALVINGS, MOST_PIVOTS, MOST_SIZE_OF_LINE, PASSES_OF_A_WALK, SHARE_OF_WALKS,
 };
+use crate::live_lines::LiveLines;
 use crate::question::Limit;
 use crate::roots::Roots;
 use crate::rounding::Matrix;
@@ -13,7 +14,6 @@ use crate::target::{Aim, Target};
 use crate::walking::Walk;
 use linear_program::{LinearProgram, MOST_ENTRIES, MOST_ROWS, Range, Term};
 use pb_lin::{Constraint, CostRow, PbProblem};
-use proof_rules::ProofState;
 use scut_base::{Items, Lit, NoMemory};
 use std::alloc::Global;
 use std::num::{nearest_i64_to_f64, nearest_u64_to_f64, nearest_usize_to_f64};
@@ -146,9 +146,9 @@ impl Relaxation {
     }
 
     // Takes up those that it left alone, as `take_up` does.
-    pub(crate) fn take_up_held(&mut self, state: &ProofState) -> Result<(), NoMemory> {
+    pub(crate) fn take_up_held(&mut self, live: &LiveLines<'_>) -> Result<(), NoMemory> {
         for id in self.held_from..self.held_to {
-            self.take_up_line(state, id)?;
+            self.take_up_line(live, id)?;
         }
         self.held_to = self.held_from;
         Ok(())
@@ -156,19 +156,19 @@ impl Relaxation {
 
     // Takes up the live lines above those that it has, if they speak of the problem's variables alone and their coefficients
     // are small. Costs a look at each line that came since.
-    pub(crate) fn take_up(&mut self, state: &ProofState) -> Result<(), NoMemory> {
-        for id in self.next_line..state.next_id() {
-            self.take_up_line(state, id)?;
+    pub(crate) fn take_up(&mut self, live: &LiveLines<'_>) -> Result<(), NoMemory> {
+        for id in self.next_line..live.next_id {
+            self.take_up_line(live, id)?;
         }
-        self.next_line = self.next_line.max(state.next_id());
+        self.next_line = self.next_line.max(live.next_id);
         Ok(())
     }
 
-    fn take_up_line(&mut self, state: &ProofState, id: u64) -> Result<(), NoMemory> {
+    fn take_up_line(&mut self, live: &LiveLines<'_>, id: u64) -> Result<(), NoMemory> {
         if self.cuts.has_written(id) {
             return Ok(());
         }
-        match state.live().get(id) {
+        match live.lines.get(id) {
             Some(line) if is_small_over(line, self.columns as u64) => self.add_line(
                 id, line, false,
             ),

@@ -10,10 +10,11 @@ pub(crate) enum Making {
     Resolvent { first: usize, second: usize },
 }
 
-// A clause by which a node is closed: its literals rise by their variables.
+/// A clause by which a node of a tree is closed.
 #[derive(Debug, Drop)]
-pub(crate) struct Node {
+pub struct Node {
     pub(crate) making: Making,
+    // In rising order of variables.
     pub(crate) lits: Items<Lit>,
 }
 

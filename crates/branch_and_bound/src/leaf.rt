@@ -1,40 +1,41 @@
 // Leaves of a search: clauses by which a partial assignment can't be completed (DECISIONS, tree-lines).
 use crate::combining::{Combination, Sources, value_of};
-use crate::factors::{DENOMINATORS, Factor, Multiplier, rounded, scale_of};
+use crate::factors::{Factor, Multiplier, rounded, scale_of};
+use crate::limits::DENOMINATORS;
+use crate::live_lines::LiveLines;
 use crate::trial::Trial;
 use cutting_planes::PolToken;
 use pb_lin::Constraint;
-use proof_rules::ProofState;
 use scut_base::{Items, Lit, NoMemory, Partial};
 use std::alloc::Global;
 
-/// A clause, and how lines contradict its negation.
+// A clause, and how lines contradict its negation.
 #[derive(Debug, Drop)]
-pub struct Leaf {
-    /// The literals, in rising order of variables.
-    pub lits: Items<Lit>,
-    /// What makes a contradiction of the lines and the negation.
-    pub tokens: Items<PolToken>,
+pub(crate) struct Leaf {
+    // The literals, in rising order of variables.
+    pub(crate) lits: Items<Lit>,
+    // What makes a contradiction of the lines and the negation.
+    pub(crate) tokens: Items<PolToken>,
 }
 
-/// A clause that is false under the partial assignment, by a sum of live lines and of those that may be added later: the
-/// multipliers are rounded to whole numbers, by one denominator after another, until the sum can't be reached where the
-/// assignment holds. Literals that aren't needed are left out, those of small coefficients first. `None` where no denominator
-/// serves. Nothing is promised of the tokens: `leaf_line` makes a line of them, which is judged when it is added.
-///
-/// Costs some passes over the variables, and for each denominator one over the lines' terms, in floats.
-pub fn infeasible_leaf(
+// A clause that is false under the partial assignment, by a sum of live lines and of those that may be added later: the
+// multipliers are rounded to whole numbers, by one denominator after another, until the sum can't be reached where the
+// assignment holds. Literals that aren't needed are left out, those of small coefficients first. `None` where no denominator
+// serves. Nothing is promised of the tokens: the line that is made of them is judged when it is added.
+//
+// Costs some passes over the variables, and for each denominator one over the lines' terms, in floats.
+pub(crate) fn infeasible_leaf(
     alloc: Global,
-    state: &ProofState,
+    live: &LiveLines<'_>,
     pending: &[Constraint],
     multipliers: &[Multiplier],
     fixed: &Partial,
 ) -> Result<Option<Leaf>, NoMemory> {
     let sources = Sources {
-        live: state.live(),
+        live: live.lines,
         pending,
     };
-    let mut sum = Combination::over(alloc, &sources, state.vars(), multipliers)?;
+    let mut sum = Combination::over(alloc, &sources, live.vars, multipliers)?;
     let mut trial = Trial::over(alloc, &sources, multipliers, sum.named.as_slice(), fixed)?;
     for denominator in DENOMINATORS {
         for is_relative in [false, true] {

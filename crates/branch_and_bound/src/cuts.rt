@@ -1,8 +1,8 @@
 // Cuts as lines by cutting planes, which are added only once a clause that is written stands on them.
+use crate::live_lines::LiveLines;
+use crate::pending::{FIRST_PENDING, pending_constraint};
 use cutting_planes::PolToken;
-use linear_lines::{FIRST_PENDING, pending_constraint};
 use pb_lin::Constraint;
-use proof_rules::ProofState;
 use scut_base::{Items, NoMemory};
 use std::alloc::Global;
 
@@ -38,11 +38,11 @@ impl Cuts {
     // Keeps the cut of these tokens, if they make a constraint, and answers its place.
     pub(crate) fn keep(
         &mut self,
-        state: &ProofState,
+        live: &LiveLines<'_>,
         tokens: Items<PolToken>,
     ) -> Result<Option<usize>, NoMemory> {
         let pending = self.constraints.as_slice();
-        let Some(made) = pending_constraint(self.alloc, state, pending, tokens.as_slice())? else {
+        let Some(made) = pending_constraint(self.alloc, live, pending, tokens.as_slice())? else {
             return Ok(None);
         };
         let place = self.constraints.len();

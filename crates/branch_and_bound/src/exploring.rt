@@ -2,22 +2,23 @@
 use crate::limits::{
     MOST_NODES, NODES_OF_ATTEMPTS, PASSES_MORE, PASSES_OF_A_WALK, SHARE_OF_WALKS, TIMES_MORE,
 };
+use crate::live_lines::LiveLines;
 use crate::nodes::Node;
 use crate::question::Question;
 use crate::relaxation::{Relaxation, column_of};
 use crate::tree::Tree;
 use linear_program::Range;
-use proof_rules::ProofState;
 use scut_base::{Items, Lit, NoMemory};
 use std::num::nearest_i64_to_f64;
 
-// What a search has found.
+/// What a search has found.
 #[derive(Debug, Drop)]
-pub(crate) enum Found {
-    // The clauses of a tree that closed, the root's last.
+pub enum Found {
+    /// The clauses of a tree that closed, the root's last.
     Closed(Vec<Node>),
-    // A model.
+    /// What may be a model: a literal of each variable of the problem, in rising order.
     Model(Items<Lit>),
+    /// Neither.
     Nothing,
 }
 
@@ -25,54 +26,54 @@ impl Relaxation {
     // Searches for the best values within the limits where the assumptions are true, until this much work was done.
     pub(crate) fn explore_anew(
         &mut self,
-        state: &ProofState,
+        live: &LiveLines<'_>,
         question: &Question<'_>,
         tree: &mut Tree,
         most: u64,
     ) -> Result<Found, NoMemory> {
         self.take_back_cuts()?;
         self.sway = 0;
-        self.begin_with_root(state, question, tree)?;
-        self.visit_root(state, question, tree)?;
-        if self.may_cut() && !self.begin_with_cuts(state, question, tree, most)? {
+        self.begin_with_root(live, question, tree)?;
+        self.visit_root(live, question, tree)?;
+        if self.may_cut() && !self.begin_with_cuts(live, question, tree, most)? {
             return found_in(tree);
         }
         for nodes in NODES_OF_ATTEMPTS {
-            if !self.split_nodes(state, question, tree, most, nodes)? {
+            if !self.split_nodes(live, question, tree, most, nodes)? {
                 return self.end(tree);
             }
             if !tree.is_flat() {
                 break;
             }
             self.sway = self.sway.saturating_add(1);
-            self.begin_anew(state, question, tree)?;
+            self.begin_anew(live, question, tree)?;
         }
-        self.explore(state, question, tree, most)
+        self.explore(live, question, tree, most)
     }
 
     // Begins the tree anew, but for its best model.
     pub(crate) fn begin_anew(
         &mut self,
-        state: &ProofState,
+        live: &LiveLines<'_>,
         question: &Question<'_>,
         tree: &mut Tree,
     ) -> Result<(), NoMemory> {
         let (best, is_met) = (tree.best.take(), tree.is_met);
-        self.begin_with_root(state, question, tree)?;
+        self.begin_with_root(live, question, tree)?;
         tree.best = best;
         tree.is_met = is_met;
-        self.visit_root(state, question, tree)
+        self.visit_root(live, question, tree)
     }
 
     // Begins a tree with its root alone.
     fn begin_with_root(
         &mut self,
-        state: &ProofState,
+        live: &LiveLines<'_>,
         question: &Question<'_>,
         tree: &mut Tree,
     ) -> Result<(), NoMemory> {
         self.begin(question, tree);
-        tree.begin(state.vars(), self.least_sum(), self.aim.step.max(1e-6))?;
+        tree.begin(live.vars, self.least_sum(), self.aim.step.max(1e-6))?;
         let first_walk = self.passes(PASSES_OF_A_WALK * SHARE_OF_WALKS);
         tree.next_walk = self.work().saturating_add(first_walk);
         Ok(())
@@ -81,11 +82,11 @@ impl Relaxation {
     // Visits the root.
     fn visit_root(
         &mut self,
-        state: &ProofState,
+        live: &LiveLines<'_>,
         question: &Question<'_>,
         tree: &mut Tree,
     ) -> Result<(), NoMemory> {
-        self.visit(state, question, tree, 0)?;
+        self.visit(live, question, tree, 0)?;
         self.roots.keep(&self.program)?;
         tree.push_if_open(0)
     }
@@ -93,35 +94,35 @@ impl Relaxation {
     // Goes on in a tree whose limits are tighter now: nodes that what was kept of them doesn't close are solved once more.
     pub(crate) fn explore_further(
         &mut self,
-        state: &ProofState,
+        live: &LiveLines<'_>,
         question: &Question<'_>,
         tree: &mut Tree,
         most: u64,
     ) -> Result<Found, NoMemory> {
         self.begin(question, tree);
-        tree.reopen(state.vars())?;
+        tree.reopen(live.vars)?;
         for at in 0..tree.branches.len() {
             if self.work() > most {
                 return Ok(Found::Nothing);
             }
             if tree.is_open(at) {
-                self.take_up_again(state, question, tree, at)?;
+                self.take_up_again(live, question, tree, at)?;
             }
         }
-        self.explore(state, question, tree, most)
+        self.explore(live, question, tree, most)
     }
 
     // Closes a node, or puts it among those that can be split.
     fn take_up_again(
         &mut self,
-        state: &ProofState,
+        live: &LiveLines<'_>,
         question: &Question<'_>,
         tree: &mut Tree,
         at: usize,
     ) -> Result<(), NoMemory> {
-        if !self.close_by_kept(state, question, tree, at)? {
+        if !self.close_by_kept(live, question, tree, at)? {
             self.restore(tree, at)?;
-            self.visit(state, question, tree, at)?;
+            self.visit(live, question, tree, at)?;
             tree.push_if_open(at)?;
         }
         Ok(())
@@ -130,12 +131,12 @@ impl Relaxation {
     // Searches on in a tree, and answers what it comes to.
     fn explore(
         &mut self,
-        state: &ProofState,
+        live: &LiveLines<'_>,
         question: &Question<'_>,
         tree: &mut Tree,
         most: u64,
     ) -> Result<Found, NoMemory> {
-        self.split_nodes(state, question, tree, most, MOST_NODES)?;
+        self.split_nodes(live, question, tree, most, MOST_NODES)?;
         self.end(tree)
     }
 
@@ -149,7 +150,7 @@ impl Relaxation {
     // these, but so many nodes were split.
     pub(crate) fn split_nodes(
         &mut self,
-        state: &ProofState,
+        live: &LiveLines<'_>,
         question: &Question<'_>,
         tree: &mut Tree,
         most: u64,
@@ -169,7 +170,7 @@ impl Relaxation {
             let Some(at) = tree.take_next(self.aim.step) else {
                 return Ok(false);
             };
-            self.split_node(state, question, tree, at)?;
+            self.split_node(live, question, tree, at)?;
         }
         Ok(true)
     }
@@ -189,7 +190,7 @@ impl Relaxation {
     // Splits a node, and visits what is below it.
     fn split_node(
         &mut self,
-        state: &ProofState,
+        live: &LiveLines<'_>,
         question: &Question<'_>,
         tree: &mut Tree,
         at: usize,
@@ -199,10 +200,10 @@ impl Relaxation {
         };
         let (first, second) = tree.split(at, lit)?;
         self.restore(tree, at)?;
-        self.visit(state, question, tree, first)?;
+        self.visit(live, question, tree, first)?;
         if !tree.is_closed(at) {
             self.restore(tree, at)?;
-            self.visit(state, question, tree, second)?;
+            self.visit(live, question, tree, second)?;
         }
         tree.let_go(at);
         tree.go_on_below(first, second)

@@ -14,11 +14,13 @@ pub struct Limit {
     pub reform_line: u64,
 }
 
-// What is assumed, and the limits that it stands for.
+/// What is assumed, and the limits that it stands for.
 #[derive(Clone, Copy)]
-pub(crate) struct Question<'a> {
-    pub(crate) assumed: &'a [Lit],
-    pub(crate) limits: &'a [Limit],
+pub struct Question<'a> {
+    /// Literals that are to be true.
+    pub assumed: &'a [Lit],
+    /// What objectives are to cost at most; those without a limit aren't named.
+    pub limits: &'a [Limit],
 }
 
 // The limit of an objective, if it has one.

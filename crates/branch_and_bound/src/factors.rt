@@ -3,13 +3,12 @@ use scut_base::{Items, NoMemory};
 use std::alloc::Global;
 use std::num::{nearest_u64_to_f64, saturating_f64_to_u64};
 
-/// A line, with the multiplier by which a linear program takes it; lines whose multiplier isn't above 0 are
-/// left out.
+// A line, with the multiplier by which a linear program takes it; lines whose multiplier isn't above 0 are left out.
 #[derive(Clone, Copy, Debug)]
-pub struct Multiplier {
-    /// The id of the line.
-    pub line: u64,
-    pub value: f64,
+pub(crate) struct Multiplier {
+    // The id of the line.
+    pub(crate) line: u64,
+    pub(crate) value: f64,
 }
 
 // A line with a factor from 1 on.
@@ -18,38 +17,6 @@ pub(crate) struct Factor {
     pub(crate) line: u64,
     pub(crate) factor: u64,
 }
-
-// What multipliers are scaled by before they are rounded: the denominators that are usual first.
-pub(crate) const DENOMINATORS: [u64; 28] = [
-    1,
-    2,
-    3,
-    4,
-    5,
-    6,
-    8,
-    10,
-    12,
-    15,
-    20,
-    24,
-    30,
-    40,
-    60,
-    84,
-    120,
-    180,
-    360,
-    1_000,
-    5_040,
-    10_000,
-    100_000,
-    1_000_000,
-    10_000_000,
-    100_000_000,
-    1_000_000_000,
-    10_000_000_000,
-];
 
 // The multipliers scaled and rounded, without those that come to 0.
 pub(crate) fn rounded(

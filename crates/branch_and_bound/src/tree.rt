@@ -1,7 +1,7 @@
 // A tree of linear programs, searched from the node of least bound on (DECISIONS, best-first).
+use crate::leaf::Leaf;
 use crate::limits::{FLAT, MOST_KEPT, PARTS_OF_A_STEP, PLUNGE, ROUND_ABOVE, ROUND_EACH};
 use crate::nodes::{Making, Node, has_literal, resolvent_literals};
-use linear_lines::Leaf;
 use linear_program::Basis;
 use scut_base::{Items, Lit, NoMemory, Partial};
 use std::alloc::Global;

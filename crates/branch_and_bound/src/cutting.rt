@@ -4,13 +4,13 @@ use crate::limits::{
     MOST_CUT_ENTRIES, MOST_FAILED, MOST_IDLE, MOST_PIVOTS, MOST_SIZE_OF_CUTS, MOST_STALLED,
     NODES_BEFORE_CUTS, PASSES_OF_CUTS, ROOTS_OF_CUTS, SLACK,
 };
+use crate::live_lines::LiveLines;
 use crate::question::Question;
 use crate::relaxation::{Relaxation, Row, float_of, sum_of_line};
 use crate::tree::Tree;
 use cutting_planes::PolToken;
 use linear_cuts::{Cut, Padding, Separation};
 use linear_program::{Answer, Basis, Range};
-use proof_rules::ProofState;
 use scut_base::{Items, Lit, NoMemory};
 
 // The rounds of cuts of a question: the bounds before them and with them, and the basis and the rows before them.
@@ -53,7 +53,7 @@ impl Relaxation {
     // may need them. With cuts the tree begins anew, but for its best model. Answers whether the search is to go on.
     pub(crate) fn begin_with_cuts(
         &mut self,
-        state: &ProofState,
+        live: &LiveLines<'_>,
         question: &Question<'_>,
         tree: &mut Tree,
         most: u64,
@@ -62,30 +62,30 @@ impl Relaxation {
         let mut allowance = self.passes(PASSES_OF_CUTS).max(of_roots);
         if self.service.helped == 0 && !self.is_root_large() {
             let began = self.work();
-            if !self.split_nodes(state, question, tree, most, NODES_BEFORE_CUTS)? {
+            if !self.split_nodes(live, question, tree, most, NODES_BEFORE_CUTS)? {
                 return Ok(false);
             }
             allowance = allowance.min(self.work().saturating_sub(began));
             self.begin(question, tree);
         }
         let most = most.min(self.work().saturating_add(allowance));
-        if self.cut_root(state, tree, most)? {
-            self.begin_anew(state, question, tree)?;
+        if self.cut_root(live, tree, most)? {
+            self.begin_anew(live, question, tree)?;
         }
         Ok(true)
     }
 
     // Cuts off the root's point, again and again until this much work was done; answers whether rows have changed.
-    fn cut_root(&mut self, state: &ProofState, tree: &Tree, most: u64) -> Result<bool, NoMemory> {
+    fn cut_root(&mut self, live: &LiveLines<'_>, tree: &Tree, most: u64) -> Result<bool, NoMemory> {
         if !tree.can_be_split(0) {
             return Ok(false);
         }
-        let mut separation = self.separation(state)?;
+        let mut separation = self.separation(live)?;
         let is_changed = self.drop_old(&mut separation)?;
         let before = self.program.sum();
         let basis = self.program.basis()?;
         let first = self.rows.len();
-        let after = self.cut_in_rounds(state, tree, &mut separation, most)?;
+        let after = self.cut_in_rounds(live, tree, &mut separation, most)?;
         self.service.has_begun = true;
         let rounds = Rounds {
             before,
@@ -137,7 +137,7 @@ impl Relaxation {
     // bound.
     fn cut_in_rounds(
         &mut self,
-        state: &ProofState,
+        live: &LiveLines<'_>,
         tree: &Tree,
         separation: &mut Separation,
         most: u64,
@@ -146,7 +146,7 @@ impl Relaxation {
         let mut bound = self.program.sum();
         let mut stalled = 0u32;
         for _round in 0..self.rounds() {
-            if self.work() > most || !self.cut_once(state, separation)? {
+            if self.work() > most || !self.cut_once(live, separation)? {
                 break;
             }
             let Some(values) = self.point_now()? else {
@@ -184,7 +184,7 @@ impl Relaxation {
     // Adds the cuts of the present point; answers whether there are any.
     fn cut_once(
         &mut self,
-        state: &ProofState,
+        live: &LiveLines<'_>,
         separation: &mut Separation,
     ) -> Result<bool, NoMemory> {
         let Some(values) = self.point_now()? else {
@@ -200,7 +200,7 @@ impl Relaxation {
         }
         let mut has_any = false;
         for cut in separation.take_chosen(CUTS_OF_A_ROUND)?.iter() {
-            has_any |= self.add_cut(state, separation, cut)?;
+            has_any |= self.add_cut(live, separation, cut)?;
         }
         let work = separation.work().saturating_sub(before);
         self.own_work = self.own_work.saturating_add(work);
@@ -217,11 +217,11 @@ impl Relaxation {
     }
 
     // The rows of lines, for cuts; in the place of an objective's a row without terms.
-    fn separation(&self, state: &ProofState) -> Result<Separation, NoMemory> {
+    fn separation(&self, live: &LiveLines<'_>) -> Result<Separation, NoMemory> {
         let mut separation = Separation::new(self.alloc, self.columns)?;
         for row in self.rows.iter() {
             let line = match row {
-                Row::Line(id) => state.live().get(*id),
+                Row::Line(id) => live.lines.get(*id),
                 Row::Cut(place) => self.cuts.constraints.get(*place),
                 Row::Objective(_) => None,
             };
@@ -240,12 +240,12 @@ impl Relaxation {
     // Adds the row of a cut, if it makes a line.
     fn add_cut(
         &mut self,
-        state: &ProofState,
+        live: &LiveLines<'_>,
         separation: &mut Separation,
         cut: &Cut,
     ) -> Result<bool, NoMemory> {
         let tokens = self.tokens_of(cut)?;
-        let Some(place) = self.cuts.keep(state, tokens)? else {
+        let Some(place) = self.cuts.keep(live, tokens)? else {
             return Ok(false);
         };
         let Some(made) = self.cuts.constraints.get(place) else {

@@ -1,8 +1,8 @@
 // By what multipliers are scaled before they are rounded to whole factors.
+use crate::factors::Multiplier;
 use crate::limits::{LEAST_FIRST_FACTOR, TRIED_BELOW};
 use crate::relaxation::float_of;
 use cutting_planes::PolToken;
-use linear_lines::Multiplier;
 
 // The largest factor of the last leaf: those of the next are about as large, and each smaller one that is tried in vain costs a
 // pass over the lines.

@@ -1,14 +1,15 @@
 // One node of the tree (DECISIONS, branching).
+use crate::factors::Multiplier;
+use crate::leaf::infeasible_leaf;
 use crate::limits::{
     MOST_PIVOTS, NO_MULTIPLIER, PASSES_OF_A_VISIT, PASSES_OF_ROUNDING, THRESHOLDS, WHOLE,
 };
+use crate::live_lines::LiveLines;
 use crate::question::{Limit, Question, limit_of};
 use crate::relaxation::{Relaxation, Row};
 use crate::rounding::Point;
 use crate::tree::{Kept, RowMultiplier, Tree};
-use linear_lines::{Multiplier, infeasible_leaf};
 use linear_program::Answer;
-use proof_rules::ProofState;
 use scut_base::{Items, Lit, NoMemory};
 use std::alloc::Global;
 use std::num::{nearest_i64_to_f64, nearest_u64_to_f64};
@@ -35,7 +36,7 @@ impl Relaxation {
     // Solves the linear program of a node, and closes it, notes its bound and how it can be split, or offers a model.
     pub(crate) fn visit(
         &mut self,
-        state: &ProofState,
+        live: &LiveLines<'_>,
         question: &Question<'_>,
         tree: &mut Tree,
         at: usize,
@@ -57,7 +58,7 @@ impl Relaxation {
                 Answer::Unknown => {}
                 Answer::Infeasible { multipliers } => {
                     let multipliers = multipliers_of(self, multipliers.as_slice())?;
-                    if self.close(state, question, tree, at, multipliers.as_slice())? {
+                    if self.close(live, question, tree, at, multipliers.as_slice())? {
                         return Ok(());
                     }
                 }
@@ -70,27 +71,27 @@ impl Relaxation {
     // Closes a node by multipliers of rows, if they come to whole ones that do.
     pub(crate) fn close(
         &mut self,
-        state: &ProofState,
+        live: &LiveLines<'_>,
         question: &Question<'_>,
         tree: &mut Tree,
         at: usize,
         multipliers: &[RowMultiplier],
     ) -> Result<bool, NoMemory> {
         let mut lines = self.lines_of(question, multipliers)?;
-        self.close_by_lines(state, tree, at, lines.as_mut_slice())
+        self.close_by_lines(live, tree, at, lines.as_mut_slice())
     }
 
     // The same by the multipliers of lines, which may be those of cuts.
     fn close_by_lines(
         &mut self,
-        state: &ProofState,
+        live: &LiveLines<'_>,
         tree: &mut Tree,
         at: usize,
         lines: &mut [Multiplier],
     ) -> Result<bool, NoMemory> {
         self.scale.begin(lines);
         let cuts = self.cuts.constraints.as_slice();
-        match infeasible_leaf(self.alloc, state, cuts, lines, &tree.fixed)? {
+        match infeasible_leaf(self.alloc, live, cuts, lines, &tree.fixed)? {
             Some(leaf) => {
                 self.scale.note(leaf.tokens.as_slice());
                 tree.close_by(at, leaf)?;
@@ -103,7 +104,7 @@ impl Relaxation {
     // Closes a node by what was kept of it, if the limits of now allow that.
     pub(crate) fn close_by_kept(
         &mut self,
-        state: &ProofState,
+        live: &LiveLines<'_>,
         question: &Question<'_>,
         tree: &mut Tree,
         at: usize,
@@ -114,7 +115,7 @@ impl Relaxation {
             Some(kept) => self.lines_of(question, kept.multipliers.as_slice())?,
             None => return Ok(false),
         };
-        self.close_by_lines(state, tree, at, lines.as_mut_slice())
+        self.close_by_lines(live, tree, at, lines.as_mut_slice())
     }
 
     // A node whose bound is above the best model's value has nothing that is better.

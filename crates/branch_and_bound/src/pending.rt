@@ -1,30 +1,26 @@
 // Lines that may be added later.
 use crate::combining::Sources;
-use crate::spelling::are_spelled;
+use crate::live_lines::LiveLines;
 use cutting_planes::{PolFault, PolToken, evaluate};
 use pb_lin::{Constraint, Lines};
-use proof_rules::ProofState;
 use scut_base::{Duplicate, Items, NoMemory};
 use std::alloc::Global;
 
-/// The id by which the first of the lines that may be added later is named; those after it follow. No live line has it.
-pub const FIRST_PENDING: u64 = 1 << 62;
+// The id by which the first of the lines that may be added later is named; those after it follow. No live line has it.
+pub(crate) const FIRST_PENDING: u64 = 1 << 62;
 
-/// The constraint that tokens make of live lines and of those that may be added later, if they make one. Costs copies of the
-/// lines that they name, and the evaluation.
-pub fn pending_constraint(
+// The constraint that tokens make of live lines and of those that may be added later, if they make one. Costs copies of the
+// lines that they name, and the evaluation.
+pub(crate) fn pending_constraint(
     alloc: Global,
-    state: &ProofState,
+    live: &LiveLines<'_>,
     pending: &[Constraint],
     tokens: &[PolToken],
 ) -> Result<Option<Constraint>, NoMemory> {
     let sources = Sources {
-        live: state.live(),
+        live: live.lines,
         pending,
     };
-    if tokens.is_empty() || !are_spelled(tokens, state.vars()) {
-        return Ok(None);
-    }
     let mut lines = Lines::new(alloc);
     let mut own = Items::with_capacity(alloc, tokens.len())?;
     for token in tokens {
