@@ -25,8 +25,8 @@ use totalizer::own_lines_stay;
 
 // What `oracle_below` asks, of linear relaxations of the problem: `Some` is an answer as `oracle_below` gives it, and `None`
 // says that it isn't known. The oracle isn't asked: a model that a relaxation proposes is tried on all that is live, and where it
-// is refused, once more with its parts in order. Where the bounds alone tell, nothing is asked. A limit of
-// `i64::MAX` is none. After `Spent` it may be asked again.
+// is refused, once more with its parts in order. Where the bounds alone tell, nothing is asked. A limit of `i64::MAX` is none.
+// After `Spent` it may be asked again.
 //
 // Costs a bound for each objective, what `LinearSearch::ask` does, and passes over live lines where a model is proposed.
 pub(crate) fn linear_below<O: Oracle>(
