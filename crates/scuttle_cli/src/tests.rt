@@ -1,6 +1,6 @@
 // The commands over files in memory of which a call fails: what no command line reaches.
 use crate::running::run;
-use scut_base::{MemShelf, PlannedFault, ShelfCall};
+use scut_base::{MemShelf, NoMemory, PlannedFault, ShelfCall, boxed};
 use std::alloc::{AllocError, Global};
 use std::process::Abort;
 use std::test::Fail;
@@ -96,20 +96,31 @@ fn number_of(alloc: Global, line: &str, shelf: &mut MemShelf) -> Result<u8, Allo
     Ok(run(alloc, &words_of(alloc, line)?, shelf).number())
 }
 
+// A shelf without files on which the call fails, in a box: it is one part there, so that what owns it is proved sooner.
+fn empty_shelf(alloc: Global, fault: PlannedFault) -> Result<Box<MemShelf>, NoMemory> {
+    boxed(alloc, MemShelf::cutting(alloc, &[fault])?)
+}
+
 // A shelf with the files that a command line reads, on which the call fails.
-fn shelf_for(alloc: Global, case: &Case<'_>) -> Result<MemShelf, Fail> {
-    let mut shelf = MemShelf::cutting(alloc, &[case.fault])?;
+fn shelf_for(alloc: Global, case: &Case<'_>) -> Result<Box<MemShelf>, NoMemory> {
+    let mut shelf = empty_shelf(alloc, case.fault)?;
+    put_files(&mut *shelf, case.line)?;
+    Ok(shelf)
+}
+
+// Puts the files that a command line reads.
+fn put_files(shelf: &mut MemShelf, line: &str) -> Result<(), NoMemory> {
     shelf.put("a.mcnf", INPUT.as_bytes())?;
-    if case.line == CHECK || case.line == MODELS || case.line == CHECK_MODELS {
+    if line == CHECK || line == MODELS || line == CHECK_MODELS {
         shelf.put("a.list", LIST.as_bytes())?;
         shelf.put("a.log", LOG.as_bytes())?;
     }
-    if case.line == CHECK_MODELS {
+    if line == CHECK_MODELS {
         for (name, text) in MODELS_FILES.iter() {
             shelf.put(*name, text.as_bytes())?;
         }
     }
-    Ok(shelf)
+    Ok(())
 }
 
 // Fails where a place doesn't hold what is wanted.
@@ -125,19 +136,37 @@ fn failed(
     case: &Case<'_>,
     number: u8,
     warned: &str,
-) -> Result<MemShelf, Fail> {
+) -> Result<Box<MemShelf>, Fail> {
     let mut shelf = shelf_for(alloc, case)?;
-    let ended = number_of(alloc, case.line, &mut shelf)?;
+    has_failed(rt, alloc, case, number, warned, &mut *shelf)?;
+    Ok(shelf)
+}
+
+// The same over this shelf.
+fn has_failed(
+    rt: &impl Abort,
+    alloc: Global,
+    case: &Case<'_>,
+    number: u8,
+    warned: &str,
+    shelf: &mut MemShelf,
+) -> Result<(), Fail> {
+    let ended = number_of(alloc, case.line, shelf)?;
     expect(rt, case, &[ended], &[number])?;
     expect(rt, case, shelf.warned(), warned.as_bytes())?;
     expect(rt, case, shelf.said(), b"")?;
-    expect(
-        rt,
-        case,
-        shelf.get("a.mcnf").unwrap_or(b"none"),
-        INPUT.as_bytes(),
-    )?;
-    Ok(shelf)
+    expect_file(rt, case, shelf, "a.mcnf", INPUT.as_bytes())
+}
+
+// Fails where a file doesn't hold what is wanted; one that isn't there holds `none`.
+fn expect_file(
+    rt: &impl Abort,
+    case: &Case<'_>,
+    shelf: &MemShelf,
+    name: &str,
+    wanted: &[u8],
+) -> Result<(), Fail> {
+    expect(rt, case, shelf.get(name).unwrap_or(b"none"), wanted)
 }
 
 // Runs the command line of a row once for each call that is to fail.
@@ -152,8 +181,7 @@ fn each_call_fails(rt: &impl Abort, alloc: Global, row: &Row) -> Result<(), Fail
         };
         let case = Case { line: *line, fault };
         let shelf = failed(rt, alloc, &case, *ends, *warned)?;
-        let found = shelf.get("a.list").unwrap_or(b"none");
-        expect(rt, &case, found, list.as_bytes())?;
+        expect_file(rt, &case, &*shelf, "a.list", list.as_bytes())?;
     }
     Ok(())
 }
@@ -180,10 +208,22 @@ fn trial_ends(
         bytes: 0,
     };
     let case = Case { line: TRIAL, fault };
-    let mut shelf = MemShelf::cutting(alloc, &[fault])?;
-    let ended = number_of(alloc, TRIAL, &mut shelf)?;
-    expect(rt, &case, &[ended], &[ends])?;
-    expect(rt, &case, shelf.said(), said.as_bytes())
+    let mut shelf = empty_shelf(alloc, fault)?;
+    trial_says(rt, alloc, &case, ends, said, &mut *shelf)
+}
+
+// The same over this shelf.
+fn trial_says(
+    rt: &impl Abort,
+    alloc: Global,
+    case: &Case<'_>,
+    ends: u8,
+    said: &str,
+    shelf: &mut MemShelf,
+) -> Result<(), Fail> {
+    let ended = number_of(alloc, TRIAL, shelf)?;
+    expect(rt, case, &[ended], &[ends])?;
+    expect(rt, case, shelf.said(), said.as_bytes())
 }
 
 #[test]
@@ -227,6 +267,11 @@ fn begun(text: &[u8], lines: u64, bytes: u64) -> &[u8] {
 // A run whose n-th append fails, where a run with no fault makes this log: the log's pieces come before the list's.
 fn cut_run(rt: &impl Abort, alloc: Global, case: &Case<'_>, log: &[u8]) -> Result<(), Fail> {
     let shelf = failed(rt, alloc, case, 74, FAULT)?;
+    is_cut(rt, case, log, &*shelf)
+}
+
+// Whether log and list end where the append failed.
+fn is_cut(rt: &impl Abort, case: &Case<'_>, log: &[u8], shelf: &MemShelf) -> Result<(), Fail> {
     let bytes = case.fault.bytes;
     let before = case.fault.number.saturating_sub(1);
     let list = match before.checked_sub(lines_of(log)) {
@@ -239,7 +284,7 @@ fn cut_run(rt: &impl Abort, alloc: Global, case: &Case<'_>, log: &[u8]) -> Resul
         shelf.get("a.log").unwrap_or(b""),
         begun(log, before, bytes),
     )?;
-    expect(rt, case, shelf.get("a.list").unwrap_or(b"none"), list)
+    expect_file(rt, case, shelf, "a.list", list)
 }
 
 // The runs whose appends fail one after another, each with these bytes put before.
@@ -252,23 +297,31 @@ fn cut_each(rt: &impl Abort, alloc: Global, line: &str, bytes: u64) -> Result<()
     };
     let case = Case { line, fault: none };
     let mut whole = shelf_for(alloc, &case)?;
-    let ended = number_of(alloc, line, &mut whole)?;
-    expect(rt, &case, &[ended], &[0])?;
-    expect(
-        rt,
-        &case,
-        whole.get("a.list").unwrap_or(b"none"),
-        LIST.as_bytes(),
-    )?;
-    let log = whole.get("a.log").unwrap_or(b"");
+    has_ended(rt, alloc, &case, &mut *whole)?;
+    cut_each_append(rt, alloc, case, whole.get("a.log").unwrap_or(b""))
+}
+
+// Runs a case that finds the front.
+fn has_ended(
+    rt: &impl Abort,
+    alloc: Global,
+    case: &Case<'_>,
+    shelf: &mut MemShelf,
+) -> Result<(), Fail> {
+    let ended = number_of(alloc, case.line, shelf)?;
+    expect(rt, case, &[ended], &[0])?;
+    expect_file(rt, case, shelf, "a.list", LIST.as_bytes())
+}
+
+// Runs a case once for each append that is to fail, where a run with no fault makes this log.
+fn cut_each_append(rt: &impl Abort, alloc: Global, case: Case<'_>, log: &[u8]) -> Result<(), Fail> {
     for before in 0..lines_of(log).saturating_add(lines_of(LIST.as_bytes())) {
         let number = before.saturating_add(1);
         let fault = PlannedFault {
-            call,
             number,
-            bytes,
+            ..case.fault
         };
-        cut_run(rt, alloc, &Case { line, fault }, log)?;
+        cut_run(rt, alloc, &Case { fault, ..case }, log)?;
     }
     Ok(())
 }
