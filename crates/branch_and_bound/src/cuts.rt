@@ -1,9 +1,10 @@
 // Cuts as lines by cutting planes, which are added only once a clause that is written stands on them.
 use crate::live_lines::LiveLines;
-use crate::pending::{FIRST_PENDING, pending_constraint};
+use crate::pending::{FIRST_PENDING, is_contradicted, pending_constraint};
+use crate::tree_lines::TreeLine;
 use cutting_planes::PolToken;
 use pb_lin::Constraint;
-use scut_base::{Items, NoMemory};
+use scut_base::{Duplicate, Items, NoMemory};
 use std::alloc::Global;
 
 // Cuts that lines can be made of. A cut's tokens name live lines, and cuts before it by ids from `FIRST_PENDING` on.
@@ -12,6 +13,8 @@ pub(crate) struct Cuts {
     pub(crate) alloc: Global,
     pub(crate) tokens: Vec<Items<PolToken>>,
     pub(crate) constraints: Vec<Constraint>,
+    // Whether each cut's tokens make a contradiction of its negation; else they make the cut.
+    are_implied: Vec<bool>,
     // The id of each cut's line; 0 where it hasn't been added.
     pub(crate) ids: Vec<u64>,
     // In how many solves, one after another, each was slack.
@@ -28,6 +31,7 @@ impl Cuts {
             alloc,
             tokens: Vec::new(alloc),
             constraints: Vec::new(alloc),
+            are_implied: Vec::new(alloc),
             ids: Vec::new(alloc),
             idle: Vec::new(alloc),
             written: Vec::new(alloc),
@@ -35,23 +39,48 @@ impl Cuts {
         }
     }
 
-    // Keeps the cut of these tokens, if they make a constraint, and answers its place.
-    pub(crate) fn keep(
+    // Keeps the cut that these tokens make, if they make a constraint, and answers its place.
+    pub(crate) fn keep_sum(
         &mut self,
         live: &LiveLines<'_>,
         tokens: Items<PolToken>,
     ) -> Result<Option<usize>, NoMemory> {
         let pending = self.constraints.as_slice();
-        let Some(made) = pending_constraint(self.alloc, live, pending, tokens.as_slice())? else {
-            return Ok(None);
-        };
+        match pending_constraint(self.alloc, live, pending, tokens.as_slice(), None)? {
+            Some(made) => Ok(Some(self.keep(made, tokens, false)?)),
+            None => Ok(None),
+        }
+    }
+
+    // Keeps a cut, if these tokens make a contradiction of its negation, and answers its place.
+    pub(crate) fn keep_implied(
+        &mut self,
+        live: &LiveLines<'_>,
+        cut: Constraint,
+        tokens: Items<PolToken>,
+    ) -> Result<Option<usize>, NoMemory> {
+        let pending = self.constraints.as_slice();
+        if is_contradicted(self.alloc, live, pending, tokens.as_slice(), &cut)? {
+            Ok(Some(self.keep(cut, tokens, true)?))
+        } else {
+            Ok(None)
+        }
+    }
+
+    fn keep(
+        &mut self,
+        cut: Constraint,
+        tokens: Items<PolToken>,
+        is_implied: bool,
+    ) -> Result<usize, NoMemory> {
         let place = self.constraints.len();
-        self.size = self.size.saturating_add(made.len());
+        self.size = self.size.saturating_add(cut.len());
         self.ids.push(0)?;
         self.idle.push(0)?;
         self.tokens.push(tokens)?;
-        self.constraints.push(made)?;
-        Ok(Some(place))
+        self.constraints.push(cut)?;
+        self.are_implied.push(is_implied)?;
+        Ok(place)
     }
 
     // The id of a cut: that of its line, or the one by which it is named until then.
@@ -107,12 +136,17 @@ impl Cuts {
         }
     }
 
-    // The tokens of a cut's line.
-    pub(crate) fn tokens_of(&self, place: usize) -> Result<Items<PolToken>, NoMemory> {
-        match self.tokens.get(place) {
-            Some(tokens) => self.translated(tokens.as_slice()),
-            None => Ok(Items::new(self.alloc)),
-        }
+    // A cut's line; none where there's no such cut.
+    pub(crate) fn line(&self, place: usize) -> Result<Option<TreeLine>, NoMemory> {
+        let (Some(tokens), Some(cut)) = (self.tokens.get(place), self.constraints.get(place)) else {
+            return Ok(None);
+        };
+        let tokens = self.translated(tokens.as_slice())?;
+        Ok(Some(if self.are_implied.get(place) == Some(&true) {
+            TreeLine::Implied(cut.copy(self.alloc)?, tokens)
+        } else {
+            TreeLine::Sum(tokens)
+        }))
     }
 
     // Forgets the lines from this id on, which weren't added after all.

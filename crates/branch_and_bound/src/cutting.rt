@@ -8,10 +8,9 @@ use crate::live_lines::LiveLines;
 use crate::question::Question;
 use crate::relaxation::{Relaxation, Row, float_of, sum_of_line};
 use crate::tree::Tree;
-use cutting_planes::PolToken;
-use linear_cuts::{Cut, Padding, Separation};
-use linear_program::{Answer, Basis, Range};
-use scut_base::{Items, Lit, NoMemory};
+use linear_cuts::{Cut, Separation};
+use linear_program::{Answer, Basis, Range, Term};
+use scut_base::NoMemory;
 
 // The rounds of cuts of a question: the bounds before them and with them, and the basis and the rows before them.
 #[derive(Debug, Drop)]
@@ -193,9 +192,10 @@ impl Relaxation {
         let before = separation.work();
         separation.go_to(values.as_slice());
         separation.find_zero_half()?;
+        separation.round_rows()?;
         for column in separation.columns_to_ask()?.iter() {
             if let Some(multipliers) = self.program.table_row(*column)? {
-                separation.divide_table_row(multipliers.as_slice())?;
+                separation.round_table_row(multipliers.as_slice())?;
             }
         }
         let mut has_any = false;
@@ -229,9 +229,9 @@ impl Relaxation {
                 Some(line) => {
                     let sum = sum_of_line(self.alloc, line)?;
                     let least = float_of(line.degree()) + sum.least;
-                    separation.add_row(sum.terms, least)?;
+                    add_row(&mut separation, sum.terms.as_slice(), least)?;
                 }
-                None => separation.add_row(Vec::new(self.alloc), 0.0)?,
+                None => separation.add_row(0.0)?,
             }
         }
         Ok(separation)
@@ -244,8 +244,7 @@ impl Relaxation {
         separation: &mut Separation,
         cut: &Cut,
     ) -> Result<bool, NoMemory> {
-        let tokens = self.tokens_of(cut)?;
-        let Some(place) = self.cuts.keep(live, tokens)? else {
+        let Some(place) = self.keep_cut(live, cut)? else {
             return Ok(false);
         };
         let Some(made) = self.cuts.constraints.get(place) else {
@@ -260,24 +259,8 @@ impl Relaxation {
             return Ok(false);
         }
         self.rows.push(Row::Cut(place))?;
-        separation.add_row(sum.terms, range.lower)?;
+        add_row(separation, sum.terms.as_slice(), range.lower)?;
         Ok(true)
-    }
-
-    // The tokens `ID y * .. + LIT m * + .. d` of a cut.
-    fn tokens_of(&self, cut: &Cut) -> Result<Items<PolToken>, NoMemory> {
-        let mut tokens = Items::new(self.alloc);
-        for factor in cut.factors.iter() {
-            let id = self.rows.get(factor.row).map(|row| self.id_of(*row));
-            add_summand(&mut tokens, PolToken::Id(id.unwrap_or(0)), factor.factor)?;
-        }
-        for padding in cut.paddings.iter() {
-            if let Some(lit) = literal_of(padding) {
-                add_summand(&mut tokens, PolToken::Axiom(lit), padding.factor)?;
-            }
-        }
-        tokens.push(PolToken::Div(i128::from(cut.divisor)))?;
-        Ok(tokens)
     }
 
     // The id of a row's line; 0 where it has none.
@@ -366,25 +349,11 @@ impl Relaxation {
     }
 }
 
-// Adds a token times a factor to the sum so far.
-fn add_summand(tokens: &mut Items<PolToken>, token: PolToken, factor: u64) -> Result<(), NoMemory> {
-    let is_first = tokens.is_empty();
-    tokens.push(token)?;
-    if factor > 1 {
-        tokens.push(PolToken::Mul(i128::from(factor)))?;
-    }
-    if !is_first {
-        tokens.push(PolToken::Add)?;
+// Adds a row that cuts may be made of.
+fn add_row(separation: &mut Separation, terms: &[Term], least: f64) -> Result<(), NoMemory> {
+    separation.add_row(least)?;
+    for term in terms {
+        separation.add_term(term.column, term.coefficient)?;
     }
     Ok(())
-}
-
-// The literal of which a padding is.
-fn literal_of(padding: &Padding) -> Option<Lit> {
-    let var = (padding.column as u64).checked_add(1)?;
-    if var < 1 << 63 {
-        Some(Lit::new(var, padding.is_complemented))
-    } else {
-        None
-    }
 }

@@ -10,6 +10,7 @@
 mod broken_rows;
 mod combining;
 mod counting;
+mod cut_lines;
 mod cuts;
 mod cutting;
 mod exploring;

@@ -2,6 +2,7 @@
 use crate::cuts::Cuts;
 use crate::nodes::{Making, Node, needed_nodes};
 use cutting_planes::PolToken;
+use pb_lin::{Constraint, LinFault};
 use scut_base::{Duplicate, Items, Lit, NoMemory};
 use std::alloc::Global;
 
@@ -10,11 +11,12 @@ use std::alloc::Global;
 pub enum TreeLine {
     /// A constraint that these tokens make of lines before it.
     Sum(Items<PolToken>),
-    /// A clause, whose literals rise by their variables, and what makes a contradiction of lines before it and its negation.
-    Leaf(Items<Lit>, Items<PolToken>),
+    /// A constraint, and tokens that make a contradiction of lines before it and its negation.
+    Implied(Constraint, Items<PolToken>),
 }
 
-// The lines of the cuts and nodes that the last node stands on, and its own, where the first gets this id.
+// The lines of the cuts and nodes that the last node stands on, and its own, where the first gets this id; none where the literals
+// of a leaf make no clause, as where two are of one variable.
 pub(crate) fn lines_of_tree(
     alloc: Global,
     nodes: &[Node],
@@ -30,7 +32,9 @@ pub(crate) fn lines_of_tree(
         ids: Vec::with_capacity(alloc, nodes.len())?,
     };
     lines.add_cuts(cuts, are_needed.as_slice())?;
-    lines.add_nodes(nodes, needed.as_slice(), cuts)?;
+    if !lines.add_nodes(nodes, needed.as_slice(), cuts)? {
+        lines.lines.clear();
+    }
     Ok(lines.lines)
 }
 
@@ -74,38 +78,47 @@ impl TreeLines {
     fn add_cuts(&mut self, cuts: &mut Cuts, are_needed: &[bool]) -> Result<(), NoMemory> {
         for (place, is_needed) in are_needed.iter().enumerate() {
             if *is_needed && !cuts.is_written(place) {
-                let tokens = cuts.tokens_of(place)?;
-                let id = self.add(TreeLine::Sum(tokens))?;
-                cuts.note(place, id)?;
+                if let Some(line) = cuts.line(place)? {
+                    let id = self.add(line)?;
+                    cuts.note(place, id)?;
+                }
             }
         }
         Ok(())
     }
 
-    // Adds the lines of nodes that are needed.
-    fn add_nodes(&mut self, nodes: &[Node], needed: &[bool], cuts: &Cuts) -> Result<(), NoMemory> {
+    // Adds the lines of nodes that are needed; answers whether each can be made.
+    fn add_nodes(
+        &mut self,
+        nodes: &[Node],
+        needed: &[bool],
+        cuts: &Cuts,
+    ) -> Result<bool, NoMemory> {
         for (node, is_needed) in nodes.iter().zip(needed) {
-            let id = if *is_needed {
-                self.add_node(node, cuts)?
-            } else {
-                0
-            };
+            let mut id = 0;
+            if *is_needed {
+                match self.line_of(node, cuts)? {
+                    Some(line) => id = self.add(line)?,
+                    None => return Ok(false),
+                }
+            }
             self.ids.push(id)?;
         }
-        Ok(())
+        Ok(true)
     }
 
-    // Adds the line of a node, and answers its id.
-    fn add_node(&mut self, node: &Node, cuts: &Cuts) -> Result<u64, NoMemory> {
+    // The line of a node, if it can be made.
+    fn line_of(&self, node: &Node, cuts: &Cuts) -> Result<Option<TreeLine>, NoMemory> {
         match &node.making {
             Making::Leaf(tokens) => {
-                let lits = node.lits.copy(self.alloc)?;
-                self.add(TreeLine::Leaf(lits, cuts.translated(tokens.as_slice())?))
+                let tokens = cuts.translated(tokens.as_slice())?;
+                let clause = clause_of(self.alloc, node.lits.as_slice())?;
+                Ok(clause.map(|clause| TreeLine::Implied(clause, tokens)))
             }
             Making::Resolvent { first, second } => {
                 let (first, second) = (self.id_at(*first), self.id_at(*second));
                 let tokens = resolvent_tokens(self.alloc, first, second)?;
-                self.add(TreeLine::Sum(tokens))
+                Ok(Some(TreeLine::Sum(tokens)))
             }
         }
     }
@@ -128,4 +141,17 @@ fn resolvent_tokens(alloc: Global, first: u64, second: u64) -> Result<Items<PolT
     tokens.push(PolToken::Add)?;
     tokens.push(PolToken::Saturate)?;
     Ok(tokens)
+}
+
+// The clause of literals; `None` where they make none.
+fn clause_of(alloc: Global, lits: &[Lit]) -> Result<Option<Constraint>, NoMemory> {
+    let mut terms = Vec::with_capacity(alloc, lits.len())?;
+    for lit in lits {
+        terms.push((1i128, *lit))?;
+    }
+    match Constraint::normal(alloc, terms.as_slice(), 1) {
+        Ok(clause) => Ok(Some(clause)),
+        Err(LinFault::NoMemory) => Err(NoMemory),
+        Err(_) => Ok(None),
+    }
 }

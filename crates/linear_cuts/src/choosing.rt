@@ -6,8 +6,8 @@ use scut_base::NoMemory;
 use std::cmp::OrderedFloat;
 
 impl Separation {
-    /// Takes at most so many of the cuts that were found, and forgets the others. Half of the places are for each kind, as
-    /// far as it fills them, since zero-half cuts are many. Those that cut deepest for their length come first, and none that
+    /// Takes at most so many of the cuts that were found, and forgets the others. No kind has more than half of the places
+    /// while others can fill them, since zero-half cuts are many. Those that cut deepest for their length come first, and none that
     /// is about parallel to one that was taken (Andreello, Caprara and Fischetti 2007).
     pub fn take_chosen(&mut self, most: usize) -> Result<Vec<Cut>, NoMemory> {
         let mut found = Vec::new(self.alloc);

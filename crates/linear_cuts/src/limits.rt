@@ -32,6 +32,9 @@ pub(crate) const SMALL_DENOMINATOR: u32 = 30;
 pub(crate) const NEAR_WHOLE: f64 = 1e-4;
 
 pub(crate) const ABOUT_WHOLE: f64 = 5e-3;
+// Where none of them serves, parts are rounded by this one: sums stay whole numbers below 2^53, and what that changes is small
+// beside LEAST_VIOLATION.
+pub(crate) const FINE_DENOMINATOR: u32 = 1 << 20;
 // A cut is kept where the point is at least so far from it, and its coefficients are no larger than this: larger ones make
 // roundings of the linear program.
 pub(crate) const LEAST_VIOLATION: f64 = 1e-2;
@@ -39,3 +42,5 @@ pub(crate) const LEAST_VIOLATION: f64 = 1e-2;
 pub(crate) const MOST_COEFFICIENT: f64 = 20_000.0;
 // Two cuts of which the cosine is above this say about the same.
 pub(crate) const MOST_COSINE: f64 = 0.7;
+// A row is rounded by at most so many of its coefficients, the largest first.
+pub(crate) const MOST_DIVISORS: usize = 8;

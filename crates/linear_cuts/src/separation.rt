@@ -1,7 +1,6 @@
 // Rows beside a point that meets them.
-use crate::cut::Cut;
+use crate::cut::{Cut, Term};
 use crate::limits::{BETWEEN, LEAST_FRACTION, MOST_TABLE_ROWS};
-use linear_program::Term;
 use scut_base::NoMemory;
 use std::alloc::Global;
 use std::cmp::OrderedFloat;
@@ -24,7 +23,9 @@ pub struct Separation {
     pub(crate) found: Vec<Cut>,
     // By column, the coefficients of a sum or of a cut; all 0 between two calls.
     pub(crate) sums: Vec<f64>,
+    // The columns that a sum names, and by column whether it is one of these; none between two calls.
     pub(crate) named: Vec<usize>,
+    pub(crate) is_named: Vec<bool>,
     pub(crate) work: u64,
 }
 
@@ -38,18 +39,30 @@ impl Separation {
             found: Vec::new(alloc),
             sums: vec![in alloc; 0.0; columns]?,
             named: Vec::new(alloc),
+            is_named: vec![in alloc; false; columns]?,
             work: 0,
         })
     }
 
-    /// Adds a row: the sum of the terms is at least this. The numbers are to be whole; without terms it stands for a row
-    /// that no cut is made of.
-    pub fn add_row(&mut self, terms: Vec<Term>, least: f64) -> Result<(), NoMemory> {
+    /// Adds a row: the sum of its terms, which `add_term` adds, is at least this. The numbers are to be whole; without terms it
+    /// stands for a row that no cut is made of.
+    pub fn add_row(&mut self, least: f64) -> Result<(), NoMemory> {
         self.rows.push(Row {
-            terms,
+            terms: Vec::new(self.alloc),
             least,
             slack: 0.0,
         })?;
+        Ok(())
+    }
+
+    /// Adds a term to the row that was added last.
+    pub fn add_term(&mut self, column: usize, coefficient: f64) -> Result<(), NoMemory> {
+        if let Some(row) = self.rows.last_mut() {
+            row.terms.push(Term {
+                column,
+                coefficient,
+            })?;
+        }
         Ok(())
     }
 

@@ -1,12 +1,12 @@
-// Cuts of rows of the simplex table: what is left of their multipliers beside whole numbers (Gomory 1958).
+// Cuts of rows of the simplex table: what is left of their multipliers beside whole numbers (Gomory 1958 and 1960).
 use crate::cut::{Kind, RowFactor};
 use crate::limits::{
-    ABOUT_WHOLE, LEAST_PART, MOST_DENOMINATOR, MOST_FACTORS, NEAR_WHOLE, NO_MULTIPLIER,
-    SMALL_DENOMINATOR, WHOLE,
+    ABOUT_WHOLE, FINE_DENOMINATOR, LEAST_PART, MOST_DENOMINATOR, MOST_FACTORS, NEAR_WHOLE,
+    NO_MULTIPLIER, SMALL_DENOMINATOR, WHOLE,
 };
 use crate::separation::Separation;
 use scut_base::NoMemory;
-use std::num::saturating_f64_to_u64;
+use std::num::{nearest_u64_to_f64, saturating_f64_to_u64};
 
 // What is left of a row's multiplier, from 0 to 1.
 #[derive(Clone, Copy, Debug)]
@@ -16,28 +16,31 @@ struct Part {
 }
 
 impl Separation {
-    /// Looks for cuts of the row of the table that these multipliers of the rows make, and of its opposite.
-    pub fn divide_table_row(&mut self, multipliers: &[f64]) -> Result<(), NoMemory> {
+    /// Looks for cuts of the row of the table that these multipliers of the rows make.
+    pub fn round_table_row(&mut self, multipliers: &[f64]) -> Result<(), NoMemory> {
         self.count(multipliers.len());
-        for sign in [1.0, -1.0] {
-            let parts = self.parts_of(multipliers, sign)?;
-            if !parts.is_empty() && parts.len() <= MOST_FACTORS {
-                self.count(parts.len().saturating_mul(MOST_DENOMINATOR as usize));
-                if let Some(denominator) = denominator_of(parts.as_slice()) {
-                    let factors = self.factors_of(parts.as_slice(), f64::from(denominator))?;
-                    self.keep_cut(Kind::TableRow, factors, u64::from(denominator))?;
-                }
-            }
+        let parts = self.parts_of(multipliers)?;
+        if parts.is_empty() || parts.len() > MOST_FACTORS {
+            return Ok(());
+        }
+        self.count(parts.len().saturating_mul(MOST_DENOMINATOR as usize));
+        let small = denominator_of(parts.as_slice());
+        let denominator = u64::from(small.unwrap_or(FINE_DENOMINATOR));
+        let mut factors = self.factors_of(parts.as_slice(), denominator)?;
+        self.keep_cut(Kind::TableRow, factors.as_slice(), denominator)?;
+        if small.is_some() {
+            // The opposite makes the same cut, but perhaps by a division, where this is a mixed-integer rounding.
+            oppose(factors.as_mut_slice(), denominator);
+            self.keep_cut(Kind::TableRow, factors.as_slice(), denominator)?;
         }
         Ok(())
     }
 
     // What is left of the multipliers of rows that cuts are made of.
-    fn parts_of(&self, multipliers: &[f64], sign: f64) -> Result<Vec<Part>, NoMemory> {
+    fn parts_of(&self, multipliers: &[f64]) -> Result<Vec<Part>, NoMemory> {
         let mut parts = Vec::new(self.alloc);
         for (row, multiplier) in multipliers.iter().enumerate() {
-            let value = *multiplier * sign;
-            let part = value - (value + WHOLE).floor();
+            let part = *multiplier - (*multiplier + WHOLE).floor();
             if multiplier.abs() > NO_MULTIPLIER && part > LEAST_PART && self.has_terms(row) {
                 parts.push(Part { row, value: part })?;
             }
@@ -53,11 +56,12 @@ impl Separation {
     }
 
     // The parts times the denominator, as whole numbers.
-    fn factors_of(&self, parts: &[Part], denominator: f64) -> Result<Vec<RowFactor>, NoMemory> {
+    fn factors_of(&self, parts: &[Part], denominator: u64) -> Result<Vec<RowFactor>, NoMemory> {
         let mut factors = Vec::with_capacity(self.alloc, parts.len())?;
         for part in parts {
-            let factor = saturating_f64_to_u64((part.value * denominator).round());
-            if factor > 0 {
+            let times = part.value * nearest_u64_to_f64(denominator);
+            let factor = saturating_f64_to_u64(times.round());
+            if 0 < factor && factor < denominator {
                 factors.push(RowFactor {
                     row: part.row,
                     factor,
@@ -65,6 +69,13 @@ impl Separation {
             }
         }
         Ok(factors)
+    }
+}
+
+// Makes each factor what it lacks to the denominator.
+fn oppose(factors: &mut [RowFactor], denominator: u64) {
+    for factor in factors {
+        factor.factor = denominator.saturating_sub(factor.factor);
     }
 }
 

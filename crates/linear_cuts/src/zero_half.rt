@@ -51,7 +51,7 @@ impl Separation {
                     })?;
                 }
             }
-            self.keep_cut(Kind::ZeroHalf, factors, 2)?;
+            self.keep_cut(Kind::ZeroHalf, factors.as_slice(), 2)?;
         }
         Ok(())
     }

@@ -6,11 +6,11 @@ ghost use Rattle.recording.specs.Advice.{IsConservative};
 
 use branch_and_bound::{BranchAndBound, Node, TreeLine};
 use cutting_planes::PolToken;
-use pb_lin::{Constraint, LinFault, PbProblem, Witness};
+use pb_lin::{Constraint, PbProblem, Witness};
 use proof_laws::{Goal, GoalProof, Line};
 use proof_rules::{Judge, RecordFault, Recorder};
 use recording::{ClauseLine, in_memory, last_clause, take_conservative, taken_ends_advised};
-use scut_base::{Items, Lit, NoMemory};
+use scut_base::{Items, NoMemory};
 use std::alloc::Global;
 
 // Writes the lines that the last node stands on, and then its own, whose clause is answered. Each is judged; `None` where one
@@ -41,7 +41,7 @@ pub(crate) fn write_tree<R: Recorder>(
     in_memory(last_clause(alloc, rec))
 }
 
-// The lines that the last node stands on, and its own, where the first gets this id; none where one can't be made.
+// The lines that the last node stands on, and its own, where the first gets this id.
 fn lines_of_tree(
     alloc: Global,
     nodes: &[Node],
@@ -52,37 +52,24 @@ fn lines_of_tree(
     for line in search.lines_of(nodes, first)? {
         let line = match line {
             TreeLine::Sum(tokens) => Line::Pol { tokens },
-            TreeLine::Leaf(lits, tokens) => match leaf_line(alloc, lits.as_slice(), tokens)? {
-                Some(line) => line,
-                None => return Ok(Items::new(alloc)),
-            },
+            TreeLine::Implied(goal, tokens) => implied_line(alloc, goal, tokens)?,
         };
         lines.push(line)?;
     }
     Ok(lines)
 }
 
-// The line that adds the clause of these literals, since the tokens contradict its negation: a redundant constraint whose
-// witness is empty. `None` where the literals make no clause, as where two are of one variable. Costs a pass over them.
-fn leaf_line(
+// The line that adds a constraint, since the tokens contradict its negation: it is redundant, by an empty witness.
+fn implied_line(
     alloc: Global,
-    lits: &[Lit],
+    goal: Constraint,
     tokens: Items<PolToken>,
-) -> Result<Option<Line>, NoMemory> {
-    let mut terms = Vec::with_capacity(alloc, lits.len())?;
-    for lit in lits {
-        terms.push((1i128, *lit))?;
-    }
-    let goal = match Constraint::normal(alloc, terms.as_slice(), 1) {
-        Ok(goal) => goal,
-        Err(LinFault::NoMemory) => return Err(NoMemory),
-        Err(_) => return Ok(None),
-    };
+) -> Result<Line, NoMemory> {
     let mut proofs = Items::with_capacity(alloc, 1)?;
     proofs.push((Goal::Itself, GoalProof::Pol(tokens)))?;
-    Ok(Some(Line::Red {
+    Ok(Line::Red {
         goal,
         witness: Witness::from_images(Items::new(alloc)),
         proofs,
-    }))
+    })
 }
