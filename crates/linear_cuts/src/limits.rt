@@ -42,5 +42,7 @@ pub(crate) const LEAST_VIOLATION: f64 = 1e-2;
 pub(crate) const MOST_COEFFICIENT: f64 = 20_000.0;
 // Two cuts of which the cosine is above this say about the same.
 pub(crate) const MOST_COSINE: f64 = 0.7;
-// A row is rounded by at most so many of its coefficients, the largest first.
+// A row is rounded by at most so many of its coefficients, the largest first, and by these halved so often.
 pub(crate) const MOST_DIVISORS: usize = 8;
+
+pub(crate) const HALVINGS: u32 = 2;

@@ -1,6 +1,6 @@
 // Cuts of single rows, by divisors that are coefficients of theirs (Marchand and Wolsey 2001).
 use crate::cut::{Cut, Kind, RowFactor};
-use crate::limits::{BETWEEN, MOST_DIVISORS};
+use crate::limits::{BETWEEN, HALVINGS, MOST_DIVISORS};
 use crate::separation::{Separation, fraction, number_at};
 use scut_base::NoMemory;
 use std::num::saturating_f64_to_u64;
@@ -18,7 +18,7 @@ impl Separation {
         Ok(())
     }
 
-    // The divisors to be tried with a row, the largest first.
+    // The divisors to be tried with a row: coefficients, the largest first, and then these halved.
     fn divisors_of(&mut self, row: usize) -> Result<Vec<u64>, NoMemory> {
         let mut divisors = Vec::new(self.alloc);
         let Some(row) = self.rows.get(row) else {
@@ -37,6 +37,10 @@ impl Separation {
         divisors.dedup();
         divisors.reverse();
         divisors.truncate(MOST_DIVISORS);
+        for place in 0..divisors.len() {
+            let divisor = divisors.get(place).copied().unwrap_or(0);
+            add_halved(&mut divisors, divisor)?;
+        }
         Ok(divisors)
     }
 
@@ -55,4 +59,16 @@ impl Separation {
         }
         Ok(deepest)
     }
+}
+
+// Adds a divisor halved, and halved again, as long as it stays above 1.
+fn add_halved(divisors: &mut Vec<u64>, divisor: u64) -> Result<(), NoMemory> {
+    let mut halved = divisor;
+    for _halving in 0..HALVINGS {
+        halved /= 2;
+        if halved > 1 {
+            divisors.push(halved)?;
+        }
+    }
+    Ok(())
 }
