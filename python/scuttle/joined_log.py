@@ -18,8 +18,8 @@ PIECE = 1024
 HARDENED = 'a line by --harden: its reason needs the rows of the part to be those of the problem, so solve the part without --harden'
 # The line of a constraint that is taken for itself, against its negation.
 OPEN = '~ +'
-# The negation of a clause once more, as often as any sum in a log has a condition of it: then the conditions cancel.
-CANCELLED = ['!', str(2 ** 80), '*', '+']
+# At least as often as a sum in a log has a condition denied.
+OFTEN = str(2 ** 80)
 
 
 class Span(NamedTuple):
@@ -269,13 +269,31 @@ class PartLog:
         self._put(' : '.join([' '.join(['red'] + self._weakened(goal)), ' '.join(witness)] + text), 1)
 
     def _copy_refutation(self, goal: List[str], proofs: List[List[str]]) -> None:
-        """A line that follows since lines contradict its negation. The lines, and their sum, have the conditions denied besides; these the
-        negation of the weakened goal takes away."""
+        """A line that follows since lines contradict its negation. Let it be S >= D. Weakened it is S + D n >= D, where n counts the conditions
+        that don't hold.
+
+        The negation of that, weakened by the conditions' variables, is the negation of S >= D. So each constraint that the tokens make is that of
+        the part, with the same degree, and perhaps conditions denied besides: sums, multiples, division, saturation and weakening by the
+        part's variables keep this. What is left denied at the end is cancelled.
+        """
         (name, kind, *rest), = proofs
         if name != 'c':
             raise ValueError('a goal that an empty witness does not have')
-        proof = self._hints(rest) if kind == 'rup' else self._tokens(rest) + CANCELLED * bool(self.denied)
+        proof = self._hints(rest) if kind == 'rup' else self._own_negation(self._tokens(rest)) + self._all_hold(goal)
         self._put('%s : : %s' % (' '.join(['red'] + self._weakened(goal)), ' '.join(['c', kind] + proof)), 1)
+
+    def _own_negation(self, tokens: List[str]) -> List[str]:
+        """The tokens with the negation of the part's own goal in place of that of the weakened one."""
+        weaken = [word for literal in self.denied for word in ('x%d' % abs(literal), 'w')]
+        return [word for token in tokens for word in ([token] + weaken if token in '~!' else [token])]
+
+    def _all_hold(self, goal: List[str]) -> List[str]:
+        """Adds that all conditions hold, as often as any sum in a log has one of them denied. The negation of S + D n >= D says so at degree 1;
+        at any other weakened by the variables of S, which leaves D n < D, and divided by D."""
+        if not self.denied:
+            return []
+        own = [word for literal in self._literals(goal[1:-2:2]) for word in (literal.lstrip('~'), 'w')]
+        return ['!'] + (own + [goal[-1], 'd'] if goal[-1] != '1' else []) + [OFTEN, '*', '+']
 
     def _hints(self, words: Iterable[str]) -> List[str]:
         return [word if word in '~!' else self.id_of(word) for word in words]
