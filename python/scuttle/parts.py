@@ -205,13 +205,12 @@ class Split:
                 plan = json.load(file)
             if plan['format'] != FORMAT:
                 raise Malformed(path, 1, 'this is no plan of parts that this version knows')
-            root = _node_of(plan['tree'], source)
-            split = cls(source, folder, root, int(plan['cost']))
+            # What another instance's plan names needn't be there in this one.
+            if plan['sha256'] != source.digest:
+                raise Malformed(path, 1, 'these are parts of another instance than %s, or of it before it was changed' % source.path)
+            return cls(source, folder, _node_of(plan['tree'], source), int(plan['cost']))
         except (ValueError, KeyError, TypeError, IndexError):
             raise Malformed(path, 1, 'this is no plan of parts') from None
-        if plan['sha256'] != source.digest:
-            raise Malformed(path, 1, 'these are parts of another instance than %s, or of it before it was changed' % source.path)
-        return split
 
 
 def _as_json(node: Node) -> Dict[str, Any]:

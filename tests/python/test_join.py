@@ -141,6 +141,9 @@ class Joined(Parts):
         self.slabs()
         self.write('in.opb', SHOPS + 'x1 >= 0 ;\n')
         self.refused('these are parts of another instance than in.opb')
+        # Nothing that the plan names is in this one.
+        self.write('in.opb', 'x1 >= 1 ;\n')
+        self.refused('these are parts of another instance than in.opb')
         self.write('parts/split.json', '{}')
         self.refused('parts/split.json:1: this is no plan of parts')
 
