@@ -78,6 +78,19 @@ class Joined(Parts):
             self.is_front('all.list', 'all.log')
         self.assertIn('rup 2 x1 2 ~x3 >= 2 : 1', self.read('all.log'))
 
+    def test_refutations_whose_goal_is_no_clause(self):
+        """They divide their own negation, by either name, and add what the part has derived."""
+        split = self.slabs('min: 2 x1 +1 x2 ;\nmin: 3 ~x1 ;\nx1 >= 1 ;\nx1 +1 x2 >= 1 ;\n', bounds=(2,))
+        self.solve(split, '--log-version', '2')
+        head, rest = self.read('parts/part-2.log').split('\n', 1)
+        lines = ['rup 2 x1 >= 2 : 1', 'red 3 x1 >= 3 : : c pol ~ 3 d 2 * -1 +', 'red 2 x1 1 x2 >= 2 : : c pol ! x2 w 2 d -1 +',
+                 'red 3 x1 >= 2 : : c rup ~ -2', 'red 1 x1 >= 1 : : c pol ~ 2 d 1 +', 'red 1 x1 >= 0 : : c pol ~']
+        self.write('parts/part-2.log', '\n'.join([head] + lines + [rest]))
+        for version in (1, 2):
+            self.assertIsNone(join(split, 'all.list', 'all.log', version).refused)
+            self.is_front('all.list', 'all.log')
+        self.assertIn('red 2 x1 1 x2 2 ~x3 >= 2 : : c pol ! x3 w x2 w 2 d -1 + ! x1 w x2 w 2 d %d * +\n' % 2 ** 80, self.read('all.log'))
+
     def test_ids_and_variables_above_32_bits(self):
         split = self.slabs('min: 2 x1 +1 x2 ;\nmin: 3 ~x1 ;\nx1 +1 x2 >= 1 ;\n', bounds=(2,))
         with open('all.log', 'w') as out:
