@@ -273,7 +273,7 @@ class PartLog:
         that don't hold.
 
         The negation of that, weakened by the conditions' variables, is the negation of S >= D. So each constraint that the tokens make is that of
-        the part, with the same degree, and perhaps conditions denied besides: sums, multiples, division, saturation and weakening by the
+        the part, of the same degree, with conditions denied besides: sums, multiples, division, saturation and weakening by the
         part's variables keep this. What is left denied at the end is cancelled.
         """
         (name, kind, *rest), = proofs
@@ -288,8 +288,8 @@ class PartLog:
         return [word for token in tokens for word in ([token] + weaken if token in '~!' else [token])]
 
     def _all_hold(self, goal: List[str]) -> List[str]:
-        """Adds that all conditions hold, as often as any sum in a log has one of them denied. The negation of S + D n >= D says so at degree 1;
-        at any other weakened by the variables of S, which leaves D n < D, and divided by D."""
+        """Adds that all conditions hold, as often as any sum in a log has one of them denied. The negation of S + D n >= D says so: at degree 1
+        that S and n are 0, as it is; at any other if it is weakened by the variables of S, which leaves D n < D, and divided by D."""
         if not self.denied:
             return []
         own = [word for literal in self._literals(goal[1:-2:2]) for word in (literal.lstrip('~'), 'w')]
