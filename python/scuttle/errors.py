@@ -1,7 +1,9 @@
 """The errors of this package: one class for each kind, all of them `ScuttleError`.
 
-What the operating system refuses stays an `OSError`, which names the file.
+What the operating system refuses stays an `OSError`, which names the file. Those of several arguments say how they are made anew, so that
+another process can send them.
 """
+from typing import Tuple, Type
 
 
 class ScuttleError(Exception):
@@ -23,6 +25,9 @@ class Malformed(ScuttleError):
         super().__init__('%s:%d: %s' % (path, line, what))
         self.path, self.line, self.what = path, line, what
 
+    def __reduce__(self) -> 'Tuple[Type[Malformed], Tuple[str, int, str]]':
+        return type(self), (self.path, self.line, self.what)
+
 
 class CannotTake(ScuttleError):
     """A file that is right, and says what can't be said in the format that it is to be written in.
@@ -34,6 +39,9 @@ class CannotTake(ScuttleError):
     def __init__(self, path: str, what: str) -> None:
         super().__init__('%s: %s' % (path, what))
         self.path, self.what = path, what
+
+    def __reduce__(self) -> 'Tuple[Type[CannotTake], Tuple[str, str]]':
+        return type(self), (self.path, self.what)
 
 
 class ModelError(ScuttleError, ValueError):
@@ -77,6 +85,9 @@ class Failed(ScuttleError):
     def __init__(self, number: int, warning: str) -> None:
         super().__init__('the program ended with %d: %s' % (number, warning))
         self.number, self.warning = number, warning
+
+    def __reduce__(self) -> 'Tuple[Type[Failed], Tuple[int, str]]':
+        return type(self), (self.number, self.warning)
 
 
 class NoProgram(ScuttleError):

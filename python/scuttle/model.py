@@ -1,7 +1,6 @@
 """A model: options, what has to hold of them, and what is to be small or large; written as an instance, and solved."""
 import re
-from concurrent.futures import Executor
-from typing import Any, Callable, Dict, Iterable, List, NamedTuple, Optional, Sequence, Set, Tuple, Union
+from typing import TYPE_CHECKING, Any, Callable, Dict, Iterable, List, NamedTuple, Optional, Sequence, Set, Tuple, Union
 
 from . import solving
 from .conflicts import conflict_of
@@ -10,6 +9,9 @@ from .files import write_text
 from .front import Front, Labels, Plan, Source
 from .sums import (AnyOption, Name, Option, Row, Sum, at_least, at_most, bounds_of, exactly, if_then, in_words, no, option_of, options_of, sum_of,
                    text_of_name, total, whole)
+
+if TYPE_CHECKING:
+    from .pool import Workers
 
 # Up to this many units a helping number is a ladder of units, which the search orders; beyond, each helping option is worth twice the one before.
 MOST_UNITS = 64
@@ -385,15 +387,16 @@ class Model:
     def solve(self, seconds: Optional[float] = None, learn: Optional[int] = None, search: Optional[str] = None, harden: bool = False,
               boost: bool = False, on_plan: Optional[Callable[[Plan], object]] = None, log_version: int = 1,
               turns: Optional[str] = None, program: Optional[str] = None, folder: Optional[str] = None, jobs: Optional[int] = None,
-              executor: Optional[Executor] = None) -> Front:
+              executor: 'Optional[Workers]' = None) -> Front:
         """The front, with its list and log checked. See `solving.Settings` for the options of the search.
 
         After so many seconds, after so many learned clauses, or with Ctrl-C it is the models so far, with `complete` False; the check after a
         search that has ended takes its own time besides. `on_plan` is called with each plan that the search finds, as it finds it. In the folder, where one is given, stay `model.opb`, `model.list`
         and `model.log`. Raises `Failed`, `NoProgram`, and `OSError` where the folder can't be written.
 
-        With `jobs` it is solved in parts, so many at a time, and with an executor of `concurrent.futures` by that, as a Dask cluster's, whose
-        workers have to see the folder: `check` judges the one log that the parts' logs make. Without `harden`, `learn` and `on_plan` then.
+        With `jobs` it is solved in parts, so many at a time, and with an executor of `concurrent.futures`, or a client of Dask, by its
+        workers, which want this package and no shared folder: `check` judges the one log that the parts' logs make. Without `harden`, `learn`
+        and `on_plan` then.
 
         >>> m = Model(); m.add(m.option('a') + m.option('b') >= 1)
         >>> front = m.solve(seconds=60)

@@ -1,8 +1,7 @@
 """Solves an instance: runs `solve` and `check` over its files, and reads what they leave."""
 import os
 import tempfile
-from concurrent.futures import Executor
-from typing import Callable, List, NamedTuple, Optional
+from typing import TYPE_CHECKING, Callable, List, NamedTuple, Optional
 
 from .dominance import best_of, senses_of
 from .errors import Failed, ModelError, ScuttleError
@@ -12,6 +11,9 @@ from .instances import costs_of, instance_of, Instance
 from .lists import Entry, Listing, read_list, text_of
 from .logs import model_of, models_of
 from .running import Follower, run, run_until
+
+if TYPE_CHECKING:
+    from .pool import Workers
 
 COMPLETE, INCOMPLETE, REFUSED = 0, 10, 11
 
@@ -33,7 +35,7 @@ class Settings(NamedTuple):
     boost: bool = False
     log_version: int = 1
     jobs: Optional[int] = None
-    executor: Optional[Executor] = None
+    executor: 'Optional[Workers]' = None
 
     def words(self) -> List[str]:
         """The options of the command."""
