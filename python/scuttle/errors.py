@@ -75,6 +75,28 @@ class BadName(ModelError):
     """
 
 
+class UnknownName(ModelError):
+    """A name in a row or a cost that no option of the model has.
+
+    >>> from scuttle import Model, exactly
+    >>> m = Model(); _ = m.options(['Ann', 'Ben'], ['Mon'])
+    >>> m.add(exactly(1, 'Ann Mon', 'Ben Mno'))
+    >>> m.text()  # doctest: +ELLIPSIS
+    Traceback (most recent call last):
+    ...
+    scuttle.errors.UnknownName: no option(..) or options(..) has made 'Ben Mno' (..., line 1): is 'Ben Mon' meant? Model(strict=False) makes an \
+option of every new name
+    """
+
+
+class NotAdded(UserWarning):
+    """A row that was made and never added to a model: it says nothing there.
+
+    >>> issubclass(NotAdded, Warning)
+    True
+    """
+
+
 class Failed(ScuttleError):
     """A run of the program that ended with a number that stands for no answer: the number and its warning.
 

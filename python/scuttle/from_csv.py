@@ -25,7 +25,7 @@ from typing import Any, Dict, Iterable, List, NamedTuple, Optional, Sequence, Tu
 from .commands import run_command, usage
 from .errors import BadName, Malformed
 from .files import MOST_DIGITS, write_text
-from .sums import text_of_name
+from .names import text_of_name
 
 WORDS = ('option', 'group', 'choose', 'needs', 'excludes')
 # The option of the row that has the limits of budgets.

@@ -4,9 +4,10 @@ import signal
 import subprocess
 import tempfile
 import time
+from numbers import Real
 from typing import Callable, IO, List, Optional, Sequence
 
-from .errors import Failed, NoProgram
+from .errors import Failed, ModelError, NoProgram
 
 HERE = os.path.dirname(os.path.abspath(__file__))
 # Where the executable stands in an installed package, and where in a clone.
@@ -33,6 +34,19 @@ def find_program(program: Optional[str] = None) -> str:
     raise NoProgram('there is no executable %s' % (named or ', '.join(os.path.normpath(place) for place in PLACES)))
 
 
+def judge_seconds(seconds: object) -> None:
+    """`ModelError` where it is no time.
+
+    >>> judge_seconds('5')
+    Traceback (most recent call last):
+    ...
+    scuttle.errors.ModelError: seconds are a number from 0, or None for no limit, and this is a str: '5'
+    """
+    is_number = isinstance(seconds, Real) and not isinstance(seconds, bool)
+    if seconds is not None and not (is_number and float(seconds) >= 0):  # type: ignore[arg-type]
+        raise ModelError('seconds are a number from 0, or None for no limit, and this is a %s: %r' % (type(seconds).__name__, seconds))
+
+
 def run(program: Optional[str], words: Sequence[str], wanted: Sequence[int]) -> int:
     """Runs the program to its end: the number with which it ends, which is one of the wanted; else `Failed`, or `KeyboardInterrupt` where
     it was stopped from outside.
@@ -54,6 +68,7 @@ def run_until(program: Optional[str], words: Sequence[str], seconds: Optional[fl
     >>> print(run_until('/bin/sleep', ['9'], 0.1, lambda: None, (0,)))
     None
     """
+    judge_seconds(seconds)
     found = find_program(program)
     with tempfile.TemporaryFile() as warned:
         process = _start(found, words, warned)

@@ -102,7 +102,7 @@ class Commands(InFolder):
 sys.path.insert(0, %r)
 from scuttle import Model, no
 import formats
-m = Model()
+m = Model(strict=False)
 m.cost('pay', 3, no('a'))
 print(m.solve().plans[0].taken, formats.read_list(%r).complete, len(m.numbers), len(m.rows))
 ''' % (os.path.join(ROOT, 'tools'), SITES[1]))
