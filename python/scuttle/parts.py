@@ -5,6 +5,7 @@ A folder holds a part as `NAME.opb`, and once it is solved `NAME.list` and `NAME
 import hashlib
 import json
 import os
+import re
 from typing import Any, Dict, Iterable, Iterator, List, NamedTuple, Optional, Sequence, Tuple
 
 from .errors import Malformed
@@ -16,6 +17,10 @@ PLAN = 'split.json'
 FORMAT = 'scuttle split 1'
 # The largest sum of magnitudes of a row: docs/FORMATS.md.
 LARGEST = 2 ** 63 - 1
+# What a part may be called: its name stands in names of files, in a Makefile, and in commands.
+NAME = re.compile('[A-Za-z0-9_][A-Za-z0-9_.-]{0,99}')
+# A tree isn't deeper: each cut of a part makes it deeper by one, and Python goes down some hundred levels.
+DEEPEST = 200
 
 
 class Test(NamedTuple):
@@ -207,7 +212,10 @@ class Split:
                 raise Malformed(path, 1, 'this is no plan of parts that this version knows')
             root = _node_of(plan['tree'], source)
             split = cls(source, folder, root, int(plan['cost']))
-        except (ValueError, KeyError, TypeError, IndexError):
+            names = [node.name for node, _ in split.parts()]
+            if len(set(names)) < len(names) or not 0 <= split.cost <= len(source.costs):
+                raise ValueError(plan['cost'])
+        except (ValueError, LookupError, TypeError, AttributeError, OverflowError, RecursionError):
             raise Malformed(path, 1, 'this is no plan of parts') from None
         if plan['sha256'] != source.digest:
             raise Malformed(path, 1, 'these are parts of another instance than %s, or of it before it was changed' % source.path)
@@ -222,17 +230,17 @@ def _as_json(node: Node) -> Dict[str, Any]:
     return fields
 
 
-def _node_of(fields: Dict[str, Any], source: Source) -> Node:
-    """A problem of the tree; `ValueError` where a number isn't one of the instance, or a name isn't that of a file in the folder."""
+def _node_of(fields: Dict[str, Any], source: Source, depth: int = 0) -> Node:
+    """A problem of the tree; `ValueError` where a number isn't one of the instance, a name isn't that of a part, or the tree is too deep."""
     name, model = fields.get('name'), fields.get('model')
-    if name is not None and (not isinstance(name, str) or os.path.basename(name) != name or not name):
+    if name is not None and not (isinstance(name, str) and NAME.fullmatch(name)) or depth > DEEPEST:
         raise ValueError(name)
-    if model is not None and (len(model) != source.variables or set(model) - set('01')):
+    if model is not None and not (isinstance(model, str) and len(model) == source.variables and set(model) <= set('01')):
         raise ValueError(model)
     node = Node(name, model)
     for child in fields.get('children', []):
         conditions = [Condition(_test_of(words, source), words[3] == 'reached') for words in child['where']]
-        node.children.append((narrowed(conditions), _node_of(child, source)))
+        node.children.append((narrowed(conditions), _node_of(child, source, depth + 1)))
     if not node.children and name is None and model is None:
         raise ValueError('nothing shows that this has no solution')
     return node

@@ -11,7 +11,9 @@ from .errors import Failed, ModelError, NoProgram
 
 HERE = os.path.dirname(os.path.abspath(__file__))
 # Where the executable stands in an installed package, and where in a clone.
-PLACES = (os.path.join(HERE, 'bin', 'scuttle'), os.path.join(HERE, '..', '..', 'scuttle'))
+PLACES = (os.path.join(HERE, 'tree', 'release', 'scuttle'), os.path.join(HERE, '..', '..', 'scuttle'))
+# The launcher, beside which its parts stand: in an installed package, and in a clone or an installed tree. Where it finds the executable.
+LAUNCHERS = (os.path.join(HERE, 'tree', 'scuttle'), os.path.join(HERE, '..', '..', 'scuttle'))
 # How often a run is looked at; how long a stopped one may take to end, which may write what it has; and how much of a log is read at once.
 # Seconds, bytes.
 PAUSE, PATIENCE, PIECE = 0.05, 20.0, 1 << 24
@@ -32,6 +34,20 @@ def find_program(program: Optional[str] = None) -> str:
         if os.path.isfile(place):
             return os.path.abspath(place)
     raise NoProgram('there is no executable %s' % (named or ', '.join(os.path.normpath(place) for place in PLACES)))
+
+
+def find_launcher() -> str:
+    """The launcher `scuttle`, which says what is wrong, ends a search in time, and lists what there is so far; `NoProgram` where this package
+    came without an executable.
+
+    >>> os.path.basename(find_launcher())
+    'scuttle'
+    """
+    for place in LAUNCHERS:
+        beside = [os.path.join(os.path.dirname(place), 'release', name) for name in ('scuttle', 'program')]
+        if os.path.isfile(place) and any(map(os.path.isfile, beside)):
+            return os.path.normpath(place)
+    raise NoProgram('this package came without an executable, which is for x86-64 Linux with glibc 2.34 or later')
 
 
 def judge_seconds(seconds: object) -> None:

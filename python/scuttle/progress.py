@@ -7,7 +7,7 @@ import re
 from operator import le
 from typing import Any, Dict, Iterable, Iterator, List, Optional, Sequence, Tuple
 
-import formats
+from . import formats
 
 # What is read at once: it fits a processor's cache, so that bytes are searched as fast as they are read.
 PIECE = 1 << 20
