@@ -25,6 +25,7 @@ from typing import Any, Dict, Iterable, List, NamedTuple, Optional, Sequence, Tu
 from .commands import run_command, usage
 from .errors import BadName, Malformed
 from .files import MOST_DIGITS, write_text
+from .kinds import mind_ending, mind_packed
 from .names import text_of_name
 
 WORDS = ('option', 'group', 'choose', 'needs', 'excludes')
@@ -78,7 +79,10 @@ class _Table:
     def __init__(self, path: str) -> None:
         self.path = path
         with open(path, 'rb') as file:
-            text = _decoded(path, file.read())
+            data = file.read()
+        mind_packed(path, data)
+        mind_ending(path, 'from-csv')
+        text = _decoded(path, data)
         self.delimiter = _delimiter_of(text.split('\n', 1)[0])
         self.rows = []  # type: List[Tuple[int, Record]]
         self.columns = []  # type: List[str]

@@ -11,6 +11,7 @@ from typing import Any, Dict, Iterable, Iterator, List, NamedTuple, Optional, Se
 from .errors import Malformed
 from .files import Line, write_text
 from .instances import Instance, Names, Term, instance_of, is_clauses, names_of, sum_at
+from .kinds import mind_packed
 from .statements import as_statements, cost_row, count_rows, row_text, text_of_statements, with_clauses_normal
 
 PLAN = 'split.json'
@@ -108,7 +109,9 @@ class Source:
     def of_file(cls, path: str) -> 'Source':
         """Reads the file once."""
         with open(path, 'rb') as file:
-            return cls(path, file.read())
+            data = file.read()
+        mind_packed(path, data)
+        return cls(path, data)
 
     def terms(self, test: Test) -> Sequence[Term]:
         """The sum of a test, with positive coefficients. Each variable has another coefficient, and none that a row of one variable has, so
