@@ -83,10 +83,9 @@ class Model:
         kept = name_of(name)
         given = kept[0] if len(kept) == 1 and isinstance(kept[0], str) else kept  # type: Name
         made = Option(given, model=self)
-        number = self._number_of(given)
+        number = self._number_of(given, is_made=True)
         if number in self._helping:
             raise BadName('a helping option has this name: %s' % ascii(given))
-        self._met.pop(number, None)
         return made
 
     @overload
@@ -118,21 +117,24 @@ class Model:
             keys = [key + (part,) for key in keys for part in parts]
         return {key: self.option(*key) for key in keys}
 
-    def _number_of(self, name: Name) -> int:
-        """The number of an option, which is there from its first use on."""
+    def _number_of(self, name: Name, is_made: bool = False) -> int:
+        """The number of an option, which is there from its first use on; where that is before it is made, it is noted."""
         found = self._found.get(name)
         if found is None:
-            found = self._found[name] = self._new_number(name)
+            found = self._found[name] = self._new_number(name, is_made)
+        if is_made:
+            self._met.pop(found, None)
         return found
 
-    def _new_number(self, name: Name) -> int:
+    def _new_number(self, name: Name, is_made: bool) -> int:
         """The number of an option whose name wasn't met in this form."""
         text = text_of_name(name)
         number = self.numbers.get(text)
         if number is None:
             number = self.numbers[text] = len(self._names) + 1
             self._names.append(name)
-            self._met[number] = caller_place()
+            if not is_made:
+                self._met[number] = caller_place()
         known = self._names[number - 1]
         if isinstance(name, tuple) and known != name:
             if isinstance(known, tuple):
@@ -278,9 +280,12 @@ class Model:
         self._objective(objective, 'max', [whole(weight) * option for option in options_of(options)])
 
     def _objective(self, objective: str, sense: str, sums: Iterable[Any]) -> None:
+        if not isinstance(objective, str):
+            raise ModelError('a cost has a name, which comes first, as in minimise("pay", 3 * ann), and this is a %s: %r' % (
+                type(objective).__name__, objective))
         name = text_of_name(objective)
-        if not isinstance(objective, str) or self._objectives.get(name, (sense,))[0] != sense:
-            raise ModelError('an objective has one name, and is made small or large, and not both: %s' % ascii(objective))
+        if self._objectives.get(name, (sense,))[0] != sense:
+            raise ModelError('an objective is made small or large, and not both: %s' % ascii(objective))
         terms, constant = self._terms_of(total(sum_of(given) for given in sums))
         self._mind_helping(terms, -1 if sense == 'min' else 1)
         _, known, constants = self._objectives.setdefault(name, (sense, [], []))
@@ -371,8 +376,7 @@ class Model:
         self._mind_unknown()
         if not self._names and any(sum(constants) for _, _, constants in self._objectives.values()):
             # A number that no option changes wants an option to be written with.
-            self._helping.add(self._number_of('constant'))
-            self._met.clear()
+            self._helping.add(self._number_of('constant', is_made=True))
         names = [text_of_name(name) for name in self._names]
         lines = ['* x%d %s' % (number, name) for number, name in enumerate(names, 1)]
         lines += ['* %s %d %s' % (sense, k, name) for k, (name, (sense, _, _)) in enumerate(self._objectives.items(), 1)]

@@ -25,6 +25,8 @@ def part_of(part: Any) -> Union[str, int]:
     ...
     scuttle.errors.BadName: a name is made of words, whole numbers, dates and members of enumerations, and 1.5 is a float
     """
+    if type(part) is str or type(part) is int:
+        return part
     if isinstance(part, enum.Enum):
         return part.name
     if isinstance(part, str):

@@ -198,6 +198,11 @@ class Refusals(InFolder):
         with self.assertRaisesRegex(scuttle.Failed, r'the cost `way`: a number is at most'):
             m.solve()
 
+    def test_a_cost_without_a_name(self):
+        m = Model()
+        with self.assertRaisesRegex(scuttle.ModelError, 'a cost has a name, which comes first, .* and this is a Sum: 3 a'):
+            m.minimise(3 * m.option('a'))
+
     def test_settings_that_cant_be(self):
         m = Model()
         m.add(m.option('a') >= 1)
@@ -230,9 +235,9 @@ class Types(InFolder):
         for at, piece in enumerate(pieces):
             self.write('piece_%d.py' % at, piece)
         self.write('wrong.py', pieces[0] + 'three["a", 1]\n')
-        for name, number in [('piece_%d.py' % at, 0) for at in range(len(pieces))] + [('wrong.py', 1)]:
-            ran = subprocess.run(['mypy', '--strict', '--python-version', '3.8', '--cache-dir', 'cache', name], env=dict(os.environ, MYPYPATH=PACKAGE),
-                                 stdout=subprocess.PIPE, stderr=subprocess.STDOUT)
+        for names, number in ((['piece_%d.py' % at for at in range(len(pieces))], 0), (['wrong.py'], 1)):
+            ran = subprocess.run(['mypy', '--strict', '--python-version', '3.8', '--cache-dir', 'cache'] + names,
+                                 env=dict(os.environ, MYPYPATH=PACKAGE), stdout=subprocess.PIPE, stderr=subprocess.STDOUT)
             self.assertEqual(ran.returncode, number, ran.stdout.decode())
 
 
