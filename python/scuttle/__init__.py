@@ -24,4 +24,5 @@ from .sums import Option, Row, Sum, at_least, at_most, exactly, if_then, no, tot
 from .version import VERSION as __version__
 
 __all__ = ['BadName', 'CannotTake', 'Failed', 'Malformed', 'ModelError', 'NoProgram', 'NotAdded', 'NotWhole', 'ScuttleError', 'UnknownName',
-           '__version__', 'Difference', 'Front', 'Labels', 'More', 'Plan', 'Source', 'Model', 'Option', 'Row', 'Sum', 'at_least', 'at_most', 'exactly', 'if_then', 'no', 'total']
+           '__version__', 'Difference', 'Front', 'Labels', 'More', 'Plan', 'Source', 'Model', 'Option', 'Row', 'Sum', 'at_least',
+           'at_most', 'exactly', 'if_then', 'no', 'total']

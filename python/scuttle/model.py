@@ -448,8 +448,9 @@ class Model:
         """The front, with its list and log checked. See `solving.Settings` for the options of the search.
 
         After so many seconds, after so many learned clauses, or with Ctrl-C it is the models so far, with `complete` False; the check after a
-        search that has ended takes its own time besides. `on_plan` is called with each plan that the search finds, as it finds it. In the folder, where one is given, stay `model.opb`, `model.list`
-        and `model.log`. Raises `UnknownName` (see `Model`), `Failed`, with the note of the row or the name of the cost that is refused, `NoProgram`, and `OSError` where the folder can't be written.
+        search that has ended takes its own time besides. `on_plan` is called with each plan that the search finds, as it finds it. In the
+        folder, where one is given, stay `model.opb`, `model.list` and `model.log`. Raises `UnknownName` (see `Model`), `Failed`, with the note
+        of the row or the name of the cost that is refused, `NoProgram`, and `OSError` where the folder can't be written.
 
         With `jobs` it is solved in parts, so many at a time, and with an executor of `concurrent.futures`, or a client of Dask, by its
         workers, which want this package and no shared folder: `check` judges the one log that the parts' logs make. Without `harden`, `learn`

@@ -110,7 +110,8 @@ class Pool:
         if isinstance(fault, NoProgram):
             raise fault
         if isinstance(fault, STRANGERS):
-            raise NoProgram('a worker has no package scuttle, or not version %s as here: %s: %s' % (VERSION, type(fault).__name__, fault))
+            raise NoProgram('a worker has no package scuttle, or not version %s as here: %s: %s' % (
+                VERSION, type(fault).__name__, fault)) from fault
         if fault is not None:
             self._fail(name, str(fault) or type(fault).__name__)
             return

@@ -4,6 +4,7 @@ import os
 import pickle
 import subprocess
 import sys
+import time
 import unittest
 import unittest.mock
 from concurrent.futures import Future, ProcessPoolExecutor
@@ -99,12 +100,15 @@ class Workers(Parts):
 
     def test_a_run_that_is_stopped_sends_its_log(self):
         self.unsolved_slabs()
-        task = part_runs.task_of('parts', 'part-1', (), 0.0, (), None)
+        slow = os.path.abspath(self.write('slow', '#!/bin/sh\nprintf "scuttle proof version 1\\n" > "$4"; exec sleep 60\n'))
+        os.chmod(slow, 0o700)
+        task = part_runs.task_of('parts', 'part-1', (), time.time() + 3, (), slow)
         with unittest.mock.patch.object(part_runs, 'sees_folder', lambda task: False):
-            self.assertEqual(part_runs.solve_part(task)[::3], (False, b''))
-            sent = part_runs.solve_part(task._replace(deadline=None))
-        part_runs.keep_sent('parts', 'part-1', sent._replace(solved=False))
+            sent = part_runs.solve_part(task)
+        self.assertEqual((sent.solved, sent.listed), (False, b''))
+        part_runs.keep_sent('parts', 'part-1', sent)
         self.assertEqual([os.path.exists('parts/part-1.' + ending) for ending in ('list', 'log')], [False, True])
+        self.assertEqual(self.read('parts/part-1.log'), 'scuttle proof version 1\n')
 
     def test_errors_are_sent_by_processes(self):
         for fault in (Malformed('a', 1, 'b'), CannotTake('a', 'b'), Failed(65, 'b'), NoProgram('a')):
