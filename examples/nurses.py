@@ -76,8 +76,7 @@ def main(arguments):
     print(front.title())
     if front.plans:
         print(front.knee())
-    with open(os.path.join(folder, 'front.html'), 'w', encoding='utf-8') as page:
-        page.write(front.to_html('Nurses, four weeks'))
+    front.to_html(os.path.join(folder, 'front.html'), title='Nurses, four weeks')
 
 
 if __name__ == '__main__':

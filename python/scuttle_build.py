@@ -1,7 +1,8 @@
 """Builds the package for pip: a wheel or a source archive, with nothing besides Python's own modules (PEP 517 and PEP 660).
 
-The wheel takes along the released executable where it runs, on Linux on x86-64; elsewhere the package reads, writes and shows, and solves by an
-executable that the variable SCUTTLE names. The version is the newest heading of NEWS.md. The same tree gives the same wheel.
+The wheel takes along the launcher with its parts, and the released executable where it runs, on Linux on x86-64 with the glibc that it wants;
+elsewhere the package reads, writes and shows, and solves by an executable that the variable SCUTTLE names. The version is the newest heading
+of NEWS.md, the long text is README.md. The same tree gives the same wheel.
 """
 import base64
 import hashlib
@@ -16,7 +17,21 @@ from typing import Dict, List, Optional, Tuple
 
 HERE = os.path.dirname(os.path.abspath(__file__))
 ROOT = os.path.dirname(HERE)
-EXECUTABLE = os.path.join('release', 'scuttle')
+EXECUTABLE = 'release/scuttle'
+# The glibc that the executable wants, and what a system that has it calls a wheel for it (PEP 600).
+GLIBC, PLATFORM = (2, 34), 'manylinux_2_34_x86_64'
+LAUNCHER, TOOLS = 'scuttle', ('tools/watch', 'tools/far')
+# The files that are run.
+RUN = (EXECUTABLE, LAUNCHER) + TOOLS
+# Where the launcher and its parts are in the package, placed as in a clone.
+TREE = 'scuttle/tree/'
+# The tools that the launcher runs look for the package in a folder `python` beside theirs: this stands there, and sends them on.
+SENT_ON = b"""import os
+__path__ = [os.path.join(os.path.dirname(os.path.abspath(__file__)), '..', '..', '..')]
+"""
+CLASSIFIERS = ('Environment :: Console', 'Intended Audience :: End Users/Desktop', 'Intended Audience :: Science/Research',
+               'Operating System :: POSIX :: Linux', 'Programming Language :: Python :: 3', 'Programming Language :: Python :: 3 :: Only',
+               'Topic :: Scientific/Engineering :: Mathematics', 'Typing :: Typed')
 SUMMARY = 'Every best compromise of a 0-1 problem with several costs, with a proof that is checked'
 # What a file in an archive gets as its time: archives have no earlier one, and a tree has none.
 TIME = (1980, 1, 1, 0, 0, 0)
@@ -28,10 +43,12 @@ Files = Dict[str, Tuple[bytes, bool]]
 def build_wheel(wheel_directory: str, config_settings: Optional[Dict[str, str]] = None, metadata_directory: Optional[str] = None) -> str:
     """Writes the wheel into the folder: its name."""
     files = {name: (_bytes_of('python', name), False) for name in _modules()}  # type: Files
-    has_executable = sysconfig.get_platform() == 'linux-x86_64' and os.path.exists(os.path.join(ROOT, EXECUTABLE))
+    files.update((TREE + name, (_bytes_of(name), name in RUN)) for name in _launched())
+    files[TREE + 'python/scuttle/__init__.py'] = (SENT_ON, False)
+    has_executable = _has_glibc() and os.path.exists(os.path.join(ROOT, EXECUTABLE))
     if has_executable:
-        files['scuttle/bin/scuttle'] = (_bytes_of(EXECUTABLE), True)
-    return _write_wheel(wheel_directory, files, 'linux_x86_64' if has_executable else 'any')
+        files[TREE + EXECUTABLE] = (_bytes_of(EXECUTABLE), True)
+    return _write_wheel(wheel_directory, files, PLATFORM if has_executable else 'any')
 
 
 def build_editable(wheel_directory: str, config_settings: Optional[Dict[str, str]] = None, metadata_directory: Optional[str] = None) -> str:
@@ -42,12 +59,12 @@ def build_editable(wheel_directory: str, config_settings: Optional[Dict[str, str
 def build_sdist(sdist_directory: str, config_settings: Optional[Dict[str, str]] = None) -> str:
     """Writes the source archive into the folder: its name. It has what a wheel is built from, placed as in a clone."""
     stem = 'scuttle-' + _version()
-    names = ['pyproject.toml', 'NEWS.md', 'README.md', EXECUTABLE, 'python/pyproject.toml', 'python/scuttle_build.py']
+    names = ['pyproject.toml', 'README.md', EXECUTABLE, 'python/pyproject.toml', 'python/scuttle_build.py'] + _launched()
     names += ['python/' + name for name in _modules()]
     with tarfile.open(os.path.join(sdist_directory, stem + '.tar.gz'), 'w:gz', format=tarfile.PAX_FORMAT) as archive:
         for name, data in [('PKG-INFO', _metadata())] + [(name, _bytes_of(name)) for name in names]:
             entry = tarfile.TarInfo(stem + '/' + name)
-            entry.size, entry.mode = len(data), 0o755 if name == EXECUTABLE else 0o644
+            entry.size, entry.mode = len(data), 0o755 if name in RUN else 0o644
             archive.addfile(entry, io.BytesIO(data))
     return stem + '.tar.gz'
 
@@ -56,6 +73,25 @@ def _modules() -> List[str]:
     """The files of the package, by their places under python/: modules, and of the page also its parts."""
     return [folder + '/' + name for folder in ('scuttle', 'scuttle/page') for name in sorted(os.listdir(os.path.join(HERE, folder)))
             if name.endswith(('.py', '.typed', '.html', '.css', '.js'))]
+
+
+def _launched() -> List[str]:
+    """The launcher, and what it reads and runs."""
+    names = [LAUNCHER, 'NEWS.md', 'docs/HELP.txt'] + list(TOOLS)
+    return names + [folder + '/' + name for folder, ending in (('launcher', '.sh'), ('docs/help', '.txt'))
+                    for name in sorted(os.listdir(os.path.join(ROOT, folder))) if name.endswith(ending)]
+
+
+def _has_glibc() -> bool:
+    """Whether the executable runs on this system."""
+    try:
+        words = (os.confstr('CS_GNU_LIBC_VERSION') or '').split()
+    except (AttributeError, ValueError, OSError):
+        # This is another library, or another system.
+        return False
+    if len(words) != 2 or words[0] != 'glibc' or sysconfig.get_platform() != 'linux-x86_64':
+        return False
+    return tuple(int(number) for number in words[1].split('.')[:2]) >= GLIBC
 
 
 def _bytes_of(*parts: str) -> bytes:
@@ -71,13 +107,18 @@ def _version() -> str:
 
 
 def _metadata() -> bytes:
-    return ('Metadata-Version: 2.1\nName: scuttle\nVersion: %s\nSummary: %s\nRequires-Python: >=3.8\n' % (_version(), SUMMARY)).encode()
+    """What is said of the package. It names no licence, since none is given."""
+    head = ['Metadata-Version: 2.1', 'Name: scuttle', 'Version: ' + _version(), 'Summary: ' + SUMMARY,
+            'Keywords: optimization,multi-objective,pareto,pseudo-boolean,0-1,proof', 'Requires-Python: >=3.8']
+    head += ['Classifier: ' + classifier for classifier in CLASSIFIERS] + ['Description-Content-Type: text/markdown; charset=UTF-8']
+    return '\n'.join(head).encode() + b'\n\n' + _bytes_of('README.md')
 
 
 def _entry_points() -> bytes:
     sys.path.insert(0, HERE)
     from scuttle.__main__ import COMMANDS
-    return ('[console_scripts]\n' + ''.join('scuttle-%s = scuttle.__main__:entry\n' % name for name in sorted(COMMANDS))).encode()
+    named = ''.join('scuttle-%s = scuttle.__main__:entry\n' % name for name in sorted(COMMANDS))
+    return ('[console_scripts]\nscuttle = scuttle.__main__:scuttle\n' + named).encode()
 
 
 def _write_wheel(folder: str, files: Files, platform: str) -> str:

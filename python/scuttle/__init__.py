@@ -16,10 +16,13 @@
 
 What `front.accepted` says was accepted by `check`, run over the very files. `python -m scuttle` lists the commands.
 """
-from .errors import BadName, CannotTake, Failed, Malformed, ModelError, NoProgram, NotWhole, ScuttleError
+from .errors import (BadName, CannotTake, Failed, Malformed, ModelError, NoProgram, NotAdded, NotWhole, ScuttleError,
+                     UnknownName)
 from .front import Difference, Front, Labels, More, Plan, Source
 from .model import Model
 from .sums import Option, Row, Sum, at_least, at_most, exactly, if_then, no, total
+from .version import VERSION as __version__
 
-__all__ = ['BadName', 'CannotTake', 'Failed', 'Malformed', 'ModelError', 'NoProgram', 'NotWhole', 'ScuttleError', 'Difference', 'Front',
-           'Labels', 'More', 'Plan', 'Source', 'Model', 'Option', 'Row', 'Sum', 'at_least', 'at_most', 'exactly', 'if_then', 'no', 'total']
+__all__ = ['BadName', 'CannotTake', 'Failed', 'Malformed', 'ModelError', 'NoProgram', 'NotAdded', 'NotWhole', 'ScuttleError', 'UnknownName',
+           '__version__', 'Difference', 'Front', 'Labels', 'More', 'Plan', 'Source', 'Model', 'Option', 'Row', 'Sum', 'at_least',
+           'at_most', 'exactly', 'if_then', 'no', 'total']

@@ -2,20 +2,31 @@
 
 usage: python -m scuttle NAME WORDS
 
-Each is also `scuttle-NAME`, and most are a script of tools/ in a clone. `python -m scuttle NAME --help` says more.
+Each is also `scuttle-NAME`, and most are a script of tools/ in a clone. `python -m scuttle NAME --help` says more. `solve`, `check` and
+the others of `scuttle help` are commands of `scuttle` itself, and of `python -m scuttle` too.
 """
 import importlib
+import os
 import sys
 from typing import List
 
-from .commands import USAGE
+from .commands import NO_PROGRAM, USAGE
+from .errors import NoProgram
 from .files import be_printable
+from .running import find_launcher
+from .version import VERSION
+
+# What runs the launcher.
+SHELL = '/bin/sh'
+# The words with which the launcher begins, besides its options.
+LAUNCHED = ('solve', 'check', 'front', 'models', 'check-models', 'upgrade', 'elaborate', 'trim', 'gen', 'trial', 'help', 'version')
 
 # The commands, and what each does. The module of a command has its name, with `_` for `-`, and a function `main`.
 COMMANDS = {
     'choices': 'what is left to choose among the plans of each compromise',
     'compare': 'what has changed between two lists',
     'describe': 'how many lines of each kind a log has, its ids, variables and solutions',
+    'far': 'how far a search has come: the models of a log so far, as a list',
     'from-csv': 'an instance from a table of options',
     'from-lp': 'an instance from models in the LP format of CPLEX',
     'from-mps': 'an instance from models in the MPS format',
@@ -29,6 +40,7 @@ COMMANDS = {
     'spread': 'every best compromise, on several processors',
     'to-lp': 'an instance as models in the LP format of CPLEX',
     'to-wcnf': 'an instance as weighted clauses',
+    'watch': 'a log, followed while it grows',
 }
 
 
@@ -42,6 +54,11 @@ def main(arguments: List[str]) -> int:
     """
     if arguments[:1] and arguments[0] in COMMANDS:
         return run_named(arguments[0], arguments[1:])
+    if arguments[:1] and arguments[0] in LAUNCHED:
+        return launch(arguments)
+    if arguments == ['--version']:
+        print('scuttle ' + VERSION)
+        return 0
     is_asked = arguments[:1] in (['--help'], ['-h'], ['help'])
     be_printable()
     print(str(__doc__) + ''.join('\n  %-10s %s' % pair for pair in COMMANDS.items()), file=sys.stdout if is_asked else sys.stderr)
@@ -58,6 +75,28 @@ def run_named(name: str, arguments: List[str]) -> int:
     """
     module = importlib.import_module('scuttle.' + name.replace('-', '_'))
     return int(module.main(arguments))
+
+
+def launch(arguments: List[str]) -> int:
+    """Becomes `scuttle` itself with these words; ends with 69 where it can't be run here.
+
+    >>> launch.__name__
+    'launch'
+    """
+    try:
+        launcher = find_launcher()
+        sys.stdout.flush()
+        os.execv(SHELL, [SHELL, launcher] + arguments)
+    except NoProgram as fault:
+        print('scuttle: %s' % fault, file=sys.stderr)
+    except OSError as fault:
+        print('scuttle: %s: %s' % (SHELL, fault.strerror), file=sys.stderr)
+    return NO_PROGRAM
+
+
+def scuttle() -> int:
+    """The entry point `scuttle`."""
+    return launch(sys.argv[1:])
 
 
 def entry() -> int:

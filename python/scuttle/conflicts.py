@@ -5,7 +5,7 @@ import time
 from typing import List, Optional, Sequence
 
 from .lists import read_list
-from .running import run_until
+from .running import judge_seconds, run_until
 
 # The most rows that are named: more are no explanation.
 MOST_ROWS = 20
@@ -16,9 +16,10 @@ def conflict_of(rows: Sequence[str], seconds: float, program: Optional[str] = No
 
     Each of them is needed, where the time was long enough.
 
-    >>> conflict_of(['x1 >= 1 ;', 'x2 >= 1 ;', '~x1 >= 1 ;'], 5)
+    >>> conflict_of(['x1 >= 1 ;', 'x2 >= 1 ;', '~x1 >= 1 ;'], 60)
     [0, 2]
     """
+    judge_seconds(seconds)
     end = time.monotonic() + seconds
     with tempfile.TemporaryDirectory(prefix='scuttle-') as folder:
         kept = list(range(len(rows)))

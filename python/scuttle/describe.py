@@ -12,6 +12,7 @@ from typing import Dict, List, NamedTuple
 from .commands import run_command, usage
 from .errors import Malformed
 from .files import printable
+from .kinds import HEAD, mind_packed
 from .logs import is_log_head
 
 # The kinds of lines, and how many ids a line of each makes; docs/FORMATS.md has both.
@@ -47,6 +48,7 @@ def describe(path: str) -> Description:
     head, kinds, variable, is_cut = '', {}, 0, False  # type: str, Dict[str, int], int, bool
     # Logs may have gigabytes: of a line only its first word is made text.
     with open(path, 'rb') as file:
+        mind_packed(path, file.peek(HEAD))
         for number, line in enumerate(file, 1):
             if not line.endswith(b'\n'):
                 is_cut = True

@@ -1,7 +1,9 @@
 """The errors of this package: one class for each kind, all of them `ScuttleError`.
 
-What the operating system refuses stays an `OSError`, which names the file.
+What the operating system refuses stays an `OSError`, which names the file. Those of several arguments say how they are made anew, so that
+another process can send them.
 """
+from typing import Tuple, Type
 
 
 class ScuttleError(Exception):
@@ -23,6 +25,9 @@ class Malformed(ScuttleError):
         super().__init__('%s:%d: %s' % (path, line, what))
         self.path, self.line, self.what = path, line, what
 
+    def __reduce__(self) -> 'Tuple[Type[Malformed], Tuple[str, int, str]]':
+        return type(self), (self.path, self.line, self.what)
+
 
 class CannotTake(ScuttleError):
     """A file that is right, and says what can't be said in the format that it is to be written in.
@@ -34,6 +39,9 @@ class CannotTake(ScuttleError):
     def __init__(self, path: str, what: str) -> None:
         super().__init__('%s: %s' % (path, what))
         self.path, self.what = path, what
+
+    def __reduce__(self) -> 'Tuple[Type[CannotTake], Tuple[str, str]]':
+        return type(self), (self.path, self.what)
 
 
 class ModelError(ScuttleError, ValueError):
@@ -67,6 +75,28 @@ class BadName(ModelError):
     """
 
 
+class UnknownName(ModelError):
+    """A name in a row or a cost that no option of the model has.
+
+    >>> from scuttle import Model, exactly
+    >>> m = Model(); _ = m.options(['Ann', 'Ben'], ['Mon'])
+    >>> m.add(exactly(1, 'Ann Mon', 'Ben Mno'))
+    >>> m.text()  # doctest: +ELLIPSIS
+    Traceback (most recent call last):
+    ...
+    scuttle.errors.UnknownName: no option(..) or options(..) has made 'Ben Mno' (..., line 1): is 'Ben Mon' meant? Model(strict=False) makes an \
+option of every new name
+    """
+
+
+class NotAdded(UserWarning):
+    """A row that was made and never added to a model: it says nothing there.
+
+    >>> issubclass(NotAdded, Warning)
+    True
+    """
+
+
 class Failed(ScuttleError):
     """A run of the program that ended with a number that stands for no answer: the number and its warning.
 
@@ -77,6 +107,9 @@ class Failed(ScuttleError):
     def __init__(self, number: int, warning: str) -> None:
         super().__init__('the program ended with %d: %s' % (number, warning))
         self.number, self.warning = number, warning
+
+    def __reduce__(self) -> 'Tuple[Type[Failed], Tuple[int, str]]':
+        return type(self), (self.number, self.warning)
 
 
 class NoProgram(ScuttleError):

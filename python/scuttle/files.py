@@ -1,4 +1,5 @@
 """Lines in and files out: what every reader and writer of a format needs."""
+import io
 import os
 import re
 import sys
@@ -6,6 +7,7 @@ import tempfile
 from typing import List, NamedTuple
 
 from .errors import Malformed
+from .kinds import HEAD, mind_packed
 
 # No number of the three formats has more digits than this, leading zeros left out. It keeps a wrong file from costing
 # time that grows with the square of a number's length.
@@ -20,14 +22,16 @@ class Line(NamedTuple):
 
 
 def read_lines(path: str) -> List[Line]:
-    """The lines of a file, read once, so that it may be a pipe.
+    """The lines of a file, read once, so that it may be a pipe. `Malformed` where it is packed, or a workbook.
 
     >>> with open('a.txt', 'w') as out:
     ...     _ = out.write('one\\ntwo')
     >>> read_lines('a.txt')
     [Line(number=1, text='one'), Line(number=2, text='two')]
     """
-    with open(path, encoding='utf-8', errors='replace', newline='\n') as file:
+    with open(path, 'rb') as read:
+        mind_packed(path, read.peek(HEAD))
+        file = io.TextIOWrapper(read, encoding='utf-8', errors='replace', newline='\n')
         return [Line(number, text.rstrip('\r\n')) for number, text in enumerate(file, 1)]
 
 

@@ -12,8 +12,9 @@ column's name begins with `max `, as `max profit`; a cell may be empty, negative
 numbers is a note, and left out. An option without a group may be taken or not.
 Cells are parted by commas, by `;` or by tabs, as the first row has it; by `;` or tabs numbers may be `1,5`. The text
 is UTF-8, UTF-16 with its mark, or Windows-1252. On standard error stands which columns became costs and which are left out.
-OUT names variables and objectives by its comments, so that tools/plan and tools/picture show the table's words. It is
-written whole or not at all.
+OUT names variables and objectives by its comments, so that tools/plan and tools/picture show the table's words. tools/page shows options
+as a grid where their names are two or three words, as `Ann Mon early`, or have one comma, as `Ann, week 1 Mon`; other names are a list. OUT
+is written whole or not at all.
 Ends with 64 where the words are wrong, 65 where the table isn't as it should be, 74 where a file can't be read or written.
 """
 import csv
@@ -25,7 +26,8 @@ from typing import Any, Dict, Iterable, List, NamedTuple, Optional, Sequence, Tu
 from .commands import run_command, usage
 from .errors import BadName, Malformed
 from .files import MOST_DIGITS, write_text
-from .sums import text_of_name
+from .kinds import mind_ending, mind_packed
+from .names import text_of_name
 
 WORDS = ('option', 'group', 'choose', 'needs', 'excludes')
 # The option of the row that has the limits of budgets.
@@ -78,7 +80,10 @@ class _Table:
     def __init__(self, path: str) -> None:
         self.path = path
         with open(path, 'rb') as file:
-            text = _decoded(path, file.read())
+            data = file.read()
+        mind_packed(path, data)
+        mind_ending(path, 'from-csv')
+        text = _decoded(path, data)
         self.delimiter = _delimiter_of(text.split('\n', 1)[0])
         self.rows = []  # type: List[Tuple[int, Record]]
         self.columns = []  # type: List[str]

@@ -16,6 +16,7 @@ from typing import List, NamedTuple, Optional, Tuple
 from .commands import run_command, usage
 from .errors import Malformed
 from .files import MOST_DIGITS, Line, read_lines
+from .kinds import mind_ending
 from .linear import Expression, Goal, Limit, Program, Weights, write_instance
 
 # A section by the words that begin it, in small letters.
@@ -236,6 +237,7 @@ def read_lp(path: str) -> Program:
     program = Program(path)
     stem = re.sub(r'\.lp$', '', path.replace('\\', '/').split('/')[-1])
     lines = read_lines(path)
+    mind_ending(path, 'from-lp')
     sections = _sections_of(path, lines)
     if not sections or sections[0][0] not in ('min', 'max'):
         raise Malformed(path, sections[0][1] if sections else 1, 'a model begins with Minimize or Maximize')

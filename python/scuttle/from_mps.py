@@ -15,6 +15,7 @@ from typing import Dict, List, Optional, Sequence, Tuple
 from .commands import run_command, usage
 from .errors import Malformed
 from .files import MOST_DIGITS, read_lines
+from .kinds import mind_ending
 from .linear import Expression, Goal, Limit, Program, Weights, write_instance
 
 RELATIONS = {'G': '>=', 'L': '<=', 'E': '='}
@@ -131,7 +132,9 @@ def read_mps(path: str) -> Program:
     Fraction(1, 1)
     """
     reader, section = _Reader(path), ''
-    for reader.line, text in read_lines(path):
+    lines = read_lines(path)
+    mind_ending(path, 'from-mps')
+    for reader.line, text in lines:
         words = text.split()
         if re.match(r'\*SENSE:\s*Max', text):
             reader.sense = 'max'

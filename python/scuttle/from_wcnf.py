@@ -14,6 +14,7 @@ from .commands import run_command, usage
 from .errors import Malformed
 from .files import is_whole, printable, read_lines, whole_of, write_text
 from .instances import Soft, names_of
+from .kinds import mind_ending
 
 Clause = Tuple[int, ...]
 
@@ -39,6 +40,7 @@ def read_wcnf(path: str) -> Weighted:
     Weighted(hard=[(1, 2)], soft=[(3, [-1])], names={})
     """
     lines = read_lines(path)
+    mind_ending(path, 'from-wcnf')
     found, top = Weighted([], [], names_of('names.mcnf', lines).variables), None  # type: Weighted, Optional[int]
     for number, text in lines:
         words = text.split()

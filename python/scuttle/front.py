@@ -1,125 +1,21 @@
 """A front: its plans, what they share, and how they are filtered, compared and written."""
-import csv
-import html
-import importlib
-import io
-import json
 import os
 import tempfile
-from typing import Any, Callable, Dict, FrozenSet, Iterator, List, Mapping, NamedTuple, Optional, Sequence, Set, Tuple, Union
+from typing import Any, Callable, Dict, Iterator, List, Mapping, Optional, Sequence, Set, Tuple, Union, overload
 
-from . import picture
 from .errors import ScuttleError
-from .files import cell_of, printable, read_lines, write_text
-from .instances import Costs, instance_of, name_of_objective, name_of_variable, names_of
+from .files import read_lines, write_text
+from .front_texts import Path, Texts, kept
+from .instances import instance_of, name_of_objective, name_of_variable, names_of
 from .lists import Choice, Entry, Listing, fits, read_list, read_models, text_of, title_of
+from .names import Name
+from .plans import Difference, Labels, More, Plan, Source
 from .running import run, run_until
-from .sums import Name, Option, text_of_name
 
-# The most plans that a notebook shows at once: more are a file's matter.
-SHOWN = 100
+__all__ = ['Difference', 'Front', 'Labels', 'More', 'Plan', 'Source']
 
 
-class Labels(NamedTuple):
-    """What the costs and options of a front are called: the objectives and their senses (`min` or `max`), the options as they were
-    given, and the numbers, from 1, of those that only help.
-
-    >>> Labels(['pay'], ['min'], ['shop']).helping
-    frozenset()
-    """
-
-    objectives: List[str]
-    senses: List[str]
-    options: List[Name]
-    helping: FrozenSet[int] = frozenset()
-
-
-class Source(NamedTuple):
-    """The instance that a front is of: the name of its file, whose ending says its format, its text, and the executable.
-
-    >>> Source('model.opb', '').program is None
-    True
-    """
-
-    name: str
-    text: str
-    program: Optional[str] = None
-
-
-class Plan:
-    """A plan: its costs by name, what it takes, and its number in the list, from 1.
-
-    >>> plan = Plan(1, (24,), [1, -2], Labels(['pay'], ['min'], ['Ann', 'Ben']))
-    >>> plan.costs, plan.taken, plan.values, plan['Ben']
-    ({'pay': 24}, ['Ann'], {'Ann': True, 'Ben': False}, False)
-    """
-
-    __slots__ = ('number', 'vector', 'model', 'labels')
-
-    def __init__(self, number: int, vector: Costs, model: Sequence[int], labels: Labels) -> None:
-        self.number, self.vector, self.model, self.labels = number, vector, list(model), labels
-
-    @property
-    def costs(self) -> Dict[str, int]:
-        """Each cost by its objective's name; of a maximised one the sum itself."""
-        return dict(zip(self.labels.objectives, self.vector))
-
-    @property
-    def taken(self) -> List[Name]:
-        """The options that it takes, without those that only help."""
-        return [self.labels.options[literal - 1] for literal in self.model if literal > 0 and literal not in self.labels.helping]
-
-    @property
-    def values(self) -> Dict[Name, bool]:
-        """For each option, also those that only help, whether it is taken."""
-        return {self.labels.options[abs(literal) - 1]: literal > 0 for literal in self.model}
-
-    def __getitem__(self, option: Union[Option, Name]) -> bool:
-        """Whether an option, its opposite, or the option of a name is taken. `KeyError` where there is none."""
-        if isinstance(option, Option):
-            return self[option.name] != option.negated
-        text = text_of_name(option)
-        for name, value in self.values.items():
-            if text_of_name(name) == text:
-                return value
-        raise KeyError(option)
-
-    def __eq__(self, other: object) -> bool:
-        return isinstance(other, Plan) and (self.costs, self.model) == (other.costs, other.model)
-
-    def __repr__(self) -> str:
-        return '<plan %d: %s>' % (self.number, '; '.join('%s: %d' % pair for pair in self.costs.items()) or 'no costs')
-
-    def __str__(self) -> str:
-        costs = '; '.join('%s: %d' % pair for pair in self.costs.items())
-        return '\n'.join(['%d. %s' % (self.number, costs)] + ['   ' + text_of_name(name) for name in self.taken])
-
-
-class Difference(NamedTuple):
-    """How a second plan differs from a first: what its costs are more, and the options that only one of them takes.
-
-    >>> Difference({'pay': 3}, ['Ann'], ['Ben']).only_second
-    ['Ben']
-    """
-
-    costs: Dict[str, int]
-    only_first: List[Name]
-    only_second: List[Name]
-
-
-class More(NamedTuple):
-    """Further plans of one compromise: whether they are all, whether `check-models` accepted that (None: it wasn't asked), and they.
-
-    >>> More(True, True, []).all
-    True
-    """
-
-    all: bool
-    accepted: Optional[bool]
-    plans: List[Plan]
-
-
-class Front:
+class Front(Texts):
     """The plans of a list: `complete` where they are all best compromises, `accepted` where `check` accepted list and log.
 
     `accepted` is None where `check` wasn't asked. A front is a sequence: `len(front)`, `front[0]`, `for plan in front`; plans are numbered
@@ -320,7 +216,7 @@ class Front:
         ended, it is that plan alone.
 
         >>> from scuttle import Model
-        >>> m = Model(); m.exactly(1, 'red car', 'blue car')
+        >>> m = Model(); m.exactly(1, m.option('red car'), m.option('blue car'))
         >>> more = m.solve().more(0, 10)
         >>> more.all, more.accepted, sorted(plan.taken for plan in more.plans)
         (True, True, [['blue car'], ['red car']])
@@ -350,127 +246,20 @@ class Front:
             plans.setdefault(tuple(literal for literal in model if abs(literal) not in self.labels.helping), other)
         return More(choice.all, accepted, list(plans.values()))
 
-    # Written.
+    @overload
+    def to_html(self, path: None = None, *, title: str = '') -> str: ...
 
-    def to_json(self) -> str:
-        """All of it as one JSON object; the same front gives the same text.
+    @overload
+    def to_html(self, path: Path, *, title: str = '') -> None: ...
 
-        `complete`, `accepted` (true, false, or null where `check` wasn't asked), `title`, `listed` (of how many these are), `conflict`,
-        `objectives` with `name` and `sense`, `options` with `name`, `parts` where a tuple gave it, and `helping`, `plans` with `number`, `costs`
-        in the order of the objectives and `taken`, the places of options from 0, also of those that only help; `knee`, the place of that
-        plan, or null; `more`, for each plan null or `all`, `accepted` and `plans`, each as `taken`.
-
-        >>> from scuttle import Model
-        >>> m = Model(); red, box = m.option('red'), m.option('box')
-        >>> m.minimise('pay', 5 * red + 2 * box); m.maximise('joy', 3 * red + 2 * box)
-        >>> front = m.solve()
-        >>> json.loads(front.to_json())['plans'][1]
-        {'number': 2, 'costs': [2, 2], 'taken': [1]}
-        """
-        knee = self.plans.index(self.knee()) if self.plans else None
-        options = [dict({'name': text_of_name(name), 'helping': k in self.labels.helping},
-                        **({'parts': list(name)} if isinstance(name, tuple) else {})) for k, name in enumerate(self.labels.options, 1)]
-        whole = {'complete': self.complete, 'accepted': self.accepted, 'title': self.title(), 'listed': self.listed,
-                 'conflict': self.conflict,
-                 'objectives': [{'name': name, 'sense': sense} for name, sense in zip(self.labels.objectives, self.labels.senses)],
-                 'options': options,
-                 'plans': [{'number': plan.number, 'costs': list(plan.vector), 'taken': _places(plan)} for plan in self.plans],
-                 'knee': knee,
-                 'more': [more and {'all': more.all, 'accepted': more.accepted, 'plans': [_places(plan) for plan in more.plans]}
-                          for more in self.choices]}
-        return json.dumps(whole, ensure_ascii=False, separators=(',', ':'))
-
-    def to_csv(self) -> str:
-        """A row for each plan, with a column for each cost and 1 or 0 for each option. Names that a spreadsheet would take for formulas
-        get a quote before them.
-
-        >>> from scuttle import Model
-        >>> m = Model(); red, box = m.option('red'), m.option('box')
-        >>> m.minimise('pay', 5 * red + 2 * box); m.maximise('joy', 3 * red + 2 * box)
-        >>> front = m.solve()
-        >>> front.to_csv().split('\\n')[:2]
-        ['entry,complete,pay,joy,red,box', '1,yes,0,0,0,0']
-        """
-        text = io.StringIO()
-        out = csv.writer(text, lineterminator='\n')
-        shown = [k for k in range(len(self.labels.options)) if k + 1 not in self.labels.helping]
-        out.writerow(['entry', 'complete'] + [cell_of(name) for name in self.labels.objectives]
-                     + [cell_of(text_of_name(self.labels.options[k])) for k in shown])
-        for plan in self.plans:
-            out.writerow([plan.number, 'yes' if self.complete else 'no'] + list(plan.vector) + [int(plan.model[k] > 0) for k in shown])
-        return text.getvalue()
-
-    def to_svg(self) -> str:
-        """The picture that `scuttle-picture` draws.
-
-        >>> from scuttle import Model
-        >>> m = Model(); red, box = m.option('red'), m.option('box')
-        >>> m.minimise('pay', 5 * red + 2 * box); m.maximise('joy', 3 * red + 2 * box)
-        >>> front = m.solve()
-        >>> front.to_svg().count('<circle')
-        4
-        """
-        return picture.svg_of(self.title(), [(plan.number, plan.vector) for plan in self.plans],
-                              picture.axis_names(self.labels.objectives, self.labels.senses), self.labels.senses)
-
-    def to_html(self, title: str = '') -> str:
+    def to_html(self, path: Optional[Path] = None, *, title: str = '') -> Optional[str]:
         """The page that `scuttle-page` makes, for any browser: with sliders, a table, and the plans. It needs nothing besides itself.
 
-        >>> Front(True, True, []).to_html('a day').count('<h1><bdi>a day</bdi></h1>')
+        >>> Front(True, True, []).to_html(title='a day').count('<h1><bdi>a day</bdi></h1>')
         1
         """
         from .page import page_of
-        return page_of(self, title)
-
-    def _repr_html_(self) -> str:
-        """What a notebook shows: the title and a table of the costs."""
-        def cells(kind: str, words: Sequence[object]) -> str:
-            return '<tr>%s</tr>' % ''.join('<%s>%s</%s>' % (kind, html.escape(printable(str(word))), kind) for word in words)
-        head = ['plan'] + picture.axis_names(self.labels.objectives, self.labels.senses)
-        rows = [cells('td', [plan.number] + list(plan.vector)) for plan in self.plans[:SHOWN]]
-        left = '<p>and %d more</p>' % (len(self) - SHOWN) if len(self) > SHOWN else ''
-        conflict = ''.join('<li>%s</li>' % html.escape(row) for row in self.conflict)
-        return '<p><b>%s</b></p>%s<table><thead>%s</thead><tbody>%s</tbody></table>%s' % (
-            html.escape(repr(self)[8:-1]), '<ul>%s</ul>' % conflict if conflict else '', cells('th', head), ''.join(rows), left)
-
-    def to_dataframe(self) -> Any:
-        """A pandas DataFrame of the costs by plan; wants pandas.
-
-        >>> from scuttle import Model
-        >>> m = Model(); red, box = m.option('red'), m.option('box')
-        >>> m.minimise('pay', 5 * red + 2 * box); m.maximise('joy', 3 * red + 2 * box)
-        >>> front = m.solve()
-        >>> front.to_dataframe()['pay'].max()  # doctest: +SKIP
-        7
-        """
-        pandas = importlib.import_module('pandas')
-        return pandas.DataFrame([plan.costs for plan in self.plans], index=[plan.number for plan in self.plans],
-                                columns=self.labels.objectives)
-
-    def plot(self) -> Any:
-        """Matplotlib axes with one cost against the other, or, where there aren't two, each plan's costs as a line; wants matplotlib.
-
-        >>> from scuttle import Model
-        >>> m = Model(); red, box = m.option('red'), m.option('box')
-        >>> m.minimise('pay', 5 * red + 2 * box); m.maximise('joy', 3 * red + 2 * box)
-        >>> front = m.solve()
-        >>> front.plot().figure.savefig('front.png')  # doctest: +SKIP
-        """
-        axes = importlib.import_module('matplotlib.pyplot').subplots()[1]
-        names = picture.axis_names(self.labels.objectives, self.labels.senses)
-        if len(names) == 2:
-            axes.plot(*zip(*[plan.vector for plan in self.plans]) if self.plans else ([], []), 'k.')
-            axes.set_xlabel(names[0])
-            axes.set_ylabel(names[1])
-        else:
-            for plan in self.plans:
-                axes.plot(names, plan.vector, 'k.-', alpha=0.5)
-        axes.set_title(self.title())
-        return axes
-
-
-def _places(plan: Plan) -> List[int]:
-    return [literal - 1 for literal in plan.model if literal > 0]
+        return kept(page_of(self, title), path)
 
 
 def _different(names: Sequence[str]) -> 'List[Any]':

@@ -7,6 +7,7 @@ from typing import Dict, Iterable, Iterator, List, NamedTuple, Sequence, Tuple
 
 from .errors import Malformed
 from .files import Line, is_whole, read_lines, whole_of
+from .kinds import mind_ending
 
 # A coefficient and a literal, which is a variable, or less than 0 where it is negated.
 Term = Tuple[int, int]
@@ -111,11 +112,12 @@ def read_names(path: str) -> Names:
 
 
 def instance_of(path: str, lines: Sequence[Line]) -> Instance:
-    """The instance that the lines of a file hold, whose name says the format.
+    """The instance that the lines of a file hold, whose name says the format. `Malformed` where it names another tool's.
 
     >>> instance_of('a.opb', [Line(1, 'min: 3 x1 ;')]).objectives[0].terms
     [(3, 1)]
     """
+    mind_ending(path)
     return _instance_of_clauses(path, lines) if is_clauses(path) else _instance_of_statements(path, lines)
 
 

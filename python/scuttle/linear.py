@@ -5,7 +5,7 @@ from typing import Dict, List, NamedTuple, Optional, Sequence, Set, Tuple
 
 from .errors import BadName, Malformed
 from .files import write_text
-from .sums import text_of_name
+from .names import text_of_name
 
 # The largest sum of magnitudes of a row or an objective: docs/FORMATS.md.
 LARGEST = 2 ** 63 - 1

@@ -4,6 +4,7 @@ from typing import Dict, List
 
 from .errors import Malformed
 from .instances import Costs, Instance, costs_of
+from .kinds import HEAD, mind_packed
 
 
 def is_log_head(line: str) -> bool:
@@ -52,6 +53,7 @@ def models_of(path: str, instance: Instance) -> Dict[Costs, List[int]]:
     models = {}  # type: Dict[Costs, List[int]]
     # Logs may have gigabytes, and few lines of them count here: only these are made text.
     with open(path, 'rb') as file:
+        mind_packed(path, file.peek(HEAD))
         for number, line in enumerate(file, 1):
             if not line.endswith(b'\n'):
                 break

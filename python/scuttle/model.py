@@ -1,20 +1,31 @@
 """A model: options, what has to hold of them, and what is to be small or large; written as an instance, and solved."""
 import re
-from concurrent.futures import Executor
-from typing import Any, Callable, Dict, Iterable, List, NamedTuple, Optional, Sequence, Set, Tuple, Union
+from typing import TYPE_CHECKING, Any, Callable, Dict, Iterable, List, NamedTuple, Optional, Sequence, Set, Tuple, TypeVar, Union, overload
 
-from . import solving
+from . import refusals, solving
 from .conflicts import conflict_of
-from .errors import BadName, ModelError
+from .errors import BadName, Failed, ModelError, UnknownName
 from .files import write_text
 from .front import Front, Labels, Plan, Source
-from .sums import (AnyOption, Name, Option, Row, Sum, at_least, at_most, bounds_of, exactly, if_then, in_words, no, option_of, options_of, sum_of,
-                   text_of_name, total, whole)
+from .names import Name, Part, name_of, near, text_of_name
+from .places import caller_place
+from .sums import (AnyOption, Option, Row, Sum, at_least, at_most, bounds_of, exactly, if_then, in_words, no, option_of, options_of, sum_of,
+                   total, whole)
+
+if TYPE_CHECKING:
+    from .pool import Workers
 
 # Up to this many units a helping number is a ladder of units, which the search orders; beyond, each helping option is worth twice the one before.
 MOST_UNITS = 64
 # How long a small set of rows that can't hold together is looked for, where there is no plan. Seconds.
 CONFLICT_SECONDS = 3.0
+# How much of a row without a note names it.
+MOST_SHOWN = 60
+
+A = TypeVar('A', bound=Part)
+B = TypeVar('B', bound=Part)
+C = TypeVar('C', bound=Part)
+D = TypeVar('D', bound=Part)
 
 # What may be added: a row, several, or the truth of a comparison of plain numbers, as of sums over nothing.
 Addable = Union[Row, bool, Iterable[Any]]
@@ -45,7 +56,11 @@ class Model:
     {'pay': 24, 'wishes': 2} [('Ann', 'Mon')]
     """
 
-    def __init__(self) -> None:
+    def __init__(self, strict: bool = True) -> None:
+        """A model whose options are made by `option` and `options`. A name that is used in a row or a cost and that none of them has made, before
+        or after, is refused once the model is written or solved; where it isn't strict, every new name makes an option.
+        """
+        self.strict = strict
         self.numbers = {}  # type: Dict[str, int]
         self.rows = []  # type: List[Written]
         self._names = []  # type: List[Name]
@@ -53,48 +68,73 @@ class Model:
         self._helping = set()  # type: Set[int]
         self._objectives = {}  # type: Dict[str, Tuple[str, List[Tuple[int, int]], List[int]]]
         self._known = set()  # type: Set[str]
+        # Where a name was met first that no option has had so far.
+        self._met = {}  # type: Dict[int, str]
 
     # Options.
 
-    def option(self, *name: Union[str, int]) -> Option:
+    def option(self, *name: Part) -> Option:
         """An option by its name; several words or numbers are a tuple. The same name gives the same option.
 
         >>> m = Model()
         >>> m.option('Ann', 3), m.option('shop')
         (Ann 3, shop)
         """
-        given = name[0] if len(name) == 1 and isinstance(name[0], str) else name  # type: Name
+        kept = name_of(name)
+        given = kept[0] if len(kept) == 1 and isinstance(kept[0], str) else kept  # type: Name
         made = Option(given, model=self)
-        if self._number_of(given) in self._helping:
+        number = self._number_of(given, is_made=True)
+        if number in self._helping:
             raise BadName('a helping option has this name: %s' % ascii(given))
         return made
 
-    def options(self, *names: Iterable[Union[str, int]]) -> 'Dict[Tuple[Union[str, int], ...], Option]':
+    @overload
+    def options(self, first: Iterable[A], /) -> Dict[Tuple[A], Option]: ...
+
+    @overload
+    def options(self, first: Iterable[A], second: Iterable[B], /) -> Dict[Tuple[A, B], Option]: ...
+
+    @overload
+    def options(self, first: Iterable[A], second: Iterable[B], third: Iterable[C], /) -> Dict[Tuple[A, B, C], Option]: ...
+
+    @overload
+    def options(self, first: Iterable[A], second: Iterable[B], third: Iterable[C], fourth: Iterable[D],
+                /) -> Dict[Tuple[A, B, C, D], Option]: ...
+
+    @overload
+    def options(self, first: Iterable[Part], second: Iterable[Part], third: Iterable[Part], fourth: Iterable[Part], fifth: Iterable[Part],
+                /, *more: Iterable[Part]) -> Dict[Tuple[Any, ...], Option]: ...
+
+    def options(self, *groups: Iterable[Any]) -> Dict[Any, Option]:
         """An option for each combination, by its tuple.
 
         >>> Model().options(['Ann', 'Ben'], ['Mon'])
         {('Ann', 'Mon'): Ann Mon, ('Ben', 'Mon'): Ben Mon}
         """
-        keys = [()]  # type: List[Tuple[Union[str, int], ...]]
-        for group in names:
+        keys = [()]  # type: List[Tuple[Any, ...]]
+        for group in groups:
             parts = list(group)
             keys = [key + (part,) for key in keys for part in parts]
         return {key: self.option(*key) for key in keys}
 
-    def _number_of(self, name: Name) -> int:
-        """The number of an option, which is there from its first use on."""
+    def _number_of(self, name: Name, is_made: bool = False) -> int:
+        """The number of an option, which is there from its first use on; where that is before it is made, it is noted."""
         found = self._found.get(name)
         if found is None:
-            found = self._found[name] = self._new_number(name)
+            found = self._found[name] = self._new_number(name, is_made)
+        if is_made:
+            self._met.pop(found, None)
         return found
 
-    def _new_number(self, name: Name) -> int:
+    def _new_number(self, name: Name, is_made: bool) -> int:
         """The number of an option whose name wasn't met in this form."""
         text = text_of_name(name)
         number = self.numbers.get(text)
         if number is None:
             number = self.numbers[text] = len(self._names) + 1
             self._names.append(name)
+            if not is_made:
+                self._met[number] = caller_place()
         known = self._names[number - 1]
         if isinstance(name, tuple) and known != name:
             if isinstance(known, tuple):
@@ -119,14 +159,18 @@ class Model:
     def add(self, *rows: Addable, note: str = '') -> None:
         """Rows that have to hold, or lists of them. The note is a comment before the first, and names them where no plan exists.
 
-        >>> m = Model()
-        >>> m.add(exactly(1, 'a', 'b'), note='one of both')
+        >>> m = Model(); a, b = m.option('a'), m.option('b')
+        >>> m.add(exactly(1, a, b), note='one of both')
         >>> print(m.text(), end='')
         * x1 a
         * x2 b
         * row 1: one of both
         +1 x1 +1 x2 = 1 ;
         """
+        for row in rows:
+            if isinstance(row, Row):
+                # What is refused here has been added, and is told of once.
+                row.use()
         said = text_of_name(note) if note else ''
         for row in rows:
             if isinstance(row, bool):
@@ -143,7 +187,7 @@ class Model:
         return self
 
     def _add_row(self, row: Row, note: str) -> None:
-        terms, constant = self._terms_of(row.sum)
+        terms, constant = self._terms_of(row.use().sum)
         self._mind_helping(terms, {'>=': 1, '<=': -1, '=': 0}[row.relation])
         self.rows.append(Written(' '.join([_written(terms), row.relation, '%d ;' % -constant]).strip(), note))
 
@@ -222,7 +266,7 @@ class Model:
     def cost(self, objective: str, weight: Any, *options: Any) -> None:
         """Each of the options that is taken adds the weight to the objective, which is made small.
 
-        >>> m = Model(); m.cost('pay', 24, 'Ann', no('Ben')); m.text().split('\\n')[3]
+        >>> m = Model(strict=False); m.cost('pay', 24, 'Ann', no('Ben')); m.text().split('\\n')[3]
         'min: +24 x1 +24 ~x2 ;'
         """
         self._objective(objective, 'min', [whole(weight) * option for option in options_of(options)])
@@ -230,15 +274,18 @@ class Model:
     def gain(self, objective: str, weight: Any, *options: Any) -> None:
         """Each of the options that is taken adds the weight to the objective, which is made large.
 
-        >>> m = Model(); m.gain('profit', 7, 'shop'); m.text().split('\\n')[2]
+        >>> m = Model(strict=False); m.gain('profit', 7, 'shop'); m.text().split('\\n')[2]
         'max: +7 x1 ;'
         """
         self._objective(objective, 'max', [whole(weight) * option for option in options_of(options)])
 
     def _objective(self, objective: str, sense: str, sums: Iterable[Any]) -> None:
+        if not isinstance(objective, str):
+            raise ModelError('a cost has a name, which comes first, as in minimise("pay", 3 * ann), and this is a %s: %r' % (
+                type(objective).__name__, objective))
         name = text_of_name(objective)
-        if not isinstance(objective, str) or self._objectives.get(name, (sense,))[0] != sense:
-            raise ModelError('an objective has one name, and is made small or large, and not both: %s' % ascii(objective))
+        if self._objectives.get(name, (sense,))[0] != sense:
+            raise ModelError('an objective is made small or large, and not both: %s' % ascii(objective))
         terms, constant = self._terms_of(total(sum_of(given) for given in sums))
         self._mind_helping(terms, -1 if sense == 'min' else 1)
         _, known, constants = self._objectives.setdefault(name, (sense, [], []))
@@ -320,14 +367,16 @@ class Model:
     # The instance.
 
     def text(self) -> str:
-        """The instance, in the format of linear statements. The same calls give the same text.
+        """The instance, in the format of linear statements. The same calls give the same text. `UnknownName` where a name is used that no option
+        has, unless the model isn't strict.
 
         >>> Model().text()
         ''
         """
+        self._mind_unknown()
         if not self._names and any(sum(constants) for _, _, constants in self._objectives.values()):
             # A number that no option changes wants an option to be written with.
-            self._helping.add(self._number_of('constant'))
+            self._helping.add(self._number_of('constant', is_made=True))
         names = [text_of_name(name) for name in self._names]
         lines = ['* x%d %s' % (number, name) for number, name in enumerate(names, 1)]
         lines += ['* %s %d %s' % (sense, k, name) for k, (name, (sense, _, _)) in enumerate(self._objectives.items(), 1)]
@@ -343,6 +392,15 @@ class Model:
             # The number of variables is the largest that occurs.
             lines.append('+1 %s >= 0 ;' % last)
         return ''.join(line + '\n' for line in lines)
+
+    def _mind_unknown(self) -> None:
+        """Refuses the first name that no option has."""
+        if self.strict and self._met:
+            number, place = next(iter(self._met.items()))
+            text = text_of_name(self._names[number - 1])
+            meant = near(text, [known for known, k in self.numbers.items() if k not in self._met and k not in self._helping])
+            raise UnknownName('no option(..) or options(..) has made %s%s%s Model(strict=False) makes an option of every new name' % (
+                ascii(text), ' (%s)' % place if place else '', ': is %s meant?' % ascii(meant) if meant else '.'))
 
     def _objective_text(self, sense: str, terms: List[Tuple[int, int]], constants: List[int]) -> str:
         constant = sum(constants)
@@ -370,9 +428,10 @@ class Model:
         """A small set of rows that can't hold together, in words; empty where none was found in this time.
 
         >>> m = Model(); a = m.option('a'); m.add(a >= 1, note='we want a'); m.add(m.option('b') >= 0, a <= 0)
-        >>> m.conflict()
+        >>> m.conflict(seconds=60)
         ['a >= 1 (we want a)', 'a <= 0']
         """
+        self._mind_unknown()
         kept = conflict_of([row.text for row in self.rows], seconds, program)
         return [self._row_in_words(self.rows[at]) for at in kept]
 
@@ -385,15 +444,17 @@ class Model:
     def solve(self, seconds: Optional[float] = None, learn: Optional[int] = None, search: Optional[str] = None, harden: bool = False,
               boost: bool = False, on_plan: Optional[Callable[[Plan], object]] = None, log_version: int = 1,
               turns: Optional[str] = None, program: Optional[str] = None, folder: Optional[str] = None, jobs: Optional[int] = None,
-              executor: Optional[Executor] = None) -> Front:
+              executor: 'Optional[Workers]' = None) -> Front:
         """The front, with its list and log checked. See `solving.Settings` for the options of the search.
 
         After so many seconds, after so many learned clauses, or with Ctrl-C it is the models so far, with `complete` False; the check after a
-        search that has ended takes its own time besides. `on_plan` is called with each plan that the search finds, as it finds it. In the folder, where one is given, stay `model.opb`, `model.list`
-        and `model.log`. Raises `Failed`, `NoProgram`, and `OSError` where the folder can't be written.
+        search that has ended takes its own time besides. `on_plan` is called with each plan that the search finds, as it finds it. In the
+        folder, where one is given, stay `model.opb`, `model.list` and `model.log`. Raises `UnknownName` (see `Model`), `Failed`, with the note
+        of the row or the name of the cost that is refused, `NoProgram`, and `OSError` where the folder can't be written.
 
-        With `jobs` it is solved in parts, so many at a time, and with an executor of `concurrent.futures` by that, as a Dask cluster's, whose
-        workers have to see the folder: `check` judges the one log that the parts' logs make. Without `harden`, `learn` and `on_plan` then.
+        With `jobs` it is solved in parts, so many at a time, and with an executor of `concurrent.futures`, or a client of Dask, by its
+        workers, which want this package and no shared folder: `check` judges the one log that the parts' logs make. Without `harden`, `learn`
+        and `on_plan` then.
 
         >>> m = Model(); m.add(m.option('a') + m.option('b') >= 1)
         >>> front = m.solve(seconds=60)
@@ -402,7 +463,11 @@ class Model:
         """
         settings = solving.Settings(seconds, learn, search, turns, harden, boost, log_version, jobs, executor)
         source = Source('model.opb', self.text(), program)
-        front = solving.solve(source, self.labels(), settings, on_plan, folder)
+        try:
+            front = solving.solve(source, self.labels(), settings, on_plan, folder)
+        except Failed as fault:
+            rows = ['`%s`' % (row.note or self._row_in_words(row)[:MOST_SHOWN]) for row in self.rows]
+            raise refusals.named(fault, source.text, ['`%s`' % name for name in self._objectives], rows) from None
         if front.complete and not front.plans:
             front.conflict = self.conflict(program=program)
         return front

@@ -5,17 +5,23 @@ A folder holds a part as `NAME.opb`, and once it is solved `NAME.list` and `NAME
 import hashlib
 import json
 import os
+import re
 from typing import Any, Dict, Iterable, Iterator, List, NamedTuple, Optional, Sequence, Tuple
 
 from .errors import Malformed
 from .files import Line, write_text
 from .instances import Instance, Names, Term, instance_of, is_clauses, names_of, sum_at
+from .kinds import mind_packed
 from .statements import as_statements, cost_row, count_rows, row_text, text_of_statements, with_clauses_normal
 
 PLAN = 'split.json'
 FORMAT = 'scuttle split 1'
 # The largest sum of magnitudes of a row: docs/FORMATS.md.
 LARGEST = 2 ** 63 - 1
+# What a part may be called: its name stands in names of files, in a Makefile, and in commands.
+NAME = re.compile('[A-Za-z0-9_][A-Za-z0-9_.-]{0,99}')
+# A tree isn't deeper: each cut of a part makes it deeper by one, and Python goes down some hundred levels.
+DEEPEST = 200
 
 
 class Test(NamedTuple):
@@ -103,7 +109,9 @@ class Source:
     def of_file(cls, path: str) -> 'Source':
         """Reads the file once."""
         with open(path, 'rb') as file:
-            return cls(path, file.read())
+            data = file.read()
+        mind_packed(path, data)
+        return cls(path, data)
 
     def terms(self, test: Test) -> Sequence[Term]:
         """The sum of a test, with positive coefficients. Each variable has another coefficient, and none that a row of one variable has, so
@@ -208,8 +216,12 @@ class Split:
             # What another instance's plan names needn't be there in this one.
             if plan['sha256'] != source.digest:
                 raise Malformed(path, 1, 'these are parts of another instance than %s, or of it before it was changed' % source.path)
-            return cls(source, folder, _node_of(plan['tree'], source), int(plan['cost']))
-        except (ValueError, KeyError, TypeError, IndexError):
+            split = cls(source, folder, _node_of(plan['tree'], source), int(plan['cost']))
+            names = [node.name for node, _ in split.parts()]
+            if len(set(names)) < len(names) or not 0 <= split.cost <= len(source.costs):
+                raise ValueError(plan['cost'])
+            return split
+        except (ValueError, LookupError, TypeError, AttributeError, OverflowError, RecursionError):
             raise Malformed(path, 1, 'this is no plan of parts') from None
 
 
@@ -221,17 +233,17 @@ def _as_json(node: Node) -> Dict[str, Any]:
     return fields
 
 
-def _node_of(fields: Dict[str, Any], source: Source) -> Node:
-    """A problem of the tree; `ValueError` where a number isn't one of the instance, or a name isn't that of a file in the folder."""
+def _node_of(fields: Dict[str, Any], source: Source, depth: int = 0) -> Node:
+    """A problem of the tree; `ValueError` where a number isn't one of the instance, a name isn't that of a part, or the tree is too deep."""
     name, model = fields.get('name'), fields.get('model')
-    if name is not None and (not isinstance(name, str) or os.path.basename(name) != name or not name):
+    if name is not None and not (isinstance(name, str) and NAME.fullmatch(name)) or depth > DEEPEST:
         raise ValueError(name)
-    if model is not None and (len(model) != source.variables or set(model) - set('01')):
+    if model is not None and not (isinstance(model, str) and len(model) == source.variables and set(model) <= set('01')):
         raise ValueError(model)
     node = Node(name, model)
     for child in fields.get('children', []):
         conditions = [Condition(_test_of(words, source), words[3] == 'reached') for words in child['where']]
-        node.children.append((narrowed(conditions), _node_of(child, source)))
+        node.children.append((narrowed(conditions), _node_of(child, source, depth + 1)))
     if not node.children and name is None and model is None:
         raise ValueError('nothing shows that this has no solution')
     return node

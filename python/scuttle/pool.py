@@ -4,22 +4,52 @@ import os
 import time
 from collections import deque
 from concurrent.futures import FIRST_COMPLETED, Executor, Future, wait
-from typing import Callable, Deque, Dict, List, Optional, Tuple
+from typing import Callable, Deque, Dict, List, Optional, Protocol, Tuple, Union, cast
 
-from .errors import Malformed, NoProgram
+from .errors import Malformed, NoProgram, ScuttleError
 from .files import write_text
 from .logs import models_of
-from .part_runs import RUN, STOP, Outcome, Task, is_needed, solve_part
+from .part_runs import RUN, STOP, Outcome, is_needed, keep_sent, solve_part, task_of
 from .parts import Split
 from .split import cut_again, write_runners
+from .version import VERSION
 
 # How often the parts that run are looked at, and how long a part runs before idle workers share its work. Seconds.
 PAUSE, LONG = 0.2, 2.0
 # A part that failed is tried again once.
 TRIES = 2
 ENDED = 'its run was ended from outside, as for want of memory'
+# What a task ends with on a worker that can't find its function, or that knows it with other arguments.
+STRANGERS = (ImportError, AttributeError, TypeError)
 
 Tell = Callable[[str], object]
+
+
+class HasExecutor(Protocol):
+    """What gives an executor for itself, as a client of Dask does."""
+
+    def get_executor(self) -> Executor:
+        """Its executor."""
+
+
+# Who solves the parts.
+Workers = Union[Executor, HasExecutor]
+
+
+def executor_of(workers: Workers) -> Executor:
+    """The executor that is given, or that of what has one; `ScuttleError` where it is neither.
+
+    >>> executor_of(3)
+    Traceback (most recent call last):
+    ...
+    scuttle.errors.ScuttleError: an executor is one of concurrent.futures, or has one as a client of Dask does, and this is a int
+    """
+    get_executor = getattr(workers, 'get_executor', None)
+    executor = workers if get_executor is None else get_executor()
+    if not callable(getattr(executor, 'submit', None)):
+        raise ScuttleError('an executor is one of concurrent.futures, or has one as a client of Dask does, and this is a %s' %
+                           type(workers).__name__)
+    return cast(Executor, executor)
 
 
 def models_of_run(split: Split, name: str) -> List[List[int]]:
@@ -63,7 +93,7 @@ class Pool:
             name = self.waiting.popleft()
             uppers = self._uppers(name)
             if is_needed(self.split.folder, name, uppers):
-                task = Task(self.split.folder, name, uppers, self.deadline, self.words, self.program)
+                task = task_of(self.split.folder, name, uppers, self.deadline, self.words, self.program)
                 self.tries[name] = self.tries.get(name, 0) + 1
                 self.running[executor.submit(solve_part, task)] = name, time.monotonic()
 
@@ -79,10 +109,18 @@ class Pool:
         fault = future.exception()
         if isinstance(fault, NoProgram):
             raise fault
-        if fault is None and future.result().solved:
-            self.tell('%s: solved in %.1f s; %d run, %d wait' % (name, future.result().seconds, len(self.running), len(self.waiting)))
-        elif fault is not None or self._was_ended(name):
-            self._fail(name, str(fault or ENDED))
+        if isinstance(fault, STRANGERS):
+            raise NoProgram('a worker has no package scuttle, or not version %s as here: %s: %s' % (
+                VERSION, type(fault).__name__, fault)) from fault
+        if fault is not None:
+            self._fail(name, str(fault) or type(fault).__name__)
+            return
+        outcome = future.result()
+        keep_sent(self.split.folder, name, outcome)
+        if outcome.solved:
+            self.tell('%s: solved in %.1f s; %d run, %d wait' % (name, outcome.seconds, len(self.running), len(self.waiting)))
+        elif self._was_ended(name):
+            self._fail(name, ('on %s: ' % outcome.worker if outcome.worker else '') + ENDED)
 
     def _was_ended(self, name: str) -> bool:
         """Whether a run that was stopped is one that nobody here has stopped."""

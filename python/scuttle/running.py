@@ -4,13 +4,16 @@ import signal
 import subprocess
 import tempfile
 import time
+from numbers import Real
 from typing import Callable, IO, List, Optional, Sequence
 
-from .errors import Failed, NoProgram
+from .errors import Failed, ModelError, NoProgram
 
 HERE = os.path.dirname(os.path.abspath(__file__))
 # Where the executable stands in an installed package, and where in a clone.
-PLACES = (os.path.join(HERE, 'bin', 'scuttle'), os.path.join(HERE, '..', '..', 'scuttle'))
+PLACES = (os.path.join(HERE, 'tree', 'release', 'scuttle'), os.path.join(HERE, '..', '..', 'scuttle'))
+# The launcher, beside which its parts stand: in an installed package, and in a clone or an installed tree. Where it finds the executable.
+LAUNCHERS = (os.path.join(HERE, 'tree', 'scuttle'), os.path.join(HERE, '..', '..', 'scuttle'))
 # How often a run is looked at; how long a stopped one may take to end, which may write what it has; and how much of a log is read at once.
 # Seconds, bytes.
 PAUSE, PATIENCE, PIECE = 0.05, 20.0, 1 << 24
@@ -31,6 +34,33 @@ def find_program(program: Optional[str] = None) -> str:
         if os.path.isfile(place):
             return os.path.abspath(place)
     raise NoProgram('there is no executable %s' % (named or ', '.join(os.path.normpath(place) for place in PLACES)))
+
+
+def find_launcher() -> str:
+    """The launcher `scuttle`, which says what is wrong, ends a search in time, and lists what there is so far; `NoProgram` where this package
+    came without an executable.
+
+    >>> os.path.basename(find_launcher())
+    'scuttle'
+    """
+    for place in LAUNCHERS:
+        beside = [os.path.join(os.path.dirname(place), 'release', name) for name in ('scuttle', 'program')]
+        if os.path.isfile(place) and any(map(os.path.isfile, beside)):
+            return os.path.normpath(place)
+    raise NoProgram('this package came without an executable, which is for x86-64 Linux with glibc 2.34 or later')
+
+
+def judge_seconds(seconds: object) -> None:
+    """`ModelError` where it is no time.
+
+    >>> judge_seconds('5')
+    Traceback (most recent call last):
+    ...
+    scuttle.errors.ModelError: seconds are a number from 0, or None for no limit, and this is a str: '5'
+    """
+    is_number = isinstance(seconds, Real) and not isinstance(seconds, bool)
+    if seconds is not None and not (is_number and float(seconds) >= 0):  # type: ignore[arg-type]
+        raise ModelError('seconds are a number from 0, or None for no limit, and this is a %s: %r' % (type(seconds).__name__, seconds))
 
 
 def run(program: Optional[str], words: Sequence[str], wanted: Sequence[int]) -> int:
@@ -54,6 +84,7 @@ def run_until(program: Optional[str], words: Sequence[str], seconds: Optional[fl
     >>> print(run_until('/bin/sleep', ['9'], 0.1, lambda: None, (0,)))
     None
     """
+    judge_seconds(seconds)
     found = find_program(program)
     with tempfile.TemporaryFile() as warned:
         process = _start(found, words, warned)

@@ -1,8 +1,8 @@
 """Solves an instance: runs `solve` and `check` over its files, and reads what they leave."""
 import os
+import re
 import tempfile
-from concurrent.futures import Executor
-from typing import Callable, List, NamedTuple, Optional
+from typing import TYPE_CHECKING, Callable, List, NamedTuple, Optional
 
 from .dominance import best_of, senses_of
 from .errors import Failed, ModelError, ScuttleError
@@ -11,9 +11,13 @@ from .files import Line, write_text
 from .instances import costs_of, instance_of, Instance
 from .lists import Entry, Listing, read_list, text_of
 from .logs import model_of, models_of
-from .running import Follower, run, run_until
+from .running import Follower, judge_seconds, run, run_until
+
+if TYPE_CHECKING:
+    from .pool import Workers
 
 COMPLETE, INCOMPLETE, REFUSED = 0, 10, 11
+SEARCHES = ('p-minimal', 'lower-bounding', 'bioptsat', 'turns')
 
 
 class Settings(NamedTuple):
@@ -33,7 +37,27 @@ class Settings(NamedTuple):
     boost: bool = False
     log_version: int = 1
     jobs: Optional[int] = None
-    executor: Optional[Executor] = None
+    executor: 'Optional[Workers]' = None
+
+    def judge(self) -> None:
+        """`ModelError` where one of them can't be.
+
+        >>> Settings(search='bioptsa').judge()
+        Traceback (most recent call last):
+        ...
+        scuttle.errors.ModelError: search is p-minimal, lower-bounding, bioptsat or turns, and not 'bioptsa'
+        """
+        judge_seconds(self.seconds)
+        if self.search is not None and self.search not in SEARCHES:
+            raise ModelError('search is %s or %s, and not %r' % (', '.join(SEARCHES[:-1]), SEARCHES[-1], self.search))
+        if (self.turns is not None) != (self.search == 'turns') or not re.fullmatch('[123]+', str(self.turns or 1)):
+            raise ModelError("search='turns' wants turns, whose digits are 1 for p-minimal, 2 for lower-bounding, 3 for bioptsat, as turns='1112', "
+                             'and no other search has them')
+        for name, number in (('learn', self.learn), ('jobs', self.jobs)):
+            if number is not None and (not hasattr(number, '__index__') or isinstance(number, bool) or number < 1):
+                raise ModelError('%s is a whole number from 1, and this is a %s: %r' % (name, type(number).__name__, number))
+        if self.log_version not in (1, 2):
+            raise ModelError('log_version is 1 or 2, and not %r' % (self.log_version,))
 
     def words(self) -> List[str]:
         """The options of the command."""
@@ -51,6 +75,7 @@ def solve(source: Source, labels: Labels, settings: Settings, on_plan: Optional[
     >>> solve(Source('a.opb', 'min: 3 x1 ;\\nx1 >= 1 ;\\n'), Labels(['pay'], ['min'], ['shop']), Settings())
     <front: 1 best compromise, accepted by check>
     """
+    settings.judge()
     if (settings.jobs is not None or settings.executor is not None) and (settings.harden or settings.learn is not None or on_plan is not None):
         raise ModelError('in parts, by jobs or an executor, neither harden, learn nor on_plan can be had')
     if folder is None:

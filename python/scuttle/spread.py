@@ -15,11 +15,12 @@ words are wrong, 65 where IN isn't an instance, or is too large, 69 without an e
 import contextlib
 import fcntl
 import os
+import re
 import shutil
 import signal
 import sys
 import time
-from concurrent.futures import Executor, ThreadPoolExecutor
+from concurrent.futures import ThreadPoolExecutor
 from typing import Dict, Iterator, List, NamedTuple, Optional, Sequence, Tuple
 
 from .commands import run_command, usage
@@ -32,7 +33,7 @@ from .lists import Entry, Listing, read_list, text_of
 from .logs import models_of
 from .part_runs import RUN, STOP
 from .parts import PLAN, Source, Split
-from .pool import Pool, Tell
+from .pool import Pool, Tell, Workers, executor_of
 from .split import (COMMANDS, MAKEFILE, MOST_PARTS, PARTS_PER_PROCESSOR, PROBE, cuttable, make_split, number_of, options_of, processors,
                     variables_of)
 
@@ -67,25 +68,27 @@ class Spread(NamedTuple):
     failed: Dict[str, str]
 
 
-def spread(path: str, listed: str, logged: str, settings: Settings, executor: Optional[Executor] = None,
+def spread(path: str, listed: str, logged: str, settings: Settings, executor: Optional[Workers] = None,
            tell: Tell = lambda text: None) -> Spread:
-    """Solves an instance in parts by an executor (by threads of this process, each with a run of the program, where none is given), and joins
-    them. Workers on other machines have to see the folder under the same name. Ctrl-C ends it as the time does.
+    """Solves an instance in parts by an executor or a client of Dask (by threads of this process, each with a run of the program, where none is
+    given), and joins them. Workers on other machines needn't see the folder: a part's text goes there, and list and log come back. Ctrl-C ends
+    it as the time does; a worker that doesn't see the folder then ends its part first.
 
     With an executor and no number of jobs all parts are handed over at once, and none is cut again. `Failed` where the program doesn't take
     the instance, `Malformed` where the folder has parts of another.
     """
+    others = None if executor is None else executor_of(executor)
     deadline = None if settings.seconds is None else time.time() + settings.seconds
     folder = os.path.abspath(settings.folder or logged + '.parts')
     jobs = settings.jobs or processors()
     with _alone_in(folder):
         split = _split_in(folder, path, jobs, settings)
-        at_once = None if executor is not None and settings.jobs is None else jobs
+        at_once = None if others is not None and settings.jobs is None else jobs
         pool = Pool(split, at_once, deadline, settings.words, settings.program, tell)
         # It starts threads as work is handed over: none, where the executor is another's.
         with ThreadPoolExecutor(jobs) as own:
             try:
-                pool.work(executor or own)
+                pool.work(others or own)
             except KeyboardInterrupt:
                 pass
             finally:
@@ -117,20 +120,26 @@ def _alone_in(folder: str) -> Iterator[None]:
             os.rmdir(folder)
 
 
-def _clear(folder: str) -> None:
-    """Removes the folders of runs that have died, and the file that stopped some."""
-    for name in os.listdir(folder):
-        if RUN in name:
-            shutil.rmtree(os.path.join(folder, name), ignore_errors=True)
-        elif name == STOP:
-            os.remove(os.path.join(folder, name))
+def _clear(split: Split) -> None:
+    """Removes the folders of runs of these parts that have died, and the file that stopped some."""
+    names = {str(node.name) for node, _ in split.parts()}
+    for name in os.listdir(split.folder):
+        path = os.path.join(split.folder, name)
+        part, _, letters = name.rpartition(RUN)
+        if part in names and re.fullmatch('[a-z0-9_]{8}', letters) and os.path.isdir(path) and not os.path.islink(path):
+            shutil.rmtree(path, ignore_errors=True)
+    stop = split.path(STOP, '')
+    if os.path.exists(stop):
+        if not os.path.isfile(stop) or os.path.getsize(stop):
+            raise ScuttleError('%s stops all runs of these parts: take it away' % stop)
+        os.remove(stop)
 
 
 def _split_in(folder: str, path: str, jobs: int, settings: Settings) -> Split:
     """The parts that the folder has already, or new ones."""
     if os.path.exists(os.path.join(folder, PLAN)):
         split = Split.load(Source.of_file(path), folder)
-        _clear(folder)
+        _clear(split)
         return split
     if os.listdir(folder):
         raise ScuttleError('%s is there already, and has no parts but something else' % folder)
@@ -153,7 +162,7 @@ def models_so_far(split: Split) -> Listing:
 
 def remove(split: Split) -> None:
     """Removes a folder's parts."""
-    _clear(split.folder)
+    _clear(split)
     names = [PLAN, MAKEFILE, COMMANDS]
     names += [str(node.name) + ending for node, _ in split.parts() for ending in ('.opb', '.list', '.log', '.unfinished')]
     for name in names:

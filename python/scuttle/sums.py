@@ -3,15 +3,15 @@
 Operators make them: `3*a + b - c <= 2`, `sum(xs) >= 2`, `a.implies(b)`, `no(a)`. A row counts once it is added to a model.
 """
 import operator
-import unicodedata
+import sys
+import warnings
 from decimal import Decimal
 from numbers import Rational
 from typing import Any, Dict, Iterable, List, Optional, Tuple, Union
 
-from .errors import BadName, ModelError, NotWhole
+from .errors import BadName, ModelError, NotAdded, NotWhole
+from .names import Name, name_of, part_of, text_of_name
 
-# A name as it was given: words, or a tuple of words and numbers, as ('Ann', 'Mon') or ('Ann', 3).
-Name = Union[str, Tuple[Union[str, int], ...]]
 # An option's name, and whether its opposite is meant.
 Literal = Tuple[Name, bool]
 
@@ -32,23 +32,6 @@ def whole(number: Any) -> int:
         return int(number)
     raise NotWhole('%r is a %s, and numbers of a model are whole: multiply it and all that it is compared or added with by 10, 100, .. '
                    'and use int(round(..)), or write whole numbers of a smaller unit' % (number, type(number).__name__))
-
-
-def text_of_name(name: Any) -> str:
-    """A name as it stands in a file: the words of a tuple with blanks between them. `BadName` where it can't stand in a comment line.
-
-    >>> text_of_name(('Ann', 3))
-    'Ann 3'
-    """
-    parts = name if isinstance(name, tuple) else (name,)
-    is_text = bool(parts) and all(isinstance(part, str) or (isinstance(name, tuple) and type(part) is int) for part in parts)
-    text = ' '.join(str(part) for part in parts) if is_text else ''
-    if text.isprintable() and text and '  ' not in text and text[0] != ' ' != text[-1]:
-        return text
-    # Marks of direction and joiners of emoji aren't called printable, and are welcome.
-    if not text or text != ' '.join(text.split()) or any(unicodedata.category(letter) in ('Cc', 'Cs') for letter in text):
-        raise BadName("a name is printable words on one line with one blank between them, and this isn't: %s" % (ascii(name),))
-    return text
 
 
 class Sum:
@@ -153,7 +136,7 @@ class Option(Sum):
     def __init__(self, name: Name, negated: bool = False, model: Optional[object] = None) -> None:
         super().__init__(model, (), 0)
         text_of_name(name)
-        self.name, self.negated = name, negated
+        self.name, self.negated = name_of(name), negated
 
     @property
     def literal(self) -> Literal:
@@ -191,18 +174,30 @@ class Option(Sum):
 
 
 class Row:
-    """How a sum stands to a number: something that has to hold. It has no truth value, so `1 <= s <= 2` has to be two rows.
+    """How a sum stands to a number: something that has to hold. It has no truth value, so `1 <= s <= 2` has to be two rows. One that goes
+    without having been added to a model is warned of.
 
     >>> Option('a') + Option('b') >= 1
     a + b >= 1
     """
 
-    __slots__ = ('sum', 'relation', 'truth')
+    __slots__ = ('sum', 'relation', 'truth', 'is_used')
 
     def __init__(self, total: Sum, relation: str, truth: Optional[bool] = None) -> None:
-        self.sum, self.relation, self.truth = total, relation, truth
+        self.sum, self.relation, self.truth, self.is_used = total, relation, truth, False
+
+    def use(self) -> 'Row':
+        """Notes that it was added to a model, or has become a part of other rows."""
+        self.is_used = True
+        return self
+
+    def __del__(self) -> None:
+        # What wasn't made whole is refused by then, and while Python ends nothing can be said.
+        if not getattr(self, 'is_used', True) and not sys.is_finalizing():
+            warnings.warn('the row `%r` was made and never added: m.add(..) adds it' % self, NotAdded, stacklevel=2)
 
     def __bool__(self) -> bool:
+        self.is_used = True
         # Of two options `==` is asked by `in` and by dictionaries.
         if self.truth is None:
             raise ModelError('a row holds or not once the model is solved: `1 <= s <= 2`, `and`, `or` are to be rows of their own')
@@ -288,7 +283,18 @@ def options_of(options: Iterable[Any]) -> List[Option]:
 
 
 def _is_name(thing: Any) -> bool:
-    return isinstance(thing, str) or (isinstance(thing, tuple) and all(isinstance(part, (str, int)) for part in thing))
+    """Whether something is a name, and not several: a word, or a tuple of what names are made of."""
+    if not isinstance(thing, (str, tuple)):
+        return _is_part(thing)
+    return isinstance(thing, str) or all(_is_part(part) for part in thing)
+
+
+def _is_part(thing: Any) -> bool:
+    try:
+        part_of(thing)
+    except BadName:
+        return False
+    return True
 
 
 def total(options: Iterable[Sum]) -> Sum:
@@ -338,6 +344,7 @@ def if_then(option: AnyOption, *rows: 'Union[Row, List[Row]]') -> List[Row]:
         if isinstance(row, list):
             found += if_then(option, *row)
             continue
+        row.use()
         signs = {'>=': (1,), '<=': (-1,), '=': (1, -1)}[row.relation]
         for sign in signs:
             least = bounds_of(row.sum * sign)[0]

@@ -45,7 +45,7 @@ class Sums(InFolder):
             weights = [chance.randint(-3, 3) for _ in range(5)]
             bound, sign, given = chance.randint(-4, 4), chance.choice('<>=lg'), chance.randrange(4)
             total = sum(weight * option for weight, option in zip(weights, options)) + weights[4]
-            row = {'<': total < bound, '>': total > bound, '=': total == bound, 'l': total <= bound, 'g': bound <= total}[sign]
+            row = {'<': total.__lt__, '>': total.__gt__, '=': total.__eq__, 'l': total.__le__, 'g': lambda bound: bound <= total}[sign](bound)
             m.add(if_then(options[given], row), options[0] + no(options[3]) >= 0)
             m.write('row.opb')
             instance = read_instance('row.opb')
@@ -108,7 +108,7 @@ class Numbers(unittest.TestCase):
             m.cost('pay', 24.9, 'a')
 
     def test_a_number_too_wide(self):
-        m = Model()
+        m = Model(strict=False)
         m.row([(1 << 63, 'a')], '>=', 0)
         with self.assertRaisesRegex(scuttle.Failed, '65.*NumberTooWide'):
             m.solve()
@@ -138,7 +138,7 @@ class Names(InFolder):
         self.assertEqual((again.accepted, again[0].taken, again[0].costs), (True, names, front[0].costs))
 
     def test_tuples(self):
-        m = Model()
+        m = Model(strict=False)
         self.assertEqual(m.option('Ann', 3).name, ('Ann', 3))
         m.add(m.option('Ann', 3) >= 1, at_least(1, [('Ben', 'Mon')]))
         self.assertEqual(m.solve()[0].taken, [('Ann', 3), ('Ben', 'Mon')])

@@ -7,10 +7,12 @@ import shutil
 import subprocess
 import sys
 import unittest
+import unittest.mock
 import zipfile
 
 from setting import EXAMPLES, PACKAGE, ROOT, InFolder
 
+import scuttle
 from scuttle.__main__ import COMMANDS
 
 SITES = [os.path.join(EXAMPLES, name) for name in ('sites.mcnf', 'sites.list')]
@@ -44,9 +46,7 @@ class Package(InFolder):
 
     def test_installing_without_a_network(self):
         """Into a new environment, from the top of the tree; then it runs from any folder, with its own executable."""
-        for part in ('python', 'pyproject.toml', 'NEWS.md', 'release'):
-            copy = shutil.copytree if os.path.isdir(os.path.join(ROOT, part)) else shutil.copy
-            copy(os.path.join(ROOT, part), os.path.join('tree', part) if copy is shutil.copytree else self.folder_of('tree', part))
+        self.copy_tree()
         number, said = said_by([sys.executable, '-m', 'venv', 'env'])
         if number != 0:
             self.skipTest('there is no venv: ' + said)
@@ -58,6 +58,28 @@ class Package(InFolder):
         for name in set(COMMANDS) - set(BROUGHT):
             self.assertTrue(said_by([os.path.join('env', 'bin', 'scuttle-' + name), '--help'], **bare)[1].startswith(name + ': '))
             self.assertIn('usage: scuttle-' + name, said_by([os.path.join('env', 'bin', 'scuttle-' + name)], **bare)[1])
+        self.runs_by_itself(bare)
+
+    def copy_tree(self):
+        for part in ('python', 'pyproject.toml', 'NEWS.md', 'README.md', 'release', 'scuttle', 'launcher', 'docs', 'tools'):
+            copy = shutil.copytree if os.path.isdir(os.path.join(ROOT, part)) else shutil.copy
+            copy(os.path.join(ROOT, part), os.path.join('tree', part) if copy is shutil.copytree else self.folder_of('tree', part))
+
+    def runs_by_itself(self, bare):
+        """The command `scuttle` of the environment, without the tree."""
+        shutil.rmtree('tree')
+        shutil.copy(os.path.join(EXAMPLES, 'roster.opb'), 'in.opb')
+        for call in ([os.path.join('env', 'bin', 'scuttle')], [os.path.join('env', 'bin', 'python'), '-m', 'scuttle']):
+            self.assertEqual(said_by(call + ['solve', 'in.opb', 'a.list', 'a.log'], **bare), (0, 'complete 7\n'))
+            self.assertEqual(said_by(call + ['check', 'in.opb', 'a.list', 'a.log'], **bare), (0, 'accepted\n'))
+            self.assertRegex(said_by(call + ['--version'], **bare)[1], '^scuttle [0-9.]+\n$')
+            self.assertTrue(said_by(call + ['help', 'check'], **bare)[1].startswith('scuttle check IN LIST LOG'))
+            self.assertRegex(said_by(call + ['solve', 'in.op', 'a.list', 'a.log'], **bare)[1], '^scuttle: .*in.op')
+        # What it runs to list the models of a search that was stopped finds the package, by whatever Python is on the path.
+        number, said = said_by([os.path.join('env', 'bin', 'scuttle-far'), 'in.opb', 'a.log'], **bare)
+        site = said_by([os.path.join('env', 'bin', 'python'), '-c', 'import scuttle; print(scuttle.__path__[0])'], **bare)[1].strip()
+        self.assertEqual(said_by([os.path.join(site, 'tree', 'tools', 'far'), 'in.opb', 'a.log'], **bare), (number, said))
+        self.assertTrue(said.startswith('s INCOMPLETE 7\n'))
 
     def folder_of(self, *parts):
         os.makedirs(os.path.dirname(os.path.join(*parts)), exist_ok=True)
@@ -74,8 +96,42 @@ class Package(InFolder):
             self.assertEqual(names[0].split('-')[1], re.search('## ([0-9.]+)', news.read()).group(1))
         with zipfile.ZipFile('one/' + names[0]) as wheel:
             files = set(wheel.namelist())
-        self.assertTrue({'scuttle/' + os.path.basename(path) for path in glob.glob(os.path.join(PACKAGE, 'scuttle', '*.py'))} <= files)
+            self.assertTrue({'scuttle/' + os.path.basename(path) for path in glob.glob(os.path.join(PACKAGE, 'scuttle', '*.py'))} <= files)
+            texts = {name.split('/')[-1]: wheel.read(name).decode() for name in files if '.dist-info/' in name}
+            modes = {name: wheel.getinfo(name).external_attr >> 16 & 0o111 for name in files}
         self.assertIn('scuttle/py.typed', files)
+        self.says_what_it_is(names[0], texts)
+        if names[0].endswith('x86_64.whl'):
+            self.assertEqual(sorted(name for name, mode in modes.items() if mode), [
+                'scuttle/tree/release/scuttle', 'scuttle/tree/scuttle', 'scuttle/tree/tools/far', 'scuttle/tree/tools/watch'])
+
+    def says_what_it_is(self, name, texts):
+        """Its metadata, as an index wants them; no licence is made up."""
+        with open(os.path.join(ROOT, 'README.md'), encoding='utf-8') as readme:
+            head, _, text = texts['METADATA'].partition('\n\n')
+            self.assertEqual(text, readme.read())
+        self.assertIn('\nClassifier: Typing :: Typed\n', head)
+        self.assertIn('\nDescription-Content-Type: text/markdown', head)
+        self.assertNotIn('icense', head)
+        self.assertIn('Version: %s\n' % scuttle.__version__, head)
+        self.assertIn(name.rpartition('-')[2][:-len('.whl')], ('manylinux_2_34_x86_64', 'any'))
+        self.assertIn('\nTag: py3-none-%s\n' % name.rpartition('-')[2][:-len('.whl')], texts['WHEEL'])
+        self.assertEqual(set(re.findall('^([a-z-]+) = ', texts['entry_points.txt'], re.MULTILINE)), {'scuttle'} | {'scuttle-' + c for c in COMMANDS})
+
+    def test_a_system_with_another_library_gets_no_executable(self):
+        sys.path.insert(0, PACKAGE)
+        import scuttle_build
+        for said in ('glibc 2.33', 'musl 1.2', None, ValueError('CS_GNU_LIBC_VERSION')):
+            how = {'side_effect': said} if isinstance(said, Exception) else {'return_value': said}
+            with unittest.mock.patch('os.confstr', **how):
+                name = scuttle_build.build_wheel('.')
+            self.assertTrue(name.endswith('-any.whl'), said)
+            with zipfile.ZipFile(name) as wheel:
+                self.assertNotIn('scuttle/tree/release/scuttle', wheel.namelist())
+        with zipfile.ZipFile(name) as wheel:
+            wheel.extractall('site')
+        number, said = said_by([sys.executable, '-m', 'scuttle', 'solve', 'a', 'b', 'c'], PYTHONPATH='site', SCUTTLE='')
+        self.assertEqual((number, said), (69, 'scuttle: this package came without an executable, which is for x86-64 Linux with glibc 2.34 or later\n'))
 
 
 class Commands(InFolder):
@@ -102,7 +158,7 @@ class Commands(InFolder):
 sys.path.insert(0, %r)
 from scuttle import Model, no
 import formats
-m = Model()
+m = Model(strict=False)
 m.cost('pay', 3, no('a'))
 print(m.solve().plans[0].taken, formats.read_list(%r).complete, len(m.numbers), len(m.rows))
 ''' % (os.path.join(ROOT, 'tools'), SITES[1]))

@@ -123,7 +123,7 @@ class Page(InFolder):
     def test_the_same_front_gives_the_same_bytes(self):
         fronts = [front_of_costs(40, ('min', 'max'), seed=5) for _ in range(2)]
         self.assertEqual(page_of(fronts[0], 'x'), page_of(fronts[1], 'x'))
-        self.assertEqual(fronts[0].to_html('x'), page_of(fronts[1], 'x'))
+        self.assertEqual(fronts[0].to_html(title='x'), page_of(fronts[1], 'x'))
 
     def test_names_are_never_markup(self):
         front = strange()
@@ -182,7 +182,7 @@ class Command(InFolder):
         for name in ('network.opb', 'bicycles.mcnf', 'grants.opb', 'roofs.opb', 'roster.opb', 'sites.mcnf', 'roster_six_weeks.opb'):
             self.assertEqual(self.command('page', *self.example(name) + ['out.html']), (0, '', ''))
             front = Front.read(*self.example(name))
-            self.assertEqual(self.read('out.html'), front.to_html(name))
+            self.assertEqual(self.read('out.html'), front.to_html(title=name))
             data = data_in(self.read('out.html'))
             self.assertEqual((data['accepted'], len(data['entries'])), (None, len(front)))
 

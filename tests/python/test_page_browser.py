@@ -78,7 +78,7 @@ def words_of(names):
 class InBrowser(InFolder):
     def show(self, front, title='a day', width=1280):
         """Opens a front's page. Whatever the test does, the console stays empty, and nothing but the page is asked for."""
-        self.write('page.html', front.to_html(title))
+        self.write('page.html', front.to_html(title=title))
         BROWSER.resize(width, 900)
         BROWSER.console(), BROWSER.requests()
         BROWSER.open('page.html')

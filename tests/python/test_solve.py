@@ -226,7 +226,7 @@ class CannotRun(InFolder):
 
     def test_rows_that_hold(self):
         m = Model()
-        m.add(exactly(1, 'a', 'b'))
+        m.add(exactly(1, m.option('a'), m.option('b')))
         self.assertEqual(m.conflict(), [])
 
 

@@ -173,21 +173,27 @@ class Spread(Parts):
                 self.assertIsNone(self.run_spread(executor, parts=4).joined.refused)
             self.is_front('all.list', 'all.log')
 
-    def test_a_cluster_of_dask(self):
-        # Its workers' farewells are no matter here.
-        with unittest.mock.patch.dict(os.environ, {'DASK_LOGGING__DISTRIBUTED': 'critical'}):
-            try:
-                import distributed
-            except ImportError:
-                self.skipTest('distributed is not installed (Debian: python3-distributed)')
-            self.solve_by_dask(distributed)
+    def test_what_isnt_of_the_parts_stays_in_the_folder(self):
+        """Folders of runs of these parts that have died go; others that are called nearly so stay."""
+        self.unsolved_slabs()
+        names = ('weekly.run-3', 'part-1.run-abcd1234', 'part-9.run-abcd1234', 'part-1.run-of-mine')
+        for name in names:
+            os.mkdir('parts/' + name)
+            self.write('parts/%s/mine' % name, 'mine\n')
+        self.write('parts/part-2.run-abcd1234', 'a file\n')
+        self.write('parts/stop', '')
+        self.assertIsNone(self.run_spread(jobs=2, folder='parts').joined.refused)
+        left = set(os.listdir('parts'))
+        self.assertEqual([name in left for name in names], [True, False, True, True])
+        self.assertEqual(self.read('parts/part-2.run-abcd1234'), 'a file\n')
+        self.assertNotIn('stop', left)
 
-    def solve_by_dask(self, distributed):
-        self.write('in.opb', SHOPS)
-        with distributed.LocalCluster(n_workers=2, threads_per_worker=1, dashboard_address=None) as cluster:
-            with distributed.Client(cluster) as client:
-                self.assertIsNone(self.run_spread(client.get_executor(), parts=3).joined.refused)
-        self.is_front('all.list', 'all.log')
+    def test_a_file_that_stops_all_runs_and_isnt_ours_is_named(self):
+        self.unsolved_slabs()
+        self.write('parts/stop', 'mine\n')
+        with self.assertRaisesRegex(ScuttleError, 'stop stops all runs of these parts: take it away'):
+            self.run_spread(jobs=2, folder='parts')
+        self.assertEqual(self.read('parts/stop'), 'mine\n')
 
 
 class InOneCall(Parts):

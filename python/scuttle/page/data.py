@@ -3,7 +3,7 @@ from typing import Any, Dict, Iterable, List, Optional, Sequence, Tuple
 
 from ..files import printable
 from ..front import Front, More, Plan
-from ..sums import Name
+from ..names import Name
 from .grid import grid_of
 
 

@@ -3,7 +3,7 @@ from collections import Counter
 from typing import Dict, List, NamedTuple, Optional, Sequence, Tuple
 
 from ..files import printable
-from ..sums import Name
+from ..names import Name
 
 # A grid of more cells isn't read any more: a list is.
 MOST_CELLS = 20000

@@ -7,7 +7,8 @@ import re
 from operator import le
 from typing import Any, Dict, Iterable, Iterator, List, Optional, Sequence, Tuple
 
-import formats
+from . import formats
+from .kinds import mind_packed
 
 # What is read at once: it fits a processor's cache, so that bytes are searched as fast as they are read.
 PIECE = 1 << 20
@@ -46,6 +47,7 @@ class Log:
 
     def check_head(self, text: bytes) -> None:
         """Raises where a log can't begin with the first line of a text."""
+        mind_packed(self.path, text)
         if not formats.is_log_head(text.split(b'\n', 1)[0].decode('ascii', 'replace')):
             raise formats.Malformed(self.path, 1, 'this is no log: the first line of one begins with `scuttle proof version`')
         self.has_head = True
