@@ -24,7 +24,7 @@ from typing import Any, Dict, Iterable, List, NamedTuple, Optional, Sequence, Tu
 
 from .commands import run_command, usage
 from .errors import BadName, Malformed
-from .files import MOST_DIGITS, write_text
+from .files import MOST_DIGITS, printable, write_text
 from .sums import text_of_name
 
 WORDS = ('option', 'group', 'choose', 'needs', 'excludes')
@@ -296,9 +296,9 @@ def _body(arguments: List[str]) -> int:
     lines += [' '.join(('%s: %s ;' % (cost.sense, cost.terms)).split()) for cost in costs]
     lines += _rows_of(table)
     write_text(arguments[1], '\n'.join(lines) + '\n')
-    print('from-csv: costs: %s' % ('; '.join('%s %s' % (cost.sense, cost.name) for cost in costs) or 'none'), file=sys.stderr)
+    print('from-csv: costs: %s' % (printable('; '.join('%s %s' % (cost.sense, cost.name) for cost in costs)) or 'none'), file=sys.stderr)
     if notes:
-        print('from-csv: left out, for there is no number in them: %s' % '; '.join(notes), file=sys.stderr)
+        print('from-csv: left out, for there is no number in them: %s' % printable('; '.join(notes)), file=sys.stderr)
     return 0
 
 
