@@ -8,7 +8,8 @@ from typing import Callable, IO, List, Optional, Sequence
 
 from .errors import Failed, NoProgram
 
-HERE = os.path.dirname(os.path.abspath(__file__))
+# The package may be reached by a link.
+HERE = os.path.dirname(os.path.realpath(__file__))
 # Where the executable stands in an installed package, and where in a clone.
 PLACES = (os.path.join(HERE, 'bin', 'scuttle'), os.path.join(HERE, '..', '..', 'scuttle'))
 # How often a run is looked at; how long a stopped one may take to end, which may write what it has; and how much of a log is read at once.
