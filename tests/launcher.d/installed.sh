@@ -21,7 +21,8 @@ without_rt "$prefix/bin/scuttle" --version
 expect 'and knows its version' 0 said '^scuttle [0-9.]*$'
 without_rt "$prefix/bin/scuttle" help check
 expect 'and its texts' 0 said '^scuttle check IN LIST LOG'
-run "$prefix/bin/scuttle" --time 1 --watch solve long.mcnf r.list r.log
+rm -f r.log
+run "$stop_at" r.log "$first_model" INT "$prefix/bin/scuttle" --watch solve long.mcnf r.list r.log
 expect 'and lists what a search has found' 10 said '^stopped: [1-9][0-9]* so far in r.list$'
 run env -u PYTHONDONTWRITEBYTECODE "$prefix/bin/scuttle-plan" in.mcnf in.list 1
 expect 'and its tools run' 0 said '^2 best compromises'
