@@ -96,16 +96,16 @@ run() { # the program, its words
 }
 
 # Starts a command whose warnings go through `explain`, by a pipe that has no name once both ends of it are open. The launcher opens
-# them, by one that waits for no other, since `explain` may be ended before it could.
+# both, first by 9, which waits for no other end, since `explain` may be ended before it could.
 start_explained() {
     # A folder is made, with its name known, or isn't: no signal of the group comes between.
     if scratch=$(trap '' HUP INT QUIT TERM && mktemp -d 2>/dev/null) && mkfifo "$scratch/warned"; then
         {
-            exec 8<&-
-            (trap '' HUP TERM && explain) <&7 7<&- 6>&- &
+            exec 9<&-
+            (trap '' HUP TERM && explain) <&8 8<&- &
             explainer=$!
-            start "$@" 2>&6 6>&- 7<&-
-        } 8<>"$scratch/warned" 7<"$scratch/warned" 6>"$scratch/warned"
+            start "$@" 2>"$scratch/warned" 8<&-
+        } 9<>"$scratch/warned" 8<"$scratch/warned"
     else
         start "$@"
     fi

@@ -172,6 +172,8 @@ run "$tree/scuttle" check 'two sites.mcnf' 'its list.list' /dev/stdin
 expect 'standard input is the program'"'"'s' 11
 run sh -c "'$tree/scuttle' check 'two sites.mcnf' 'its list.list' /dev/stdin <'its log.log'"
 expect 'and so is a file there' 0 said '^accepted$'
+run sh -c "'$tree/scuttle' check 'two sites.mcnf' 'its list.list' /dev/fd/7 7<'its log.log'"
+expect 'and what the caller has opened' 0 said '^accepted$'
 
 # Signals that come at a given point, by commands on the path that send them to the launcher's group as a terminal does.
 group_signals() { # the command, when, the signal
