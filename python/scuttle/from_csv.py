@@ -27,6 +27,7 @@ from .errors import BadName, Malformed
 from .files import MOST_DIGITS, printable, write_text
 from .sums import text_of_name
 
+EXPONENT = re.compile(r'[-+]?[0-9]+(?:[.,][0-9]*)?[eE][-+]?[0-9]+')
 WORDS = ('option', 'group', 'choose', 'needs', 'excludes')
 # The option of the row that has the limits of budgets.
 WITHIN = 'within'
@@ -205,7 +206,9 @@ def _is_note(table: _Table, column: str) -> bool:
     """Whether a column has no number; one that says `min` or `max` is a cost in any case."""
     if re.match(r'(min|max)\b', column, re.IGNORECASE):
         return False
-    return not any(_parts_of(row[column], True) for _, row in table.rows)
+    cells = [row[column] for _, row in table.rows if row[column]]
+    # Numbers with an exponent can't be taken: that is told, and no cost left out.
+    return not any(_parts_of(cell, True) for cell in cells) and not (cells and all(EXPONENT.fullmatch(cell) for cell in cells))
 
 
 def _groups_of(table: _Table) -> List[Tuple[str, List[int], Bounds]]:
