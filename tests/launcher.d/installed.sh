@@ -66,13 +66,15 @@ run "$tree/install" --prefix "$prefix"
 mkdir "$work/beside"
 touch "$work/beside/one" "$work/two" "$work/beside/kept.pyc"
 ln -s "$work/beside" "$prefix/linked"
-ln -s "$work/beside" "$prefix/lib/scuttle/python/__pycache__"
+ln -s "$work/beside" "$prefix/lib/scuttle/python/scuttle/__pycache__"
 {
     echo "file $work/beside/one"
     echo 'file ../two'
     echo 'file linked/one'
     echo "folder $work/beside"
 } >>"$prefix/lib/scuttle/installed"
+# A list of an earlier version, which has names from the root.
+sed -i "s|^\(f[a-z]* \)\(bin\)|\1$prefix/\2|" "$prefix/lib/scuttle/installed"
 run "$tree/install" --uninstall --prefix "$prefix"
 expect 'what a list names elsewhere is told' 74 warned 'leads out of .*: ./linked$'
 run test -e "$work/beside/one" -a -e "$work/two" -a -e "$work/beside/kept.pyc"
