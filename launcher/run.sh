@@ -5,17 +5,33 @@
 
 stopped='' child='' listing='' list='' log='' watcher='' explainer=''
 
-# What each signal does. Those of a terminal come twice where `timeout` sends them to a group as well, so no second one counts
-# before the program has ended; then a second interrupt ends all at once. A list is whole even then: see tools/far.
+# What each signal does: it ends the program. Those of a terminal come twice where `timeout` sends them to a group as well, so no
+# second one counts before the program has ended; then a second interrupt ends all at once. A list is whole even then: see tools/far.
 stop() {
     woken=1
-    if [ -z "$stopped" ]; then
-        stopped=$1
-        [ -z "$child" ] || kill -TERM "$child" 2>/dev/null
-    elif [ "$1" = INT ] && [ -n "$listing" ]; then
-        kill -TERM "$child" 2>/dev/null
+    if [ -z "$listing" ]; then
+        stopped=${stopped:-$1}
+        end_process "$child"
+    elif [ "$1" = INT ]; then
+        end_process "$child"
         exit 130
     fi
+}
+
+# Ends a process of the launcher's own, if there is one. It is asked until it has ended: a shell that was forked, and isn't yet the
+# program, drops a signal.
+end_process() { # its id, or nothing
+    while [ -n "$1" ] && kill -TERM "$1" 2>/dev/null; do
+        sleep 0.1
+    done
+}
+
+# Whether a number is that of a command that a signal has ended which the launcher is told of too.
+is_of_signal() {
+    case "$1" in
+    129 | 130 | 131 | 143) return 0 ;;
+    esac
+    return 1
 }
 
 listen() {
@@ -39,26 +55,26 @@ start() {
         child=$!
     fi
     # A signal may have come before there was a child.
-    [ -z "$stopped" ] || [ -n "$listing" ] || kill -TERM "$child" 2>/dev/null
+    [ -z "$stopped" ] || [ -n "$listing" ] || end_process "$child"
 }
 
-# Waits for the child, however often a signal wakes the shell; sets `status`.
-await() {
+# Waits for a process, however often a signal wakes the shell; sets `status`.
+await() { # its id
     status=143
     # A signal may have kept it from starting.
-    [ -n "$child" ] || return 0
+    [ -n "$1" ] || return 0
     while :; do
         woken=''
         # The shell would say that it was killed.
-        wait "$child" 2>/dev/null
+        wait "$1" 2>/dev/null
         answer=$?
-        # A child that was waited for is unknown afterwards: its first answer is the right one.
+        # A process that was waited for is unknown afterwards: its first answer is the right one.
         [ "$answer" -eq 127 ] || status=$answer
         [ -n "$woken" ] || return 0
     done
 }
 
-# Runs the program over the words. It dies with the launcher, also where that is killed, as far as the system can do that.
+# Runs the program over the words; sets `number`. It dies with the launcher, also where that is killed, as far as the system can do that.
 run() { # the program, its words
     bound=''
     if setpriv --pdeathsig KILL true 2>/dev/null; then
@@ -72,23 +88,35 @@ run() { # the program, its words
     listen
     start_watching
     start_explained "$@"
-    await
-    child=''
+    await "$child"
+    number=$status child=''
     end_watching
     # What is warned of comes before what is said next.
-    [ -z "$explainer" ] || wait "$explainer"
+    await "$explainer"
 }
 
-# Starts a command whose warnings go through `explain`, by a pipe without a name as soon as both have opened it.
+# Starts a command whose warnings go through `explain`, by a pipe that has no name once both ends of it are open. The launcher opens
+# both, first by 9, which waits for no other end, since `explain` may be ended before it could.
 start_explained() {
-    if scratch=$(mktemp -d 2>/dev/null) && mkfifo "$scratch/warned"; then
-        (trap '' HUP TERM && explain) <"$scratch/warned" &
-        explainer=$!
-        start "$@" 2>"$scratch/warned"
-        rm -r "$scratch"
+    # A folder is made, with its name known, or isn't: no signal of the group comes between.
+    if scratch=$(trap '' HUP INT QUIT TERM && mktemp -d 2>/dev/null) && mkfifo "$scratch/warned"; then
+        {
+            exec 9<&-
+            (trap '' HUP TERM && explain) <&8 8<&- &
+            explainer=$!
+            start "$@" 2>"$scratch/warned" 8<&-
+        } 9<>"$scratch/warned" 8<"$scratch/warned"
     else
         start "$@"
     fi
+    [ -z "$scratch" ] || remove_scratch
+}
+
+remove_scratch() {
+    while
+        rm -rf "$scratch"
+        is_of_signal "$?"
+    do :; done
 }
 
 # Shows with --watch how far the search is, by a process of its own that reads LOG.
@@ -108,15 +136,15 @@ start_watching() {
 }
 
 end_watching() {
-    [ -n "$watcher" ] || return 0
-    kill -TERM "$watcher" 2>/dev/null
-    wait "$watcher" 2>/dev/null
+    end_process "$watcher"
+    await "$watcher"
     watcher=''
 }
 
 # Ends as the program has ended. Where it was stopped, or memory, room or lines were refused to it, LIST is made new.
 end() {
-    number=$status
+    # There is nothing more to stop, until the models are listed: no signal to the group is to end what is asked meanwhile.
+    trap '' HUP INT QUIT TERM
     case "$number" in
     67 | 71 | 74) [ "$command" = solve ] && [ -f "$log" ] && is_newer "$log" "$log_before" || exit "$number" ;;
     129) stopped=${stopped:-HUP} ;;
@@ -130,9 +158,6 @@ end() {
         ;;
     esac
     [ -n "$list" ] || die
-    listing=1
-    # A shell that goes tells all its children, and perhaps twice.
-    trap '' HUP
     leave_"$command"
     [ "$number" -lt 128 ] || [ -z "$stopped" ] || number=10
     exit "$number"
@@ -212,8 +237,15 @@ list_models() {
     [ -f "$instance" ] || return
     why_not='there is no python3 on the path, which tools/far wants'
     command -v python3 >/dev/null || return
-    start "$root/tools/far" "$instance" "$log" --to "$list"
-    await
+    listing=1 status=143
+    listen
+    # A shell that goes tells all its children, and perhaps twice.
+    trap '' HUP
+    # What reads the models may be ended by a signal to the group that isn't a second interrupt.
+    while is_of_signal "$status"; do
+        start "$root/tools/far" "$instance" "$log" --to "$list"
+        await "$child"
+    done
     why_not="tools/far ended with $status"
     [ "$status" -eq 0 ]
 }

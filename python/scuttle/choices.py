@@ -12,6 +12,7 @@ import sys
 from typing import List, Sequence
 
 from .commands import BAD_INPUT, USAGE, run_command, usage
+from .files import printable
 from .instances import name_of_objective, name_of_variable, read_named
 from .lists import Choice, fits, read_list, read_models
 
@@ -57,8 +58,8 @@ def _body(arguments: List[str]) -> int:
             print('choices: the list has the entries 1 to %d' % len(choices), file=sys.stderr)
             return USAGE
         numbers = [int(arguments[3])]
-    objectives = [name_of_objective(names, k) for k in range(1, len(instance.objectives) + 1)]
-    variables = [name_of_variable(names, k) for k in range(1, instance.variables + 1)]
+    objectives = [printable(name_of_objective(names, k)) for k in range(1, len(instance.objectives) + 1)]
+    variables = [printable(name_of_variable(names, k)) for k in range(1, instance.variables + 1)]
     for number in numbers:
         costs = '; '.join('%s: %d' % pair for pair in zip(objectives, listing.entries[number - 1].costs))
         _print_choice(number, costs, choices[number - 1], variables)

@@ -4,7 +4,7 @@ import sys
 from typing import Callable, List
 
 from .errors import NoProgram, ScuttleError
-from .files import be_printable
+from .files import be_printable, printable
 
 USAGE, BAD_INPUT, NO_PROGRAM, NO_FILE = 64, 65, 69, 74
 
@@ -26,14 +26,14 @@ def run_command(doc: str, body: Callable[[List[str]], int], arguments: List[str]
         sys.stdout.flush()
         return number
     except ScuttleError as fault:
-        print('%s: %s' % (name, fault), file=sys.stderr)
+        print('%s: %s' % (name, printable(str(fault))), file=sys.stderr)
         return NO_PROGRAM if isinstance(fault, NoProgram) else BAD_INPUT
     except BrokenPipeError:
         # Who reads has seen enough; what is left to say goes nowhere.
         os.dup2(os.open(os.devnull, os.O_WRONLY), sys.stdout.fileno())
         return 0
     except OSError as fault:
-        print('%s: %s: %s' % (name, fault.filename or 'standard output', fault.strerror), file=sys.stderr)
+        print('%s: %s: %s' % (name, printable(str(fault.filename or 'standard output')), fault.strerror), file=sys.stderr)
         return NO_FILE
 
 

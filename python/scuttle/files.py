@@ -63,7 +63,7 @@ def printable(text: str) -> str:
     >>> printable('a\\x01b\\x7f')
     'ab'
     """
-    return re.sub('[\x00-\x08\x0b\x0c\x0e-\x1f\x7f-\x9f\ud800-\udfff\ufffe\uffff]', '', text)
+    return re.sub('[\x00-\x08\x0b-\x1f\x7f-\x9f\ud800-\udfff\ufffe\uffff]', '', text)
 
 
 def cell_of(text: str) -> str:

@@ -25,10 +25,11 @@ from typing import Any, Dict, Iterable, List, NamedTuple, Optional, Sequence, Tu
 
 from .commands import run_command, usage
 from .errors import BadName, Malformed
-from .files import MOST_DIGITS, write_text
+from .files import MOST_DIGITS, printable, write_text
 from .kinds import mind_ending, mind_packed
 from .names import text_of_name
 
+EXPONENT = re.compile(r'[-+]?[0-9]+(?:[.,][0-9]*)?[eE][-+]?[0-9]+')
 WORDS = ('option', 'group', 'choose', 'needs', 'excludes')
 # The option of the row that has the limits of budgets.
 WITHIN = 'within'
@@ -210,7 +211,9 @@ def _is_note(table: _Table, column: str) -> bool:
     """Whether a column has no number; one that says `min` or `max` is a cost in any case."""
     if re.match(r'(min|max)\b', column, re.IGNORECASE):
         return False
-    return not any(_parts_of(row[column], True) for _, row in table.rows)
+    cells = [row[column] for _, row in table.rows if row[column]]
+    # Numbers with an exponent can't be taken: that is told, and no cost left out.
+    return not any(_parts_of(cell, True) for cell in cells) and not (cells and all(EXPONENT.fullmatch(cell) for cell in cells))
 
 
 def _groups_of(table: _Table) -> List[Tuple[str, List[int], Bounds]]:
@@ -301,9 +304,9 @@ def _body(arguments: List[str]) -> int:
     lines += [' '.join(('%s: %s ;' % (cost.sense, cost.terms)).split()) for cost in costs]
     lines += _rows_of(table)
     write_text(arguments[1], '\n'.join(lines) + '\n')
-    print('from-csv: costs: %s' % ('; '.join('%s %s' % (cost.sense, cost.name) for cost in costs) or 'none'), file=sys.stderr)
+    print('from-csv: costs: %s' % (printable('; '.join('%s %s' % (cost.sense, cost.name) for cost in costs)) or 'none'), file=sys.stderr)
     if notes:
-        print('from-csv: left out, for there is no number in them: %s' % '; '.join(notes), file=sys.stderr)
+        print('from-csv: left out, for there is no number in them: %s' % printable('; '.join(notes)), file=sys.stderr)
     return 0
 
 

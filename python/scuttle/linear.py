@@ -4,7 +4,7 @@ from fractions import Fraction
 from typing import Dict, List, NamedTuple, Optional, Sequence, Set, Tuple
 
 from .errors import BadName, Malformed
-from .files import write_text
+from .files import printable, write_text
 from .names import text_of_name
 
 # The largest sum of magnitudes of a row or an objective: docs/FORMATS.md.
@@ -176,7 +176,7 @@ def write_instance(command: str, path: str, programs: Sequence[Program]) -> int:
     text = instance_text(programs)
     write_text(path, text)
     costs = [line.split(' ', 3) for line in text.split('\n') if line.startswith(('* min ', '* max '))]
-    print('%s: costs: %s' % (command, '; '.join('%s %s' % (sense, name) for _, sense, _, name in costs) or 'none'), file=sys.stderr)
+    print('%s: costs: %s' % (command, printable('; '.join('%s %s' % (sense, name) for _, sense, _, name in costs)) or 'none'), file=sys.stderr)
     return 0
 
 

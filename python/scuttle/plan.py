@@ -17,7 +17,7 @@ import sys
 from typing import Callable, Dict, List, Optional, Sequence, Tuple
 
 from .commands import USAGE, run_command, usage
-from .files import cell_of
+from .files import cell_of, printable
 from .instances import name_of_objective, name_of_variable, read_named
 from .lists import Entry, Listing, fits, read_list, title_of
 
@@ -72,8 +72,8 @@ def _body(arguments: List[str]) -> int:
     if entries is None:
         print('plan: the list has the entries 1 to %d' % len(listing.entries), file=sys.stderr)
         return USAGE
-    objectives = [name_of_objective(names, k) for k in range(1, len(instance.objectives) + 1)]
-    variables = [name_of_variable(names, k) for k in range(1, instance.variables + 1)]
+    objectives = [printable(name_of_objective(names, k)) for k in range(1, len(instance.objectives) + 1)]
+    variables = [printable(name_of_variable(names, k)) for k in range(1, instance.variables + 1)]
     print_entries = show[forms[0]] if forms else _print_text
     print_entries(listing, entries, objectives, variables)
     return 0

@@ -9,7 +9,8 @@ from typing import Callable, IO, List, Optional, Sequence
 
 from .errors import Failed, ModelError, NoProgram
 
-HERE = os.path.dirname(os.path.abspath(__file__))
+# The package may be reached by a link.
+HERE = os.path.dirname(os.path.realpath(__file__))
 # Where the executable stands in an installed package, and where in a clone.
 PLACES = (os.path.join(HERE, 'tree', 'release', 'scuttle'), os.path.join(HERE, '..', '..', 'scuttle'))
 # The launcher, beside which its parts stand: in an installed package, and in a clone or an installed tree. Where it finds the executable.

@@ -8,7 +8,7 @@ echo 'not ours' >"$prefix/bin/other"
 
 run "$tree/install" --prefix "$prefix"
 expect 'it is installed' 0
-for file in bin/scuttle bin/scuttle-plan bin/scuttle-far bin/scuttle-watch share/man/man1/scuttle.1 share/man/man1/scuttle-solve.1 \
+for file in bin/scuttle bin/scuttle-plan bin/scuttle-far bin/scuttle-watch bin/scuttle-recheck share/man/man1/scuttle.1 share/man/man1/scuttle-solve.1 \
     share/bash-completion/completions/scuttle share/zsh/site-functions/_scuttle share/doc/scuttle/docs/ANSWERS.md \
     share/doc/scuttle/examples/network.opb; do
     run test -s "$prefix/$file"
@@ -21,10 +21,17 @@ without_rt "$prefix/bin/scuttle" --version
 expect 'and knows its version' 0 said '^scuttle [0-9.]*$'
 without_rt "$prefix/bin/scuttle" help check
 expect 'and its texts' 0 said '^scuttle check IN LIST LOG'
-run "$prefix/bin/scuttle" --time 1 --watch solve long.mcnf r.list r.log
+rm -f r.log
+run "$stop_at" r.log "$first_model" INT "$prefix/bin/scuttle" --watch solve long.mcnf r.list r.log
 expect 'and lists what a search has found' 10 said '^stopped: [1-9][0-9]* so far in r.list$'
-run "$prefix/bin/scuttle-plan" in.mcnf in.list 1
+run env -u PYTHONDONTWRITEBYTECODE "$prefix/bin/scuttle-plan" in.mcnf in.list 1
 expect 'and its tools run' 0 said '^2 best compromises'
+run env -u PYTHONDONTWRITEBYTECODE "$prefix/bin/scuttle-far" in.mcnf in.log
+expect 'and those beside the package' 0 said '^s INCOMPLETE 2$'
+run test -d "$prefix/lib/scuttle/python/scuttle/__pycache__" -a -d "$prefix/lib/scuttle/tools/__pycache__"
+expect 'of which Python keeps something' 0
+run "$prefix/bin/scuttle-recheck" in.mcnf in.list in.log
+expect 'and the second checker' 0 said '^accepted$'
 printf '+1 x1 x2 >= 1 ;\n' >product.opb
 run "$prefix/bin/scuttle" solve product.opb r.list r.log
 expect 'and explains' 65 warned 'two literals with no sign'
@@ -42,13 +49,40 @@ if command -v man >/dev/null; then
 fi
 run "$tree/install" --prefix "$prefix"
 expect 'it is installed once more' 0
-run "$tree/install" --uninstall --prefix "$prefix"
-expect 'it is taken away' 0
+mv "$prefix" "$prefix.moved"
+run "$tree/install" --uninstall --prefix "$prefix.moved"
+expect 'it is taken away, also where it was moved to' 0
+run test -s "$work/warned" -o -s "$work/said"
+expect 'without a word' 1
+mv "$prefix.moved" "$prefix"
 (cd "$prefix" && find . | sort) >after
 run cmp before after
 expect 'all of it, and nothing else' 0
 run "$tree/install" --uninstall --prefix "$prefix"
 expect 'which can be done once' 74 warned 'nothing was installed there'
+
+# A list that names files elsewhere, by a name from the root, by a way up, and by a link.
+run "$tree/install" --prefix "$prefix"
+mkdir "$work/beside"
+touch "$work/beside/one" "$work/two" "$work/beside/kept.pyc"
+ln -s "$work/beside" "$prefix/linked"
+ln -s "$work/beside" "$prefix/lib/scuttle/python/scuttle/__pycache__"
+{
+    echo "file $work/beside/one"
+    echo 'file ../two'
+    echo 'file linked/one'
+    echo "folder $work/beside"
+} >>"$prefix/lib/scuttle/installed"
+# A list of an earlier version, which has names from the root.
+sed -i "s|^\(f[a-z]* \)\(bin\)|\1$prefix/\2|" "$prefix/lib/scuttle/installed"
+run "$tree/install" --uninstall --prefix "$prefix"
+expect 'what a list names elsewhere is told' 74 warned 'leads out of .*: ./linked$'
+run test -e "$work/beside/one" -a -e "$work/two" -a -e "$work/beside/kept.pyc"
+expect 'and stays' 0
+rm -r "$work/beside" "$work/two" "$prefix/linked" "$prefix/lib"
+(cd "$prefix" && find . | sort) >after
+run cmp before after
+expect 'while all else is taken away' 0
 echo 'not ours' >"$prefix/bin/scuttle"
 run "$tree/install" --prefix "$prefix"
 expect 'a file that is there stays' 73 warned 'there already.*bin/scuttle$'
@@ -68,6 +102,41 @@ run env DESTDIR="$work/stage" "$tree/install" --prefix /usr
 expect 'below another root' 0
 run test -x "$work/stage/usr/lib/scuttle/release/scuttle"
 expect 'it stands there' 0
+run env DESTDIR="$work/stage" "$tree/install" --uninstall --prefix /usr
+expect 'and is taken away' 0
+run test -e "$work/stage/usr"
+expect 'with the folders that were made' 1
+
+# Stopped while it puts files: by a `chmod` that sends a signal to all of the group, as a terminal does.
+mkdir "$work/signals" "$work/scratch"
+printf '#!/bin/sh\n[ -e sent ] || { touch sent; kill -TERM 0; }\nexec %s "$@"\n' "$(type -P chmod)" >"$work/signals/chmod"
+chmod +x "$work/signals/chmod"
+run setsid -w env TMPDIR="$work/scratch" PATH="$work/signals:$PATH" "$tree/install" --prefix "$prefix"
+expect 'an installation that is stopped' 143
+(cd "$prefix" && find . | sort) >after
+run cmp before after
+expect 'leaves nothing half installed' 0
+run rmdir "$work/scratch"
+expect 'and no folder elsewhere' 0
+rm -r "$work/signals" sent
+
+# The package, where python3 looks below the folder.
+if python3 -m venv --without-pip "$work/venv" 2>/dev/null; then
+    run env PATH="$work/venv/bin:$PATH" "$tree/install" --prefix "$work/venv"
+    expect 'it is installed where python3 looks' 0
+    mv "$tree" "$work/moved"
+    run env -u SCUTTLE "$work/venv/bin/python3" -c 'import scuttle
+model = scuttle.Model()
+model.at_least(1, "one", "two")
+model.cost("price", 5, "one", "two")
+print(len(model.solve().plans), "plan")'
+    expect 'which then has the package' 0 said '^1 plan$'
+    mv "$work/moved" "$tree"
+    run "$tree/install" --uninstall --prefix "$work/venv"
+    expect 'which is taken away' 0
+    run "$work/venv/bin/python3" -c 'import scuttle'
+    expect 'all of it' 1
+fi
 for words in '--prefix' '--prefix here' '--frobnicate'; do
     # shellcheck disable=SC2086  # words
     run "$tree/install" $words
@@ -115,6 +184,10 @@ if command -v dpkg-deb >/dev/null; then
     expect 'it runs' 0 said '^complete 2$'
     run env -u PYTHONDONTWRITEBYTECODE "$box/usr/bin/scuttle-plan" in.mcnf r.list 1
     expect 'its tools run' 0 said 'best compromises'
+    run "$box/usr/bin/scuttle-recheck" in.mcnf in.list in.log
+    expect 'so does the second checker' 0 said '^accepted$'
+    run env -u SCUTTLE PYTHONPATH="$box/usr/lib/python3/dist-packages" python3 -c 'import scuttle.running; print(scuttle.running.find_program())'
+    expect 'and Python has the package' 0 said 'lib/scuttle/scuttle$'
     run test -d "$box/usr/lib/scuttle/python/scuttle/__pycache__"
     expect 'and Python keeps something of them' 0
     box_dpkg -r scuttle

@@ -55,6 +55,10 @@ class Tables(InFolder):
         self.assertIn('costs: min cost; max joy\n', warned)
         self.assertIn('left out, for there is no number in them: notes; remarks\n', warned)
 
+    def test_a_column_of_numbers_that_are_not_taken_is_no_note(self):
+        self.assertIn(":2: '1e9' in the column pay is no number", self.made('option,pay\na,1e9\nb,\n', 65)[1])
+        self.assertIn('left out, for there is no number in them: code\n', self.made('option,pay,code\na,1,3e8\nb,2,x\n')[1])
+
     def test_budgets(self):
         text = self.made('option;max value;budget capex;Budget people\na;5;10,5;1\nb;4;7;2\nc;3;;2\nwithin;;17,25;3\n')[0]
         self.assertIn('* budget capex\n+1050 x1 +700 x2 +0 x3 <= 1725 ;\n* Budget people\n+1 x1 +2 x2 +2 x3 <= 3 ;\n', text)
