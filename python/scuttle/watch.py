@@ -175,7 +175,9 @@ def parsed(words: List[str]) -> Optional[Dict[str, str]]:
     return None if is_wrong else options
 
 
-def _stop(_number: int, _frame: Any) -> None:
+def _stop(number: int, _frame: Any) -> None:
+    # Who sends it sends it until this has ended.
+    signal.signal(number, signal.SIG_IGN)
     raise KeyboardInterrupt
 
 
