@@ -57,7 +57,7 @@ class PlansOfOthers(Parts):
                 self.refused(text.replace('"cost": 1', '"cost": ' + wrong))
         for number, bound in (('1', '1e400'), ('1e400', '2'), ('9', '2'), ('0', '2'), ('1', '0')):
             tree = '{"children": [{"name": "part-1", "where": [["cost", %s, %s, "below"]]}]}' % (number, bound)
-            self.refused('{"format": "scuttle split 1", "cost": 1, "sha256": "", "tree": %s}' % tree)
+            self.refused(self.with_tree('a tree').replace('"a tree"', tree))
 
     def test_other_shapes(self):
         for tree in ([], None, 3, 'part-1', {}, {'children': 3}, {'children': [3]}, {'children': [{'name': 'part-1'}]}, {'model': 3},
